@@ -1,0 +1,11 @@
+pub mod TileLemmas
+pub mod MoveLemmas
+pub mod NeighbourLemmas
+pub mod RowLemmas
+pub mod ClassLemmas
+pub mod PlanLemmas
+pub mod FaultLemmas
+pub mod StorageLemmas
+pub mod StepLemmas
+pub mod GoalLemmas
+pub mod KeyLemmas

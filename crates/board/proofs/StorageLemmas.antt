@@ -1,0 +1,53 @@
+-- What lies in memory, and `==` of it.
+use Rattle.std.proofs.Common.{◌≡◌, ℕ, ◌-◌, ◌+◌, ◌<◌, ◌≤◌, Bool, true, List, ◌++◌, ◌∷◌, [], length, set, take, drop, replicate, suc, refl, sym, ap, ◌∙◌, arith, append_assoc}
+use Rattle.std.specs.Prelude.{◌↔◌, IsTrue}
+use Rattle.std.specs.Bool.{Decides}
+use Rattle.std.specs.List.{range_with_len}
+use Rattle.std.specs.Str.{bytes_eq}
+use Rattle.std.proofs.lemmas.Bool.Decides.{Decides-at, Decides-like, same_from_decides}
+use Rattle.std.proofs.lemmas.List.{set_at, take_at, drop_at, map-id}
+use Rattle.std.proofs.lemmas.List.FromFn.{map-range_with_len_more, length-range_with_len}
+use Rattle.std.proofs.lemmas.Slice.Eq.{bytes_eq-Decides}
+use Rattle.board.specs.Grids.{Grid, cell_count}
+use Rattle.board.specs.Positions.{Position}
+use Rattle.board.specs.CostRules.{CostRule}
+use Rattle.board.specs.Equality.{grid_eq, position_eq, rule_eq, grids_Decide, positions_Decide, rules_Decide}
+use Rattle.board.specs.Storage.{position_in, storage_of, IsStored, storage_of-position_in}
+use Rattle.board.specs.CostStorage.{rule_in}
+use Rattle.board.specs.CostStorage as cost
+use Rattle.board.specs.declared.boards.Board.TheInside as board
+use Rattle.board.specs.declared.costs.Weights.TheInside as weights
+
+-- the tiles in memory are equal exactly where the boards are, given that the shapes are
+pub same_board : (a b : board.Inside) (r : Bool) → IsStored a → IsStored b → grid_eq a.shape b.shape ≡ true → r ≡ bytes_eq a.tiles b.tiles → Decides r (position_in a ≡ position_in b)
+same_board a b r stored stored' shapes answer =
+    let grids : a.shape ≡ b.shape = (grids_Decide a.shape b.shape).0 shapes in
+    let there : a.tiles ≡ b.tiles → position_in a ≡ position_in b = λ e i. record { grid = grids i; tiles = take (cell_count (grids i)) (e i) } in
+    let back : position_in a ≡ position_in b → a.tiles ≡ b.tiles = λ e. ap (λ (x : board.Inside). x.tiles) (sym (storage_of-position_in a stored) ∙ ap storage_of e ∙ storage_of-position_in b stored') in
+    Decides-at r (bytes_eq a.tiles b.tiles) answer (Decides-like (bytes_eq a.tiles b.tiles) there back (bytes_eq-Decides a.tiles b.tiles))
+
+-- and likewise the weights
+pub same_rule : (a b : weights.Inside) (r : Bool) → cost.IsStored a → cost.IsStored b → grid_eq a.shape b.shape ≡ true → r ≡ bytes_eq a.weights b.weights → Decides r (rule_in a ≡ rule_in b)
+same_rule a b r stored stored' shapes answer =
+    let grids : a.shape ≡ b.shape = (grids_Decide a.shape b.shape).0 shapes in
+    let there : a.weights ≡ b.weights → rule_in a ≡ rule_in b = λ e i. record { grid = grids i; weights = take (cell_count (grids i)) (e i) } in
+    let back : rule_in a ≡ rule_in b → a.weights ≡ b.weights = λ e. ap (λ (x : weights.Inside). x.weights) (sym (cost.storage_of-rule_in a stored) ∙ ap cost.storage_of e ∙ cost.storage_of-rule_in b stored') in
+    Decides-at r (bytes_eq a.weights b.weights) answer (Decides-like (bytes_eq a.weights b.weights) there back (bytes_eq-Decides a.weights b.weights))
+
+-- the next number of an array that was filled up to k
+pub filled_more : (n k : ℕ) (front : List ℕ) (v : ℕ) → length front ≡ k → k < n → set (front ++ replicate (n - k) 0) k v ≡ (front ++ v ∷ []) ++ replicate (n - (k + 1)) 0
+filled_more n k front v counted within =
+    let next : n - k ≡ suc (n - (k + 1)) = omega arith in
+    ap (λ (m : ℕ). set (front ++ replicate m 0) k v) next ∙ set_at front 0 (replicate (n - (k + 1)) 0) v k counted ∙ sym (append_assoc front (v ∷ []) (replicate (n - (k + 1)) 0))
+
+-- the next number of a list that counts from 0
+pub counted_more : (n : ℕ) → range_with_len 0 (n + 1) ≡ range_with_len 0 n ++ n ∷ []
+counted_more n =
+    sym (map-id (range_with_len 0 (n + 1))) ∙ map-range_with_len_more (λ (x : ℕ). x) 0 n n (omega arith) ∙ ap (λ (front : List ℕ). front ++ n ∷ []) (map-id (range_with_len 0 n))
+
+-- the two parts of an array that begins with a list of n numbers
+pub filled_parts : (n : ℕ) (front whole : List ℕ) → length front ≡ n → whole ≡ front ++ replicate (25 - n) 0 → (take n whole ≡ front) × (drop n whole ≡ replicate (25 - n) 0)
+filled_parts n front whole counted all = (
+  ap (take n) all ∙ take_at front (replicate (25 - n) 0) n counted,
+  ap (drop n) all ∙ drop_at front (replicate (25 - n) 0) n counted,
+)

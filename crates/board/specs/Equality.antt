@@ -1,0 +1,50 @@
+-- What `==` answers of shapes, boards, cost rules and moves: whether they are the same.
+use Rattle.std.specs.Prelude.{ℕ, ◌≡◌, ◌==◌, ◌&&◌, Bool, true, false, List}
+use Rattle.std.specs.Bool.{Decides}
+use Rattle.std.specs.Cmp.{IsPartialEquivalence, IsEquivalence, partial_equiv_from_equiv, decided}
+use Rattle.std.specs.Str.{bytes_eq}
+use Rattle.std.proofs.Common.{◌∙◌, ap, refl}
+use Rattle.std.proofs.lemmas.Bool.Decides.{Decides-and, Decides-like, Decides-eqb}
+use Rattle.std.proofs.lemmas.Slice.Eq.{bytes_eq-Decides}
+use Rattle.board.specs.Grids.{Grid}
+use Rattle.board.specs.Positions.{Position}
+use Rattle.board.specs.CostRules.{CostRule}
+
+-- they have the same rows and columns
+abbrev pub grid_eq : Grid → Grid → Bool
+grid_eq a b = a.rows == b.rows && a.cols == b.cols
+
+-- they have the same grid and the same tiles
+abbrev pub position_eq : Position → Position → Bool
+position_eq a b = grid_eq a.grid b.grid && bytes_eq a.tiles b.tiles
+
+-- they have the same grid and the same weights
+abbrev pub rule_eq : CostRule → CostRule → Bool
+rule_eq a b = grid_eq a.grid b.grid && bytes_eq a.weights b.weights
+
+pub grids_Decide : (a b : Grid) → Decides (grid_eq a b) (a ≡ b)
+grids_Decide a b = Decides-like _ same (λ e. (ap (λ (g : Grid). g.rows) e, ap (λ (g : Grid). g.cols) e)) (Decides-and _ _ (Decides-eqb _ _) (Decides-eqb _ _))
+  where
+    same : (a.rows ≡ b.rows) × (a.cols ≡ b.cols) → a ≡ b
+    same p = λ i. record { rows = p.0 i; cols = p.1 i }
+
+pub positions_Decide : (a b : Position) → Decides (position_eq a b) (a ≡ b)
+positions_Decide a b = Decides-like _ same (λ e. (ap (λ (p : Position). p.grid) e, ap (λ (p : Position). p.tiles) e)) (Decides-and _ _ (grids_Decide _ _) (bytes_eq-Decides _ _))
+  where
+    same : (a.grid ≡ b.grid) × (a.tiles ≡ b.tiles) → a ≡ b
+    same p = λ i. record { grid = p.0 i; tiles = p.1 i }
+
+pub rules_Decide : (a b : CostRule) → Decides (rule_eq a b) (a ≡ b)
+rules_Decide a b = Decides-like _ same (λ e. (ap (λ (p : CostRule). p.grid) e, ap (λ (p : CostRule). p.weights) e)) (Decides-and _ _ (grids_Decide _ _) (bytes_eq-Decides _ _))
+  where
+    same : (a.grid ≡ b.grid) × (a.weights ≡ b.weights) → a ≡ b
+    same p = λ i. record { grid = p.0 i; weights = p.1 i }
+
+pub grid_eq-laws : IsEquivalence grid_eq
+grid_eq-laws = decided grid_eq grids_Decide
+
+pub position_eq-laws : IsEquivalence position_eq
+position_eq-laws = decided position_eq positions_Decide
+
+pub rule_eq-laws : IsEquivalence rule_eq
+rule_eq-laws = decided rule_eq rules_Decide

@@ -1,0 +1,14 @@
+pub mod Grids
+pub mod Neighbours
+pub mod Positions
+pub mod CostRules
+pub mod Moves
+pub mod Plans
+pub mod Rows
+pub mod Classes
+pub mod Keys
+pub mod Faults
+pub mod Equality
+pub mod Storage
+pub mod CostStorage
+pub mod Laws

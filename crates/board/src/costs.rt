@@ -1,0 +1,82 @@
+ghost use Rattle.std.specs.Prelude.{◌≡◌, ◌<◌, ◌≤◌, ◌-◌, ◌++◌, replicate};
+ghost use Rattle.std.specs.List.{range_with_len};
+ghost use Rattle.board.specs.Grids.{cell_count};
+ghost use Rattle.board.specs.CostRules.{IsCostRule, unit_rule, face_rule, weight_of};
+
+use super::shapes::Shape;
+use std::marker::Model;
+
+/// What it costs to move each tile of a board: a weight from 1 to 255.
+#[derive(Clone, Copy, Debug, PartialEq, Eq)]
+pub struct Weights {
+    shape: Shape,
+    weights: [u8; 25],
+}
+
+impl Model for Weights {
+    ghost use Rattle.board.specs.CostRules.{CostRule};
+
+    ghost Value = { CostRule };
+
+    ghost use Rattle.board.specs.CostStorage.{rule_in, storage_of, IsStored, storage_of-rule_in};
+
+    ghost view = { rule_in };
+
+    ghost invariant = { IsStored };
+
+    ghost inverse = { storage_of };
+
+    ghost inverse_ok = { storage_of-rule_in };
+}
+
+impl Weights {
+    /// Unit cost: every move costs 1.
+    pub fn unit(shape: Shape) -> Self
+        ensures { result ≡ unit_rule shape }
+    {
+        let mut weights = [0; 25];
+        for tile in 1..shape.cells() {
+            weights[tile] = 1;
+        }
+        Weights { shape, weights }
+    }
+
+    /// Face cost: moving tile t costs t.
+    pub fn face(shape: Shape) -> Self
+        ensures { result ≡ face_rule shape }
+    {
+        let weights = count_up(shape.cells());
+        Weights { shape, weights }
+    }
+
+    /// The cost of moving a tile.
+    pub fn of(&self, tile: u8) -> u32
+        requires tile { 0 < tile }
+        requires within { tile < cell_count self.now.grid }
+        ensures value { result ≡ weight_of self.now tile }
+        ensures low { 1 ≤ result }
+        ensures high { result ≤ 255 }
+    {
+        self.weights[tile as usize] as u32
+    }
+
+    /// The shape of the boards whose tiles these are.
+    pub fn shape(&self) -> Shape
+        ensures value { result ≡ self.now.grid }
+        ensures rule { IsCostRule self.now }
+    {
+        self.shape
+    }
+}
+
+// The numbers from 0 on, as many as there are cells, with zeros behind them.
+pub(crate) fn count_up(cells: usize) -> [u8; 25]
+    requires { cells ≤ 25 }
+    ensures { result ≡ range_with_len 0 cells ++ replicate (25 - cells) 0 }
+{
+    let mut numbers = [0; 25];
+    for place in 0..cells {
+        numbers[place] = place as u8;
+    }
+    numbers
+}

@@ -1,0 +1,61 @@
+//! The laws of the definitions: each is the contract of a function that does nothing.
+
+ghost use Rattle.board.specs.Laws.{NeighboursLieThere, SuccessorsAreMoves, MovesKeepBoards, MovesAreDetermined, MovesAreTakenBack, PlansAreJoined, PlansAreCut, PlansAreDetermined, PlansKeepBoards, MovesKeepTheClass, PlansKeepTheClass, KeysNameBoards, KeysAreInOrder, RowsSuffice};
+
+/// What is computed of a move is what it does, both ways.
+pub fn successors_are_moves()
+    ensures cells { NeighboursLieThere }
+    ensures boards { SuccessorsAreMoves }
+{}
+
+/// A move of a board leads to a board.
+pub fn moves_keep_boards()
+    ensures { MovesKeepBoards }
+{}
+
+/// A move leads to one board, at one cost.
+pub fn moves_are_determined()
+    ensures { MovesAreDetermined }
+{}
+
+/// The opposite move takes a move back, at the same cost.
+pub fn moves_are_taken_back()
+    ensures { MovesAreTakenBack }
+{}
+
+/// Plans that follow one another make one plan, and their costs add up.
+pub fn plans_are_joined()
+    ensures { PlansAreJoined }
+{}
+
+/// A plan can be cut at any place.
+pub fn plans_are_cut()
+    ensures { PlansAreCut }
+{}
+
+/// A plan leads from a board to one board, at one cost.
+pub fn plans_are_determined()
+    ensures boards { PlansKeepBoards }
+    ensures one { PlansAreDetermined }
+{}
+
+/// A plan leads to a board of the same class.
+pub fn plans_keep_the_class()
+    ensures moves { MovesKeepTheClass }
+    ensures plans { PlansKeepTheClass }
+{}
+
+/// A key names one board of a shape.
+pub fn keys_name_boards()
+    ensures { KeysNameBoards }
+{}
+
+/// The order of keys is the order of lists of tiles.
+pub fn keys_are_in_order()
+    ensures { KeysAreInOrder }
+{}
+
+/// Rows that prove a cost, with a sum that is a lower bound, leave no cheaper plan.
+pub fn rows_suffice()
+    ensures { RowsSuffice }
+{}

@@ -1,0 +1,58 @@
+ghost use Rattle.std.specs.Prelude.{◌≡◌, ◌<◌, ◌↔◌, ℕ, Some};
+ghost use Rattle.board.specs.Grids.{cell_count};
+ghost use Rattle.board.specs.Neighbours.{LiesTowards, neighbour, opposite};
+
+use super::shapes::Shape;
+
+/// A move, by the direction in which the blank goes: up, left, right or down.
+#[derive(Clone, Copy, Debug, PartialEq, Eq)]
+pub enum Move {
+    U,
+    L,
+    R,
+    D,
+}
+
+impl Move {
+    /// The move that takes this one back: the opposite direction.
+    pub fn undo(self) -> Self
+        ensures { result ≡ opposite self }
+    {
+        match self {
+            Move::U => Move::D,
+            Move::L => Move::R,
+            Move::R => Move::L,
+            Move::D => Move::U,
+        }
+    }
+}
+
+impl Shape {
+    /// The cell next to a cell in a direction, or None at the edge.
+    pub fn neighbour(self, cell: usize, direction: Move) -> Option<usize>
+        requires { cell < cell_count self }
+        ensures towards { (to : ℕ) → (result ≡ Some to) ↔ LiesTowards self direction cell to }
+        ensures value { result ≡ neighbour self direction cell }
+    {
+        next_cell(self, cell, direction)
+    }
+}
+
+// The cell one row or column further, where there is one.
+fn next_cell(shape: Shape, cell: usize, direction: Move) -> Option<usize>
+    requires { cell < cell_count shape }
+    ensures { result ≡ neighbour shape direction cell }
+{
+    let rows = shape.rows() as usize;
+    let cols = shape.cols() as usize;
+    match direction {
+        Move::U if cell < cols => None,
+        Move::U => Some(cell - cols),
+        Move::L if cell % cols == 0 => None,
+        Move::L => Some(cell - 1),
+        Move::R if cell % cols + 1 == cols => None,
+        Move::R => Some(cell + 1),
+        Move::D if cell / cols + 1 == rows => None,
+        Move::D => Some(cell + cols),
+    }
+}
