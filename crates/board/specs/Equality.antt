@@ -3,9 +3,11 @@ use Rattle.std.specs.Prelude.{ℕ, ◌≡◌, ◌==◌, ◌&&◌, Bool, true, fa
 use Rattle.std.specs.Bool.{Decides}
 use Rattle.std.specs.Cmp.{IsPartialEquivalence, IsEquivalence, partial_equiv_from_equiv, decided}
 use Rattle.std.specs.Str.{bytes_eq}
-use Rattle.std.proofs.Common.{◌∙◌, ap, refl}
+use Rattle.std.proofs.Common.{◌∙◌, ap, sym, refl, zero, suc}
 use Rattle.std.proofs.lemmas.Bool.Decides.{Decides-and, Decides-like, Decides-eqb}
 use Rattle.std.proofs.lemmas.Slice.Eq.{bytes_eq-Decides}
+use Rattle.board.specs.declared.moves.Move.{Move}
+use Rattle.board.specs.declared.moves.Move.TheVariants.{U, L, R, D}
 use Rattle.board.specs.Grids.{Grid}
 use Rattle.board.specs.Positions.{Position}
 use Rattle.board.specs.CostRules.{CostRule}
@@ -21,6 +23,40 @@ position_eq a b = grid_eq a.grid b.grid && bytes_eq a.tiles b.tiles
 -- they have the same grid and the same weights
 abbrev pub rule_eq : CostRule → CostRule → Bool
 rule_eq a b = grid_eq a.grid b.grid && bytes_eq a.weights b.weights
+
+-- a number for each move
+abbrev pub number_of : Move → ℕ
+number_of U = 0
+number_of L = 1
+number_of R = 2
+number_of D = 3
+
+-- they are the same move
+abbrev pub move_eq : Move → Move → Bool
+move_eq a b = number_of a == number_of b
+
+-- the move with a number
+move_at : ℕ → Move
+move_at zero = U
+move_at (suc zero) = L
+move_at (suc (suc zero)) = R
+move_at (suc (suc (suc k))) = D
+
+move_at-number_of : (m : Move) → move_at (number_of m) ≡ m
+unfolding move_at
+move_at-number_of U = refl
+move_at-number_of L = refl
+move_at-number_of R = refl
+move_at-number_of D = refl
+
+pub moves_Decide : (a b : Move) → Decides (move_eq a b) (a ≡ b)
+moves_Decide a b = Decides-like _ same (ap number_of) (Decides-eqb _ _)
+  where
+    same : number_of a ≡ number_of b → a ≡ b
+    same e = sym (move_at-number_of a) ∙ ap move_at e ∙ move_at-number_of b
+
+pub move_eq-laws : IsEquivalence move_eq
+move_eq-laws = decided move_eq moves_Decide
 
 pub grids_Decide : (a b : Grid) → Decides (grid_eq a b) (a ≡ b)
 grids_Decide a b = Decides-like _ same (λ e. (ap (λ (g : Grid). g.rows) e, ap (λ (g : Grid). g.cols) e)) (Decides-and _ _ (Decides-eqb _ _) (Decides-eqb _ _))

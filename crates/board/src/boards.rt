@@ -4,8 +4,10 @@ ghost use Rattle.board.specs.Positions.{Position, IsBoard, blank_of, goal_of};
 ghost use Rattle.board.specs.Keys.{key_of, HasKey, digits_of};
 ghost use Rattle.board.specs.Moves.{Moves, successor};
 ghost use Rattle.board.specs.Faults.{IsFirstFault};
+ghost use Rattle.board.specs.Classes.{inversions};
 ghost use Rattle.board.specs.declared.faults.BoardFault.{BoardFault};
 
+use super::classes::count_inversions;
 use super::costs::{Weights, count_up};
 use super::faults::BoardFault;
 use super::moves::Move;
@@ -133,6 +135,14 @@ impl Board {
         ensures board { IsBoard self.now }
     {
         self.shape
+    }
+
+    // How many pairs of cells there are of which the earlier holds the greater number.
+    pub(crate) fn inversions(&self) -> usize
+        ensures value { result ≡ inversions self.now.tiles }
+        ensures high { result ≤ 625 }
+    {
+        count_inversions(&self.tiles[..self.shape.cells()])
     }
 
     /// The board after a move and the weight of the tile moved, or None where the blank would leave the board.

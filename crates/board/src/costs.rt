@@ -1,4 +1,4 @@
-ghost use Rattle.std.specs.Prelude.{◌≡◌, ◌<◌, ◌≤◌, ◌-◌, ◌++◌, replicate};
+ghost use Rattle.std.specs.Prelude.{◌≡◌, ◌<◌, ◌≤◌, ◌↔◌, ◌-◌, ◌++◌, IsTrue, replicate};
 ghost use Rattle.std.specs.List.{range_with_len};
 ghost use Rattle.board.specs.Grids.{cell_count};
 ghost use Rattle.board.specs.CostRules.{IsCostRule, unit_rule, face_rule, weight_of};
@@ -7,7 +7,7 @@ use super::shapes::Shape;
 use std::marker::Model;
 
 /// What it costs to move each tile of a board: a weight from 1 to 255.
-#[derive(Clone, Copy, Debug, PartialEq, Eq)]
+#[derive(Clone, Copy, Debug)]
 pub struct Weights {
     shape: Shape,
     weights: [u8; 25],
@@ -27,6 +27,28 @@ impl Model for Weights {
     ghost inverse = { storage_of };
 
     ghost inverse_ok = { storage_of-rule_in };
+}
+
+impl PartialEq for Weights {
+    ghost use Rattle.std.specs.Cmp.{partial_equiv_from_equiv};
+    ghost use Rattle.board.specs.Equality.{rule_eq, rule_eq-laws};
+
+    ghost eq = { rule_eq };
+
+    ghost laws = { partial_equiv_from_equiv rule_eq-laws };
+
+    fn eq(&self, other: &Self) -> bool
+        ensures value { result ≡ rule_eq self.now other.now }
+        ensures same { IsTrue result ↔ (self.now ≡ other.now) }
+    {
+        self.shape == other.shape && self.weights == other.weights
+    }
+}
+
+impl Eq for Weights {
+    ghost use Rattle.board.specs.Equality.{rule_eq-laws};
+
+    ghost laws = { rule_eq-laws };
 }
 
 impl Weights {

@@ -6,6 +6,7 @@
 #![tactic(auto)]
 
 pub mod boards;
+pub mod classes;
 pub mod costs;
 pub mod faults;
 pub mod laws;
@@ -14,6 +15,7 @@ pub mod plans;
 pub mod shapes;
 
 pub use boards::Board;
+pub use classes::same_class;
 pub use costs::Weights;
 pub use faults::BoardFault;
 pub use moves::Move;

@@ -1,16 +1,38 @@
-ghost use Rattle.std.specs.Prelude.{◌≡◌, ◌<◌, ◌↔◌, ℕ, Some};
+ghost use Rattle.std.specs.Prelude.{◌≡◌, ◌<◌, ◌↔◌, ℕ, IsTrue, Some};
 ghost use Rattle.board.specs.Grids.{cell_count};
 ghost use Rattle.board.specs.Neighbours.{LiesTowards, neighbour, opposite};
 
 use super::shapes::Shape;
 
 /// A move, by the direction in which the blank goes: up, left, right or down.
-#[derive(Clone, Copy, Debug, PartialEq, Eq)]
+#[derive(Clone, Copy, Debug)]
 pub enum Move {
     U,
     L,
     R,
     D,
+}
+
+impl PartialEq for Move {
+    ghost use Rattle.std.specs.Cmp.{partial_equiv_from_equiv};
+    ghost use Rattle.board.specs.Equality.{move_eq, move_eq-laws};
+
+    ghost eq = { move_eq };
+
+    ghost laws = { partial_equiv_from_equiv move_eq-laws };
+
+    fn eq(&self, other: &Self) -> bool
+        ensures value { result ≡ move_eq self.now other.now }
+        ensures same { IsTrue result ↔ (self.now ≡ other.now) }
+    {
+        *self as u8 == *other as u8
+    }
+}
+
+impl Eq for Move {
+    ghost use Rattle.board.specs.Equality.{move_eq-laws};
+
+    ghost laws = { move_eq-laws };
 }
 
 impl Move {

@@ -6,7 +6,7 @@ use super::faults::BoardFault;
 use std::marker::Model;
 
 /// The sides of a board, each from 2 to 5.
-#[derive(Clone, Copy, Debug, PartialEq, Eq)]
+#[derive(Clone, Copy, Debug)]
 pub struct Shape {
     rows: u8,
     cols: u8,
@@ -20,6 +20,28 @@ impl Model for Shape {
     ghost invariant = { λ s. IsShape (record { rows = s.rows; cols = s.cols }) };
 
     ghost inverse = { λ grid. record { rows = grid.rows; cols = grid.cols } };
+}
+
+impl PartialEq for Shape {
+    ghost use Rattle.std.specs.Cmp.{partial_equiv_from_equiv};
+    ghost use Rattle.board.specs.Equality.{grid_eq, grid_eq-laws};
+
+    ghost eq = { grid_eq };
+
+    ghost laws = { partial_equiv_from_equiv grid_eq-laws };
+
+    fn eq(&self, other: &Self) -> bool
+        ensures value { result ≡ grid_eq self.now other.now }
+        ensures same { IsTrue result ↔ (self.now ≡ other.now) }
+    {
+        self.rows == other.rows && self.cols == other.cols
+    }
+}
+
+impl Eq for Shape {
+    ghost use Rattle.board.specs.Equality.{grid_eq-laws};
+
+    ghost laws = { grid_eq-laws };
 }
 
 impl Shape {

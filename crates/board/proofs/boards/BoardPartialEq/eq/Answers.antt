@@ -7,7 +7,7 @@ use Rattle.board.proofs.boards.BoardPartialEq.eq.Goals as goal
 
 pub returns-then-eq-clause-same : goal.returns-then-eq-clause-same
 returns-then-eq-clause-same c =
-    rw (← c.self.view_is, ← c.other.view_is) (same_board c.self.inside c.other.inside _ c.self.invariant c.other.invariant (sym c.eq.ensures ∙ c.if-eq.true) c.eq-then-eq.ensures)
+    rw (← c.self.view_is, ← c.other.view_is) (same_board c.self.inside c.other.inside _ c.self.invariant c.other.invariant (sym c.eq.ensures.value ∙ c.if-eq.true) c.eq-then-eq.ensures)
 
 pub returns-then-eq-clause-value : goal.returns-then-eq-clause-value
 returns-then-eq-clause-value c = same_from_decides _ _ (returns-then-eq-clause-same c) (positions_Decide c.args.self.now c.args.other.now)
