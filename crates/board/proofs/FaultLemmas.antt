@@ -48,13 +48,15 @@ IsSeen-more grid numbers place seen tile before within at below few new =
       different = subst (λ (ts : List ℕ). AllPairs (λ x y. x ≢ y) ts) (sym more) (all_pairs_push (λ x y. x ≢ y) (take place numbers) tile before.different (λ k d k_in same. fresh (k, k_in, get_or_default (take place numbers) k tile d k_in ∙ same)));
       marked = λ other low. subst (λ (ts : List ℕ). (get_or (set seen tile true) other false ≡ true) ↔ Contains ts other) (sym more)
           (⊎_elim
-          (λ (same : other ≡ tile).
-          ((λ e. Contains-append_right (take place numbers) (tile ∷ []) other (0, omega arith, sym same)),
-            (λ has. ap (λ (x : ℕ). get_or (set seen tile true) x false) same ∙ get_or-set_same seen tile true false tile_in)))
+          (λ (same : other ≡ tile). (
+            (λ e. Contains-append_right (take place numbers) (tile ∷ []) other (0, omega arith, sym same)),
+            (λ has. ap (λ (x : ℕ). get_or (set seen tile true) x false) same ∙ get_or-set_same seen tile true false tile_in),
+          ))
           (λ (ne : other ≢ tile).
-          let kept : get_or (set seen tile true) other false ≡ get_or seen other false = get_or-set_other seen tile other true false ne in
-          ((λ e. Contains-append_left (take place numbers) (tile ∷ []) other ((before.marked other low).0 (sym kept ∙ e))),
-            (λ has. kept ∙ (before.marked other low).1 (⊎_elim (λ (had : Contains (take place numbers) other). had) (λ (one : Contains (tile ∷ []) other). absurd (ne (sym (contains_one tile other one)))) (Contains-append_cases (take place numbers) (tile ∷ []) other has)))))
+          let kept : get_or (set seen tile true) other false ≡ get_or seen other false = get_or-set_other seen tile other true false ne in (
+            (λ e. Contains-append_left (take place numbers) (tile ∷ []) other ((before.marked other low).0 (sym kept ∙ e))),
+            (λ has. kept ∙ (before.marked other low).1 (⊎_elim (λ (had : Contains (take place numbers) other). had) (λ (one : Contains (tile ∷ []) other). absurd (ne (sym (contains_one tile other one)))) (Contains-append_cases (take place numbers) (tile ∷ []) other has))),
+          ))
           (cases_eq other tile));
       marks = length-set seen tile true ∙ before.marks;
     }
@@ -96,8 +98,8 @@ clean_repeats grid numbers p q first before (k, inside, is) =
     let early : k < p = omega (arith, inside, length-take p numbers) in
     let there : p < length (take q numbers) = omega (arith, first.within, length-take q numbers) in
     let at : get_or (take q numbers) k 0 ≡ get_or (take q numbers) p 0 =
-        get_or-take q numbers k 0 (omega arith) ∙ get_or_default numbers k 0 (get_or numbers p 0) (omega (arith, first.within)) ∙ sym (get_or-take p numbers k (get_or numbers p 0) early) ∙ is
-        ∙ sym (get_or-take q numbers p 0 before) in
+    get_or-take q numbers k 0 (omega arith) ∙ get_or_default numbers k 0 (get_or numbers p 0) (omega (arith, first.within)) ∙ sym (get_or-take p numbers k (get_or numbers p 0) early) ∙ is
+    ∙ sym (get_or-take q numbers p 0 before) in
     first.different k p 0 early there at
 
 -- the place at which a fault is, and that it is one

@@ -12,3 +12,4 @@ pub mod Equality
 pub mod Storage
 pub mod CostStorage
 pub mod Laws
+pub mod Worked

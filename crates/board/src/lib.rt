@@ -13,6 +13,7 @@ pub mod laws;
 pub mod moves;
 pub mod plans;
 pub mod shapes;
+pub mod worked;
 
 pub use boards::Board;
 pub use classes::same_class;

@@ -1,0 +1,54 @@
+-- Worked rows: what the definitions say of boards that a reader can follow by hand.
+use Rattle.std.specs.Prelude.{ℕ, ◌≡◌, List, [], ◌∷◌, Some, None}
+use Rattle.board.specs.declared.moves.Move.TheVariants.{U, L, R, D}
+use Rattle.board.specs.Grids.{Grid}
+use Rattle.board.specs.Positions.{Position, IsBoard, goal_of}
+use Rattle.board.specs.CostRules.{unit_rule, face_rule}
+use Rattle.board.specs.Moves.{successor}
+use Rattle.board.specs.Plans.{Leads, IsStuckAt}
+use Rattle.board.specs.Rows.{Proves}
+use Rattle.board.specs.Classes.{SameClass}
+use Rattle.board.specs.Keys.{key_of}
+
+abbrev pub grid_of : ℕ → ℕ → Grid
+grid_of rows cols = record { rows = rows; cols = cols }
+
+abbrev pub two_by_two : ℕ → ℕ → ℕ → ℕ → Position
+two_by_two a b c d = record { grid = grid_of 2 2; tiles = a ∷ b ∷ c ∷ d ∷ [] }
+
+-- 1 2 0 over 3 4 5 over 6 7 8
+abbrev pub two_right : Position
+two_right = record { grid = grid_of 3 3; tiles = 1 ∷ 2 ∷ 0 ∷ 3 ∷ 4 ∷ 5 ∷ 6 ∷ 7 ∷ 8 ∷ [] }
+
+-- two moves to the left lead to the goal: at 2, or at 3 where tile t costs t
+abbrev pub TwoLeft : Type 0
+TwoLeft = Leads (unit_rule (grid_of 3 3)) two_right (L ∷ L ∷ []) (goal_of (grid_of 3 3)) 2 × Leads (face_rule (grid_of 3 3)) two_right (L ∷ L ∷ []) (goal_of (grid_of 3 3)) 3
+
+-- six moves round a board of 2 by 2, either way: at 6, and at 12
+abbrev pub SixRound : Type 0
+SixRound =
+    Leads (unit_rule (grid_of 2 2)) (two_by_two 3 2 1 0) (U ∷ L ∷ D ∷ R ∷ U ∷ L ∷ []) (goal_of (grid_of 2 2)) 6
+    × Leads (face_rule (grid_of 2 2)) (two_by_two 3 2 1 0) (L ∷ U ∷ R ∷ D ∷ L ∷ U ∷ []) (goal_of (grid_of 2 2)) 12
+
+-- one move up: at 1, and at 2, the number of the tile moved
+abbrev pub OneUp : Type 0
+OneUp = Leads (unit_rule (grid_of 2 2)) (two_by_two 2 1 0 3) (U ∷ []) (goal_of (grid_of 2 2)) 1 × Leads (face_rule (grid_of 2 2)) (two_by_two 2 1 0 3) (U ∷ []) (goal_of (grid_of 2 2)) 2
+
+-- what each move makes of 1 0 over 2 3
+abbrev pub FourSuccessors : Type 0
+FourSuccessors =
+    (successor (face_rule (grid_of 2 2)) (two_by_two 1 0 2 3) U ≡ None)
+    × (successor (face_rule (grid_of 2 2)) (two_by_two 1 0 2 3) L ≡ Some (two_by_two 0 1 2 3, 1))
+    × (successor (face_rule (grid_of 2 2)) (two_by_two 1 0 2 3) R ≡ None)
+    × (successor (face_rule (grid_of 2 2)) (two_by_two 1 0 2 3) D ≡ Some (two_by_two 1 3 2 0, 3))
+
+-- 0 2 1 3 isn't in the goal's class, and 1 0 2 3 is
+abbrev pub TwoClasses : Type 0
+TwoClasses = (¬ SameClass (two_by_two 0 2 1 3) (goal_of (grid_of 2 2))) × SameClass (two_by_two 1 0 2 3) (goal_of (grid_of 2 2))
+
+abbrev pub TwoKeys : Type 0
+TwoKeys = (key_of (two_by_two 0 1 2 3) ≡ 1091) × (key_of (two_by_two 1 0 2 3) ≡ 32835)
+
+-- the start's row alone proves that one move is least: each successor is at 1
+abbrev pub OneRow : Type 0
+OneRow = Proves (unit_rule (grid_of 2 2)) ((two_by_two 1 0 2 3, 0) ∷ []) (λ _. 0) (two_by_two 1 0 2 3) (goal_of (grid_of 2 2)) 1
