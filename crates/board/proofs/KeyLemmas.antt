@@ -11,7 +11,8 @@ use Rattle.std.proofs.lemmas.List.Elements.{All-weaker, All-take, recursion_from
 use Rattle.std.proofs.lemmas.Nat.{div-mul-add, mod-mul-add, mul-le}
 use Rattle.board.specs.Grids.{Grid, IsShape, cell_count}
 use Rattle.board.specs.Positions.{Position, IsBoard}
-use Rattle.board.specs.Keys.{packed_number, key_of, HasKey, Precedes, digits_of}
+use Rattle.board.specs.Keys.{packed_number, key_of, HasKey, Precedes}
+use Rattle.board.specs.Digits.{digits_of}
 
 -- a number that goes one digit up
 one_up : (n x small large p : ℕ) → large ≡ 32 * small → (n * 32 + x) * small + p ≡ n * large + (x * small + p)
@@ -86,6 +87,10 @@ pub tiles_small : (b : Position) → IsBoard b → All (λ x. x < 32) b.tiles
 tiles_small b is =
     let few : cell_count b.grid ≤ 25 = cells_few b.grid is.sides in
     All-weaker (λ t. t < cell_count b.grid) (λ t. t < 32) (λ t h. omega arith) b.tiles is.in_range
+
+-- a key has no more digits than there are cells
+pub key_of-lt : (b : Position) → IsBoard b → key_of b < 32 ^ cell_count b.grid
+key_of-lt b is = rw (← is.one_each) (packed_number-lt b.tiles (recursion_from_All (λ x. x < 32) b.tiles (tiles_small b is)))
 
 -- the digits of a board's key are its tiles
 pub digits_of-key : (b : Position) → IsBoard b → digits_of (cell_count b.grid) (key_of b) ≡ b.tiles

@@ -1,9 +1,10 @@
 -- What a step writes into memory, and what it answers.
-use Rattle.std.proofs.Common.{◌≡◌, ◌≢◌, ℕ, ◌-◌, ◌+◌, ◌<◌, List, Option, Some, eqb, length, get_or, take, drop, set, replicate, arith, refl, sym, ap, ◌∙◌, subst, lt-ltb}
+use Rattle.std.proofs.Common.{◌≡◌, ◌≢◌, ℕ, ◌-◌, ◌+◌, ◌<◌, List, Option, Some, eqb, length, get_or, take, drop, set, replicate, arith, refl, sym, ap, ◌∙◌, subst, lt-ltb, length-take}
 use Rattle.std.specs.Prelude.{swap, slice_get, option_map, ◌↔◌}
 use Rattle.std.specs.List.{position, position_or_len}
 use Rattle.std.proofs.Math.Seq.{take-set-lt}
 use Rattle.std.proofs.lemmas.List.{get_or-take, drop-set-lt}
+use Rattle.std.proofs.lemmas.List.Sums.{position_or_len_is, fails_before_first}
 use Rattle.std.proofs.lemmas.List.Edits.{swap_is}
 use Rattle.std.proofs.lemmas.Option.{slice_get-get_or}
 use Rattle.board.specs.declared.moves.Move.{Move}
@@ -22,13 +23,21 @@ use Rattle.board.proofs.NeighbourLemmas.{cells_above, successor_moves}
 pub blank_stands : (b : Position) → IsBoard b → (blank_of b < cell_count b.grid) × (get_or b.tiles (blank_of b) 0 ≡ 0)
 blank_stands b board = has_cell b board 0 (cells_above b.grid board.sides)
 
--- the first 0 that is found is the blank
-pub blank_found : (inside : Inside) (n : ℕ) (found : Option ℕ) → IsStored inside → n ≡ cell_count inside.shape → found ≡ position (λ tile. eqb tile 0) (take n inside.tiles) → found ≡ Some (blank_of (position_in inside))
-blank_found inside n found stored same is =
-    let e = stored.board.one_each in
-    let low = (blank_stands (position_in inside) stored.board).0 in
-    let within : position_or_len (λ tile. eqb tile 0) (take (cell_count inside.shape) inside.tiles) < length (take (cell_count inside.shape) inside.tiles) = omega arith in
-    is ∙ rw same (rw (lt-ltb _ _ within))
+-- the first 0 in memory is the blank, though zeros lie behind the tiles
+pub blank_found : (inside : Inside) (found : Option ℕ) → IsStored inside → found ≡ position (λ tile. eqb tile 0) inside.tiles → found ≡ Some (blank_of (position_in inside))
+blank_found inside found stored is =
+    let n : ℕ = cell_count inside.shape in
+    let blank : ℕ = blank_of (position_in inside) in
+    let stands = blank_stands (position_in inside) stored.board in
+    let counted : length (take n inside.tiles) ≡ n = stored.board.one_each in
+    let size = length-take n inside.tiles in
+    let zero : get_or inside.tiles blank 0 ≡ 0 = sym (get_or-take n inside.tiles blank 0 stands.0) ∙ stands.1 in
+    let first : position_or_len (λ tile. eqb tile 0) inside.tiles ≡ blank =
+    position_or_len_is (λ tile. eqb tile 0) inside.tiles blank 0 (omega (arith, stands.0))
+    (λ k before. ap (λ (x : ℕ). eqb x 0) (sym (get_or-take n inside.tiles k 0 (omega (arith, stands.0)))) ∙ fails_before_first (λ tile. eqb tile 0) (take n inside.tiles) k 0 before)
+    (λ _. ap (λ (x : ℕ). eqb x 0) zero) in
+    let within : position_or_len (λ tile. eqb tile 0) inside.tiles < length inside.tiles = omega (arith, stands.0) in
+    is ∙ rw (lt-ltb _ _ within) (ap Some first)
 
 -- the blank's cell holds a 0
 pub blank_holds : (b : Position) → IsBoard b → slice_get b.tiles (blank_of b) ≡ Some 0

@@ -1,5 +1,5 @@
 -- Keys: a board as one number, 5 bits a cell, cell 0 highest.
-use Rattle.std.specs.Prelude.{ℕ, ◌≡◌, ◌⊎◌, ◌+◌, ◌*◌, ◌/◌, ◌%◌, ◌^◌, ◌<◌, List, [], ◌∷◌, ◌++◌, length, zero, suc}
+use Rattle.std.specs.Prelude.{ℕ, ◌≡◌, ◌⊎◌, ◌+◌, ◌*◌, ◌^◌, ◌<◌, List, [], ◌∷◌, length}
 use Rattle.board.specs.Grids.{Grid}
 use Rattle.board.specs.Positions.{Position, IsBoard}
 
@@ -23,8 +23,3 @@ abbrev pub Precedes : List ℕ → List ℕ → Type 0
 Precedes xs [] = ⊥
 Precedes [] (y ∷ ys) = Unit {0}
 Precedes (x ∷ xs) (y ∷ ys) = (x < y) ⊎ ((x ≡ y) × Precedes xs ys)
-
--- the last n digits of a number to the base 32
-abbrev pub digits_of : ℕ → ℕ → List ℕ
-digits_of zero k = []
-digits_of (suc n) k = digits_of n (k / 32) ++ k % 32 ∷ []

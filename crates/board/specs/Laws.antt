@@ -1,5 +1,5 @@
 -- The laws of moves, plans, classes, keys and rows.
-use Rattle.std.specs.Prelude.{ℕ, ◌≡◌, ◌+◌, ◌<◌, ◌↔◌, List, ◌++◌, take, drop, Some}
+use Rattle.std.specs.Prelude.{ℕ, ◌≡◌, ◌+◌, ◌^◌, ◌<◌, ◌↔◌, List, ◌++◌, take, drop, Some}
 use Rattle.board.specs.declared.moves.Move.{Move}
 use Rattle.board.specs.Grids.{Grid, cell_count}
 use Rattle.board.specs.Neighbours.{LiesTowards, neighbour, opposite}
@@ -67,6 +67,10 @@ PlansKeepTheClass = (rule : CostRule) (b : Position) (plan : List Move) (q : Pos
 -- a key names one board of a grid
 abbrev pub KeysNameBoards : Type 0
 KeysNameBoards = (a b : Position) → IsBoard a → IsBoard b → a.grid ≡ b.grid → key_of a ≡ key_of b → a ≡ b
+
+-- a key has 5 bits for each cell, so it is below 32 to the power of their count
+abbrev pub KeysFit : Type 0
+KeysFit = (b : Position) → IsBoard b → key_of b < 32 ^ cell_count b.grid
 
 -- the order of the keys of boards of a grid is the order of their lists of tiles
 abbrev pub KeysAreInOrder : Type 0

@@ -9,6 +9,7 @@ pub mod Classes
 pub mod Keys
 pub mod Faults
 pub mod Equality
+pub mod Digits
 pub mod Storage
 pub mod CostStorage
 pub mod Laws

@@ -1,7 +1,8 @@
 ghost use Rattle.std.specs.Prelude.{◌≡◌, ◌==◌, ◌<◌, ◌≤◌, ◌↔◌, ◌-◌, ◌++◌, ℕ, position, IsTrue, IsOk, IsSome, IsErrOf, OnOk, IfErr, IfOk, IfSome, length, take, replicate, slice_get, Some};
 ghost use Rattle.board.specs.Grids.{cell_count};
 ghost use Rattle.board.specs.Positions.{Position, IsBoard, blank_of, goal_of};
-ghost use Rattle.board.specs.Keys.{key_of, HasKey, digits_of};
+ghost use Rattle.board.specs.Keys.{key_of, HasKey};
+ghost use Rattle.board.specs.Digits.{digits_of};
 ghost use Rattle.board.specs.Moves.{Moves, successor};
 ghost use Rattle.board.specs.Faults.{IsFirstFault};
 ghost use Rattle.board.specs.Classes.{inversions};
@@ -61,8 +62,9 @@ impl Eq for Board {
 }
 
 impl Board {
-    /// The board with these tiles on its cells, or the first fault: E2 where the count is not that of the
-    /// cells, else by place E3 where the number is no tile, E4 where it stood before.
+    /// The board with these numbers on its cells, from cell 0 on, or the first fault: E2 where their
+    /// count is not that of the cells, else by place E3 where a number is not below the count of cells,
+    /// E4 where it stood before.
     pub fn from_tiles(shape: Shape, numbers: &[u8]) -> Result<Self, BoardFault>
         ensures accepted { IsOk result ↔ IsBoard (record { grid = shape; tiles = numbers.now }) }
         ensures value { IfOk result (λ b. b ≡ record { grid = shape; tiles = numbers.now }) }
@@ -84,7 +86,8 @@ impl Board {
         Board { shape, tiles }
     }
 
-    /// The board as one number: 5 bits a cell, cell 0 highest. So the order of keys is that of tile lists.
+    /// The board as one number: 5 bits a cell, cell 0 highest. So the keys of boards of one shape are in
+    /// the order of their lists of tiles.
     pub fn key(&self) -> u128
         ensures { result ≡ key_of self.now }
     {
@@ -126,7 +129,7 @@ impl Board {
         ensures within { result < cell_count self.now.grid }
         ensures zero { slice_get self.now.tiles result ≡ Some 0 }
     {
-        first_zero(&self.tiles[..self.shape.cells()]).unwrap()
+        first_zero(&self.tiles).unwrap()
     }
 
     /// The sides of the board.
@@ -145,10 +148,12 @@ impl Board {
         count_inversions(&self.tiles[..self.shape.cells()])
     }
 
-    /// The board after a move and the weight of the tile moved, or None where the blank would leave the board.
+    /// The board after a move and the weight of the tile moved, or None where the blank would leave the
+    /// board.
     pub fn step(&self, direction: Move, weights: &Weights) -> Option<(Board, u32)>
         requires { weights.now.grid ≡ self.now.grid }
-        ensures moves { (b : Position) (cost : ℕ) → (result ≡ Some (b, cost)) ↔ Moves weights.now self.now direction b cost }
+        ensures moves { (b : Position) (cost : ℕ) →
+            (result ≡ Some (b, cost)) ↔ Moves weights.now self.now direction b cost }
         ensures value { result ≡ successor weights.now self.now direction }
         ensures board { IfSome result (λ moved. IsBoard moved.0) }
         ensures paid { IfSome result (λ moved. moved.1 ≤ 255) }

@@ -1,6 +1,6 @@
 //! The laws of the definitions: each is the contract of a function that does nothing.
 
-ghost use Rattle.board.specs.Laws.{NeighboursLieThere, SuccessorsAreMoves, MovesKeepBoards, MovesAreDetermined, MovesAreTakenBack, PlansAreJoined, PlansAreCut, PlansAreDetermined, PlansKeepBoards, MovesKeepTheClass, PlansKeepTheClass, KeysNameBoards, KeysAreInOrder, RowsSuffice};
+ghost use Rattle.board.specs.Laws.{NeighboursLieThere, SuccessorsAreMoves, MovesKeepBoards, MovesAreDetermined, MovesAreTakenBack, PlansAreJoined, PlansAreCut, PlansAreDetermined, PlansKeepBoards, MovesKeepTheClass, PlansKeepTheClass, KeysNameBoards, KeysFit, KeysAreInOrder, RowsSuffice};
 
 /// What is computed of a move is what it does, both ways.
 pub fn successors_are_moves()
@@ -45,9 +45,10 @@ pub fn plans_keep_the_class()
     ensures plans { PlansKeepTheClass }
 {}
 
-/// A key names one board of a shape.
+/// A key names one board of a shape, and has 5 bits for each cell.
 pub fn keys_name_boards()
-    ensures { KeysNameBoards }
+    ensures one { KeysNameBoards }
+    ensures bits { KeysFit }
 {}
 
 /// The order of keys is the order of lists of tiles.

@@ -6,11 +6,12 @@ use super::boards::Board;
 use super::costs::Weights;
 use super::moves::Move;
 
-/// Follows a plan from a board: the end and the cost, or the place of the first move at which the blank
+/// Follows a plan from a board: the end and the cost, or the place of the first move by which the blank
 /// would leave the board, counted from 0.
 pub fn follow(start: &Board, plan: &[Move], weights: &Weights) -> Result<(Board, u128), usize>
     requires { weights.now.grid ≡ start.now.grid }
-    ensures led { (b : Position) (k : ℕ) → (result ≡ Ok (b, k)) ↔ Leads weights.now start.now plan.now b k }
+    ensures led { (b : Position) (cost : ℕ) →
+        (result ≡ Ok (b, cost)) ↔ Leads weights.now start.now plan.now b cost }
     ensures stuck { (place : ℕ) → (result ≡ Err place) ↔ IsStuckAt weights.now start.now plan.now place }
 {
     let mut board = *start;

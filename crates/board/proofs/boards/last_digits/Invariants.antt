@@ -1,5 +1,5 @@
 use Rattle.std.proofs.Common.{◌≡◌, ◌++◌, take, drop, length}
-use Rattle.board.specs.Keys.{digits_of}
+use Rattle.board.specs.Digits.{digits_of}
 use Rattle.board.proofs.boards.last_digits.Given as goal
 
 abbrev pub invariant-loop-cell : goal.invariant-loop-cell
