@@ -6,7 +6,7 @@ use Rattle.std.proofs.lemmas.List.{take_more, take_all, get_or-take, get_or_defa
 use Rattle.std.proofs.lemmas.List.Elements.{All-more, Contains-append_left, Contains-append_right, Contains-append_cases}
 use Rattle.std.proofs.lemmas.List.Quantifiers.{all_pairs_push}
 use Rattle.board.specs.Grids.{Grid, IsShape, cell_count}
-use Rattle.board.specs.Positions.{Position, IsBoard}
+use Rattle.board.specs.Positions.{IsBoard}
 use Rattle.board.specs.Faults.{IsFirstPlace, IsFirstFault}
 use Rattle.board.specs.declared.faults.BoardFault.{BoardFault}
 use Rattle.board.specs.declared.faults.BoardFault.TheVariants.{SideOutOfRange, WrongCount, TileOutOfRange, TileRepeated}

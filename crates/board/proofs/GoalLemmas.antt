@@ -1,5 +1,5 @@
 -- The goal, and the two cost rules.
-use Rattle.std.proofs.Common.{◌≡◌, ◌≢◌, ℕ, zero, suc, ◌+◌, ◌-◌, ◌<◌, ◌≤◌, List, [], ◌∷◌, ◌++◌, length, get_or, set, take, drop, replicate, refl, sym, ap, ◌∙◌, subst, arith}
+use Rattle.std.proofs.Common.{◌≡◌, ℕ, zero, suc, ◌+◌, ◌-◌, ◌<◌, ◌≤◌, List, ◌∷◌, ◌++◌, length, get_or, set, replicate, refl, sym, ap, ◌∙◌, subst, arith}
 use Rattle.std.specs.List.{range_with_len}
 use Rattle.std.proofs.lemmas.List.FromFn.{length-range_with_len, get_or-range_with_len}
 use Rattle.std.proofs.lemmas.List.{length-replicate, get_or-replicate, replicate_more}
@@ -8,8 +8,6 @@ use Rattle.board.specs.Positions.{IsBoard, goal_of}
 use Rattle.board.specs.CostRules.{IsCostRule, unit_rule, face_rule}
 use Rattle.board.specs.Storage.{IsStored}
 use Rattle.board.specs.CostStorage as cost
-use Rattle.board.specs.declared.boards.Board.TheInside as board
-use Rattle.board.specs.declared.costs.Weights.TheInside as weights
 use Rattle.board.proofs.NeighbourLemmas.{cells_above}
 use Rattle.board.proofs.StorageLemmas.{filled_more, filled_parts}
 

@@ -1,5 +1,5 @@
 -- What a step writes into memory, and what it answers.
-use Rattle.std.proofs.Common.{◌≡◌, ◌≢◌, ℕ, ◌-◌, ◌+◌, ◌<◌, List, Option, Some, eqb, length, get_or, take, drop, set, replicate, arith, refl, sym, ap, ◌∙◌, subst, lt-ltb, length-take}
+use Rattle.std.proofs.Common.{◌≡◌, ◌≢◌, ℕ, ◌<◌, List, Option, Some, eqb, length, get_or, take, set, arith, sym, ap, ◌∙◌, subst, lt-ltb, length-take}
 use Rattle.std.specs.Prelude.{swap, slice_get, option_map, ◌↔◌}
 use Rattle.std.specs.List.{position, position_or_len}
 use Rattle.std.proofs.Math.Seq.{take-set-lt}

@@ -1,17 +1,14 @@
 -- What lies in memory, and `==` of it.
-use Rattle.std.proofs.Common.{◌≡◌, ℕ, ◌-◌, ◌+◌, ◌<◌, ◌≤◌, Bool, true, List, ◌++◌, ◌∷◌, [], length, set, take, drop, replicate, suc, refl, sym, ap, ◌∙◌, arith, append_assoc}
-use Rattle.std.specs.Prelude.{◌↔◌, IsTrue}
+use Rattle.std.proofs.Common.{◌≡◌, ℕ, ◌-◌, ◌+◌, ◌<◌, Bool, true, List, ◌++◌, ◌∷◌, [], length, set, take, drop, replicate, suc, sym, ap, ◌∙◌, arith, append_assoc}
 use Rattle.std.specs.Bool.{Decides}
 use Rattle.std.specs.List.{range_with_len}
 use Rattle.std.specs.Str.{bytes_eq}
-use Rattle.std.proofs.lemmas.Bool.Decides.{Decides-at, Decides-like, same_from_decides}
+use Rattle.std.proofs.lemmas.Bool.Decides.{Decides-at, Decides-like}
 use Rattle.std.proofs.lemmas.List.{set_at, take_at, drop_at, map-id}
-use Rattle.std.proofs.lemmas.List.FromFn.{map-range_with_len_more, length-range_with_len}
+use Rattle.std.proofs.lemmas.List.FromFn.{map-range_with_len_more}
 use Rattle.std.proofs.lemmas.Slice.Eq.{bytes_eq-Decides}
-use Rattle.board.specs.Grids.{Grid, cell_count}
-use Rattle.board.specs.Positions.{Position}
-use Rattle.board.specs.CostRules.{CostRule}
-use Rattle.board.specs.Equality.{grid_eq, position_eq, rule_eq, grids_Decide, positions_Decide, rules_Decide}
+use Rattle.board.specs.Grids.{cell_count}
+use Rattle.board.specs.Equality.{grid_eq, grids_Decide}
 use Rattle.board.specs.Storage.{position_in, storage_of, IsStored, storage_of-position_in}
 use Rattle.board.specs.CostStorage.{rule_in}
 use Rattle.board.specs.CostStorage as cost

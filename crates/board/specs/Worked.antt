@@ -1,11 +1,11 @@
 -- Worked rows: what the definitions say of boards that a reader can follow by hand.
-use Rattle.std.specs.Prelude.{ℕ, ◌≡◌, List, [], ◌∷◌, Some, None}
+use Rattle.std.specs.Prelude.{ℕ, ◌≡◌, [], ◌∷◌, Some, None}
 use Rattle.board.specs.declared.moves.Move.TheVariants.{U, L, R, D}
 use Rattle.board.specs.Grids.{Grid}
-use Rattle.board.specs.Positions.{Position, IsBoard, goal_of}
+use Rattle.board.specs.Positions.{Position, goal_of}
 use Rattle.board.specs.CostRules.{unit_rule, face_rule}
 use Rattle.board.specs.Moves.{successor}
-use Rattle.board.specs.Plans.{Leads, IsStuckAt}
+use Rattle.board.specs.Plans.{Leads}
 use Rattle.board.specs.Rows.{Proves}
 use Rattle.board.specs.Classes.{SameClass}
 use Rattle.board.specs.Keys.{key_of}

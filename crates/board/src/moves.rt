@@ -7,9 +7,13 @@ use super::shapes::Shape;
 /// A move, by the direction in which the blank goes: up, left, right or down.
 #[derive(Clone, Copy, Debug)]
 pub enum Move {
+    /// Up.
     U,
+    /// To the left.
     L,
+    /// To the right.
     R,
+    /// Down.
     D,
 }
 

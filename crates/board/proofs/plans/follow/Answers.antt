@@ -1,8 +1,7 @@
-use Rattle.std.proofs.Common.{◌≡◌, ℕ, get_or, refl, take, Some, sym, ◌∙◌, arith}
-use Rattle.std.proofs.lemmas.List.{take_all}
+use Rattle.std.proofs.Common.{get_or, refl, arith}
 use Rattle.std.proofs.lemmas.Option.{slice_get-get_or}
 use Rattle.board.specs.declared.moves.Move.TheVariants.{U}
-use Rattle.board.specs.Plans.{Leads, IsStuckAt}
+use Rattle.board.specs.Plans.{IsStuckAt}
 use Rattle.board.proofs.PlanLemmas.{IsFollowed-more, stuck_here, led_here, followed_to_end, followed_to_edge}
 use Rattle.board.proofs.plans.follow.Goals as goal
 

@@ -1,5 +1,3 @@
-use Rattle.std.proofs.Common.{◌≡◌, ◌≤◌, ◌*◌, take}
-use Rattle.board.specs.Plans.{Leads}
 use Rattle.board.proofs.PlanLemmas.{IsFollowed}
 use Rattle.board.proofs.plans.follow.Given as goal
 

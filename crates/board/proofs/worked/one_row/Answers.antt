@@ -6,7 +6,6 @@ use Rattle.std.proofs.lemmas.List.Elements.{All-from_recursion}
 use Rattle.std.proofs.lemmas.Map.Made.{AllPairs-from_IsDistinct}
 use Rattle.board.specs.declared.moves.Move.{Move}
 use Rattle.board.specs.declared.moves.Move.TheVariants.{U, L, R, D}
-use Rattle.board.specs.Grids.{IsShape}
 use Rattle.board.specs.Positions.{Position, IsBoard, goal_of}
 use Rattle.board.specs.CostRules.{unit_rule}
 use Rattle.board.specs.Moves.{Moves, successor}

@@ -1,7 +1,5 @@
-use Rattle.std.proofs.Common.{◌≡◌, ◌<◌, ℕ, Some, refl, subst}
-use Rattle.std.specs.Prelude.{slice_get}
-use Rattle.board.specs.Grids.{cell_count}
-use Rattle.board.specs.Positions.{Position, blank_of}
+use Rattle.std.proofs.Common.{◌≡◌, refl}
+use Rattle.board.specs.Positions.{blank_of}
 use Rattle.board.specs.Storage.{position_in}
 use Rattle.board.proofs.StepLemmas.{blank_found, blank_stands, blank_holds}
 use Rattle.board.proofs.boards.Board.blank.Goals as goal

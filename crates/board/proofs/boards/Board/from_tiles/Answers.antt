@@ -1,6 +1,5 @@
 use Rattle.std.proofs.Common.{◌≡◌, Err, ap, sym, subst}
 use Rattle.board.specs.Faults.{IsFirstFault}
-use Rattle.board.specs.declared.faults.BoardFault.{BoardFault}
 use Rattle.board.proofs.FaultLemmas.{no_fault, one_fault}
 use Rattle.board.proofs.boards.Board.from_tiles.Goals as goal
 

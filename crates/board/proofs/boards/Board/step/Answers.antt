@@ -1,4 +1,4 @@
-use Rattle.std.proofs.Common.{◌≡◌, ◌<◌, ◌≢◌, ℕ, sym, ◌∙◌, ap, refl, subst}
+use Rattle.std.proofs.Common.{◌≡◌, ◌≢◌, ℕ, sym, ◌∙◌, ap, subst}
 use Rattle.std.proofs.lemmas.List.{get_or-take}
 use Rattle.board.specs.Grids.{cell_count}
 use Rattle.board.specs.Positions.{Position, IsBoard, blank_of}

@@ -1,4 +1,4 @@
-use Rattle.std.proofs.Common.{ℕ, arith}
+use Rattle.std.proofs.Common.{arith}
 use Rattle.board.proofs.GoalLemmas.{ones_more, unit_stored}
 use Rattle.board.proofs.costs.Weights.unit.Goals as goal
 
