@@ -1,0 +1,3 @@
+pub mod StartLemmas
+pub mod JudgeLemmas
+pub mod LineLemmas

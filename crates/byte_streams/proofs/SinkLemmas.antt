@@ -1,0 +1,36 @@
+-- What several calls of a sink wrote.
+use Rattle.std.proofs.Common.{ℕ, List, ◌++◌, Option, sym, ◌∙◌, ap, append_assoc, refl, take, drop, take-append-drop}
+use Rattle.std.specs.Io.KnownBytes.{Appends, Keeps}
+use Rattle.std.proofs.KnownBytes.{Appends-trans, Appends-kept}
+use Rattle.byte_streams.specs.Sink.{AppendsBeginning}
+
+-- the first n bytes were written, and then a call failed
+pub AppendsBeginning-from_take : (a b c : Option (List ℕ)) (n : ℕ) (xs : List ℕ) → Appends a b (take n xs) → Keeps b c → AppendsBeginning a c xs
+AppendsBeginning-from_take a b c n xs p q = record {
+  sent = take n xs;
+  unsent = drop n xs;
+  parts = sym (take-append-drop n xs);
+  appended = Appends-kept a b c (take n xs) p q;
+}
+
+-- all of the first bytes were written, and then a beginning of the next
+pub AppendsBeginning-after : (a b c : Option (List ℕ)) (xs ys : List ℕ) → Appends a b xs → AppendsBeginning b c ys → AppendsBeginning a c (xs ++ ys)
+AppendsBeginning-after a b c xs ys p q = record {
+  sent = xs ++ q.sent;
+  unsent = q.unsent;
+  parts = ap (λ l. xs ++ l) q.parts ∙ sym (append_assoc xs q.sent q.unsent);
+  appended = Appends-trans a b c xs q.sent p q.appended;
+}
+
+-- a beginning of the first bytes is one of the first and the next
+pub AppendsBeginning-longer : (a b : Option (List ℕ)) (xs ys : List ℕ) → AppendsBeginning a b xs → AppendsBeginning a b (xs ++ ys)
+AppendsBeginning-longer a b xs ys p = record {
+  sent = p.sent;
+  unsent = p.unsent ++ ys;
+  parts = ap (λ l. l ++ ys) p.parts ∙ append_assoc p.sent p.unsent ys;
+  appended = p.appended;
+}
+
+-- all of the first bytes are a beginning of the first and the next
+pub AppendsBeginning-from_all : (a b : Option (List ℕ)) (xs ys : List ℕ) → Appends a b xs → AppendsBeginning a b (xs ++ ys)
+AppendsBeginning-from_all a b xs ys p = record { sent = xs; unsent = ys; parts = refl; appended = p }

@@ -1,0 +1,4 @@
+pub mod Source
+pub mod Sink
+pub mod ByteSource
+pub mod ByteSink

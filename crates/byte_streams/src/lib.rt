@@ -1,0 +1,16 @@
+//! Streams of bytes that say when they have failed.
+//!
+//! std's `Read` and `Write` promise nothing of when a call fails, and their calls for whole texts
+//! try again after some errors. A [`Source`] and a [`Sink`] fail once and for all, and their
+//! contracts say what stands then.
+#![tactic(auto)]
+
+pub mod reader;
+pub mod sink;
+pub mod source;
+pub mod writer;
+
+pub use reader::Reader;
+pub use sink::{ByteSink, Sink, WriteFailed};
+pub use source::{ByteSource, ReadFailed, Source};
+pub use writer::Writer;

@@ -1,0 +1,149 @@
+ghost use Rattle.std.specs.Prelude.{◌≡◌, ◌<◌, ◌≤◌, ℕ, Bool, true, false, is_err, IfOk, IsErr, length, List, OnErr, OnOk, Option, take};
+ghost use Rattle.std.specs.Io.KnownBytes.{Appends, Keeps};
+ghost use Rattle.byte_streams.specs.Sink.{AppendsBeginning};
+ghost use Rattle.byte_streams.specs.ByteSink.{inner_writer, sink_has_failed, EndsBy};
+
+use crate::writer::Writer;
+use thiserror::Error;
+
+/// A sink failed.
+#[derive(Clone, Copy, Debug, PartialEq, Eq, Error)]
+#[error("the output cannot be written")]
+pub struct WriteFailed;
+
+/// Bytes that are written, to what may fail.
+pub trait Sink {
+    // The bytes that are written, where they are known, with those that a buffer holds back.
+    ghost contents: { Self → Option (List ℕ) };
+
+    // A write or a flush has failed.
+    ghost has_failed: { Self → Bool };
+
+    /// Writes all of the bytes.
+    ///
+    /// It fails exactly where the sink has failed after it. What was written then is what stood
+    /// before and a beginning of the bytes, and each later call fails and writes nothing.
+    fn put(&mut self, bytes: &[u8]) -> Result<(), WriteFailed>
+        ensures all { OnOk result (Appends (contents self.old) (contents self.new) bytes.now) }
+        ensures beginning { OnErr result
+            (AppendsBeginning (contents self.old) (contents self.new) bytes.now) }
+        ensures fails { has_failed self.new ≡ is_err result }
+        ensures stays { has_failed self.old ≡ true
+            → IsErr result × Keeps (contents self.old) (contents self.new) };
+
+    /// Passes on what is still held back.
+    ///
+    /// It fails exactly where the sink has failed after it, and writes no byte of its own.
+    fn flush(&mut self) -> Result<(), WriteFailed>
+        ensures kept { Keeps (contents self.old) (contents self.new) }
+        ensures fails { has_failed self.new ≡ is_err result }
+        ensures stays { has_failed self.old ≡ true → IsErr result };
+}
+
+/// The bytes that a writer takes, up to its first failure.
+///
+/// Short texts are writes of their own, so put a `BufWriter` round a writer whose writes are slow,
+/// and flush the sink at the end: a `BufWriter` that is dropped reports no failure.
+#[derive(Debug, Drop)]
+pub struct ByteSink<W> {
+    writer: W,
+    has_failed: bool,
+}
+
+impl<W: Writer> ByteSink<W> {
+    /// A sink that adds to what the writer holds.
+    pub fn new(writer: W) -> Self
+        ensures writer { inner_writer result ≡ writer }
+        ensures fresh { sink_has_failed result ≡ false }
+    {
+        ByteSink {
+            writer,
+            has_failed: false,
+        }
+    }
+
+    /// The writer, with what it holds. Nothing is flushed.
+    pub fn into_inner(self) -> W
+        ensures { result ≡ inner_writer self }
+    {
+        self.writer
+    }
+}
+
+impl<W: Writer> Sink for ByteSink<W> {
+    ghost contents = { λ s. W.contents (inner_writer s) };
+
+    ghost has_failed = { sink_has_failed };
+
+    fn put(&mut self, bytes: &[u8]) -> Result<(), WriteFailed>
+        ensures all { OnOk result (Appends (W.contents (inner_writer self.old))
+            (W.contents (inner_writer self.new)) bytes.now) }
+        ensures beginning { OnErr result (AppendsBeginning (W.contents (inner_writer self.old))
+            (W.contents (inner_writer self.new)) bytes.now) }
+        ensures fails { sink_has_failed self.new ≡ is_err result }
+        ensures stays { sink_has_failed self.old ≡ true → IsErr result
+            × Keeps (W.contents (inner_writer self.old)) (W.contents (inner_writer self.new)) }
+
+        // It fails only by a write that failed, or took no byte, in this call, or since it had
+        // failed before.
+        ensures cause { sink_has_failed self.old ≡ false
+            → OnErr result (EndsBy W.write_fails (inner_writer self.new)) }
+        ensures untouched { sink_has_failed self.old ≡ true
+            → inner_writer self.new ≡ inner_writer self.old }
+    {
+        if self.has_failed {
+            return Err(WriteFailed);
+        }
+        let mut sent = 0;
+        'writes: while sent < bytes.len() {
+            match write_some(&mut self.writer, &bytes[sent..]) {
+                Ok(taken) => sent += taken,
+                Err(failure) => {
+                    self.has_failed = true;
+                    return Err(failure);
+                }
+            }
+        }
+        Ok(())
+    }
+
+    fn flush(&mut self) -> Result<(), WriteFailed>
+        ensures kept { Keeps (W.contents (inner_writer self.old))
+            (W.contents (inner_writer self.new)) }
+        ensures fails { sink_has_failed self.new ≡ is_err result }
+        ensures stays { sink_has_failed self.old ≡ true → IsErr result }
+
+        // It succeeds only by a flush, and fails only by one that failed in this call, or since it
+        // had failed before.
+        ensures flushed { OnOk result (W.flushes (inner_writer self.old) (inner_writer self.new)) }
+        ensures cause { sink_has_failed self.old ≡ false
+            → OnErr result (W.flush_fails (inner_writer self.old) (inner_writer self.new)) }
+        ensures untouched { sink_has_failed self.old ≡ true
+            → inner_writer self.new ≡ inner_writer self.old }
+    {
+        if self.has_failed {
+            return Err(WriteFailed);
+        }
+        if self.writer.flush_once().is_err() {
+            self.has_failed = true;
+            return Err(WriteFailed);
+        }
+        Ok(())
+    }
+}
+
+// One write of a text that is not empty. A writer that takes none of it would take none for ever.
+fn write_some<W: Writer>(writer: &mut W, bytes: &[u8]) -> Result<usize, WriteFailed>
+    requires { 0 < length bytes.now }
+    ensures bound { IfOk result (λ n. (0 < n) × (n ≤ length bytes.now)) }
+    ensures taken { IfOk result
+        (λ n. Appends (W.contents writer.old) (W.contents writer.new) (take n bytes.now)) }
+    ensures kept { OnErr result (Keeps (W.contents writer.old) (W.contents writer.new)) }
+    ensures cause { OnErr result (W.write_fails writer.old writer.new) }
+{
+    match writer.write_once(bytes) {
+        Ok(0) => Err(WriteFailed),
+        Ok(taken) => Ok(taken),
+        Err(_) => Err(WriteFailed),
+    }
+}

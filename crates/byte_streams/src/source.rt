@@ -1,0 +1,94 @@
+ghost use Rattle.std.specs.Prelude.{◌≡◌, ℕ, Bool, true, false, is_err, IfOk, IsErr, List, OnErr, Option};
+ghost use Rattle.std.specs.Io.KnownBytes.{Keeps};
+ghost use Rattle.byte_streams.specs.Source.{GivesByte};
+ghost use Rattle.byte_streams.specs.ByteSource.{inner_reader, source_has_failed};
+
+use crate::reader::Reader;
+use thiserror::Error;
+
+/// A source failed.
+#[derive(Clone, Copy, Debug, PartialEq, Eq, Error)]
+#[error("the input cannot be read")]
+pub struct ReadFailed;
+
+/// Bytes that are read one by one, from what may fail.
+pub trait Source {
+    // The bytes that are left, where they are known.
+    ghost left: { Self → Option (List ℕ) };
+
+    // Reading has failed.
+    ghost has_failed: { Self → Bool };
+
+    /// The next byte, or `None` at the end.
+    ///
+    /// It fails exactly where the source has failed after it. No byte is lost then, and each later
+    /// call fails too.
+    fn next_byte(&mut self) -> Result<Option<u8>, ReadFailed>
+        ensures byte { IfOk result (GivesByte (left self.old) (left self.new)) }
+        ensures kept { OnErr result (Keeps (left self.old) (left self.new)) }
+        ensures fails { has_failed self.new ≡ is_err result }
+        ensures stays { has_failed self.old ≡ true → IsErr result };
+}
+
+/// The bytes of a reader, up to its first failure.
+///
+/// Each byte is a read of its own, so put a `BufReader` round a reader whose reads are slow.
+#[derive(Debug, Drop)]
+pub struct ByteSource<R> {
+    reader: R,
+    has_failed: bool,
+}
+
+impl<R: Reader> ByteSource<R> {
+    /// A source of what the reader has left.
+    pub fn new(reader: R) -> Self
+        ensures reader { inner_reader result ≡ reader }
+        ensures fresh { source_has_failed result ≡ false }
+    {
+        ByteSource {
+            reader,
+            has_failed: false,
+        }
+    }
+
+    /// The reader, which stands after the last byte that was given.
+    pub fn into_inner(self) -> R
+        ensures { result ≡ inner_reader self }
+    {
+        self.reader
+    }
+}
+
+impl<R: Reader> Source for ByteSource<R> {
+    ghost left = { λ s. R.left (inner_reader s) };
+
+    ghost has_failed = { source_has_failed };
+
+    fn next_byte(&mut self) -> Result<Option<u8>, ReadFailed>
+        ensures byte { IfOk result
+            (GivesByte (R.left (inner_reader self.old)) (R.left (inner_reader self.new))) }
+        ensures kept { OnErr result
+            (Keeps (R.left (inner_reader self.old)) (R.left (inner_reader self.new))) }
+        ensures fails { source_has_failed self.new ≡ is_err result }
+        ensures stays { source_has_failed self.old ≡ true → IsErr result }
+
+        // It fails only by a read that failed in this call, or since it had failed before.
+        ensures cause { source_has_failed self.old ≡ false
+            → OnErr result (R.read_fails (inner_reader self.old) (inner_reader self.new)) }
+        ensures untouched { source_has_failed self.old ≡ true
+            → inner_reader self.new ≡ inner_reader self.old }
+    {
+        if self.has_failed {
+            return Err(ReadFailed);
+        }
+        let mut byte = [0; 1];
+        match self.reader.read_once(&mut byte) {
+            Ok(0) => Ok(None),
+            Ok(_) => Ok(Some(byte[0])),
+            Err(_) => {
+                self.has_failed = true;
+                Err(ReadFailed)
+            }
+        }
+    }
+}
