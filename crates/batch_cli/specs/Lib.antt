@@ -1,3 +1,9 @@
 pub mod Lines
 pub mod Readings
 pub mod Starts
+pub mod Words
+pub mod TileNumbers
+pub mod Outcomes
+pub mod Reports
+pub mod Batches
+pub mod Setups

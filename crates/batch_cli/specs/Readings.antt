@@ -39,7 +39,7 @@ pub record IsJudged (line : List ℕ) (kind : LineKind) (kept : List ℕ) : Type
 abbrev pub TakesLine : Option (List ℕ) → Option (List ℕ) → Reading → Reading → Option Line → Type 0
 TakesLine old new before after None = IsAtEnd old × Keeps old new × (after.lines ≡ before.lines) × (after.taken ≡ before.taken)
 TakesLine old new before after (Some line) =
-    (bytes : List ℕ) × TakesKnown old new bytes × IsJudged bytes line.kind after.kept × (line.number ≡ before.lines + 1) × (after.lines ≡ line.number)
+    (bytes : List ℕ) × TakesKnown old new bytes × IsJudged bytes line.kind after.kept × (line.number ≡ before.lines + 1) × (after.lines ≡ line.number) × (before.taken < after.taken)
 
 -- the next line is taken, and so much is remembered of it; or there is none and nothing is taken
 abbrev pub HearsLine : Option (List ℕ) → Option (List ℕ) → ℕ → ℕ → List ℕ → Option Heard → Type 0

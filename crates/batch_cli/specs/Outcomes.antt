@@ -1,0 +1,51 @@
+-- When an outcome answers a task.
+use Rattle.std.specs.Prelude.{ℕ, ◌≡◌, ◌≤◌, ◌<◌, ⊤, List, Option, None, Some, Vec}
+use Rattle.std.specs.declared.alloc.Global.{Global}
+use Rattle.board.specs.declared.moves.Move.{Move}
+use Rattle.board.specs.Positions.{Position}
+use Rattle.board.specs.CostRules.{CostRule}
+use Rattle.board.specs.Plans.{Leads, NothingBelow, IsLeast}
+use Rattle.board.specs.Classes.{SameClass}
+use Rattle.batch_cli.specs.declared.outcomes.Why.{Why}
+use Rattle.batch_cli.specs.declared.outcomes.Why.TheVariants.{Parity, Exhausted}
+use Rattle.batch_cli.specs.declared.outcomes.Cause.{Cause}
+use Rattle.batch_cli.specs.declared.outcomes.Cause.TheVariants.{Limit, Memory, Start, Cost, Cut}
+use Rattle.batch_cli.specs.declared.outcomes.Outcome.{Outcome}
+use Rattle.batch_cli.specs.declared.outcomes.Outcome.TheVariants.{Optimal, Unsolvable, Bounded}
+
+-- what is asked: the plans from the start to the goal under a cost rule, with a sum that guides the search
+pub record Task : Type 0 where
+  pub start : Position
+  pub goal : Position
+  pub rule : CostRule
+  pub sum : Position → ℕ
+
+-- the best plan leads to the goal at its cost, which is above the bound
+abbrev pub IsBestPlan : Task → ℕ → Option (ℕ × List Move) → Type 0
+IsBestPlan task bound None = ⊤
+IsBestPlan task bound (Some best) = Leads task.rule task.start best.1 task.goal best.0 × (bound < best.0)
+
+-- parity is named only where the start isn't in the goal's class
+abbrev pub AllowsWhy : Task → Why → Type 0
+AllowsWhy task Parity = ¬ SameClass task.start task.goal
+AllowsWhy task Exhausted = ⊤
+
+-- the cost is named only where each plan costs more than a run may reach
+abbrev pub AllowsCause : ℕ → Cause → Type 0
+AllowsCause bound Limit = ⊤
+AllowsCause bound Memory = ⊤
+AllowsCause bound Start = ⊤
+AllowsCause bound Cost = 1048320 < bound
+AllowsCause bound Cut = ⊤
+
+-- the plan without its memory
+abbrev pub best_of : Option (ℕ × Vec Move Global) → Option (ℕ × List Move)
+best_of None = None
+best_of (Some best) = Some (best.0, best.1.items)
+
+-- what an outcome says is true: a plan that is least; that no plan leads to the goal; or that no plan costs less than a bound, which is the sum of the start at least
+abbrev pub Answers : Task → Outcome → Type 0
+Answers task (Optimal cost plan rows) = Leads task.rule task.start plan.items task.goal cost × IsLeast task.rule task.start task.goal cost
+Answers task (Unsolvable why) = ((plan : List Move) (cost : ℕ) → ¬ Leads task.rule task.start plan task.goal cost) × AllowsWhy task why
+Answers task (Bounded bound best cause) =
+    NothingBelow task.rule task.start task.goal bound × (task.sum task.start ≤ bound) × IsBestPlan task bound (best_of best) × AllowsCause bound cause

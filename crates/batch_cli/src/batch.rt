@@ -1,0 +1,190 @@
+ghost use Rattle.std.specs.Prelude.{◌≡◌, ◌⊎◌, ◌+◌, ◌↔◌, true, false, IfOk, OnErr, Err, string_bytes};
+ghost use Rattle.std.specs.Io.KnownBytes.{Appends};
+ghost use Rattle.board.specs.Grids.{Grid};
+ghost use Rattle.board.specs.Positions.{Position};
+ghost use Rattle.byte_streams.specs.Sink.{AppendsBeginning};
+ghost use Rattle.batch_cli.specs.Batches.{IsReportOf, IsAnswer, HasRoom, batch_code_of, with_outcome, with_refused, WritesAll, WritesWhole, WritesSome, IsTooLong};
+ghost use Rattle.batch_cli.specs.declared.outcomes.Outcome.{Outcome};
+
+use crate::lines::{Line, LineKind, LineReader};
+use crate::outcomes::{Outcome, SolveFault};
+use crate::reports::{outcome_report, refused_report};
+use crate::words::read_entry;
+use board::{Board, Shape};
+use byte_streams::{Sink, Source};
+use std::alloc::{AllocError, Global};
+use thiserror::Error;
+
+/// What answers boards.
+pub trait Answerer {
+    // The outcomes that a board may be answered by.
+    ghost allows: { Self → Position → Outcome → Type 0 };
+
+    /// Answers a board of the answerer's shape. Want of memory is told where there was none before the
+    /// first step.
+    fn answer(&self, alloc: Global, start: &Board) -> Result<Outcome, AllocError>
+        ensures { IfOk result (allows self.now start.now) };
+}
+
+/// Why a batch ended early.
+#[derive(Clone, Copy, Debug, PartialEq, Eq, Error)]
+pub enum BatchFault {
+    /// B1
+    #[error("the input cannot be read")]
+    Read,
+    /// B2
+    #[error("the output cannot be written")]
+    Write,
+    /// B3
+    #[error("no memory for a report")]
+    Memory,
+}
+
+impl BatchFault {
+    /// The code that the fault is reported by: `B1` to `B3`.
+    pub fn code(self) -> &'static str
+        ensures { result.now ≡ batch_code_of self }
+    {
+        match self {
+            BatchFault::Read => "B1",
+            BatchFault::Write => "B2",
+            BatchFault::Memory => "B3",
+        }
+    }
+}
+
+/// How many lines were answered, and how.
+#[derive(Clone, Copy, Debug, PartialEq, Eq)]
+pub struct Summary {
+    pub optimal: u64,
+    pub unsolvable: u64,
+    pub bounded: u64,
+    pub refused: u64,
+}
+
+impl Summary {
+    // One line more that was answered so.
+    fn with_outcome(self, outcome: &Outcome) -> Self
+        requires { HasRoom self }
+        ensures { result ≡ with_outcome self outcome.now }
+    {
+        let mut counts = self;
+        match outcome {
+            Outcome::Optimal { .. } => counts.optimal += 1,
+            Outcome::Unsolvable { .. } => counts.unsolvable += 1,
+            Outcome::Bounded { .. } => counts.bounded += 1,
+        }
+        counts
+    }
+
+    // One line more that was refused.
+    fn with_refused(self) -> Self
+        requires { HasRoom self }
+        ensures { result ≡ with_refused self }
+    {
+        let mut counts = self;
+        counts.refused += 1;
+        counts
+    }
+}
+
+/// Writes a report for each line of the source that isn't passed over, in order.
+pub fn run_lines<S: Source, K: Sink, A: Answerer>(
+    alloc: Global,
+    source: &mut S,
+    sink: &mut K,
+    shape: Shape,
+    answerer: &A,
+) -> Result<Summary, BatchFault>
+    ensures all { IfOk result (WritesAll shape (A.allows answerer.now)
+        (S.left source.old) (K.contents sink.old) (K.contents sink.new)) }
+    ensures whole { result ≡ Err BatchFault.Read → WritesWhole shape (A.allows answerer.now)
+        (S.left source.old) (S.left source.new) (K.contents sink.old) (K.contents sink.new) }
+    ensures cannot_read { result ≡ Err BatchFault.Read
+        → (S.has_failed source.new ≡ true) ⊎ IsTooLong (S.left source.old) }
+    ensures read_failed { S.has_failed source.new ≡ true → result ≡ Err BatchFault.Read }
+    ensures cannot_write { K.has_failed sink.old ≡ false
+        → (result ≡ Err BatchFault.Write) ↔ (K.has_failed sink.new ≡ true) }
+    ensures begun { OnErr result (WritesSome shape (A.allows answerer.now)
+        (S.left source.old) (K.contents sink.old) (K.contents sink.new)) }
+{
+    let mut reader = LineReader::new();
+    let mut summary = Summary {
+        optimal: 0,
+        unsolvable: 0,
+        bounded: 0,
+        refused: 0,
+    };
+    'lines: loop {
+        let next = match reader.next_line(source) {
+            Ok(next) => next,
+            Err(_) => return Err(BatchFault::Read),
+        };
+        let Some(line) = next else {
+            return Ok(summary);
+        };
+        let report = match report_line(alloc, shape, answerer, line, reader.bytes(), summary) {
+            Ok(report) => report,
+            Err(_) => return Err(BatchFault::Memory),
+        };
+        let Ok(()) = sink.put(report.0.as_str().as_bytes()) else {
+            return Err(BatchFault::Write);
+        };
+        summary = report.1;
+    }
+}
+
+// What is written for a line, whose bytes are given where it is to be read, and the counts after it.
+fn report_line<A: Answerer>(
+    alloc: Global,
+    shape: Shape,
+    answerer: &A,
+    line: Line,
+    bytes: &[u8],
+    summary: Summary,
+) -> Result<(String, Summary), AllocError>
+    requires { HasRoom summary }
+    ensures { IfOk result (λ report. IsReportOf shape (A.allows answerer.now)
+        line.number line.kind bytes.now summary (string_bytes report.0) report.1) }
+{
+    match line.kind {
+        LineKind::PassedOver => Ok((String::new(alloc), summary)),
+        LineKind::TooLong => {
+            let text = refused_report(alloc, "E12", line.number)?;
+            Ok((text, summary.with_refused()))
+        }
+        LineKind::Within => answer_line(alloc, shape, answerer, line.number, bytes, summary),
+    }
+}
+
+// What is written for a line that is to be read, and the counts after it.
+fn answer_line<A: Answerer>(
+    alloc: Global,
+    shape: Shape,
+    answerer: &A,
+    number: u64,
+    bytes: &[u8],
+    summary: Summary,
+) -> Result<(String, Summary), AllocError>
+    requires { HasRoom summary }
+    ensures { IfOk result (λ report. IsAnswer shape (A.allows answerer.now)
+        number bytes.now summary (string_bytes report.0) report.1) }
+{
+    let entry = match read_entry(shape, bytes) {
+        Ok(entry) => entry,
+        Err(fault) => {
+            let text = refused_report(alloc, fault.code(), number)?;
+            return Ok((text, summary.with_refused()));
+        }
+    };
+    match answerer.answer(alloc, &entry.board) {
+        Ok(outcome) => {
+            let text = outcome_report(alloc, entry.id, &outcome)?;
+            Ok((text, summary.with_outcome(&outcome)))
+        }
+        Err(_) => {
+            let text = refused_report(alloc, SolveFault::Memory.code(), number)?;
+            Ok((text, summary.with_refused()))
+        }
+    }
+}

@@ -1,0 +1,96 @@
+ghost use Rattle.std.specs.Prelude.{◌≡◌};
+ghost use Rattle.batch_cli.specs.Reports.{why_word, cause_word, solve_code_of};
+
+use board::{Board, Move};
+use thiserror::Error;
+
+/// Why there is no plan.
+#[derive(Clone, Copy, Debug, PartialEq, Eq)]
+pub enum Why {
+    /// The boards are of two classes.
+    Parity,
+    /// The search met every board that can be reached.
+    Exhausted,
+}
+
+impl Why {
+    /// The word of the reason in a report.
+    pub fn word(self) -> &'static str
+        ensures { result.now ≡ why_word self }
+    {
+        match self {
+            Why::Parity => "parity",
+            Why::Exhausted => "exhausted",
+        }
+    }
+}
+
+/// Why a run names only a bound.
+#[derive(Clone, Copy, Debug, PartialEq, Eq)]
+pub enum Cause {
+    /// The limit on expansions was reached.
+    Limit,
+    /// Memory was refused.
+    Memory,
+    /// A thread could not be started.
+    Start,
+    /// Each plan costs more than a run may reach.
+    Cost,
+    /// The run was ended before it stopped.
+    Cut,
+}
+
+impl Cause {
+    /// The word of the cause in a report.
+    pub fn word(self) -> &'static str
+        ensures { result.now ≡ cause_word self }
+    {
+        match self {
+            Cause::Limit => "limit",
+            Cause::Memory => "memory",
+            Cause::Start => "start",
+            Cause::Cost => "cost",
+            Cause::Cut => "cut",
+        }
+    }
+}
+
+/// What a run answers.
+#[derive(Debug, Drop)]
+pub enum Outcome {
+    /// A plan of least cost, and rows that prove it.
+    Optimal {
+        cost: u32,
+        plan: Vec<Move>,
+        rows: Vec<(Board, u32)>,
+    },
+    /// No plan leads to the goal.
+    Unsolvable {
+        why: Why,
+    },
+    /// No plan costs less than the bound; the best plan found, with its cost, if there is one.
+    Bounded {
+        bound: u32,
+        best: Option<(u32, Vec<Move>)>,
+        cause: Cause,
+    },
+}
+
+/// Why a board could not be answered at all.
+#[derive(Clone, Copy, Debug, PartialEq, Eq, Error)]
+pub enum SolveFault {
+    /// V3
+    #[error("no memory before the first step")]
+    Memory,
+}
+
+impl SolveFault {
+    /// The code that the fault is reported by: `V3`.
+    pub fn code(self) -> &'static str
+        ensures { result.now ≡ solve_code_of self }
+    {
+        match self {
+            SolveFault::Memory => "V3",
+        }
+    }
+}

@@ -1,0 +1,281 @@
+ghost use Rattle.std.specs.Prelude.{None};
+
+use batch_cli::{Answerer, BatchFault, Cause, Outcome, Setup, SolveFault, Summary, Why, run_lines};
+use board::{Board, Move, Shape, Weights};
+use byte_streams::{ByteSink, ByteSource, ReadFailed, Sink, Source, WriteFailed};
+use std::alloc::{AllocError, Global};
+use std::process::Abort;
+use std::test::Fail;
+
+// Answers by the blank's cell alone.
+struct ByBlank;
+
+impl Answerer for ByBlank {
+    ghost allows = { λ _ _ _. Unit {0} };
+
+    fn answer(&self, alloc: Global, start: &Board) -> Result<Outcome, AllocError> {
+        let plan = Vec::from_array(alloc, [Move::L, Move::U])?;
+        match start.blank() {
+            0 => Ok(Outcome::Optimal {
+                cost: 0,
+                plan: Vec::new(alloc),
+                rows: Vec::new(alloc),
+            }),
+            1 => Ok(Outcome::Optimal {
+                cost: 2,
+                plan,
+                rows: Vec::new(alloc),
+            }),
+            2 => Ok(Outcome::Unsolvable { why: Why::Parity }),
+            3 => Ok(Outcome::Bounded {
+                bound: 21,
+                best: None,
+                cause: Cause::Limit,
+            }),
+            4 => Ok(Outcome::Bounded {
+                bound: 21,
+                best: Some((30, plan)),
+                cause: Cause::Memory,
+            }),
+            _ => Err(AllocError),
+        }
+    }
+}
+
+// Runs over an input, and checks what is written and counted.
+fn writes(
+    rt: &(impl Abort + AllocGlobal),
+    sides: (u8, u8),
+    input: &[u8],
+    output: &str,
+    counts: (u64, u64, u64, u64),
+) -> Result<(), Fail> {
+    let alloc = rt.alloc();
+    let shape = Shape::new(sides.0, sides.1)?;
+    let mut source = ByteSource::new(input);
+    let mut sink = ByteSink::new(Vec::new(alloc));
+    let summary = run_lines(alloc, &mut source, &mut sink, shape, &ByBlank)?;
+    let written = sink.into_inner();
+    assert_eq!(rt; std::str::from_utf8(written.as_slice())?, output);
+    let (optimal, unsolvable, bounded, refused) = counts;
+    assert_eq!(rt;
+        summary,
+        Summary {
+            optimal,
+            unsolvable,
+            bounded,
+            refused,
+        }
+    );
+    Ok(())
+}
+
+#[test]
+fn forms_of_reports(rt: HostRuntime) -> Result<(), Fail> {
+    writes(
+        &rt,
+        (2, 3),
+        b"a 0 1 2 3 4 5\nb 1 0 2 3 4 5\nc 1 2 0 3 4 5\nd 1 2 3 0 4 5\ne 1 2 3 4 0 5\nf 1 2 3 4 5 0\na 0 1 2 3 4 5",
+        "{\"cost\":0,\"id\":\"a\",\"plan\":\"\",\"status\":\"optimal\"}\n\
+         {\"cost\":2,\"id\":\"b\",\"plan\":\"LU\",\"status\":\"optimal\"}\n\
+         {\"id\":\"c\",\"status\":\"unsolvable\",\"why\":\"parity\"}\n\
+         {\"best\":null,\"bound\":21,\"cause\":\"limit\",\"id\":\"d\",\"status\":\"bounded\"}\n\
+         {\"best\":{\"cost\":30,\"plan\":\"LU\"},\"bound\":21,\"cause\":\"memory\",\"id\":\"e\",\"status\":\"bounded\"}\n\
+         {\"fault\":\"V3\",\"line\":6,\"status\":\"refused\"}\n\
+         {\"cost\":0,\"id\":\"a\",\"plan\":\"\",\"status\":\"optimal\"}\n",
+        (3, 1, 2, 1),
+    )
+}
+
+#[test]
+fn refused_lines(rt: HostRuntime) -> Result<(), Fail> {
+    writes(
+        &rt,
+        (3, 3),
+        b"x 1 2 3\n# y\ny 1 2 0 3 4 5 6 7 9\n\nz 1 1 0 3 4 5 6 7 8\n",
+        "{\"fault\":\"E2\",\"line\":1,\"status\":\"refused\"}\n\
+         {\"fault\":\"E3\",\"line\":3,\"status\":\"refused\"}\n\
+         {\"fault\":\"E4\",\"line\":5,\"status\":\"refused\"}\n",
+        (0, 0, 0, 3),
+    )?;
+    // A carriage return too many, a sign, a number that no machine word holds, no tiles, an id that is no text,
+    // and a repeated tile before one out of range, and after it.
+    writes(
+        &rt,
+        (2, 2),
+        b"x 1 0 2 3\r\r\nx 1 0 2 +3\nx 1 0 2 99999999999999999999999\nx\n\xff 0 1 2 3\nx 0 0 9 3\nx 0 9 0 3\nx 0 1 2 3 3\n",
+        "{\"fault\":\"E3\",\"line\":1,\"status\":\"refused\"}\n\
+         {\"fault\":\"E3\",\"line\":2,\"status\":\"refused\"}\n\
+         {\"fault\":\"E3\",\"line\":3,\"status\":\"refused\"}\n\
+         {\"fault\":\"E2\",\"line\":4,\"status\":\"refused\"}\n\
+         {\"fault\":\"E12\",\"line\":5,\"status\":\"refused\"}\n\
+         {\"fault\":\"E4\",\"line\":6,\"status\":\"refused\"}\n\
+         {\"fault\":\"E3\",\"line\":7,\"status\":\"refused\"}\n\
+         {\"fault\":\"E2\",\"line\":8,\"status\":\"refused\"}\n",
+        (0, 0, 0, 8),
+    )
+}
+
+#[test]
+fn words_of_lines(rt: HostRuntime) -> Result<(), Fail> {
+    // Leading zeros, tabs and runs of blanks; the id is any text, and may be a number.
+    writes(
+        &rt,
+        (2, 2),
+        b"x 0 1 2 00003\n\t7\t 0  1 2\t3 \t\na\"b\\/\x01\xc3\xa9 0 1 2 3\r\n",
+        "{\"cost\":0,\"id\":\"x\",\"plan\":\"\",\"status\":\"optimal\"}\n\
+         {\"cost\":0,\"id\":\"7\",\"plan\":\"\",\"status\":\"optimal\"}\n\
+         {\"cost\":0,\"id\":\"a\\\"b\\\\/\\u0001\u{e9}\",\"plan\":\"\",\"status\":\"optimal\"}\n",
+        (3, 0, 0, 0),
+    )?;
+    let alloc = rt.alloc();
+    let mut long = vec![in alloc; b'x'; 1025]?;
+    long.extend_from_slice(b"\n#")?;
+    writes(
+        &rt,
+        (2, 2),
+        long.as_slice(),
+        "{\"fault\":\"E12\",\"line\":1,\"status\":\"refused\"}\n",
+        (0, 0, 0, 1),
+    )
+}
+
+// Gives the bytes one by one, and fails at a call, counted from 0, and from then on.
+#[derive(Drop)]
+struct SourceFails<'a> {
+    bytes: &'a [u8],
+    calls: usize,
+    at: usize,
+    failed: bool,
+}
+
+impl Source for SourceFails<'_> {
+    ghost left = { λ _. None };
+
+    ghost has_failed = { λ s. s.failed };
+
+    fn next_byte(&mut self) -> Result<Option<u8>, ReadFailed> {
+        if self.failed || self.calls == self.at {
+            self.failed = true;
+            return Err(ReadFailed);
+        }
+        let byte = self.bytes.get(self.calls).copied();
+        self.calls = self.calls.saturating_add(1);
+        Ok(byte)
+    }
+}
+
+// Takes whole texts, and fails at a call, counted from 0, and from then on, after it took one byte. What
+// is written for a line that is passed over is an empty text.
+#[derive(Drop)]
+struct SinkFails {
+    written: Vec<u8>,
+    calls: usize,
+    at: usize,
+    failed: bool,
+}
+
+impl Sink for SinkFails {
+    ghost contents = { λ _. None };
+
+    ghost has_failed = { λ s. s.failed };
+
+    fn put(&mut self, bytes: &[u8]) -> Result<(), WriteFailed> {
+        if self.failed {
+            return Err(WriteFailed);
+        }
+        let taken = if self.calls == self.at {
+            bytes.len().min(1)
+        } else {
+            bytes.len()
+        };
+        self.calls = self.calls.saturating_add(1);
+        if self.written.extend_from_slice(&bytes[..taken]).is_err() || taken < bytes.len() {
+            self.failed = true;
+            return Err(WriteFailed);
+        }
+        Ok(())
+    }
+
+    fn flush(&mut self) -> Result<(), WriteFailed> {
+        if self.failed {
+            Err(WriteFailed)
+        } else {
+            Ok(())
+        }
+    }
+}
+
+const INPUT: &[u8] = b"a 0 1 2 3\n#\nb 1\n";
+
+const FIRST: &str = "{\"cost\":0,\"id\":\"a\",\"plan\":\"\",\"status\":\"optimal\"}\n";
+
+const BOTH: &str =
+    "{\"cost\":0,\"id\":\"a\",\"plan\":\"\",\"status\":\"optimal\"}\n{\"fault\":\"E2\",\"line\":3,\"status\":\"refused\"}\n";
+
+// Whatever byte can't be read, the reports of the lines before it are written, and no other.
+#[test]
+fn failing_sources(rt: HostRuntime) -> Result<(), Fail> {
+    let alloc = rt.alloc();
+    let shape = Shape::new(2, 2)?;
+    for at in 0..17 {
+        let mut source = SourceFails {
+            bytes: INPUT,
+            calls: 0,
+            at,
+            failed: false,
+        };
+        let mut sink = ByteSink::new(Vec::new(alloc));
+        let result = run_lines(alloc, &mut source, &mut sink, shape, &ByBlank);
+        assert_eq!(rt; result, Err(BatchFault::Read), "at {at}");
+        let due = if at < 10 {
+            ""
+        } else if at < 16 {
+            FIRST
+        } else {
+            BOTH
+        };
+        let written = sink.into_inner();
+        assert_eq!(rt; std::str::from_utf8(written.as_slice())?, due, "at {at}");
+    }
+    Ok(())
+}
+
+#[test]
+fn failing_sinks(rt: HostRuntime) -> Result<(), Fail> {
+    let alloc = rt.alloc();
+    let shape = Shape::new(2, 2)?;
+    for (at, due) in [(0, 1), (2, FIRST.len() + 1)] {
+        let mut source = ByteSource::new(INPUT);
+        let mut sink = SinkFails {
+            written: Vec::new(alloc),
+            calls: 0,
+            at,
+            failed: false,
+        };
+        let result = run_lines(alloc, &mut source, &mut sink, shape, &ByBlank);
+        assert_eq!(rt; result, Err(BatchFault::Write));
+        assert_eq!(rt; sink.written.len(), due);
+        assert!(rt; BOTH.as_bytes().starts_with(sink.written.as_slice()));
+    }
+    Ok(())
+}
+
+#[test]
+fn codes_and_setup(rt: HostRuntime) -> Result<(), Fail> {
+    let faults = [
+        (BatchFault::Read, "B1"),
+        (BatchFault::Write, "B2"),
+        (BatchFault::Memory, "B3"),
+    ];
+    for (fault, code) in faults {
+        assert!(rt; fault.code() == code);
+    }
+    assert!(rt; SolveFault::Memory.code() == "V3");
+    let shape = Shape::new(3, 2)?;
+    let setup = Setup::new(Board::goal(shape), Weights::face(shape));
+    assert_eq!(rt; setup.shape(), shape);
+    assert_eq!(rt; setup.goal(), Board::goal(shape));
+    assert_eq!(rt; setup.weights(), Weights::face(shape));
+    Ok(())
+}
