@@ -1,14 +1,14 @@
 -- The reports of lines, one line after the other.
-use Rattle.std.proofs.Common.{◌≡◌, ◌⊎◌, ℕ, suc, ◌+◌, ◌-◌, ◌<◌, ◌≤◌, List, [], ◌∷◌, ◌++◌, Option, None, Some, length, refl, sym, ap, ◌∙◌, subst, inl, inr, arith, append_assoc, append-nil, length-append}
-use Rattle.std.specs.Io.KnownBytes.{Appends, IsAtEnd, Keeps}
+use Rattle.std.proofs.Common.{◌≡◌, ℕ, suc, ◌+◌, ◌<◌, ◌≤◌, List, [], ◌∷◌, ◌++◌, Option, None, Some, length, refl, sym, ap, ◌∙◌, subst, inl, inr, arith, append_assoc, append-nil, length-append}
+use Rattle.std.specs.Io.KnownBytes.{Appends, IsAtEnd}
 use Rattle.std.proofs.KnownBytes.{Appends-nil, Appends-trans}
 use Rattle.board.specs.Grids.{Grid}
 use Rattle.board.specs.Positions.{Position}
 use Rattle.byte_streams.specs.Sink.{AppendsBeginning}
 use Rattle.byte_streams.proofs.SinkLemmas.{AppendsBeginning-after}
-use Rattle.batch_cli.specs.Lines.{lines_of, without_return, kind_of}
+use Rattle.batch_cli.specs.Lines.{lines_of, without_return}
 use Rattle.batch_cli.specs.Readings.{TakesKnown, TakesNoLine, CountsTaken, IsJudged}
-use Rattle.batch_cli.specs.Batches.{IsAnswer, IsReportOf, IsReport, IsBatch, AreRead, AreAll, AreFirst, WritesAll, WritesWhole, WritesSome, IsTooLong, no_lines, HasRoom, with_outcome, with_refused}
+use Rattle.batch_cli.specs.Batches.{IsAnswer, IsReportOf, IsReport, IsBatch, AreRead, AreAll, AreFirst, WritesAll, WritesWhole, WritesSome, IsTooLong, no_lines, HasRoom, with_outcome}
 use Rattle.batch_cli.specs.declared.lines.LineKind.{LineKind}
 use Rattle.batch_cli.specs.declared.lines.LineKind.TheVariants.{PassedOver, Within, TooLong}
 use Rattle.batch_cli.specs.declared.outcomes.Outcome.{Outcome}

@@ -1,5 +1,5 @@
 -- Where the first line of an input ends, and what is remembered of it on the way.
-use Rattle.std.proofs.Common.{◌≡◌, ◌≢◌, ◌⊎◌, ℕ, zero, suc, ◌+◌, ◌-◌, ◌<◌, ◌≤◌, List, [], ◌∷◌, ◌++◌, Bool, true, false, None, Some, Option, length, take, refl, arith, ◌∙◌, sym, ap, append-nil, append_assoc, eqb, subst, inl, inr, length-take, length-append}
+use Rattle.std.proofs.Common.{◌≡◌, ◌≢◌, ℕ, zero, suc, ◌+◌, ◌-◌, ◌<◌, ◌≤◌, List, [], ◌∷◌, ◌++◌, Bool, true, false, None, Some, Option, length, take, refl, arith, ◌∙◌, sym, ap, append-nil, subst, inl, inr, length-take, length-append}
 use Rattle.std.specs.Io.KnownBytes.{Consumes, IsAtEnd, Keeps}
 use Rattle.std.proofs.KnownBytes.{Consumes-nil, Consumes-trans}
 use Rattle.std.proofs.lemmas.Bool.{false≢true, ne_eqb}
@@ -8,7 +8,7 @@ use Rattle.batch_cli.specs.declared.lines.Start.{Start}
 use Rattle.batch_cli.specs.declared.lines.Start.TheVariants.{Blanks}
 use Rattle.batch_cli.specs.Lines.{lines_of, onto_first}
 use Rattle.batch_cli.specs.Starts.{start_after, IsHeard}
-use Rattle.batch_cli.specs.Readings.{HasNoFeed, TakesFirst, TakesKnown, TakesNoLine, CountsTaken}
+use Rattle.batch_cli.specs.Readings.{HasNoFeed, TakesKnown, TakesNoLine, CountsTaken}
 use Rattle.batch_cli.proofs.StartLemmas.{start_more}
 
 -- bytes without a line feed before one are the first line

@@ -9,7 +9,7 @@ ghost use Rattle.batch_cli.specs.declared.outcomes.Outcome.{Outcome};
 use crate::lines::{Line, LineKind, LineReader};
 use crate::outcomes::{Outcome, SolveFault};
 use crate::reports::{outcome_report, refused_report};
-use crate::words::read_entry;
+use crate::words::{EntryFault, read_entry};
 use board::{Board, Shape};
 use byte_streams::{Sink, Source};
 use std::alloc::{AllocError, Global};
@@ -17,12 +17,15 @@ use thiserror::Error;
 
 /// What answers boards.
 pub trait Answerer {
+    // The shape of the boards that it answers.
+    ghost grid: { Self → Grid };
+
     // The outcomes that a board may be answered by.
     ghost allows: { Self → Position → Outcome → Type 0 };
 
-    /// Answers a board of the answerer's shape. Want of memory is told where there was none before the
-    /// first step.
+    /// Answers a board. The error tells a want of memory before the first step.
     fn answer(&self, alloc: Global, start: &Board) -> Result<Outcome, AllocError>
+        requires { start.now.grid ≡ grid self.now }
         ensures { IfOk result (allows self.now start.now) };
 }
 
@@ -96,6 +99,7 @@ pub fn run_lines<S: Source, K: Sink, A: Answerer>(
     shape: Shape,
     answerer: &A,
 ) -> Result<Summary, BatchFault>
+    requires { A.grid answerer.now ≡ shape }
     ensures all { IfOk result (WritesAll shape (A.allows answerer.now)
         (S.left source.old) (K.contents sink.old) (K.contents sink.new)) }
     ensures whole { result ≡ Err BatchFault.Read → WritesWhole shape (A.allows answerer.now)
@@ -143,14 +147,15 @@ fn report_line<A: Answerer>(
     bytes: &[u8],
     summary: Summary,
 ) -> Result<(String, Summary), AllocError>
-    requires { HasRoom summary }
+    requires grid { A.grid answerer.now ≡ shape }
+    requires room { HasRoom summary }
     ensures { IfOk result (λ report. IsReportOf shape (A.allows answerer.now)
         line.number line.kind bytes.now summary (string_bytes report.0) report.1) }
 {
     match line.kind {
         LineKind::PassedOver => Ok((String::new(alloc), summary)),
         LineKind::TooLong => {
-            let text = refused_report(alloc, "E12", line.number)?;
+            let text = refused_report(alloc, EntryFault::NoText.code(), line.number)?;
             Ok((text, summary.with_refused()))
         }
         LineKind::Within => answer_line(alloc, shape, answerer, line.number, bytes, summary),
@@ -166,7 +171,8 @@ fn answer_line<A: Answerer>(
     bytes: &[u8],
     summary: Summary,
 ) -> Result<(String, Summary), AllocError>
-    requires { HasRoom summary }
+    requires grid { A.grid answerer.now ≡ shape }
+    requires room { HasRoom summary }
     ensures { IfOk result (λ report. IsAnswer shape (A.allows answerer.now)
         number bytes.now summary (string_bytes report.0) report.1) }
 {

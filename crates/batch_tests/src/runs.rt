@@ -8,9 +8,14 @@ use std::process::Abort;
 use std::test::Fail;
 
 // Answers by the blank's cell alone.
-struct ByBlank;
+#[derive(Clone, Copy)]
+struct ByBlank {
+    shape: Shape,
+}
 
 impl Answerer for ByBlank {
+    ghost grid = { λ s. s.shape };
+
     ghost allows = { λ _ _ _. Unit {0} };
 
     fn answer(&self, alloc: Global, start: &Board) -> Result<Outcome, AllocError> {
@@ -54,7 +59,7 @@ fn writes(
     let shape = Shape::new(sides.0, sides.1)?;
     let mut source = ByteSource::new(input);
     let mut sink = ByteSink::new(Vec::new(alloc));
-    let summary = run_lines(alloc, &mut source, &mut sink, shape, &ByBlank)?;
+    let summary = run_lines(alloc, &mut source, &mut sink, shape, &ByBlank { shape })?;
     let written = sink.into_inner();
     assert_eq!(rt; std::str::from_utf8(written.as_slice())?, output);
     let (optimal, unsolvable, bounded, refused) = counts;
@@ -226,7 +231,7 @@ fn failing_sources(rt: HostRuntime) -> Result<(), Fail> {
             failed: false,
         };
         let mut sink = ByteSink::new(Vec::new(alloc));
-        let result = run_lines(alloc, &mut source, &mut sink, shape, &ByBlank);
+        let result = run_lines(alloc, &mut source, &mut sink, shape, &ByBlank { shape });
         assert_eq!(rt; result, Err(BatchFault::Read), "at {at}");
         let due = if at < 10 {
             ""
@@ -253,7 +258,7 @@ fn failing_sinks(rt: HostRuntime) -> Result<(), Fail> {
             at,
             failed: false,
         };
-        let result = run_lines(alloc, &mut source, &mut sink, shape, &ByBlank);
+        let result = run_lines(alloc, &mut source, &mut sink, shape, &ByBlank { shape });
         assert_eq!(rt; result, Err(BatchFault::Write));
         assert_eq!(rt; sink.written.len(), due);
         assert!(rt; BOTH.as_bytes().starts_with(sink.written.as_slice()));

@@ -1,4 +1,4 @@
-use Rattle.std.proofs.Common.{◌≡◌, ◌≢◌, ◌+◌, ◌∷◌, ◌++◌, [], ℕ, List, length, arith, sym, ◌∙◌}
+use Rattle.std.proofs.Common.{◌∷◌, [], length, arith, sym, ◌∙◌}
 use Rattle.std.proofs.lemmas.Bool.{eqb-false, false≢true}
 use Rattle.std.specs.Io.KnownBytes.{Consumes}
 use Rattle.batch_cli.proofs.LineLemmas.{IsUnderWay-kept, IsUnderWay-long, ends_after, ends_by_feed, lost_past_limit, counted_on_the_way, counted_with_byte}
