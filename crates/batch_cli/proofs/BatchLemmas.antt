@@ -1,14 +1,14 @@
 -- The reports of lines, one line after the other.
-use Rattle.std.proofs.Common.{◌≡◌, ℕ, suc, ◌+◌, ◌<◌, ◌≤◌, List, [], ◌∷◌, ◌++◌, Option, None, Some, length, refl, sym, ap, ◌∙◌, subst, inl, inr, arith, append_assoc, append-nil, length-append}
-use Rattle.std.specs.Io.KnownBytes.{Appends, IsAtEnd}
-use Rattle.std.proofs.KnownBytes.{Appends-nil, Appends-trans}
+use Rattle.std.proofs.Common.{◌≡◌, ℕ, suc, ◌+◌, ◌≤◌, List, [], ◌∷◌, ◌++◌, Option, None, Some, length, refl, sym, ap, ◌∙◌, subst, inl, inr, arith, append_assoc, append-nil, length-append}
+use Rattle.std.specs.Io.KnownBytes.{Appends}
+use Rattle.std.proofs.KnownBytes.{Appends-trans}
 use Rattle.board.specs.Grids.{Grid}
 use Rattle.board.specs.Positions.{Position}
 use Rattle.byte_streams.specs.Sink.{AppendsBeginning}
 use Rattle.byte_streams.proofs.SinkLemmas.{AppendsBeginning-after}
 use Rattle.batch_cli.specs.Lines.{lines_of, without_return}
-use Rattle.batch_cli.specs.Readings.{TakesKnown, TakesNoLine, CountsTaken, IsJudged}
-use Rattle.batch_cli.specs.Batches.{IsAnswer, IsReportOf, IsReport, IsBatch, AreRead, AreAll, AreFirst, WritesAll, WritesWhole, WritesSome, IsTooLong, no_lines, HasRoom, with_outcome}
+use Rattle.batch_cli.specs.Readings.{TakesKnown, CountsTaken, IsJudged}
+use Rattle.batch_cli.specs.Batches.{IsAnswer, IsReportOf, IsReport, IsBatch, AreRead, AreFirst, WritesSome, no_lines, with_outcome}
 use Rattle.batch_cli.specs.declared.lines.LineKind.{LineKind}
 use Rattle.batch_cli.specs.declared.lines.LineKind.TheVariants.{PassedOver, Within, TooLong}
 use Rattle.batch_cli.specs.declared.outcomes.Outcome.{Outcome}
@@ -58,12 +58,6 @@ AreRead-more (Some bytes) None new lines line read taken = absurd read
 AreRead-more (Some bytes) (Some left) None lines line read taken = absurd taken
 AreRead-more (Some bytes) (Some left) (Some rest) lines line read taken = read ∙ ap (λ (ls : List (List ℕ)). lines ++ ls) taken.first ∙ sym (append_assoc lines (line ∷ []) (lines_of rest))
 
--- at the end all lines were read
-AreAll-at_end : (input now : Option (List ℕ)) (lines : List (List ℕ)) → AreRead input now lines → IsAtEnd now → AreAll input lines
-AreAll-at_end None now lines read end = tt
-AreAll-at_end (Some bytes) None lines read end = absurd read
-AreAll-at_end (Some bytes) (Some left) lines read end = read ∙ ap (λ (l : List ℕ). lines ++ lines_of l) end ∙ append-nil lines
-
 AreFirst-read : (input now : Option (List ℕ)) (lines : List (List ℕ)) → AreRead input now lines → AreFirst input lines
 AreFirst-read None now lines read = tt
 AreFirst-read (Some bytes) None lines read = absurd read
@@ -79,16 +73,6 @@ pub record IsRunning (grid : Grid) (allows : Position → Outcome → Type 0) (i
   pub counted : numbered ≡ length lines
   pub few : total counts ≤ numbered
 
-nothing_read : (input : Option (List ℕ)) → AreRead input input []
-nothing_read None = tt
-nothing_read (Some bytes) = refl
-
-pub IsRunning-none : (grid : Grid) (allows : Position → Outcome → Type 0) (input written : Option (List ℕ)) → IsRunning grid allows input input written written 0 no_lines
-IsRunning-none grid allows input written = record { lines = []; text = []; read = nothing_read input; batch = (refl, refl); appended = Appends-nil written; counted = refl; few = omega arith }
-
-pub room_left : (grid : Grid) (allows : Position → Outcome → Type 0) (input now written written' : Option (List ℕ)) (numbered : ℕ) (counts : Summary) → IsRunning grid allows input now written written' numbered counts → numbered < 18446744073709551615 → HasRoom counts
-room_left grid allows input now written written' numbered counts running few = let all = running.few in record { optimal = omega arith; unsolvable = omega arith; bounded = omega arith; refused = omega arith }
-
 -- one line more was read and its report is written
 pub IsRunning-more : (grid : Grid) (allows : Position → Outcome → Type 0) (input now new written written' written'' : Option (List ℕ)) (numbered n : ℕ) (counts after : Summary) (bytes : List ℕ) (kind : LineKind) (kept text : List ℕ) → IsRunning grid allows input now written written' numbered counts → TakesKnown now new bytes → IsJudged bytes kind kept → n ≡ numbered + 1 → IsReportOf grid allows n kind kept counts text after → Appends written' written'' text → IsRunning grid allows input new written written'' n after
 IsRunning-more grid allows input now new written written' written'' numbered n counts after bytes kind kept text running taken judged next report appended =
@@ -103,22 +87,6 @@ IsRunning-more grid allows input now new written written' written'' numbered n c
       counted = omega (arith, running.counted, longer);
       few = omega (arith, running.few, counted_once grid allows n kind kept counts text after report);
     }
-
-pub writes_all : (grid : Grid) (allows : Position → Outcome → Type 0) (input now written written' : Option (List ℕ)) (numbered : ℕ) (counts : Summary) → IsRunning grid allows input now written written' numbered counts → IsAtEnd now → WritesAll grid allows input written written' counts
-writes_all grid allows input now written written' numbered counts running end = record { lines = running.lines; text = running.text; all = AreAll-at_end input now running.lines running.read end; batch = running.batch; appended = running.appended }
-
-pub writes_whole : (grid : Grid) (allows : Position → Outcome → Type 0) (input now left written written' : Option (List ℕ)) (numbered room : ℕ) (counts : Summary) → IsRunning grid allows input now written written' numbered counts → TakesNoLine now left room → WritesWhole grid allows input left written written'
-writes_whole grid allows input now left written written' numbered room counts running lost = record { lines = running.lines; text = running.text; counts = counts; before = now; room = room; whole = running.read; lost = lost; batch = running.batch; appended = running.appended }
-
-pub writes_some : (grid : Grid) (allows : Position → Outcome → Type 0) (input now written written' : Option (List ℕ)) (numbered : ℕ) (counts : Summary) → IsRunning grid allows input now written written' numbered counts → WritesSome grid allows input written written'
-writes_some grid allows input now written written' numbered counts running = record {
-  lines = running.lines;
-  text = running.text;
-  counts = counts;
-  first = AreFirst-read input now running.lines running.read;
-  batch = running.batch;
-  begun = record { sent = running.text; unsent = []; parts = sym (append-nil running.text); appended = running.appended };
-}
 
 -- the report of one line more is written in part
 pub writes_part : (grid : Grid) (allows : Position → Outcome → Type 0) (input now new written written' written'' : Option (List ℕ)) (numbered n : ℕ) (counts after : Summary) (bytes : List ℕ) (kind : LineKind) (kept text : List ℕ) → IsRunning grid allows input now written written' numbered counts → TakesKnown now new bytes → IsJudged bytes kind kept → n ≡ numbered + 1 → IsReportOf grid allows n kind kept counts text after → AppendsBeginning written' written'' text → WritesSome grid allows input written written''
@@ -139,9 +107,3 @@ CountsTaken-more None b c x y z p q = tt
 CountsTaken-more (Some xs) None c x y z p q = absurd p
 CountsTaken-more (Some xs) (Some ys) None x y z p q = absurd q
 CountsTaken-more (Some xs) (Some ys) (Some zs) x y z p q = p ∙ q
-
--- an input of which more was taken than the limit is too long
-pub too_long : (input left : Option (List ℕ)) (taken : ℕ) → CountsTaken input left 0 taken → 18446744073709551614 < taken → IsTooLong input
-too_long None left taken p past = tt
-too_long (Some bytes) None taken p past = absurd p
-too_long (Some bytes) (Some rest) taken p past = omega arith

@@ -1,11 +1,11 @@
 -- What is written for an input: a report for each line that isn't passed over, in order.
-use Rattle.std.specs.Prelude.{ℕ, ◌≡◌, ◌⊎◌, ◌+◌, ◌<◌, List, [], ◌∷◌, ◌++◌, length, Option, None, Some, ⊤, codes}
+use Rattle.std.specs.Prelude.{ℕ, ◌≡◌, ◌⊎◌, ◌+◌, ◌-◌, ◌<◌, List, [], ◌∷◌, ◌++◌, length, Option, None, Some, ⊤, codes}
 use Rattle.std.specs.Io.KnownBytes.{Appends}
 use Rattle.byte_streams.specs.Sink.{AppendsBeginning}
 use Rattle.board.specs.Grids.{Grid}
 use Rattle.board.specs.Positions.{Position}
 use Rattle.batch_cli.specs.Lines.{lines_of, without_return, kind_of}
-use Rattle.batch_cli.specs.Readings.{TakesNoLine}
+use Rattle.batch_cli.specs.Readings.{TakesNoLine, CountsTaken}
 use Rattle.batch_cli.specs.Words.{IsEntry, IsFirstEntryFault, entry_code_of}
 use Rattle.batch_cli.specs.Reports.{outcome_data, refused_data, report_text}
 use Rattle.batch_cli.specs.declared.words.EntryFault.{EntryFault}
@@ -92,15 +92,16 @@ pub record WritesAll (grid : Grid) (allows : Position → Outcome → Type 0) (i
   pub batch : IsBatch grid allows 1 lines no_lines text counts
   pub appended : Appends written written' text
 
--- the reports of the lines that were read whole were written
+-- the reports of the lines that were read whole were written, and what was taken after them, within the limit, has no whole line in it
 pub record WritesWhole (grid : Grid) (allows : Position → Outcome → Type 0) (input left written written' : Option (List ℕ)) : Type 0 where
   pub lines : List (List ℕ)
   pub text : List ℕ
   pub counts : Summary
   pub before : Option (List ℕ)
-  pub room : ℕ
+  pub taken : ℕ
   pub whole : AreRead input before lines
-  pub lost : TakesNoLine before left room
+  pub counted : CountsTaken input before 0 taken
+  pub lost : TakesNoLine before left (18446744073709551614 - taken)
   pub batch : IsBatch grid allows 1 lines no_lines text counts
   pub appended : Appends written written' text
 
