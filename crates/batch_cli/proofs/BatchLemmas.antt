@@ -15,7 +15,7 @@ use Rattle.batch_cli.specs.declared.outcomes.Outcome.{Outcome}
 use Rattle.batch_cli.specs.declared.outcomes.Outcome.TheVariants.{Optimal, Unsolvable, Bounded}
 use Rattle.batch_cli.specs.declared.batch.Summary.{Summary}
 
-module _ (grid : Grid) (allows : Position → Outcome → Type 0) where
+module _ (grid : Grid) (allows : Position → Option Outcome → Type 0) where
   -- one line more
   IsBatch-more : (n : ℕ) (lines : List (List ℕ)) (before : Summary) (text : List ℕ) (middle : Summary) (line more : List ℕ) (after : Summary) → IsBatch grid allows n lines before text middle → IsReport grid allows (n + length lines) line middle more after → IsBatch grid allows n (lines ++ line ∷ []) before (text ++ more) after
   IsBatch-more n [] before text middle line more after batch report =
@@ -44,12 +44,12 @@ counts_one before (Unsolvable why) = omega arith
 counts_one before (Bounded bound best cause) = omega arith
 
 -- a line is counted once at most
-counted_once : (grid : Grid) (allows : Position → Outcome → Type 0) (n : ℕ) (kind : LineKind) (bytes : List ℕ) (before : Summary) (text : List ℕ) (after : Summary) → IsReportOf grid allows n kind bytes before text after → total after ≤ total before + 1
+counted_once : (grid : Grid) (allows : Position → Option Outcome → Type 0) (n : ℕ) (kind : LineKind) (bytes : List ℕ) (before : Summary) (text : List ℕ) (after : Summary) → IsReportOf grid allows n kind bytes before text after → total after ≤ total before + 1
 counted_once grid allows n PassedOver bytes before text after report = let e = ap total report.1 in omega arith
 counted_once grid allows n TooLong bytes before text after report = let e = ap total report.1 in omega arith
 counted_once grid allows n Within bytes before text after (inl (fault, first, written, counted)) = let e = ap total counted in omega arith
 counted_once grid allows n Within bytes before text after (inr (inl (id, b, outcome, entry, allowed, written, counted))) = let e = ap total counted in omega (arith, counts_one before outcome)
-counted_once grid allows n Within bytes before text after (inr (inr (id, b, entry, written, counted))) = let e = ap total counted in omega arith
+counted_once grid allows n Within bytes before text after (inr (inr (id, b, entry, lacking, written, counted))) = let e = ap total counted in omega arith
 
 -- one line more was read
 AreRead-more : (input now new : Option (List ℕ)) (lines : List (List ℕ)) (line : List ℕ) → AreRead input now lines → TakesKnown now new line → AreRead input new (lines ++ line ∷ [])
@@ -64,7 +64,7 @@ AreFirst-read (Some bytes) None lines read = absurd read
 AreFirst-read (Some bytes) (Some left) lines read = (lines_of left, read)
 
 -- the reports of the lines that were read are written
-pub record IsRunning (grid : Grid) (allows : Position → Outcome → Type 0) (input now written written' : Option (List ℕ)) (numbered : ℕ) (counts : Summary) : Type 0 where
+pub record IsRunning (grid : Grid) (allows : Position → Option Outcome → Type 0) (input now written written' : Option (List ℕ)) (numbered : ℕ) (counts : Summary) : Type 0 where
   pub lines : List (List ℕ)
   pub text : List ℕ
   pub read : AreRead input now lines
@@ -74,7 +74,7 @@ pub record IsRunning (grid : Grid) (allows : Position → Outcome → Type 0) (i
   pub few : total counts ≤ numbered
 
 -- one line more was read and its report is written
-pub IsRunning-more : (grid : Grid) (allows : Position → Outcome → Type 0) (input now new written written' written'' : Option (List ℕ)) (numbered n : ℕ) (counts after : Summary) (bytes : List ℕ) (kind : LineKind) (kept text : List ℕ) → IsRunning grid allows input now written written' numbered counts → TakesKnown now new bytes → IsJudged bytes kind kept → n ≡ numbered + 1 → IsReportOf grid allows n kind kept counts text after → Appends written' written'' text → IsRunning grid allows input new written written'' n after
+pub IsRunning-more : (grid : Grid) (allows : Position → Option Outcome → Type 0) (input now new written written' written'' : Option (List ℕ)) (numbered n : ℕ) (counts after : Summary) (bytes : List ℕ) (kind : LineKind) (kept text : List ℕ) → IsRunning grid allows input now written written' numbered counts → TakesKnown now new bytes → IsJudged bytes kind kept → n ≡ numbered + 1 → IsReportOf grid allows n kind kept counts text after → Appends written' written'' text → IsRunning grid allows input new written written'' n after
 IsRunning-more grid allows input now new written written' written'' numbered n counts after bytes kind kept text running taken judged next report appended =
     let at : n ≡ 1 + length running.lines = omega (arith, running.counted) in
     let longer = length-append running.lines (bytes ∷ []) in
@@ -89,7 +89,7 @@ IsRunning-more grid allows input now new written written' written'' numbered n c
     }
 
 -- the report of one line more is written in part
-pub writes_part : (grid : Grid) (allows : Position → Outcome → Type 0) (input now new written written' written'' : Option (List ℕ)) (numbered n : ℕ) (counts after : Summary) (bytes : List ℕ) (kind : LineKind) (kept text : List ℕ) → IsRunning grid allows input now written written' numbered counts → TakesKnown now new bytes → IsJudged bytes kind kept → n ≡ numbered + 1 → IsReportOf grid allows n kind kept counts text after → AppendsBeginning written' written'' text → WritesSome grid allows input written written''
+pub writes_part : (grid : Grid) (allows : Position → Option Outcome → Type 0) (input now new written written' written'' : Option (List ℕ)) (numbered n : ℕ) (counts after : Summary) (bytes : List ℕ) (kind : LineKind) (kept text : List ℕ) → IsRunning grid allows input now written written' numbered counts → TakesKnown now new bytes → IsJudged bytes kind kept → n ≡ numbered + 1 → IsReportOf grid allows n kind kept counts text after → AppendsBeginning written' written'' text → WritesSome grid allows input written written''
 writes_part grid allows input now new written written' written'' numbered n counts after bytes kind kept text running taken judged next report begun =
     let at : n ≡ 1 + length running.lines = omega (arith, running.counted) in
     record {

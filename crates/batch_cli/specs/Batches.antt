@@ -41,25 +41,25 @@ pub record HasRoom (counts : Summary) : Type 0 where
   pub refused : counts.refused < 18446744073709551615
 
 -- A line to be read is refused by its first fault; or it is answered by an outcome that is allowed for its board,
--- or refused by V3, which stands for a want of memory before the first step.
-abbrev pub IsAnswer : Grid → (Position → Outcome → Type 0) → ℕ → List ℕ → Summary → List ℕ → Summary → Type 0
+-- or refused by V3 where a want of memory before the first step is allowed for it.
+abbrev pub IsAnswer : Grid → (Position → Option Outcome → Type 0) → ℕ → List ℕ → Summary → List ℕ → Summary → Type 0
 IsAnswer grid allows n line before text after =
     ((fault : EntryFault) × IsFirstEntryFault grid line fault × (text ≡ report_text (refused_data (entry_code_of fault) n)) × (after ≡ with_refused before))
-    ⊎ ((id : List ℕ) × (b : Position) × (outcome : Outcome) × IsEntry grid line id b × allows b outcome × (text ≡ report_text (outcome_data id outcome)) × (after ≡ with_outcome before outcome))
-    ⊎ ((id : List ℕ) × (b : Position) × IsEntry grid line id b × (text ≡ report_text (refused_data (codes "V3") n)) × (after ≡ with_refused before))
+    ⊎ ((id : List ℕ) × (b : Position) × (outcome : Outcome) × IsEntry grid line id b × allows b (Some outcome) × (text ≡ report_text (outcome_data id outcome)) × (after ≡ with_outcome before outcome))
+    ⊎ ((id : List ℕ) × (b : Position) × IsEntry grid line id b × allows b None × (text ≡ report_text (refused_data (codes "V3") n)) × (after ≡ with_refused before))
 
 -- what is written for a line of this kind with these bytes, and how the counts change
-abbrev pub IsReportOf : Grid → (Position → Outcome → Type 0) → ℕ → LineKind → List ℕ → Summary → List ℕ → Summary → Type 0
+abbrev pub IsReportOf : Grid → (Position → Option Outcome → Type 0) → ℕ → LineKind → List ℕ → Summary → List ℕ → Summary → Type 0
 IsReportOf grid allows n PassedOver bytes before text after = (text ≡ []) × (after ≡ before)
 IsReportOf grid allows n TooLong bytes before text after = (text ≡ report_text (refused_data (codes "E12") n)) × (after ≡ with_refused before)
 IsReportOf grid allows n Within bytes before text after = IsAnswer grid allows n bytes before text after
 
 -- what is written for a line
-abbrev pub IsReport : Grid → (Position → Outcome → Type 0) → ℕ → List ℕ → Summary → List ℕ → Summary → Type 0
+abbrev pub IsReport : Grid → (Position → Option Outcome → Type 0) → ℕ → List ℕ → Summary → List ℕ → Summary → Type 0
 IsReport grid allows n line before text after = IsReportOf grid allows n (kind_of line) (without_return line) before text after
 
 -- the reports of these lines, of which the first has number n, one after the other
-abbrev pub IsBatch : Grid → (Position → Outcome → Type 0) → ℕ → List (List ℕ) → Summary → List ℕ → Summary → Type 0
+abbrev pub IsBatch : Grid → (Position → Option Outcome → Type 0) → ℕ → List (List ℕ) → Summary → List ℕ → Summary → Type 0
 IsBatch grid allows n [] before text after = (text ≡ []) × (after ≡ before)
 IsBatch grid allows n (line ∷ lines) before text after =
     (first : List ℕ) × (rest : List ℕ) × (middle : Summary) × IsReport grid allows n line before first middle × IsBatch grid allows (n + 1) lines middle rest after × (text ≡ first ++ rest)
@@ -85,7 +85,7 @@ AreFirst None lines = ⊤
 AreFirst (Some input) lines = (more : List (List ℕ)) × (lines_of input ≡ lines ++ more)
 
 -- the reports of all lines were written, and these are their counts
-pub record WritesAll (grid : Grid) (allows : Position → Outcome → Type 0) (input written written' : Option (List ℕ)) (counts : Summary) : Type 0 where
+pub record WritesAll (grid : Grid) (allows : Position → Option Outcome → Type 0) (input written written' : Option (List ℕ)) (counts : Summary) : Type 0 where
   pub lines : List (List ℕ)
   pub text : List ℕ
   pub all : AreAll input lines
@@ -93,7 +93,7 @@ pub record WritesAll (grid : Grid) (allows : Position → Outcome → Type 0) (i
   pub appended : Appends written written' text
 
 -- the reports of the lines that were read whole were written, and what was taken after them, within the limit, has no whole line in it
-pub record WritesWhole (grid : Grid) (allows : Position → Outcome → Type 0) (input left written written' : Option (List ℕ)) : Type 0 where
+pub record WritesWhole (grid : Grid) (allows : Position → Option Outcome → Type 0) (input left written written' : Option (List ℕ)) : Type 0 where
   pub lines : List (List ℕ)
   pub text : List ℕ
   pub counts : Summary
@@ -106,7 +106,7 @@ pub record WritesWhole (grid : Grid) (allows : Position → Outcome → Type 0) 
   pub appended : Appends written written' text
 
 -- a beginning of the reports of the first lines was written
-pub record WritesSome (grid : Grid) (allows : Position → Outcome → Type 0) (input written written' : Option (List ℕ)) : Type 0 where
+pub record WritesSome (grid : Grid) (allows : Position → Option Outcome → Type 0) (input written written' : Option (List ℕ)) : Type 0 where
   pub lines : List (List ℕ)
   pub text : List ℕ
   pub counts : Summary

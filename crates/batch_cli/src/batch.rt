@@ -1,4 +1,4 @@
-ghost use Rattle.std.specs.Prelude.{◌≡◌, ◌⊎◌, ◌+◌, ◌↔◌, true, false, IfOk, OnErr, Err, string_bytes};
+ghost use Rattle.std.specs.Prelude.{◌≡◌, ◌⊎◌, ◌+◌, ◌↔◌, true, false, IfOk, OnErr, Err, Option, Some, None, string_bytes};
 ghost use Rattle.std.specs.Io.KnownBytes.{Appends};
 ghost use Rattle.board.specs.Grids.{Grid};
 ghost use Rattle.board.specs.Positions.{Position};
@@ -20,13 +20,14 @@ pub trait Answerer {
     // The shape of the boards that it answers.
     ghost grid: { Self → Grid };
 
-    // The outcomes that a board may be answered by.
-    ghost allows: { Self → Position → Outcome → Type 0 };
+    // The outcomes that a board may be answered by; no outcome tells a want of memory before the first step.
+    ghost allows: { Self → Position → Option Outcome → Type 0 };
 
     /// Answers a board. The error tells a want of memory before the first step.
     fn answer(&self, alloc: Global, start: &Board) -> Result<Outcome, AllocError>
         requires { start.now.grid ≡ grid self.now }
-        ensures { IfOk result (allows self.now start.now) };
+        ensures answered { IfOk result (λ outcome. allows self.now start.now (Some outcome)) }
+        ensures lacking { OnErr result (allows self.now start.now None) };
 }
 
 /// Why a batch ended early.
