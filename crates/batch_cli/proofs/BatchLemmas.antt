@@ -11,8 +11,8 @@ use Rattle.batch_cli.specs.Readings.{TakesKnown, CountsTaken, IsJudged}
 use Rattle.batch_cli.specs.Batches.{IsAnswer, IsReportOf, IsReport, IsBatch, AreRead, AreFirst, WritesSome, no_lines, with_outcome}
 use Rattle.batch_cli.specs.declared.lines.LineKind.{LineKind}
 use Rattle.batch_cli.specs.declared.lines.LineKind.TheVariants.{PassedOver, Within, TooLong}
-use Rattle.batch_cli.specs.declared.outcomes.Outcome.{Outcome}
-use Rattle.batch_cli.specs.declared.outcomes.Outcome.TheVariants.{Optimal, Unsolvable, Bounded}
+use Rattle.outcomes.specs.declared.outcome.Outcome.{Outcome}
+use Rattle.outcomes.specs.declared.outcome.Outcome.TheVariants.{Optimal, Unsolvable, Bounded}
 use Rattle.batch_cli.specs.declared.batch.Summary.{Summary}
 
 module _ (grid : Grid) (allows : Position → Option Outcome → Type 0) where

@@ -11,8 +11,8 @@ use Rattle.batch_cli.specs.Reports.{outcome_data, refused_data, report_text}
 use Rattle.batch_cli.specs.declared.words.EntryFault.{EntryFault}
 use Rattle.batch_cli.specs.declared.lines.LineKind.{LineKind}
 use Rattle.batch_cli.specs.declared.lines.LineKind.TheVariants.{PassedOver, Within, TooLong}
-use Rattle.batch_cli.specs.declared.outcomes.Outcome.{Outcome}
-use Rattle.batch_cli.specs.declared.outcomes.Outcome.TheVariants.{Optimal, Unsolvable, Bounded}
+use Rattle.outcomes.specs.declared.outcome.Outcome.{Outcome}
+use Rattle.outcomes.specs.declared.outcome.Outcome.TheVariants.{Optimal, Unsolvable, Bounded}
 use Rattle.batch_cli.specs.declared.batch.Summary.{Summary}
 use Rattle.batch_cli.specs.declared.batch.BatchFault.{BatchFault}
 use Rattle.batch_cli.specs.declared.batch.BatchFault.TheVariants.{Read, Write, Memory as NoMemory}

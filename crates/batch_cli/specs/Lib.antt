@@ -3,7 +3,6 @@ pub mod Readings
 pub mod Starts
 pub mod Words
 pub mod TileNumbers
-pub mod Outcomes
 pub mod Reports
 pub mod Batches
 pub mod Setups

@@ -4,31 +4,10 @@ use Rattle.serde_json.specs.Data.{Data, number, unsigned, string, object, member
 use Rattle.serde_json.specs.Written.{compact_text}
 use Rattle.board.specs.declared.moves.Move.{Move}
 use Rattle.board.specs.declared.moves.Move.TheVariants.{U, L, R, D}
-use Rattle.batch_cli.specs.Outcomes.{best_of}
-use Rattle.batch_cli.specs.declared.outcomes.Why.{Why}
-use Rattle.batch_cli.specs.declared.outcomes.Why.TheVariants.{Parity, Exhausted}
-use Rattle.batch_cli.specs.declared.outcomes.Cause.{Cause}
-use Rattle.batch_cli.specs.declared.outcomes.Cause.TheVariants.{Limit, Memory, Start, Cost, Cut}
-use Rattle.batch_cli.specs.declared.outcomes.SolveFault.{SolveFault}
-use Rattle.batch_cli.specs.declared.outcomes.SolveFault.TheVariants.{Memory as NoMemory}
-use Rattle.batch_cli.specs.declared.outcomes.Outcome.{Outcome}
-use Rattle.batch_cli.specs.declared.outcomes.Outcome.TheVariants.{Optimal, Unsolvable, Bounded}
-
--- the words of reasons
-abbrev pub why_word : Why → List ℕ
-why_word Parity = codes "parity"
-why_word Exhausted = codes "exhausted"
-
-abbrev pub cause_word : Cause → List ℕ
-cause_word Limit = codes "limit"
-cause_word Memory = codes "memory"
-cause_word Start = codes "start"
-cause_word Cost = codes "cost"
-cause_word Cut = codes "cut"
-
--- the code of a want of memory before the first step
-abbrev pub solve_code_of : SolveFault → List ℕ
-solve_code_of NoMemory = codes "V3"
+use Rattle.outcomes.specs.Outcomes.{best_of}
+use Rattle.outcomes.specs.Words.{why_word, cause_word}
+use Rattle.outcomes.specs.declared.outcome.Outcome.{Outcome}
+use Rattle.outcomes.specs.declared.outcome.Outcome.TheVariants.{Optimal, Unsolvable, Bounded}
 
 -- the letter of a move
 abbrev pub letter_of : Move → ℕ

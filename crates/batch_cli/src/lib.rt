@@ -3,7 +3,6 @@
 
 pub mod batch;
 pub mod lines;
-pub mod outcomes;
 pub mod reports;
 pub mod setup;
 pub mod words;

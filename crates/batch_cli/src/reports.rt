@@ -4,12 +4,12 @@ ghost use Rattle.serde_json.specs.View.{view};
 ghost use Rattle.serde_json.specs.Written.{has_float};
 ghost use Rattle.board.specs.declared.moves.Move.{Move};
 ghost use Rattle.board.specs.declared.boards.Board.{Board};
-ghost use Rattle.batch_cli.specs.Outcomes.{best_of};
-ghost use Rattle.batch_cli.specs.declared.outcomes.Outcome.TheVariants.{Optimal, Unsolvable, Bounded};
+ghost use Rattle.outcomes.specs.Outcomes.{best_of};
+ghost use Rattle.outcomes.specs.declared.outcome.Outcome.TheVariants.{Optimal, Unsolvable, Bounded};
 ghost use Rattle.batch_cli.specs.Reports.{letter_of, letters_of, best_data, outcome_data, refused_data, report_text};
 
-use crate::outcomes::{Cause, Outcome, Why};
 use board::Move;
+use outcomes::{Cause, Outcome, Why};
 use serde_json::{Value, json};
 use std::alloc::{AllocError, Global};
 

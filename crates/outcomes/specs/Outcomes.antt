@@ -6,12 +6,12 @@ use Rattle.board.specs.Positions.{Position}
 use Rattle.board.specs.CostRules.{CostRule}
 use Rattle.board.specs.Plans.{Leads, NothingBelow, IsLeast}
 use Rattle.board.specs.Classes.{SameClass}
-use Rattle.batch_cli.specs.declared.outcomes.Why.{Why}
-use Rattle.batch_cli.specs.declared.outcomes.Why.TheVariants.{Parity, Exhausted}
-use Rattle.batch_cli.specs.declared.outcomes.Cause.{Cause}
-use Rattle.batch_cli.specs.declared.outcomes.Cause.TheVariants.{Limit, Memory, Start, Cost, Cut}
-use Rattle.batch_cli.specs.declared.outcomes.Outcome.{Outcome}
-use Rattle.batch_cli.specs.declared.outcomes.Outcome.TheVariants.{Optimal, Unsolvable, Bounded}
+use Rattle.outcomes.specs.declared.outcome.Why.{Why}
+use Rattle.outcomes.specs.declared.outcome.Why.TheVariants.{Parity, Exhausted}
+use Rattle.outcomes.specs.declared.outcome.Cause.{Cause}
+use Rattle.outcomes.specs.declared.outcome.Cause.TheVariants.{Limit, Memory, Start, Cost, Cut}
+use Rattle.outcomes.specs.declared.outcome.Outcome.{Outcome}
+use Rattle.outcomes.specs.declared.outcome.Outcome.TheVariants.{Optimal, Unsolvable, Bounded}
 
 -- what is asked: the plans from the start to the goal under a cost rule, with a sum that guides the search
 pub record Task : Type 0 where

@@ -1,5 +1,5 @@
 ghost use Rattle.std.specs.Prelude.{◌≡◌};
-ghost use Rattle.batch_cli.specs.Reports.{why_word, cause_word, solve_code_of};
+ghost use Rattle.outcomes.specs.Words.{why_word, cause_word, solve_code_of};
 
 use board::{Board, Move};
 use thiserror::Error;
