@@ -132,3 +132,11 @@ read_back grid key n m read b has counted again digits =
     let same : key_of b ≡ key = has.packed in
     let tiles : take m read ≡ b.tiles = cc in
     λ i. record { grid = sym has.sides i; tiles = tiles i }
+
+-- a key names one board of a grid
+pub same_board : (a b : Position) → IsBoard a → IsBoard b → a.grid ≡ b.grid → key_of a ≡ key_of b → a ≡ b
+same_board a b is is' sides same =
+    let one : digits_of (cell_count a.grid) (key_of a) ≡ a.tiles = digits_of-key a is in
+    let other : digits_of (cell_count b.grid) (key_of b) ≡ b.tiles = digits_of-key b is' in
+    let tiles : a.tiles ≡ b.tiles = cc in
+    λ i. record { grid = sides i; tiles = tiles i }

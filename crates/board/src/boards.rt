@@ -89,7 +89,8 @@ impl Board {
     /// The board as one number: 5 bits a cell, cell 0 highest. So the keys of boards of one shape are in
     /// the order of their lists of tiles.
     pub fn key(&self) -> u128
-        ensures { result ≡ key_of self.now }
+        ensures value { result ≡ key_of self.now }
+        ensures board { IsBoard self.now }
     {
         let mut key = 0;
         for tile in &self.tiles[..self.shape.cells()] {
@@ -156,7 +157,8 @@ impl Board {
             (result ≡ Some (b, cost)) ↔ Moves weights.now self.now direction b cost }
         ensures value { result ≡ successor weights.now self.now direction }
         ensures board { IfSome result (λ moved. IsBoard moved.0) }
-        ensures paid { IfSome result (λ moved. moved.1 ≤ 255) }
+        ensures low { IfSome result (λ moved. 1 ≤ moved.1) }
+        ensures high { IfSome result (λ moved. moved.1 ≤ 255) }
     {
         let from = self.blank();
         let to = self.shape.neighbour(from, direction)?;

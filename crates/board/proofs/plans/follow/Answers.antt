@@ -8,7 +8,7 @@ use Rattle.board.proofs.plans.follow.Goals as goal
 pub loop-place-preserved : goal.loop-place-preserved
 loop-place-preserved c =
     IsFollowed-more c.args.weights.now c.args.start.now c.args.plan.now c.loop-place.place c.loop-place.board c.loop-place.cost (get_or c.args.plan.now c.loop-place.place U) c.in-Some.moved.0 c.in-Some.moved.1 c.loop-place.invariant
-    (slice_get-get_or c.args.plan.now c.loop-place.place U c.loop-place-test.true) ((c.in-Some.ensures.moves c.in-Some.moved.0 c.in-Some.moved.1).0 refl) c.in-Some.ensures.paid
+    (slice_get-get_or c.args.plan.now c.loop-place.place U c.loop-place-test.true) ((c.in-Some.ensures.moves c.in-Some.moved.0 c.in-Some.moved.1).0 refl) c.in-Some.ensures.high
 
 -- no move is possible where the loop stops
 stuck : (c : goal.In_default) → IsStuckAt c.args.weights.now c.args.start.now c.args.plan.now c.loop-place.place

@@ -17,5 +17,5 @@ returns-else-key-clause-found c = (
   (λ none. absurd (cc)),
   (λ found.
       let read = read_back c.args.shape c.args.key c.cells.result c.cells-2.result c.last_digits-tiles.result found.0 found.1 c.cells.ensures.value c.cells-2.ensures.value c.last_digits-tiles.ensures in
-      absurd (c.if-key.false (c.key.ensures ∙ ap key_of (c.in-Ok.ensures.value ∙ read) ∙ found.1.packed))),
+      absurd (c.if-key.false (c.key.ensures.value ∙ ap key_of (c.in-Ok.ensures.value ∙ read) ∙ found.1.packed))),
 )

@@ -1,0 +1,63 @@
+-- Which outcome a search gives, by what it knows and why it stopped.
+use Rattle.std.specs.Prelude.{ℕ, ◌≡◌, ◌≢◌, ◌⊎◌, ◌≤◌, ◌<◌, ⊤, min, List, [], Option, None, Some}
+use Rattle.board.specs.declared.moves.Move.{Move}
+use Rattle.board.specs.Plans.{Leads}
+use Rattle.outcomes.specs.declared.outcome.Why.TheVariants.{Exhausted}
+use Rattle.outcomes.specs.declared.outcome.Cause.{Cause}
+use Rattle.outcomes.specs.declared.outcome.Cause.TheVariants.{Limit as ForLimit, Memory as ForMemory, Start as ForStart, Cost as ForCost, Cut as ForCut}
+use Rattle.outcomes.specs.declared.outcome.Outcome.{Outcome}
+use Rattle.outcomes.specs.declared.outcome.Outcome.TheVariants.{Optimal, Unsolvable, Bounded}
+use Rattle.outcomes.specs.Outcomes.{Task}
+use Rattle.plain_search.specs.declared.run.Stop.{Stop}
+use Rattle.plain_search.specs.declared.run.Stop.TheVariants.{Done, Limit, Memory}
+use Rattle.plain_search.specs.Knowledge.{Knowledge, IsLowest, IsReached}
+use Rattle.plain_search.specs.Runs.{IsStoppedBy}
+
+-- the smaller of two numbers, of which an absent one is above all
+abbrev pub lesser : Option ℕ → Option ℕ → Option ℕ
+lesser None y = y
+lesser (Some x) None = Some x
+lesser (Some x) (Some y) = Some (min x y)
+
+-- the cause that a stop names
+abbrev pub cause_of : Stop → Cause
+cause_of Done = ForCost
+cause_of Limit = ForLimit
+cause_of Memory = ForMemory
+
+-- a plan that leads from the start to the goal at the cost named, which is no more than the cost at which the goal is known
+pub record IsFollowedBack (task : Task) (reached : Option ℕ) (cost : ℕ) (plan : List Move) : Type 0 where
+  pub goal : ℕ
+  pub is : reached ≡ Some goal
+  pub leads : Leads task.rule task.start plan task.goal cost
+  pub within : cost ≤ goal
+
+-- Neither an open board nor the goal is known: no plan. Else the bound is the smaller of the lowest open board's cost and the
+-- goal's. Where the plan that is followed back costs just that, it is optimal. Else the bound is given with the plan, if the goal
+-- is known and the plan found memory.
+abbrev pub IsGivenAt : Task → Option ℕ → Option ℕ → Stop → Outcome → Type 0
+IsGivenAt task lowest reached stop (Optimal cost plan rows) =
+    (lesser lowest reached ≡ Some cost) × IsFollowedBack task reached cost plan.items × (rows.items ≡ [])
+IsGivenAt task lowest reached stop (Unsolvable why) = (lesser lowest reached ≡ None) × (why ≡ Exhausted)
+IsGivenAt task lowest reached stop (Bounded bound None cause) =
+    (lesser lowest reached ≡ Some bound) × (((reached ≡ None) × (cause ≡ cause_of stop)) ⊎ ((reached ≢ None) × (cause ≡ ForMemory)))
+IsGivenAt task lowest reached stop (Bounded bound (Some best) cause) =
+    (lesser lowest reached ≡ Some bound) × IsFollowedBack task reached best.0 best.1.items × (best.0 ≢ bound) × (cause ≡ cause_of stop)
+
+abbrev pub IsGiven : Task → Knowledge → Stop → Outcome → Type 0
+IsGiven task known stop outcome = (lowest : Option ℕ) × (reached : Option ℕ) × IsLowest task known lowest × IsReached task known reached × IsGivenAt task lowest reached stop outcome
+
+-- the outcome is given by what a run knows where it stopped
+abbrev pub IsFound : Task → Outcome → Type 0
+IsFound task outcome = (stop : Stop) × (known : Knowledge) × IsStoppedBy task stop known × IsGiven task known stop outcome
+
+-- A bound is given only for want of memory, where each plan costs more than 1,048,320, or after the default limit of
+-- expansions; and no plan only where the search met every board.
+abbrev pub IsExcused : Task → Outcome → Type 0
+IsExcused task (Optimal cost plan rows) = ⊤
+IsExcused task (Unsolvable why) = why ≡ Exhausted
+IsExcused task (Bounded bound best ForMemory) = ⊤
+IsExcused task (Bounded bound best ForCost) = 1048320 < bound
+IsExcused task (Bounded bound best ForLimit) = (known : Knowledge) × IsStoppedBy task Limit known
+IsExcused task (Bounded bound best ForStart) = ⊥
+IsExcused task (Bounded bound best ForCut) = ⊥

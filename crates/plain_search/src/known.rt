@@ -1,0 +1,102 @@
+ghost use Rattle.std.specs.Prelude.{◌≡◌, ◌≢◌, false, OnOk, OnErr, ℕ, Some};
+ghost use Rattle.std.specs.FinMap as map;
+ghost use Rattle.plain_search.specs.declared.known.Known.{Known};
+ghost use Rattle.plain_search.specs.Knowledge.{IsLeastWith};
+ghost use Rattle.plain_search.specs.Expansions.{marked_at};
+ghost use Rattle.plain_search.specs.Lowest.{lowest_with, IsLowestOf};
+
+use board::Move;
+use std::alloc::{AllocError, Global};
+use std::collections::BTreeMap;
+use std::marker::Model;
+
+/// What is known of a board.
+#[derive(Clone, Copy, Debug)]
+pub struct Known {
+    /// The least cost of reaching it that was met so far.
+    pub cost: u32,
+    /// Whether it was expanded at that cost.
+    pub expanded: bool,
+    /// The last move of the plan that was met at that cost.
+    pub via: Move,
+}
+
+/// What is known of boards, by their keys.
+#[derive(Drop)]
+pub struct KnownBoards {
+    boards: BTreeMap<u128, Known>,
+}
+
+impl Model for KnownBoards {
+    ghost use Rattle.std.specs.FinMap as map;
+    ghost use Rattle.plain_search.specs.Knowledge.{Knowledge};
+    ghost use Rattle.plain_search.specs.Codes.{knowledge_code};
+
+    ghost Value = { Knowledge };
+
+    ghost coded = { knowledge_code };
+
+    ghost view = { λ s. map.from_entries s.boards.entries };
+}
+
+impl KnownBoards {
+    // No board is known.
+    pub(crate) fn new(alloc: Global) -> Self
+        ensures { result ≡ map.empty }
+    {
+        KnownBoards {
+            boards: BTreeMap::new(alloc),
+        }
+    }
+
+    // What is known of the board with this key.
+    pub(crate) fn get(&self, key: u128) -> Option<Known>
+        ensures { result ≡ map.get self.now key }
+    {
+        self.boards.get(&key).copied()
+    }
+
+    // Takes what is known of the board with this key from now on.
+    pub(crate) fn set(&mut self, key: u128, known: Known) -> Result<(), AllocError>
+        ensures ok { OnOk result (self.new ≡ map.insert self.old key known) }
+        ensures err { OnErr result (self.new ≡ self.old) }
+    {
+        self.boards.insert(key, known)?;
+        Ok(())
+    }
+
+    // Marks the board with this key as expanded, if it is known.
+    pub(crate) fn mark(&mut self, key: u128)
+        ensures { self.new ≡ marked_at self.old key (map.get self.old key) }
+    {
+        let Some(known) = self.boards.get_mut(&key) else {
+            return;
+        };
+        known.expanded = true;
+    }
+
+    // The least cost of a board that is not expanded, but for the board with this key.
+    pub(crate) fn lowest_but(&self, but: u128) -> Option<u32>
+        ensures { IsLeastWith (λ cost. (key : ℕ) × (k : Known) × (map.get self.now key ≡ Some k)
+            × (k.expanded ≡ false) × (key ≢ but) × (k.cost ≡ cost)) result }
+    {
+        let mut lowest: Option<u32> = None;
+        'boards: for (key, known) in self.boards.iter() {
+            lowest = lowest_with(lowest, *key, *known, but);
+        }
+        lowest
+    }
+}
+
+// The lowest cost after one board more.
+fn lowest_with(lowest: Option<u32>, key: u128, known: Known, but: u128) -> Option<u32>
+    ensures { result ≡ lowest_with but (key, known) lowest }
+{
+    if known.expanded || key == but {
+        return lowest;
+    }
+    match lowest {
+        Some(cost) => Some(cost.min(known.cost)),
+        None => Some(known.cost),
+    }
+}
