@@ -5,3 +5,4 @@ pub mod WordLemmas
 pub mod TileLemmas
 pub mod FaultLemmas
 pub mod BatchLemmas
+pub mod ProgramLemmas

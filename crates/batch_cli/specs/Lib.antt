@@ -6,3 +6,5 @@ pub mod TileNumbers
 pub mod Reports
 pub mod Batches
 pub mod Setups
+pub mod Solving
+pub mod Programs

@@ -2,10 +2,10 @@
 //! boards.
 #![tactic(auto)]
 
-pub mod expansion;
-pub mod known;
-pub mod result;
-pub mod run;
+mod expansion;
+mod known;
+mod result;
+mod run;
 
 ghost use Rattle.std.specs.Prelude.{◌≡◌, IfOk};
 ghost use Rattle.outcomes.specs.Outcomes.{Answers};

@@ -1,0 +1,13 @@
+use Rattle.std.proofs.Common.{◌≡◌, subst, sym, ap, ◌∙◌, true}
+use Rattle.batch_cli.specs.Programs.{default_setup, small_grid}
+use Rattle.batch_cli.specs.Solving.{MayAnswer}
+use Rattle.batch_cli.specs.Setups.{SetupState}
+use Rattle.batch_cli.specs.Batches.{WritesAll}
+use Rattle.batch_cli.proofs.ProgramLemmas.{WritesSome-all}
+use Rattle.batch_cli.proofs.program.run.Goals as goal
+
+-- src/program.rt:109:9
+pub returns-then-is_err : goal.returns-then-is_err
+returns-then-is_err g c =
+    let all = subst (λ (s : SetupState). WritesAll s.goal.grid (MayAnswer s) (g.S.Source.left c.args.source.now) (g.K.Sink.contents c.args.sink.now) (g.K.Sink.contents c.run_batch.new.sink) c.in-Ok.counts) c.default_setup-setup.ensures c.in-Ok.ensures.all in
+    (WritesSome-all small_grid (MayAnswer default_setup) (g.S.Source.left c.args.source.now) (g.K.Sink.contents c.args.sink.now) (g.K.Sink.contents c.run_batch.new.sink) (g.K.Sink.contents c.flush-2.new.self) c.in-Ok.counts all c.flush-2.ensures.kept, c.flush-2.ensures.fails ∙ sym c.is_err.ensures.value ∙ c.if-is_err.true)

@@ -1,0 +1,120 @@
+ghost use Rattle.std.specs.Prelude.{◌≡◌, ◌≢◌, ◌⊎◌, true, false, length, []};
+ghost use Rattle.byte_streams.specs.Sink.{AppendsBeginning};
+ghost use Rattle.batch_cli.specs.declared.program.Ending.{Ending};
+ghost use Rattle.batch_cli.specs.declared.program.Ending.TheVariants.{Usage};
+ghost use Rattle.batch_cli.specs.Programs.{default_setup, status_of, message_of, EndsRun};
+
+use crate::batch::{BatchFault, Summary};
+use crate::setup::Setup;
+use crate::solving::run_batch;
+use board::{Board, Shape, Weights};
+use byte_streams::{Sink, Source};
+use std::alloc::Global;
+
+/// How the program ends.
+#[derive(Clone, Copy, Debug, PartialEq, Eq)]
+pub enum Ending {
+    /// It was given words that it does not know.
+    Usage,
+    /// There was no memory for the words or for the streams' buffers.
+    NoBuffers,
+    /// All lines were answered or refused.
+    Ran(Summary),
+    /// The batch ended early.
+    Faulted(BatchFault),
+}
+
+impl Ending {
+    /// The exit status: 0 where each line is optimal or unsolvable, 1 where some line is bounded or refused,
+    /// 2 for words, 3 for a stream that failed, 4 for want of memory.
+    pub fn status(self) -> u8
+        ensures { result ≡ status_of self }
+    {
+        match self {
+            Ending::Usage => 2,
+            Ending::NoBuffers => 4,
+            Ending::Ran(counts) if counts.bounded == 0 && counts.refused == 0 => 0,
+            Ending::Ran(_) => 1,
+            Ending::Faulted(BatchFault::Memory) => 4,
+            Ending::Faulted(_) => 3,
+        }
+    }
+
+    /// What is written of it to standard error: nothing or one line.
+    pub fn message(self) -> &'static str
+        ensures { result.now ≡ message_of self }
+    {
+        match self {
+            Ending::Usage => {
+                "usage: tilesolve, with lines of an id and the tiles of a 3 by 3 board on standard input\n"
+            }
+            Ending::NoBuffers => "tilesolve: memory\n",
+            Ending::Ran(_) => "",
+            Ending::Faulted(BatchFault::Read) => "tilesolve: B1\n",
+            Ending::Faulted(BatchFault::Write) => "tilesolve: B2\n",
+            Ending::Faulted(BatchFault::Memory) => "tilesolve: B3\n",
+        }
+    }
+
+    /// Writes the message, and answers the status whether it could be written or not.
+    pub fn tell<E: Sink>(self, errors: &mut E) -> u8
+        ensures status { result ≡ status_of self }
+        ensures told { AppendsBeginning (E.contents errors.old) (E.contents errors.new) (message_of self) }
+    {
+        let _ = errors.put(self.message().as_bytes());
+        self.status()
+    }
+}
+
+/// Runs the program over any streams, and answers its exit status. The words are those after the program's
+/// name.
+///
+/// Without words it reports the lines of the source to the sink, for 3 by 3 boards at unit cost with Korf's
+/// goal, and flushes the sink.
+pub fn run_program<S: Source, K: Sink, E: Sink>(
+    alloc: Global,
+    words: &[String],
+    source: &mut S,
+    sink: &mut K,
+    errors: &mut E,
+) -> u8
+    requires { K.has_failed sink.old ≡ false }
+    ensures ended { (ending : Ending) × (result ≡ status_of ending)
+        × AppendsBeginning (E.contents errors.old) (E.contents errors.new) (message_of ending)
+        × ((words.now ≡ [] × EndsRun (S.left source.old) (S.left source.new) (K.contents sink.old) (K.contents sink.new)
+        (S.has_failed source.new) (K.has_failed sink.new) ending)
+        ⊎ (words.now ≢ [] × (ending ≡ Usage) × (source.new ≡ source.old) × (sink.new ≡ sink.old))) }
+{
+    if !words.is_empty() {
+        return Ending::Usage.tell(errors);
+    }
+    run(alloc, source, sink).tell(errors)
+}
+
+// Reports the lines of the source, and flushes the sink. The first fault decides how it ends.
+fn run<S: Source, K: Sink>(alloc: Global, source: &mut S, sink: &mut K) -> Ending
+    requires { K.has_failed sink.old ≡ false }
+    ensures { EndsRun (S.left source.old) (S.left source.new) (K.contents sink.old) (K.contents sink.new)
+        (S.has_failed source.new) (K.has_failed sink.new) result }
+{
+    let setup = default_setup();
+    let counts = match run_batch(alloc, source, sink, &setup) {
+        Ok(counts) => counts,
+        Err(fault) => {
+            let _ = sink.flush();
+            return Ending::Faulted(fault);
+        }
+    };
+    if sink.flush().is_err() {
+        return Ending::Faulted(BatchFault::Write);
+    }
+    Ending::Ran(counts)
+}
+
+// 3 by 3, Korf's goal, unit cost.
+fn default_setup() -> Setup
+    ensures { result ≡ default_setup }
+{
+    let shape = Shape::new(3, 3).unwrap();
+    Setup::new(Board::goal(shape), Weights::unit(shape))
+}

@@ -1,0 +1,50 @@
+ghost use Rattle.std.specs.Prelude.{◌≡◌, ◌⊎◌, ◌↔◌, true, false, IfOk, OnErr, Err};
+ghost use Rattle.byte_streams.specs.Sink.{AppendsBeginning};
+ghost use Rattle.batch_cli.specs.Batches.{WritesAll, WritesWhole, WritesSome, IsTooLong};
+ghost use Rattle.batch_cli.specs.Solving.{MayAnswer};
+
+use crate::batch::{Answerer, BatchFault, Summary, run_lines};
+use crate::setup::Setup;
+use board::Board;
+use byte_streams::{Sink, Source};
+use outcomes::Outcome;
+use plain_search::solve;
+use std::alloc::{AllocError, Global};
+
+impl Answerer for Setup {
+    ghost use Rattle.batch_cli.specs.Solving.{MayAnswer};
+
+    ghost grid = { λ s. s.goal.grid };
+
+    ghost allows = { MayAnswer };
+
+    fn answer(&self, alloc: Global, start: &Board) -> Result<Outcome, AllocError> {
+        solve(alloc, start, &self.goal(), &self.weights())
+    }
+}
+
+/// Writes a report for each line of the source that isn't passed over, in order: that of its first fault, or
+/// of an outcome that answers its board.
+///
+/// After `Read` exactly the reports of the lines that were read whole are written; after the other faults a
+/// beginning of the reports. Nothing is flushed.
+pub fn run_batch<S: Source, K: Sink>(
+    alloc: Global,
+    source: &mut S,
+    sink: &mut K,
+    setup: &Setup,
+) -> Result<Summary, BatchFault>
+    ensures all { IfOk result (WritesAll setup.now.goal.grid (MayAnswer setup.now)
+        (S.left source.old) (K.contents sink.old) (K.contents sink.new)) }
+    ensures whole { result ≡ Err BatchFault.Read → WritesWhole setup.now.goal.grid (MayAnswer setup.now)
+        (S.left source.old) (S.left source.new) (K.contents sink.old) (K.contents sink.new) }
+    ensures cannot_read { result ≡ Err BatchFault.Read
+        → (S.has_failed source.new ≡ true) ⊎ IsTooLong (S.left source.old) }
+    ensures read_failed { S.has_failed source.new ≡ true → result ≡ Err BatchFault.Read }
+    ensures cannot_write { K.has_failed sink.old ≡ false
+        → (result ≡ Err BatchFault.Write) ↔ (K.has_failed sink.new ≡ true) }
+    ensures begun { OnErr result (WritesSome setup.now.goal.grid (MayAnswer setup.now)
+        (S.left source.old) (K.contents sink.old) (K.contents sink.new)) }
+{
+    run_lines(alloc, source, sink, setup.shape(), setup)
+}
