@@ -2,14 +2,10 @@
 #![tactic(auto)]
 
 pub mod batch;
-pub mod lines;
-pub mod reports;
 pub mod setup;
-pub mod words;
 
 pub use batch::{Answerer, BatchFault, Summary, run_lines};
-pub use lines::{LINE_LIMIT, Line, LineKind, LineReader};
+pub use batch_lines::{Entry, EntryFault, LINE_LIMIT, Line, LineKind, LineReader, read_entry};
 pub use outcomes::{Cause, Outcome, SolveFault, Why};
 pub use reports::{outcome_report, refused_report};
 pub use setup::Setup;
-pub use words::{Entry, EntryFault, read_entry};
