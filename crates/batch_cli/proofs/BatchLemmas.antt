@@ -6,11 +6,11 @@ use Rattle.board.specs.Grids.{Grid}
 use Rattle.board.specs.Positions.{Position}
 use Rattle.byte_streams.specs.Sink.{AppendsBeginning}
 use Rattle.byte_streams.proofs.SinkLemmas.{AppendsBeginning-after}
-use Rattle.batch_cli.specs.Lines.{lines_of, without_return}
-use Rattle.batch_cli.specs.Readings.{TakesKnown, CountsTaken, IsJudged}
+use Rattle.batch_lines.specs.Lines.{lines_of, without_return}
+use Rattle.batch_lines.specs.Readings.{TakesKnown, CountsTaken, IsJudged}
 use Rattle.batch_cli.specs.Batches.{IsAnswer, IsReportOf, IsReport, IsBatch, AreRead, AreFirst, WritesSome, no_lines, with_outcome}
-use Rattle.batch_cli.specs.declared.lines.LineKind.{LineKind}
-use Rattle.batch_cli.specs.declared.lines.LineKind.TheVariants.{PassedOver, Within, TooLong}
+use Rattle.batch_lines.specs.declared.lines.LineKind.{LineKind}
+use Rattle.batch_lines.specs.declared.lines.LineKind.TheVariants.{PassedOver, Within, TooLong}
 use Rattle.outcomes.specs.declared.outcome.Outcome.{Outcome}
 use Rattle.outcomes.specs.declared.outcome.Outcome.TheVariants.{Optimal, Unsolvable, Bounded}
 use Rattle.batch_cli.specs.declared.batch.Summary.{Summary}

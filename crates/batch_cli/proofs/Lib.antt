@@ -1,8 +1,2 @@
-pub mod StartLemmas
-pub mod JudgeLemmas
-pub mod LineLemmas
-pub mod WordLemmas
-pub mod TileLemmas
-pub mod FaultLemmas
 pub mod BatchLemmas
 pub mod ProgramLemmas

@@ -4,13 +4,13 @@ use Rattle.std.specs.Io.KnownBytes.{Appends}
 use Rattle.byte_streams.specs.Sink.{AppendsBeginning}
 use Rattle.board.specs.Grids.{Grid}
 use Rattle.board.specs.Positions.{Position}
-use Rattle.batch_cli.specs.Lines.{lines_of, without_return, kind_of}
-use Rattle.batch_cli.specs.Readings.{TakesNoLine, CountsTaken}
-use Rattle.batch_cli.specs.Words.{IsEntry, IsFirstEntryFault, entry_code_of}
-use Rattle.batch_cli.specs.Reports.{outcome_data, refused_data, report_text}
-use Rattle.batch_cli.specs.declared.words.EntryFault.{EntryFault}
-use Rattle.batch_cli.specs.declared.lines.LineKind.{LineKind}
-use Rattle.batch_cli.specs.declared.lines.LineKind.TheVariants.{PassedOver, Within, TooLong}
+use Rattle.batch_lines.specs.Lines.{lines_of, without_return, kind_of}
+use Rattle.batch_lines.specs.Readings.{TakesNoLine, CountsTaken}
+use Rattle.batch_lines.specs.Words.{IsEntry, IsFirstEntryFault, entry_code_of}
+use Rattle.reports.specs.Reports.{outcome_data, refused_data, report_text}
+use Rattle.batch_lines.specs.declared.words.EntryFault.{EntryFault}
+use Rattle.batch_lines.specs.declared.lines.LineKind.{LineKind}
+use Rattle.batch_lines.specs.declared.lines.LineKind.TheVariants.{PassedOver, Within, TooLong}
 use Rattle.outcomes.specs.declared.outcome.Outcome.{Outcome}
 use Rattle.outcomes.specs.declared.outcome.Outcome.TheVariants.{Optimal, Unsolvable, Bounded}
 use Rattle.batch_cli.specs.declared.batch.Summary.{Summary}

@@ -1,9 +1,3 @@
-pub mod Lines
-pub mod Readings
-pub mod Starts
-pub mod Words
-pub mod TileNumbers
-pub mod Reports
 pub mod Batches
 pub mod Setups
 pub mod Solving

@@ -6,12 +6,11 @@ ghost use Rattle.byte_streams.specs.Sink.{AppendsBeginning};
 ghost use Rattle.batch_cli.specs.Batches.{IsReportOf, IsAnswer, HasRoom, batch_code_of, with_outcome, with_refused, WritesAll, WritesWhole, WritesSome, IsTooLong};
 ghost use Rattle.outcomes.specs.declared.outcome.Outcome.{Outcome};
 
-use crate::lines::{Line, LineKind, LineReader};
-use crate::reports::{outcome_report, refused_report};
-use crate::words::{EntryFault, read_entry};
+use batch_lines::{EntryFault, Line, LineKind, LineReader, read_entry};
 use board::{Board, Shape};
 use byte_streams::{Sink, Source};
 use outcomes::{Outcome, SolveFault};
+use reports::{outcome_report, refused_report};
 use std::alloc::{AllocError, Global};
 use thiserror::Error;
 

@@ -5,6 +5,6 @@
 #[cfg(test)]
 mod lines;
 #[cfg(test)]
-mod reports;
+mod report_texts;
 #[cfg(test)]
 mod runs;

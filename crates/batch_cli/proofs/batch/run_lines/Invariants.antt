@@ -1,5 +1,5 @@
 use Rattle.std.proofs.Common.{◌≡◌, ◌-◌, false}
-use Rattle.batch_cli.specs.Readings.{CountsTaken}
+use Rattle.batch_lines.specs.Readings.{CountsTaken}
 use Rattle.batch_cli.proofs.BatchLemmas.{IsRunning}
 use Rattle.batch_cli.proofs.batch.run_lines.Given as goal
 

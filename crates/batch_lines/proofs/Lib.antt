@@ -1,0 +1,6 @@
+pub mod StartLemmas
+pub mod JudgeLemmas
+pub mod LineLemmas
+pub mod WordLemmas
+pub mod TileLemmas
+pub mod FaultLemmas

@@ -1,0 +1,5 @@
+pub mod Lines
+pub mod Readings
+pub mod Starts
+pub mod Words
+pub mod TileNumbers

@@ -1,0 +1,131 @@
+ghost use Rattle.std.specs.Prelude.{◌≡◌, ℕ, IfOk, Some, Vec, false, string_bytes};
+ghost use Rattle.std.specs.declared.alloc.Global.{Global};
+ghost use Rattle.serde_json.specs.View.{view};
+ghost use Rattle.serde_json.specs.Written.{has_float};
+ghost use Rattle.board.specs.declared.moves.Move.{Move};
+ghost use Rattle.board.specs.declared.boards.Board.{Board};
+ghost use Rattle.outcomes.specs.Outcomes.{best_of};
+ghost use Rattle.outcomes.specs.declared.outcome.Outcome.TheVariants.{Optimal, Unsolvable, Bounded};
+ghost use Rattle.reports.specs.Reports.{letter_of, letters_of, best_data, outcome_data, refused_data, report_text};
+
+use board::Move;
+use outcomes::{Cause, Outcome, Why};
+use serde_json::{Value, json};
+use std::alloc::{AllocError, Global};
+
+/// The report of an outcome for a line with this id: one JSON object and a line feed.
+pub fn outcome_report(alloc: Global, id: &str, outcome: &Outcome) -> Result<String, AllocError>
+    ensures { IfOk result (λ text. string_bytes text ≡ report_text (outcome_data id.now outcome.now)) }
+{
+    json_line(alloc, &outcome_value(alloc, id, outcome)?)
+}
+
+/// The report of a line that is refused by a fault with this code: one JSON object and a line feed.
+pub fn refused_report(alloc: Global, code: &str, line: u64) -> Result<String, AllocError>
+    ensures { IfOk result (λ text. string_bytes text ≡ report_text (refused_data code.now line)) }
+{
+    json_line(alloc, &refused_value(alloc, code, line)?)
+}
+
+// The object of an outcome.
+fn outcome_value(alloc: Global, id: &str, outcome: &Outcome) -> Result<Value, AllocError>
+    ensures value { IfOk result (λ built. view built ≡ outcome_data id.now outcome.now) }
+    ensures no_float { IfOk result (λ built. has_float (view built) ≡ false) }
+{
+    match outcome {
+        Outcome::Optimal { cost, plan, .. } => optimal_value(alloc, id, *cost, plan),
+        Outcome::Unsolvable { why } => unsolvable_value(alloc, id, *why),
+        Outcome::Bounded { bound, best, cause } => bounded_value(alloc, id, *bound, best, *cause),
+    }
+}
+
+// The object of a plan of least cost, whatever the rows that prove it.
+fn optimal_value(alloc: Global, id: &str, cost: u32, plan: &[Move]) -> Result<Value, AllocError>
+    ensures value { (kept : Vec Move Global) (rows : Vec (Board × ℕ) Global) → kept.items ≡ plan.now →
+        IfOk result (λ built. view built ≡ outcome_data id.now (Optimal cost kept rows)) }
+    ensures no_float { IfOk result (λ built. has_float (view built) ≡ false) }
+{
+    let letters = plan_letters(alloc, plan)?;
+    json!(in alloc; {"cost": cost, "id": id, "plan": letters, "status": "optimal"})
+}
+
+// The object of a search that found no plan.
+fn unsolvable_value(alloc: Global, id: &str, why: Why) -> Result<Value, AllocError>
+    ensures { IfOk result (λ built. view built ≡ outcome_data id.now (Unsolvable why)) }
+{
+    json!(in alloc; {"id": id, "status": "unsolvable", "why": why.word()})
+}
+
+// The object of a bound and the best plan found.
+fn bounded_value(
+    alloc: Global,
+    id: &str,
+    bound: u32,
+    best: &Option<(u32, Vec<Move>)>,
+    cause: Cause,
+) -> Result<Value, AllocError>
+    ensures value { IfOk result (λ built. view built ≡ outcome_data id.now (Bounded bound best.now cause)) }
+    ensures no_float { IfOk result (λ built. has_float (view built) ≡ false) }
+{
+    let plan = best_value(alloc, best)?;
+    json!(in alloc; {"best": plan, "bound": bound, "cause": cause.word(), "id": id, "status": "bounded"})
+}
+
+// The best plan and its cost, or null.
+fn best_value(alloc: Global, best: &Option<(u32, Vec<Move>)>) -> Result<Value, AllocError>
+    ensures value { IfOk result (λ built. view built ≡ best_data (best_of best.now)) }
+    ensures no_float { IfOk result (λ built. has_float (view built) ≡ false) }
+{
+    match best {
+        Some(found) => plan_value(alloc, found.0, &found.1),
+        None => Ok(Value::Null),
+    }
+}
+
+// The object of a plan and its cost.
+fn plan_value(alloc: Global, cost: u32, plan: &[Move]) -> Result<Value, AllocError>
+    ensures { IfOk result (λ built. view built ≡ best_data (Some (cost, plan.now))) }
+{
+    let letters = plan_letters(alloc, plan)?;
+    json!(in alloc; {"cost": cost, "plan": letters})
+}
+
+// The object of a line that is refused.
+fn refused_value(alloc: Global, code: &str, line: u64) -> Result<Value, AllocError>
+    ensures { IfOk result (λ built. view built ≡ refused_data code.now line) }
+{
+    json!(in alloc; {"fault": code, "line": line, "status": "refused"})
+}
+
+// The letters of the moves of a plan.
+fn plan_letters(alloc: Global, plan: &[Move]) -> Result<String, AllocError>
+    ensures { IfOk result (λ text. string_bytes text ≡ letters_of plan.now) }
+{
+    let mut text = String::new(alloc);
+    for direction in plan {
+        text.push(letter(*direction))?;
+    }
+    Ok(text)
+}
+
+// The letter of a move.
+fn letter(direction: Move) -> char
+    ensures { result ≡ letter_of direction }
+{
+    match direction {
+        Move::U => 'U',
+        Move::L => 'L',
+        Move::R => 'R',
+        Move::D => 'D',
+    }
+}
+
+// A value without floats as compact JSON on a line of its own.
+fn json_line(alloc: Global, value: &Value) -> Result<String, AllocError>
+    requires { has_float (view value.now) ≡ false }
+    ensures { IfOk result (λ text. string_bytes text ≡ report_text (view value.now)) }
+{
+    let mut text = value.to_string(alloc)?;
+    text.push('\n')?;
+    Ok(text)
+}
