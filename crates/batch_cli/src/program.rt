@@ -84,6 +84,7 @@ pub fn run_program<S: Source, K: Sink, E: Sink>(
         × ((words.now ≡ [] × EndsRun (S.left source.old) (S.left source.new) (K.contents sink.old) (K.contents sink.new)
         (S.has_failed source.new) (K.has_failed sink.new) ending)
         ⊎ (words.now ≢ [] × (ending ≡ Usage) × (source.new ≡ source.old) × (sink.new ≡ sink.old))) }
+    ensures flushed { words.now ≡ [] → K.is_flushed sink.new ⊎ (K.has_failed sink.new ≡ true) }
 {
     if !words.is_empty() {
         return Ending::Usage.tell(errors);
@@ -94,8 +95,9 @@ pub fn run_program<S: Source, K: Sink, E: Sink>(
 // Reports the lines of the source, and flushes the sink. The first fault decides how it ends.
 fn run<S: Source, K: Sink>(alloc: Global, source: &mut S, sink: &mut K) -> Ending
     requires { K.has_failed sink.old ≡ false }
-    ensures { EndsRun (S.left source.old) (S.left source.new) (K.contents sink.old) (K.contents sink.new)
+    ensures ended { EndsRun (S.left source.old) (S.left source.new) (K.contents sink.old) (K.contents sink.new)
         (S.has_failed source.new) (K.has_failed sink.new) result }
+    ensures flushed { K.is_flushed sink.new ⊎ (K.has_failed sink.new ≡ true) }
 {
     let setup = default_setup();
     let counts = match run_batch(alloc, source, sink, &setup) {

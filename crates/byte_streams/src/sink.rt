@@ -19,6 +19,9 @@ pub trait Sink {
     // A write or a flush has failed.
     ghost has_failed: { Self → Bool };
 
+    // A flush came last, and has succeeded.
+    ghost is_flushed: { Self → Type 0 };
+
     /// Writes all of the bytes.
     ///
     /// It fails exactly where the sink has failed after it. What was written then is what stood
@@ -36,6 +39,7 @@ pub trait Sink {
     /// It fails exactly where the sink has failed after it, and writes no byte of its own.
     fn flush(&mut self) -> Result<(), WriteFailed>
         ensures kept { Keeps (contents self.old) (contents self.new) }
+        ensures flushed { OnOk result (is_flushed self.new) }
         ensures fails { has_failed self.new ≡ is_err result }
         ensures stays { has_failed self.old ≡ true → IsErr result };
 }
@@ -74,6 +78,8 @@ impl<W: Writer> Sink for ByteSink<W> {
     ghost contents = { λ s. W.contents (inner_writer s) };
 
     ghost has_failed = { sink_has_failed };
+
+    ghost is_flushed = { λ s. (before : W) × W.flushes before (inner_writer s) };
 
     fn put(&mut self, bytes: &[u8]) -> Result<(), WriteFailed>
         ensures all { OnOk result (Appends (W.contents (inner_writer self.old))
