@@ -1,35 +1,9 @@
-ghost use Rattle.std.specs.Prelude.{None};
-
+use crate::cases::long;
+use crate::fakes::SourceFails;
 use batch_cli::{LineKind, LineReader};
-use byte_streams::{ByteSource, ReadFailed, Source};
-use std::alloc::{AllocError, Global};
+use byte_streams::{ByteSource, ReadFailed};
 use std::process::Abort;
 use std::test::Fail;
-
-// Gives the bytes one by one, and fails at a call, counted from 0, and from then on.
-#[derive(Drop)]
-struct FailsAt<'a> {
-    bytes: &'a [u8],
-    calls: usize,
-    at: usize,
-    failed: bool,
-}
-
-impl Source for FailsAt<'_> {
-    ghost left = { λ _. None };
-
-    ghost has_failed = { λ s. s.failed };
-
-    fn next_byte(&mut self) -> Result<Option<u8>, ReadFailed> {
-        if self.failed || self.calls == self.at {
-            self.failed = true;
-            return Err(ReadFailed);
-        }
-        let byte = self.bytes.get(self.calls).copied();
-        self.calls = self.calls.saturating_add(1);
-        Ok(byte)
-    }
-}
 
 // Checks the kinds of all lines of an input, and the bytes of those that are within the limit.
 fn cuts(rt: &impl Abort, input: &[u8], lines: &[(LineKind, &[u8])]) -> Result<(), ReadFailed> {
@@ -79,13 +53,6 @@ fn short_inputs(rt: HostRuntime) -> Result<(), Fail> {
         ],
     )?;
     Ok(())
-}
-
-// So many times one byte, and then an end.
-fn long(alloc: Global, byte: u8, count: usize, end: &[u8]) -> Result<Vec<u8>, AllocError> {
-    let mut bytes = vec![in alloc; byte; count]?;
-    bytes.extend_from_slice(end)?;
-    Ok(bytes)
 }
 
 #[test]
@@ -142,12 +109,7 @@ fn failing_sources(rt: HostRuntime) -> Result<(), Fail> {
     // How many lines are whole where the call with this number fails, the call for the end among them.
     let whole = [0, 0, 0, 1, 1, 1, 2, 3, 3];
     for at in 0..9 {
-        let mut source = FailsAt {
-            bytes: input,
-            calls: 0,
-            at,
-            failed: false,
-        };
+        let mut source = SourceFails::new(input, at);
         let mut reader = LineReader::new();
         for _ in 0..whole[at] {
             assert!(rt; reader.next_line(&mut source)?.is_some(), "at {at}");
@@ -156,12 +118,7 @@ fn failing_sources(rt: HostRuntime) -> Result<(), Fail> {
         assert_eq!(rt; reader.next_line(&mut source), Err(ReadFailed), "at {at}");
     }
     // It fails too late to be met.
-    let mut source = FailsAt {
-        bytes: input,
-        calls: 0,
-        at: 10,
-        failed: false,
-    };
+    let mut source = SourceFails::new(input, 10);
     let mut reader = LineReader::new();
     for _ in 0..4 {
         assert!(rt; reader.next_line(&mut source)?.is_some());

@@ -1,8 +1,8 @@
-ghost use Rattle.std.specs.Prelude.{None};
-
+use crate::cases::{counted, long};
+use crate::fakes::{SinkFails, SourceFails};
 use batch_cli::{Answerer, BatchFault, Cause, Outcome, Setup, SolveFault, Summary, Why, run_lines};
 use board::{Board, Move, Shape, Weights};
-use byte_streams::{ByteSink, ByteSource, ReadFailed, Sink, Source, WriteFailed};
+use byte_streams::{ByteSink, ByteSource};
 use std::alloc::{AllocError, Global};
 use std::process::Abort;
 use std::test::Fail;
@@ -53,7 +53,7 @@ fn writes(
     sides: (u8, u8),
     input: &[u8],
     output: &str,
-    counts: (u64, u64, u64, u64),
+    counts: Summary,
 ) -> Result<(), Fail> {
     let alloc = rt.alloc();
     let shape = Shape::new(sides.0, sides.1)?;
@@ -62,16 +62,7 @@ fn writes(
     let summary = run_lines(alloc, &mut source, &mut sink, shape, &ByBlank { shape })?;
     let written = sink.into_inner();
     assert_eq!(rt; std::str::from_utf8(written.as_slice())?, output);
-    let (optimal, unsolvable, bounded, refused) = counts;
-    assert_eq!(rt;
-        summary,
-        Summary {
-            optimal,
-            unsolvable,
-            bounded,
-            refused,
-        }
-    );
+    assert_eq!(rt; summary, counts);
     Ok(())
 }
 
@@ -88,7 +79,7 @@ fn forms_of_reports(rt: HostRuntime) -> Result<(), Fail> {
          {\"best\":{\"cost\":30,\"plan\":\"LU\"},\"bound\":21,\"cause\":\"memory\",\"id\":\"e\",\"status\":\"bounded\"}\n\
          {\"fault\":\"V3\",\"line\":6,\"status\":\"refused\"}\n\
          {\"cost\":0,\"id\":\"a\",\"plan\":\"\",\"status\":\"optimal\"}\n",
-        (3, 1, 2, 1),
+        counted(3, 1, 2, 1),
     )
 }
 
@@ -101,7 +92,7 @@ fn refused_lines(rt: HostRuntime) -> Result<(), Fail> {
         "{\"fault\":\"E2\",\"line\":1,\"status\":\"refused\"}\n\
          {\"fault\":\"E3\",\"line\":3,\"status\":\"refused\"}\n\
          {\"fault\":\"E4\",\"line\":5,\"status\":\"refused\"}\n",
-        (0, 0, 0, 3),
+        counted(0, 0, 0, 3),
     )?;
     // A carriage return too many, a sign, a number that no machine word holds, no tiles, an id that is no text,
     // and a repeated tile before one out of range, and after it.
@@ -117,7 +108,7 @@ fn refused_lines(rt: HostRuntime) -> Result<(), Fail> {
          {\"fault\":\"E4\",\"line\":6,\"status\":\"refused\"}\n\
          {\"fault\":\"E3\",\"line\":7,\"status\":\"refused\"}\n\
          {\"fault\":\"E2\",\"line\":8,\"status\":\"refused\"}\n",
-        (0, 0, 0, 8),
+        counted(0, 0, 0, 8),
     )
 }
 
@@ -131,84 +122,17 @@ fn words_of_lines(rt: HostRuntime) -> Result<(), Fail> {
         "{\"cost\":0,\"id\":\"x\",\"plan\":\"\",\"status\":\"optimal\"}\n\
          {\"cost\":0,\"id\":\"7\",\"plan\":\"\",\"status\":\"optimal\"}\n\
          {\"cost\":0,\"id\":\"a\\\"b\\\\/\\u0001\u{e9}\",\"plan\":\"\",\"status\":\"optimal\"}\n",
-        (3, 0, 0, 0),
+        counted(3, 0, 0, 0),
     )?;
     let alloc = rt.alloc();
-    let mut long = vec![in alloc; b'x'; 1025]?;
-    long.extend_from_slice(b"\n#")?;
+    let line = long(alloc, b'x', 1025, b"\n#")?;
     writes(
         &rt,
         (2, 2),
-        long.as_slice(),
+        line.as_slice(),
         "{\"fault\":\"E12\",\"line\":1,\"status\":\"refused\"}\n",
-        (0, 0, 0, 1),
+        counted(0, 0, 0, 1),
     )
-}
-
-// Gives the bytes one by one, and fails at a call, counted from 0, and from then on.
-#[derive(Drop)]
-struct SourceFails<'a> {
-    bytes: &'a [u8],
-    calls: usize,
-    at: usize,
-    failed: bool,
-}
-
-impl Source for SourceFails<'_> {
-    ghost left = { λ _. None };
-
-    ghost has_failed = { λ s. s.failed };
-
-    fn next_byte(&mut self) -> Result<Option<u8>, ReadFailed> {
-        if self.failed || self.calls == self.at {
-            self.failed = true;
-            return Err(ReadFailed);
-        }
-        let byte = self.bytes.get(self.calls).copied();
-        self.calls = self.calls.saturating_add(1);
-        Ok(byte)
-    }
-}
-
-// Takes whole texts, and fails at a call, counted from 0, and from then on, after it took one byte. What
-// is written for a line that is passed over is an empty text.
-#[derive(Drop)]
-struct SinkFails {
-    written: Vec<u8>,
-    calls: usize,
-    at: usize,
-    failed: bool,
-}
-
-impl Sink for SinkFails {
-    ghost contents = { λ _. None };
-
-    ghost has_failed = { λ s. s.failed };
-
-    fn put(&mut self, bytes: &[u8]) -> Result<(), WriteFailed> {
-        if self.failed {
-            return Err(WriteFailed);
-        }
-        let taken = if self.calls == self.at {
-            bytes.len().min(1)
-        } else {
-            bytes.len()
-        };
-        self.calls = self.calls.saturating_add(1);
-        if self.written.extend_from_slice(&bytes[..taken]).is_err() || taken < bytes.len() {
-            self.failed = true;
-            return Err(WriteFailed);
-        }
-        Ok(())
-    }
-
-    fn flush(&mut self) -> Result<(), WriteFailed> {
-        if self.failed {
-            Err(WriteFailed)
-        } else {
-            Ok(())
-        }
-    }
 }
 
 const INPUT: &[u8] = b"a 0 1 2 3\n#\nb 1\n";
@@ -224,12 +148,7 @@ fn failing_sources(rt: HostRuntime) -> Result<(), Fail> {
     let alloc = rt.alloc();
     let shape = Shape::new(2, 2)?;
     for at in 0..17 {
-        let mut source = SourceFails {
-            bytes: INPUT,
-            calls: 0,
-            at,
-            failed: false,
-        };
+        let mut source = SourceFails::new(INPUT, at);
         let mut sink = ByteSink::new(Vec::new(alloc));
         let result = run_lines(alloc, &mut source, &mut sink, shape, &ByBlank { shape });
         assert_eq!(rt; result, Err(BatchFault::Read), "at {at}");
@@ -250,14 +169,9 @@ fn failing_sources(rt: HostRuntime) -> Result<(), Fail> {
 fn failing_sinks(rt: HostRuntime) -> Result<(), Fail> {
     let alloc = rt.alloc();
     let shape = Shape::new(2, 2)?;
-    for (at, due) in [(0, 1), (2, FIRST.len() + 1)] {
+    for (at, due) in [(0, 1), (1, FIRST.len()), (2, FIRST.len() + 1)] {
         let mut source = ByteSource::new(INPUT);
-        let mut sink = SinkFails {
-            written: Vec::new(alloc),
-            calls: 0,
-            at,
-            failed: false,
-        };
+        let mut sink = SinkFails::new(alloc, at);
         let result = run_lines(alloc, &mut source, &mut sink, shape, &ByBlank { shape });
         assert_eq!(rt; result, Err(BatchFault::Write));
         assert_eq!(rt; sink.written.len(), due);
