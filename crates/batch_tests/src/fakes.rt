@@ -67,6 +67,8 @@ impl Sink for SinkFails {
 
     ghost has_failed = { λ s. s.failed };
 
+    ghost is_flushed = { λ _. Unit {0} };
+
     fn put(&mut self, bytes: &[u8]) -> Result<(), WriteFailed> {
         if self.failed {
             return Err(WriteFailed);
