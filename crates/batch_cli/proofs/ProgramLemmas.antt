@@ -1,5 +1,5 @@
 -- What was written when the run is over.
-use Rattle.std.proofs.Common.{◌≡◌, ℕ, List, [], ◌++◌, Option, None, Some, sym, ◌∙◌, append-nil}
+use Rattle.std.proofs.Common.{ℕ, List, [], Option, None, Some, sym, ◌∙◌, append-nil}
 use Rattle.std.specs.Io.KnownBytes.{Keeps}
 use Rattle.std.proofs.KnownBytes.{Appends-kept}
 use Rattle.board.specs.Grids.{Grid}

@@ -1,8 +1,6 @@
 ghost use Rattle.std.specs.Prelude.{◌≡◌, ◌⊎◌, ◌+◌, ◌↔◌, true, false, IfOk, OnErr, Err, Option, Some, None, string_bytes};
-ghost use Rattle.std.specs.Io.KnownBytes.{Appends};
 ghost use Rattle.board.specs.Grids.{Grid};
 ghost use Rattle.board.specs.Positions.{Position};
-ghost use Rattle.byte_streams.specs.Sink.{AppendsBeginning};
 ghost use Rattle.batch_cli.specs.Batches.{IsReportOf, IsAnswer, HasRoom, batch_code_of, with_outcome, with_refused, WritesAll, WritesWhole, WritesSome, IsTooLong};
 ghost use Rattle.outcomes.specs.declared.outcome.Outcome.{Outcome};
 

@@ -1,4 +1,4 @@
-ghost use Rattle.std.specs.Prelude.{◌≡◌, ◌≢◌, ◌⊎◌, true, false, length, []};
+ghost use Rattle.std.specs.Prelude.{◌≡◌, ◌≢◌, ◌⊎◌, true, false, []};
 ghost use Rattle.byte_streams.specs.Sink.{AppendsBeginning};
 ghost use Rattle.batch_cli.specs.declared.program.Ending.{Ending};
 ghost use Rattle.batch_cli.specs.declared.program.Ending.TheVariants.{Usage};

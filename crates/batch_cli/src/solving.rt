@@ -1,5 +1,4 @@
 ghost use Rattle.std.specs.Prelude.{◌≡◌, ◌⊎◌, ◌↔◌, true, false, IfOk, OnErr, Err};
-ghost use Rattle.byte_streams.specs.Sink.{AppendsBeginning};
 ghost use Rattle.batch_cli.specs.Batches.{WritesAll, WritesWhole, WritesSome, IsTooLong};
 ghost use Rattle.batch_cli.specs.Solving.{MayAnswer};
 

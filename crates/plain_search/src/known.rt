@@ -3,7 +3,7 @@ ghost use Rattle.std.specs.FinMap as map;
 ghost use Rattle.plain_search.specs.declared.known.Known.{Known};
 ghost use Rattle.plain_search.specs.Knowledge.{IsLeastWith};
 ghost use Rattle.plain_search.specs.Expansions.{marked_at};
-ghost use Rattle.plain_search.specs.Lowest.{lowest_with, IsLowestOf};
+ghost use Rattle.plain_search.specs.Lowest.{lowest_with};
 
 use board::Move;
 use std::alloc::{AllocError, Global};

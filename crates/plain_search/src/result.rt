@@ -1,13 +1,12 @@
-ghost use Rattle.std.specs.Prelude.{◌≡◌, ◌≤◌, ◌+◌, ◌⊎◌, ℕ, Some, IfOk, IsSome, option_map};
+ghost use Rattle.std.specs.Prelude.{◌≡◌, ◌≤◌, ◌+◌, ℕ, Some, IfOk};
 ghost use Rattle.std.specs.FinMap as map;
 ghost use Rattle.board.specs.Positions.{Position, IsBoard};
 ghost use Rattle.board.specs.Moves.{Moves};
 ghost use Rattle.board.specs.Plans.{Leads};
 ghost use Rattle.board.specs.Keys.{key_of};
 ghost use Rattle.plain_search.specs.declared.known.Known.{Known};
-ghost use Rattle.plain_search.specs.Knowledge.{Knows};
 ghost use Rattle.plain_search.specs.Soundness.{IsTask, IsSound, unguided};
-ghost use Rattle.plain_search.specs.Results.{IsFollowedBack, IsGiven, lesser};
+ghost use Rattle.plain_search.specs.Results.{IsGiven, lesser};
 
 use crate::known::{Known, KnownBoards};
 use crate::run::Stop;

@@ -1,4 +1,4 @@
-ghost use Rattle.std.specs.Prelude.{◌≡◌, ◌<◌, ◌≤◌, ◌↔◌, ℕ, Some, IsTrue, IfOk, IfSome, IfNone, false};
+ghost use Rattle.std.specs.Prelude.{◌≡◌, ◌<◌, ◌↔◌, Some, IsTrue, IfOk, IfSome, IfNone, false};
 ghost use Rattle.std.specs.FinMap as map;
 ghost use Rattle.plain_search.specs.declared.known.Known.{Known};
 ghost use Rattle.plain_search.specs.Soundness.{unguided, IsTask};

@@ -1,4 +1,4 @@
-use Rattle.std.proofs.Common.{◌≡◌, subst, sym, ap, ◌∙◌, true}
+use Rattle.std.proofs.Common.{subst, sym, ◌∙◌}
 use Rattle.batch_cli.specs.Programs.{default_setup, small_grid}
 use Rattle.batch_cli.specs.Solving.{MayAnswer}
 use Rattle.batch_cli.specs.Setups.{SetupState}
