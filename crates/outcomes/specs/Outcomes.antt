@@ -1,11 +1,13 @@
 -- When an outcome answers a task.
-use Rattle.std.specs.Prelude.{ℕ, ◌≤◌, ◌<◌, ⊤, List, Option, None, Some, Vec}
+use Rattle.std.specs.Prelude.{ℕ, ◌≡◌, ◌≤◌, ◌<◌, ⊤, List, Option, None, Some, Vec, length, All, AllPairs}
 use Rattle.std.specs.declared.alloc.Global.{Global}
 use Rattle.board.specs.declared.moves.Move.{Move}
-use Rattle.board.specs.Positions.{Position}
+use Rattle.board.specs.Positions.{Position, IsBoard}
 use Rattle.board.specs.CostRules.{CostRule}
 use Rattle.board.specs.Plans.{Leads, NothingBelow, IsLeast}
 use Rattle.board.specs.Classes.{SameClass}
+use Rattle.board.specs.Keys.{key_of}
+use Rattle.board.specs.Rows.{Proves}
 use Rattle.outcomes.specs.declared.outcome.Why.{Why}
 use Rattle.outcomes.specs.declared.outcome.Why.TheVariants.{Parity, Exhausted}
 use Rattle.outcomes.specs.declared.outcome.Cause.{Cause}
@@ -25,6 +27,13 @@ abbrev pub IsBestPlan : Task → ℕ → Option (ℕ × List Move) → Type 0
 IsBestPlan task bound None = ⊤
 IsBestPlan task bound (Some best) = Leads task.rule task.start best.1 task.goal best.0 × (bound < best.0)
 
+-- The rows prove the cost, and rise by key. Each is a board with the sides of the goal, and its cost is at most 1,048,575.
+pub record AreRowsOf (task : Task) (rows : List (Position × ℕ)) (cost : ℕ) : Type 0 where
+  pub proves : Proves task.rule rows task.sum task.start task.goal cost
+  pub rising : AllPairs (λ row later. key_of row.0 < key_of later.0) rows
+  pub boards : All (λ row. IsBoard row.0 × (row.0.grid ≡ task.goal.grid)) rows
+  pub low : All (λ row. row.1 ≤ 1048575) rows
+
 -- parity is named only where the start isn't in the goal's class
 abbrev pub AllowsWhy : Task → Why → Type 0
 AllowsWhy task Parity = ¬ SameClass task.start task.goal
@@ -43,9 +52,11 @@ abbrev pub best_of : Option (ℕ × Vec Move Global) → Option (ℕ × List Mov
 best_of None = None
 best_of (Some best) = Some (best.0, best.1.items)
 
--- what an outcome says is true: a plan that is least; that no plan leads to the goal; or that no plan costs less than a bound, which is the sum of the start at least
+-- What an outcome says is true: that its plan is least and its rows prove it, of which neither the cost nor the count of moves is
+-- above 1,048,575; that no plan leads to the goal; or that no plan costs less than a bound, which is the sum of the start at least.
 abbrev pub Answers : Task → Outcome → Type 0
-Answers task (Optimal cost plan rows) = Leads task.rule task.start plan.items task.goal cost × IsLeast task.rule task.start task.goal cost
+Answers task (Optimal cost plan rows) =
+    Leads task.rule task.start plan.items task.goal cost × IsLeast task.rule task.start task.goal cost × AreRowsOf task rows.items cost × (cost ≤ 1048575) × (length plan.items ≤ 1048575)
 Answers task (Unsolvable why) = ((plan : List Move) (cost : ℕ) → ¬ Leads task.rule task.start plan task.goal cost) × AllowsWhy task why
 Answers task (Bounded bound best cause) =
     NothingBelow task.rule task.start task.goal bound × (task.sum task.start ≤ bound) × IsBestPlan task bound (best_of best) × AllowsCause bound cause

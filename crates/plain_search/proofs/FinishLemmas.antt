@@ -1,20 +1,27 @@
 -- What a search knows in the end.
-use Rattle.std.proofs.Common.{◌≡◌, ◌≢◌, ℕ, ◌≤◌, ◌+◌, false, Option, None, Some, refl, sym, ap, ◌∙◌, subst, ⊎_elim, arith}
-use Rattle.std.specs.Prelude.{option_map, unwrap_or, ◌↔◌}
+use Rattle.std.proofs.Common.{◌≡◌, ◌≢◌, ℕ, ◌<◌, ◌≤◌, ◌+◌, false, List, Option, None, Some, refl, sym, ap, ◌∙◌, subst, inr, ⊎_elim, arith}
+use Rattle.std.specs.Prelude.{option_map, unwrap_or, ◌↔◌, Contains, AllPairs}
 use Rattle.std.specs.FinMap as map
 use Rattle.std.proofs.lemmas.Option.{none-some}
 use Rattle.board.specs.declared.moves.Move.{Move}
+use Rattle.board.specs.Grids.{Grid}
 use Rattle.board.specs.Neighbours.{opposite}
 use Rattle.board.specs.Positions.{Position, IsBoard}
 use Rattle.board.specs.CostRules.{CostRule}
 use Rattle.board.specs.Moves.{Moves}
-use Rattle.board.specs.Keys.{key_of}
+use Rattle.board.specs.Keys.{key_of, HasKey}
 use Rattle.board.proofs.KeyLemmas.{same_board}
 use Rattle.board.proofs.MoveLemmas.{taken_back}
+use Rattle.outcomes.specs.declared.outcome.Cause.TheVariants.{Memory}
+use Rattle.outcomes.specs.declared.outcome.Outcome.{Outcome}
+use Rattle.outcomes.specs.declared.outcome.Outcome.TheVariants.{Bounded}
 use Rattle.outcomes.specs.Outcomes.{Task}
 use Rattle.plain_search.specs.declared.known.Known.{Known}
+use Rattle.plain_search.specs.declared.run.Stop.{Stop}
 use Rattle.plain_search.specs.Knowledge.{Knowledge, Knows, IsOpen, IsLeastWith, IsLowest, IsReached}
 use Rattle.plain_search.specs.Soundness.{IsTask, IsSound}
+use Rattle.plain_search.specs.Rows.{AreRowsBelow}
+use Rattle.plain_search.specs.Results.{lesser, IsGivenAt}
 use Rattle.plain_search.proofs.LowestLemmas.{least_kept}
 
 module _ (task : Task) (is : IsTask task) (known : Knowledge) where
@@ -69,3 +76,19 @@ module _ (task : Task) (is : IsTask task) (known : Knowledge) where
 
   pub reached_known_is : (key : ℕ) (got o : Option Known) → key ≡ key_of task.goal → got ≡ map.get known key → got ≡ o → IsReached task known (option_map (λ k. k.cost) o)
   reached_known_is key got o keyed there same = reached_is task is known o (ap (map.get known) (sym keyed) ∙ sym there ∙ same)
+
+  -- the rows of what is known below a cost, by their keys
+  pub rows_known_are : (grid : Grid) → grid ≡ task.goal.grid → (cost : ℕ) (rows : List (Position × ℕ)) → AllPairs (λ row later. key_of row.0 < key_of later.0) rows → ((b : Position) (g : ℕ) → Contains rows (b, g) ↔ ((key : ℕ) × (k : Known) × HasKey grid key b × (map.get known key ≡ Some k) × (k.cost ≡ g) × (g < cost))) → AreRowsBelow task known cost rows
+  rows_known_are grid sides cost rows rising each = record {
+    rising = rising;
+    each = λ b g. (
+      (λ row.
+          let is = (each b g).0 row in
+          (is.1, record { board = is.2.board; sides = is.2.sides ∙ sides; found = ap (map.get known) is.2.packed ∙ is.3 }, is.4, is.5)),
+      (λ is. (each b g).1 (key_of b, is.0, record { board = is.1.board; sides = is.1.sides ∙ sym sides; packed = refl }, is.1.found, is.2, is.3)),
+    );
+  }
+
+  -- where the goal is known, the bound may be given alone for want of memory
+  pub given_alone : (lowest : Option ℕ) (goal bound : ℕ) (stop : Stop) (outcome : Outcome) → lesser lowest (Some goal) ≡ Some bound → outcome ≡ Bounded bound None Memory → IsGivenAt task known lowest (Some goal) stop outcome
+  given_alone lowest goal bound stop outcome least is = subst (IsGivenAt task known lowest (Some goal) stop) (sym is) (least, inr ((λ e. cc), refl))

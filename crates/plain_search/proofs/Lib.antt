@@ -1,7 +1,9 @@
 pub mod SoundLemmas
+pub mod CostLemmas
 pub mod ResultLemmas
 pub mod MapLemmas
 pub mod LowestLemmas
+pub mod RowLemmas
 pub mod QueueLemmas
 pub mod RunLemmas
 pub mod FinishLemmas

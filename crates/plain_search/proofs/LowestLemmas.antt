@@ -58,7 +58,7 @@ module _ (es : List (ℕ × Known)) (but : ℕ) (entry : ℕ × Known) where
   lowest_more lowest is = by_tests lowest is entry.1.expanded refl (entry.0 == but) refl
 
 -- numbers that compare alike are one
-nat_alike : (x y : ℕ) → eq_by_cmp nat_cmp x y ≡ true → x ≡ y
+pub nat_alike : (x y : ℕ) → eq_by_cmp nat_cmp x y ≡ true → x ≡ y
 nat_alike x y h = let e : (x == y) ≡ true = unsigned_ties x y ∙ h in grind (arith, nat_tests)
 
 -- the lowest of the entries is that of the map that they make

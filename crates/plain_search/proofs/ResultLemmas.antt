@@ -1,24 +1,28 @@
 -- What a search knows where it stops answers its task.
-use Rattle.std.proofs.Common.{◌≡◌, ◌≢◌, ℕ, suc, ◌+◌, ◌<◌, ◌≤◌, true, false, List, [], ◌∷◌, Option, Some, None, inl, inr, ⊎_elim, refl, sym, ap, subst, arith}
-use Rattle.std.specs.Prelude.{min, Vec}
+use Rattle.std.proofs.Common.{◌≡◌, ◌≢◌, ℕ, suc, ◌+◌, ◌<◌, ◌≤◌, true, false, List, [], ◌∷◌, Option, Some, None, inl, inr, ⊎_elim, refl, sym, ap, ◌∙◌, subst, arith}
+use Rattle.std.specs.Prelude.{min, Vec, Contains}
 use Rattle.std.specs.FinMap as map
 use Rattle.std.specs.declared.alloc.Global.{Global}
-use Rattle.std.proofs.lemmas.Bool.{cases_lt, cases_Bool}
+use Rattle.std.proofs.lemmas.Bool.{cases_lt, cases_Bool, true_from_ne_false}
+use Rattle.std.proofs.lemmas.List.Elements.{All-weaker, All-contains_itself}
 use Rattle.board.specs.declared.moves.Move.{Move}
-use Rattle.board.specs.Positions.{Position}
+use Rattle.board.specs.Positions.{Position, IsBoard}
 use Rattle.board.specs.Plans.{Leads, NothingBelow}
 use Rattle.board.specs.Keys.{key_of}
+use Rattle.board.specs.Rows.{HasRow, Proves}
 use Rattle.outcomes.specs.declared.outcome.Cause.{Cause}
 use Rattle.outcomes.specs.declared.outcome.Outcome.{Outcome}
 use Rattle.outcomes.specs.declared.outcome.Outcome.TheVariants.{Optimal, Unsolvable, Bounded}
-use Rattle.outcomes.specs.Outcomes.{Task, AllowsWhy, AllowsCause, Answers}
+use Rattle.outcomes.specs.Outcomes.{Task, AreRowsOf, AllowsWhy, AllowsCause, Answers}
 use Rattle.plain_search.specs.declared.known.Known.{Known}
 use Rattle.plain_search.specs.declared.run.Stop.{Stop}
 use Rattle.plain_search.specs.declared.run.Stop.TheVariants.{Done, Limit, Memory}
 use Rattle.plain_search.specs.Knowledge.{Knowledge, Knows, IsKnownWithin, IsOpen, IsLeastWith, IsLowest, IsReached}
 use Rattle.plain_search.specs.Soundness.{IsTask, IsSound}
 use Rattle.plain_search.specs.Runs.{limit_from, limit_of, IsStoppedBy}
+use Rattle.plain_search.specs.Rows.{AreRowsBelow}
 use Rattle.plain_search.specs.Results.{lesser, cause_of, IsFollowedBack, IsGivenAt, IsGiven, IsExcused}
+use Rattle.plain_search.proofs.CostLemmas.{plan_short, AreCostsLow, stopped_low}
 
 -- n is no more than the cost of any open board
 abbrev BelowOpen : Task → Knowledge → ℕ → Type 0
@@ -54,6 +58,31 @@ module _ (task : Task) (known : Knowledge) (sound : IsSound task known) (n : ℕ
       omega (arith, has.2, leads.5))
       (λ (fresh : has.0.expanded ≡ false). let le = unexpanded_high b has.0 has.1 fresh in omega (arith, has.2))
       (cases_Bool has.0.expanded)
+
+  -- the rows of what is known below n prove it
+  rows_prove : (rows : List (Position × ℕ)) → AreRowsBelow task known n rows → Proves task.rule rows task.sum task.start task.goal n
+  rows_prove rows are = record {
+    start = ⊎_elim
+        (λ (lt : 0 < n). inl (row_within task.start 0 lt sound.start))
+        (λ (le : n ≤ 0). inr (omega (arith, le)))
+        (cases_lt 0 n);
+    no_goal = λ g row. let has = (are.each task.goal g).0 row in no_goal task.goal has.0 has.1 (omega (arith, has.2, has.3)) refl;
+    closed = λ r g row m r' c moves.
+        let has = (are.each r g).0 row in
+        let next = sound.successors r has.0 has.1 (expanded_below r has.0 has.1 (omega (arith, has.2, has.3))) m r' c moves in
+        ⊎_elim
+        (λ (lt : has.0.cost + c < n). inr (subst (λ (cost : ℕ). HasRow rows r' (cost + c)) has.2 (row_within r' (has.0.cost + c) lt next)))
+        (λ (le : n ≤ has.0.cost + c). inl (omega (arith, le, has.2)))
+        (cases_lt (has.0.cost + c) n);
+  }
+    where
+      -- a board that is known within a cost below n has its row
+      row_within : (b : Position) (cost : ℕ) → cost < n → IsKnownWithin task known b cost → HasRow rows b cost
+      row_within b cost lt has = (has.0.cost, (are.each b has.0.cost).1 (has.0, has.1, refl, omega (arith, has.2, lt)), has.2)
+
+      -- a board that is known below n is expanded
+      expanded_below : (b : Position) (k : Known) → Knows task known b k → k.cost < n → k.expanded ≡ true
+      expanded_below b k knows lt = true_from_ne_false k.expanded (λ fresh. let le = unexpanded_high b k knows fresh in omega (arith, le, lt))
 
 -- where no open board and not the goal is known below n, no plan costs less
 pub frontier_bounds : (task : Task) → IsTask task → (known : Knowledge) → IsSound task known → (n : ℕ) → ((b : Position) (k : Known) → IsOpen task known b k → n ≤ k.cost) → ((k : Known) → Knows task known task.goal k → n ≤ k.cost) → NothingBelow task.rule task.start task.goal n
@@ -150,6 +179,28 @@ module _ (task : Task) (is_task : IsTask task) (known : Knowledge) (sound : IsSo
       (λ b k opens. lesser_first (IsOpenCost task known) lowest reached n is is_lowest k.cost (b, k, opens, refl))
       (λ k knows. lesser_second (IsGoalCost task known) lowest reached n is is_reached k.cost (k, knows, refl))
 
+  -- the rows of what is known below it are as an outcome gives them
+  rows_are : AreCostsLow known → (n : ℕ) → lesser lowest reached ≡ Some n → (rows : List (Position × ℕ)) → AreRowsBelow task known n rows → AreRowsOf task rows n
+  rows_are low n is rows are = record {
+    proves = rows_prove task known sound n
+        (λ b k opens. lesser_first (IsOpenCost task known) lowest reached n is is_lowest k.cost (b, k, opens, refl))
+        (λ k knows. lesser_second (IsGoalCost task known) lowest reached n is is_reached k.cost (k, knows, refl))
+        rows are;
+    rising = are.rising;
+    boards = All-weaker (Contains rows) (λ row. IsBoard row.0 × (row.0.grid ≡ task.goal.grid))
+        (λ row there. let has = (are.each row.0 row.1).0 there in (has.1.board, has.1.sides))
+        rows (All-contains_itself rows);
+    low = All-weaker (Contains rows) (λ row. row.1 ≤ 1048575)
+        (λ row there. let has = (are.each row.0 row.1).0 there in omega (arith, low (key_of row.0) has.0 has.1.found, has.2))
+        rows (All-contains_itself rows);
+  }
+
+  -- a plan that is followed back costs no more than 1,048,575
+  followed_low : AreCostsLow known → (cost : ℕ) (plan : List Move) → IsFollowedBack task reached cost plan → cost ≤ 1048575
+  followed_low low cost plan followed =
+      let at = subst (IsReached task known) followed.is is_reached in
+      omega (arith, low (key_of task.goal) at.0.0 at.0.1.found, at.0.2, followed.within)
+
   -- where no board is open and the goal is unknown, no plan leads there
   no_plan : lesser lowest reached ≡ None → (plan : List Move) (cost : ℕ) → ¬ Leads task.rule task.start plan task.goal cost
   no_plan none plan cost leads =
@@ -185,9 +236,17 @@ module _ (task : Task) (is_task : IsTask task) (known : Knowledge) (sound : IsSo
 
   module _ (stop : Stop) (stopped : IsStoppedBy task stop known) where
     -- each outcome that is given answers the task
-    answers_at : task.sum task.start ≡ 0 → (outcome : Outcome) → IsGivenAt task lowest reached stop outcome → Answers task outcome
+    answers_at : task.sum task.start ≡ 0 → (outcome : Outcome) → IsGivenAt task known lowest reached stop outcome → Answers task outcome
     answers_at none (Optimal cost plan rows) given =
-        (given.1.leads, record { reached = (plan.items, given.1.leads); none_below = bounds cost given.0 })
+        let low = stopped_low task is_task stop known stopped in
+        let cheap = followed_low low cost plan.items given.1 in
+        let short = plan_short task.rule is_task.rule task.start is_task.start (is_task.costs ∙ sym is_task.sides) plan.items task.goal cost given.1.leads in (
+          given.1.leads,
+          record { reached = (plan.items, given.1.leads); none_below = bounds cost given.0 },
+          rows_are low cost given.0 rows.items given.2,
+          cheap,
+          omega (arith, short, cheap),
+        )
     answers_at none (Unsolvable why) given = (no_plan given.0, subst (AllowsWhy task) (sym given.1) tt)
     answers_at none (Bounded bound None cause) (least, inl given) =
         (bounds bound least, omega arith, tt, allowed task known stop bound cause given.1 stopped (high_alone bound least given.0))
@@ -201,7 +260,7 @@ module _ (task : Task) (is_task : IsTask task) (known : Knowledge) (sound : IsSo
     )
 
     -- and each is excused
-    excused_at : (outcome : Outcome) → IsGivenAt task lowest reached stop outcome → IsExcused task outcome
+    excused_at : (outcome : Outcome) → IsGivenAt task known lowest reached stop outcome → IsExcused task outcome
     excused_at (Optimal cost plan rows) given = tt
     excused_at (Unsolvable why) given = given.1
     excused_at (Bounded bound None cause) (least, inl given) =

@@ -29,7 +29,7 @@ abbrev got : ℕ → Knowledge → Option Known
 got key known = map.get known key
 
 -- the entry of a board that is lowered in
-abbrev entry : ℕ → Move → Known
+abbrev pub entry : ℕ → Move → Known
 entry cost via = record { cost = cost; expanded = false; via = via }
 
 -- what is known at a key after one entry is written: what was known, or the new entry
@@ -67,7 +67,7 @@ no_news None cost none = absurd (true≢false none)
 no_news (Some k) cost none = (k, refl, ltb-false cost k.cost none)
 
 -- what is known at a key after a board is lowered in: what was known, or the new entry, which costs less
-lowered_by : (known : Knowledge) (b : Position) (cost : ℕ) (via : Move) (key : ℕ) → (map.get (lowered known b cost via) key ≡ map.get known key) ⊎ ((key ≡ key_of b) × (map.get (lowered known b cost via) key ≡ Some (entry cost via)) × ((old : Known) → map.get known key ≡ Some old → cost < old.cost))
+pub lowered_by : (known : Knowledge) (b : Position) (cost : ℕ) (via : Move) (key : ℕ) → (map.get (lowered known b cost via) key ≡ map.get known key) ⊎ ((key ≡ key_of b) × (map.get (lowered known b cost via) key ≡ Some (entry cost via)) × ((old : Known) → map.get known key ≡ Some old → cost < old.cost))
 lowered_by known b cost via key =
     ⊎_elim
     (λ (news : is_news (map.get known (key_of b)) cost ≡ true).
@@ -210,7 +210,7 @@ module _ (task : Task) where
       (lowered_by known b cost via key))
 
 -- nothing is known before the opening
-none_before : (key : ℕ) (k : Known) → map.get {R = nat_cmp} map.empty key ≡ Some k → ⊥
+pub none_before : (key : ℕ) (k : Known) → map.get {R = nat_cmp} map.empty key ≡ Some k → ⊥
 none_before key k at = let e : ◌≡◌ {A = Option Known} None (Some k) = sym (map.get-empty nat_cmp key) ∙ at in cc
 
 -- what is known at the opening is sound
@@ -273,7 +273,7 @@ module _ (rule : CostRule) (b : Position) where
   all_there board cost (first ∷ moves) known m (inr later) b' c is = all_there board cost moves (lowered_next known cost first (successor rule b first)) m later b' c is
 
 -- a move keeps the sides
-same_grid : (rule : CostRule) (b : Position) (m : Move) (b' : Position) (c : ℕ) → Moves rule b m b' c → b'.grid ≡ b.grid
+pub same_grid : (rule : CostRule) (b : Position) (m : Move) (b' : Position) (c : ℕ) → Moves rule b m b' c → b'.grid ≡ b.grid
 same_grid rule b m b' c is = ap (λ (p : Position). p.grid) is.after
 
 module _ (task : Task) (is : IsTask task) (b : Position) (k : Known) where

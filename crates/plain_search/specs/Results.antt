@@ -1,5 +1,5 @@
 -- Which outcome a search gives, by what it knows and why it stopped.
-use Rattle.std.specs.Prelude.{ℕ, ◌≡◌, ◌≢◌, ◌⊎◌, ◌≤◌, ◌<◌, ⊤, min, List, [], Option, None, Some}
+use Rattle.std.specs.Prelude.{ℕ, ◌≡◌, ◌≢◌, ◌⊎◌, ◌≤◌, ◌<◌, ⊤, min, List, Option, None, Some}
 use Rattle.board.specs.declared.moves.Move.{Move}
 use Rattle.board.specs.Plans.{Leads}
 use Rattle.outcomes.specs.declared.outcome.Why.TheVariants.{Exhausted}
@@ -12,6 +12,7 @@ use Rattle.plain_search.specs.declared.run.Stop.{Stop}
 use Rattle.plain_search.specs.declared.run.Stop.TheVariants.{Done, Limit, Memory}
 use Rattle.plain_search.specs.Knowledge.{Knowledge, IsLowest, IsReached}
 use Rattle.plain_search.specs.Runs.{IsStoppedBy}
+use Rattle.plain_search.specs.Rows.{AreRowsBelow}
 
 -- the smaller of two numbers, of which an absent one is above all
 abbrev pub lesser : Option ℕ → Option ℕ → Option ℕ
@@ -33,19 +34,20 @@ pub record IsFollowedBack (task : Task) (reached : Option ℕ) (cost : ℕ) (pla
   pub within : cost ≤ goal
 
 -- Neither an open board nor the goal is known: no plan. Else the bound is the smaller of the lowest open board's cost and the
--- goal's. Where the plan that is followed back costs just that, it is optimal. Else the bound is given with the plan, if the goal
--- is known and the plan found memory.
-abbrev pub IsGivenAt : Task → Option ℕ → Option ℕ → Stop → Outcome → Type 0
-IsGivenAt task lowest reached stop (Optimal cost plan rows) =
-    (lesser lowest reached ≡ Some cost) × IsFollowedBack task reached cost plan.items × (rows.items ≡ [])
-IsGivenAt task lowest reached stop (Unsolvable why) = (lesser lowest reached ≡ None) × (why ≡ Exhausted)
-IsGivenAt task lowest reached stop (Bounded bound None cause) =
+-- goal's. Where the plan that is followed back costs just that, it is optimal, and the known boards below that cost are its rows.
+-- Else the bound is given with the plan, if the goal is known. Where the plan or the rows find no memory, it is given alone.
+abbrev pub IsGivenAt : Task → Knowledge → Option ℕ → Option ℕ → Stop → Outcome → Type 0
+IsGivenAt task known lowest reached stop (Optimal cost plan rows) =
+    (lesser lowest reached ≡ Some cost) × IsFollowedBack task reached cost plan.items × AreRowsBelow task known cost rows.items
+IsGivenAt task known lowest reached stop (Unsolvable why) = (lesser lowest reached ≡ None) × (why ≡ Exhausted)
+IsGivenAt task known lowest reached stop (Bounded bound None cause) =
     (lesser lowest reached ≡ Some bound) × (((reached ≡ None) × (cause ≡ cause_of stop)) ⊎ ((reached ≢ None) × (cause ≡ ForMemory)))
-IsGivenAt task lowest reached stop (Bounded bound (Some best) cause) =
+IsGivenAt task known lowest reached stop (Bounded bound (Some best) cause) =
     (lesser lowest reached ≡ Some bound) × IsFollowedBack task reached best.0 best.1.items × (best.0 ≢ bound) × (cause ≡ cause_of stop)
 
 abbrev pub IsGiven : Task → Knowledge → Stop → Outcome → Type 0
-IsGiven task known stop outcome = (lowest : Option ℕ) × (reached : Option ℕ) × IsLowest task known lowest × IsReached task known reached × IsGivenAt task lowest reached stop outcome
+IsGiven task known stop outcome =
+    (lowest : Option ℕ) × (reached : Option ℕ) × IsLowest task known lowest × IsReached task known reached × IsGivenAt task known lowest reached stop outcome
 
 -- the outcome is given by what a run knows where it stopped
 abbrev pub IsFound : Task → Outcome → Type 0

@@ -3,7 +3,7 @@ use Rattle.std.specs.Prelude.{ℕ, ◌≡◌, ◌⊎◌, ◌+◌, ◌≤◌, tru
 use Rattle.std.specs.FinMap as map
 use Rattle.board.specs.declared.moves.Move.{Move}
 use Rattle.board.specs.Positions.{Position, IsBoard}
-use Rattle.board.specs.CostRules.{CostRule}
+use Rattle.board.specs.CostRules.{CostRule, IsCostRule}
 use Rattle.board.specs.Moves.{Moves}
 use Rattle.board.specs.Keys.{HasKey}
 use Rattle.outcomes.specs.Outcomes.{Task}
@@ -14,11 +14,13 @@ use Rattle.plain_search.specs.Knowledge.{Knowledge, Knows, IsKnownWithin}
 abbrev pub unguided : Position → Position → CostRule → Task
 unguided start goal rule = record { start = start; goal = goal; rule = rule; sum = λ _. 0 }
 
--- start and goal are boards of one shape
+-- start and goal are boards of one shape, and each of its tiles has a weight
 pub record IsTask (task : Task) : Type 0 where
   pub start : IsBoard task.start
   pub goal : IsBoard task.goal
   pub sides : task.start.grid ≡ task.goal.grid
+  pub rule : IsCostRule task.rule
+  pub costs : task.rule.grid ≡ task.goal.grid
 
 -- the board at this cost, with this last move, is the start at 0; or the board before is known, cheaper by the move's cost at least
 abbrev pub HasPredecessor : Task → Knowledge → Position → ℕ → Move → Type 0

@@ -1,11 +1,13 @@
-ghost use Rattle.std.specs.Prelude.{◌≡◌, ◌≢◌, false, OnOk, OnErr, ℕ, Some};
+ghost use Rattle.std.specs.Prelude.{◌≡◌, ◌≢◌, ◌<◌, ◌≤◌, ◌↔◌, false, OnOk, OnErr, IfOk, ℕ, Some, [], ◌∷◌, ◌++◌, Contains, AllPairs};
 ghost use Rattle.std.specs.FinMap as map;
+ghost use Rattle.board.specs.Positions.{Position};
+ghost use Rattle.board.specs.Keys.{key_of, HasKey};
 ghost use Rattle.plain_search.specs.declared.known.Known.{Known};
 ghost use Rattle.plain_search.specs.Knowledge.{IsLeastWith};
 ghost use Rattle.plain_search.specs.Expansions.{marked_at};
 ghost use Rattle.plain_search.specs.Lowest.{lowest_with};
 
-use board::Move;
+use board::{Board, Move, Shape};
 use std::alloc::{AllocError, Global};
 use std::collections::BTreeMap;
 use std::marker::Model;
@@ -86,6 +88,49 @@ impl KnownBoards {
         }
         lowest
     }
+
+    // The boards that are known below a cost, each with the cost at which it is known, in rising order of
+    // key.
+    pub(crate) fn rows_below(
+        &self,
+        alloc: Global,
+        shape: Shape,
+        cost: u32,
+    ) -> Result<Vec<(Board, u32)>, AllocError>
+        requires { (key : ℕ) (k : Known) → map.get self.now key ≡ Some k
+            → (b : Position) × HasKey shape key b }
+        ensures rising { IfOk result (λ rows.
+            AllPairs (λ row later. key_of row.0 < key_of later.0) rows.items) }
+        ensures each { IfOk result (λ rows. (b : Position) (g : ℕ) → Contains rows.items (b, g)
+            ↔ ((key : ℕ) × (k : Known) × HasKey shape key b × (map.get self.now key ≡ Some k)
+            × (k.cost ≡ g) × (g < cost))) }
+    {
+        let mut rows = Vec::new(alloc);
+        'boards: for (key, known) in self.boards.iter() {
+            add_row(&mut rows, shape, *key, known.cost, cost)?;
+        }
+        Ok(rows)
+    }
+}
+
+// Adds the row of the board with a key, which is known at a cost, where that is below the limit.
+fn add_row(
+    rows: &mut Vec<(Board, u32)>,
+    shape: Shape,
+    key: u128,
+    cost: u32,
+    limit: u32,
+) -> Result<(), AllocError>
+    requires { (b : Position) × HasKey shape key b }
+    ensures added { OnOk result (cost < limit → (b : Position) × HasKey shape key b
+        × (rows.new.items ≡ rows.old.items ++ (b, cost) ∷ [])) }
+    ensures left_out { OnOk result (limit ≤ cost → rows.new.items ≡ rows.old.items) }
+{
+    if cost < limit {
+        let board = Board::from_key(shape, key).unwrap();
+        rows.push((board, cost))?;
+    }
+    Ok(())
 }
 
 // The lowest cost after one board more.

@@ -22,7 +22,8 @@ use std::alloc::{AllocError, Global};
 /// expanded until no open board is below the best plan's cost and 1,048,321.
 ///
 /// Only a board that costs more than 1,048,320, want of memory, or 18,446,744,073,709,551,615 expansions
-/// lead to a bound. The error tells a want of memory for the start itself.
+/// lead to a bound. The error tells a want of memory for the start itself. The rows of a least plan are all
+/// boards that are known below its cost, in rising order of key.
 pub fn solve(
     alloc: Global,
     start: &Board,

@@ -1,9 +1,11 @@
-ghost use Rattle.std.specs.Prelude.{◌≡◌, ◌≤◌, ◌+◌, ℕ, Some, IfOk};
+ghost use Rattle.std.specs.Prelude.{◌≡◌, ◌≤◌, ◌+◌, ℕ, None, Some, IfOk};
 ghost use Rattle.std.specs.FinMap as map;
 ghost use Rattle.board.specs.Positions.{Position, IsBoard};
 ghost use Rattle.board.specs.Moves.{Moves};
 ghost use Rattle.board.specs.Plans.{Leads};
 ghost use Rattle.board.specs.Keys.{key_of};
+ghost use Rattle.outcomes.specs.declared.outcome.Cause.TheVariants.{Memory};
+ghost use Rattle.outcomes.specs.declared.outcome.Outcome.TheVariants.{Bounded};
 ghost use Rattle.plain_search.specs.declared.known.Known.{Known};
 ghost use Rattle.plain_search.specs.Soundness.{IsTask, IsSound, unguided};
 ghost use Rattle.plain_search.specs.Results.{IsGiven, lesser};
@@ -25,7 +27,6 @@ pub(crate) fn finish(
 ) -> Outcome
     requires task { IsTask (unguided start.now goal.now weights.now) }
     requires sound { IsSound (unguided start.now goal.now weights.now) known.now }
-    requires costs { weights.now.grid ≡ goal.now.grid }
     ensures { IsGiven (unguided start.now goal.now weights.now) known.now stop result }
 {
     let goal_key = goal.key();
@@ -45,11 +46,7 @@ pub(crate) fn finish(
     };
     let bound = lower(lowest, reached.cost);
     let Ok(found) = plan_back(alloc, known, start, goal, weights, reached) else {
-        return Outcome::Bounded {
-            bound,
-            best: None,
-            cause: Cause::Memory,
-        };
+        return bound_for_memory(bound);
     };
     if found.0 != bound {
         return Outcome::Bounded {
@@ -58,10 +55,24 @@ pub(crate) fn finish(
             cause: stop.cause(),
         };
     }
+    let Ok(rows) = known.rows_below(alloc, goal.shape(), found.0) else {
+        return bound_for_memory(bound);
+    };
     Outcome::Optimal {
         cost: found.0,
         plan: found.1,
-        rows: Vec::new(alloc),
+        rows,
+    }
+}
+
+// The bound alone, where the plan or its rows found no memory.
+fn bound_for_memory(bound: u32) -> Outcome
+    ensures { result ≡ Bounded bound None Memory }
+{
+    Outcome::Bounded {
+        bound,
+        best: None,
+        cause: Cause::Memory,
     }
 }
 
@@ -86,7 +97,6 @@ fn plan_back(
 ) -> Result<(u32, Vec<Move>), AllocError>
     requires task { IsTask (unguided start.now goal.now weights.now) }
     requires sound { IsSound (unguided start.now goal.now weights.now) known.now }
-    requires costs { weights.now.grid ≡ goal.now.grid }
     requires found { map.get known.now (key_of goal.now) ≡ Some reached }
     ensures { IfOk result (λ found. Leads weights.now start.now found.1.items goal.now found.0
         × (found.0 ≤ reached.cost)) }

@@ -56,7 +56,7 @@ pub(crate) fn search(
 {
     let mut known = KnownBoards::new(alloc);
     let mut queue = BTreeSet::new(alloc);
-    let shape = goal.shape();
+    let shape = weights.shape();
     let goal_key = goal.key();
     lower(&mut known, &mut queue, start.key(), 0, Move::U)?;
     let mut left = u64::MAX;

@@ -1,8 +1,8 @@
-use Rattle.std.proofs.Common.{ℕ, refl, sym, ap, ◌∙◌, subst, inl, inr, Option, None, Some}
+use Rattle.std.proofs.Common.{ℕ, refl, sym, ap, ◌∙◌, subst, inl, Option, None, Some}
 use Rattle.plain_search.specs.Knowledge.{IsLowest}
 use Rattle.plain_search.specs.Soundness.{unguided}
 use Rattle.plain_search.specs.Results.{lesser}
-use Rattle.plain_search.proofs.FinishLemmas.{lowest_known_is, reached_known_is}
+use Rattle.plain_search.proofs.FinishLemmas.{lowest_known_is, reached_known_is, rows_known_are, given_alone}
 use Rattle.plain_search.proofs.result.finish.Goals as goal
 
 -- src/result.rt:37:13
@@ -27,7 +27,7 @@ returns-in_default-plan_back c =
     let task = unguided c.args.start.now c.args.goal.now c.args.weights.now in
     let lowest = lowest_known_is task c.requires.task c.args.known.now c.requires.sound c.key-goal_key.result c.lowest_but-lowest.result c.key-goal_key.ensures.value c.lowest_but-lowest.ensures in
     let reached = reached_known_is task c.requires.task c.args.known.now c.key-goal_key.result c.get-reached.result (Some c.in-Some.reached) c.key-goal_key.ensures.value c.get-reached.ensures c.in-Some.is in
-    (c.lowest_but-lowest.result, Some c.in-Some.reached.cost, lowest, reached, (c.lower-bound.ensures, inr ((λ e. cc), refl)))
+    (c.lowest_but-lowest.result, Some c.in-Some.reached.cost, lowest, reached, given_alone task c.requires.task c.args.known.now c.lowest_but-lowest.result c.in-Some.reached.cost c.lower-bound.result c.args.stop c.bound_for_memory.result c.lower-bound.ensures c.bound_for_memory.ensures)
 
 -- src/result.rt:56:9
 pub returns-then-found-bound : goal.returns-then-found-bound
@@ -47,6 +47,14 @@ returns-then-found-bound c =
       ),
     )
 
+-- src/result.rt:49:9
+pub returns-in_default-rows_below : goal.returns-in_default-rows_below
+returns-in_default-rows_below c =
+    let task = unguided c.args.start.now c.args.goal.now c.args.weights.now in
+    let lowest = lowest_known_is task c.requires.task c.args.known.now c.requires.sound c.key-goal_key.result c.lowest_but-lowest.result c.key-goal_key.ensures.value c.lowest_but-lowest.ensures in
+    let reached = reached_known_is task c.requires.task c.args.known.now c.key-goal_key.result c.get-reached.result (Some c.in-Some.reached) c.key-goal_key.ensures.value c.get-reached.ensures c.in-Some.is in
+    (c.lowest_but-lowest.result, Some c.in-Some.reached.cost, lowest, reached, given_alone task c.requires.task c.args.known.now c.lowest_but-lowest.result c.in-Some.reached.cost c.lower-bound.result c.args.stop c.bound_for_memory-in_default-rows_below.result c.lower-bound.ensures c.bound_for_memory-in_default-rows_below.ensures)
+
 -- src/result.rt:19:1
 pub returns : goal.returns
 returns c =
@@ -60,6 +68,6 @@ returns c =
       (
         c.lower-bound.ensures ∙ ap (λ (bound : ℕ). Some bound) (sym c.if-found-bound.false),
         record { goal = c.in-Some.reached.cost; is = refl; leads = c.in-Ok.ensures.0; within = c.in-Ok.ensures.1 },
-        c.new.ensures.items,
+        rows_known_are task c.requires.task c.args.known.now c.shape.result c.shape.ensures.value c.in-Ok.found.0 c.in-Ok-rows_below.rows.items c.in-Ok-rows_below.ensures.rising c.in-Ok-rows_below.ensures.each,
       ),
     )

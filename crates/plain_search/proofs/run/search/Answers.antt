@@ -29,10 +29,10 @@ returns-in_default-clause-stopped c =
 pub unwrap-board-requires : goal.unwrap-board-requires
 unwrap-board-requires c =
     let task = unguided c.args.start.now c.args.goal.now c.args.weights.now in
-    let sound = run_sound task (record { start = c.key.ensures.board; goal = c.key-goal_key.ensures.board; sides = c.requires.sides }) c.expansions.invariant.run c.expansions.known c.expansions.invariant.is in
+    let sound = run_sound task (record { start = c.key.ensures.board; goal = c.key-goal_key.ensures.board; sides = c.requires.sides; rule = c.shape-shape.ensures.rule; costs = c.requires.costs }) c.expansions.invariant.run c.expansions.known c.expansions.invariant.is in
     let live = c.in-Some.ensures.live in
     let board = sound.boards c.in-Some.next.1 live.0 live.1.0 in
-    c.from_key.ensures.found.1 (board.0, subst (λ (grid : Grid). HasKey grid c.in-Some.next.1 board.0) (sym c.shape-shape.ensures.value) board.1)
+    c.from_key.ensures.found.1 (board.0, subst (λ (grid : Grid). HasKey grid c.in-Some.next.1 board.0) (sym (c.shape-shape.ensures.value ∙ c.requires.costs)) board.1)
 
 -- src/run.rt:72:13
 pub returns-in_default-expand-clause-stopped : goal.returns-in_default-expand-clause-stopped
@@ -41,7 +41,7 @@ returns-in_default-expand-clause-stopped c =
     let limited = c.limit-limit.ensures ∙ ap limit_from (c.get.ensures ∙ ap (map.get c.expansions.known) c.key-goal_key.ensures.value) in
     let live = c.in-Some.ensures.live in
     let has : HasKey c.shape-shape.result c.in-Some.next.1 c.unwrap-board.result = rw c.unwrap-board.ensures at c.from_key.ensures.value in
-    let next = next_board task (record { start = c.key.ensures.board; goal = c.key-goal_key.ensures.board; sides = c.requires.sides }) c.expansions.known c.in-Some.next.1 c.in-Some.next.0 c.limit-limit.result live.0 c.unwrap-board.result live.1 live.2 c.in-Some.ensures.low limited c.in-Some.ensures.least (subst (λ (grid : Grid). HasKey grid c.in-Some.next.1 c.unwrap-board.result) c.shape-shape.ensures.value has) in
+    let next = next_board task (record { start = c.key.ensures.board; goal = c.key-goal_key.ensures.board; sides = c.requires.sides; rule = c.shape-shape.ensures.rule; costs = c.requires.costs }) c.expansions.known c.in-Some.next.1 c.in-Some.next.0 c.limit-limit.result live.0 c.unwrap-board.result live.1 live.2 c.in-Some.ensures.low limited c.in-Some.ensures.least (subst (λ (grid : Grid). HasKey grid c.in-Some.next.1 c.unwrap-board.result) (c.shape-shape.ensures.value ∙ c.requires.costs) has) in
     let within = c.in_default-expand.ensures.err in (
       c.expansions.invariant.run,
       c.expansions.known,
@@ -60,7 +60,7 @@ expansions-preserved c =
     let limited = c.limit-limit.ensures ∙ ap limit_from (c.get.ensures ∙ ap (map.get c.expansions.known) c.key-goal_key.ensures.value) in
     let live = c.in-Some.ensures.live in
     let has : HasKey c.shape-shape.result c.in-Some.next.1 c.unwrap-board.result = rw c.unwrap-board.ensures at c.from_key.ensures.value in
-    let next = next_board task (record { start = c.key.ensures.board; goal = c.key-goal_key.ensures.board; sides = c.requires.sides }) c.expansions.known c.in-Some.next.1 c.in-Some.next.0 c.limit-limit.result live.0 c.unwrap-board.result live.1 live.2 c.in-Some.ensures.low limited c.in-Some.ensures.least (subst (λ (grid : Grid). HasKey grid c.in-Some.next.1 c.unwrap-board.result) c.shape-shape.ensures.value has) in
+    let next = next_board task (record { start = c.key.ensures.board; goal = c.key-goal_key.ensures.board; sides = c.requires.sides; rule = c.shape-shape.ensures.rule; costs = c.requires.costs }) c.expansions.known c.in-Some.next.1 c.in-Some.next.0 c.limit-limit.result live.0 c.unwrap-board.result live.1 live.2 c.in-Some.ensures.low limited c.in-Some.ensures.least (subst (λ (grid : Grid). HasKey grid c.in-Some.next.1 c.unwrap-board.result) (c.shape-shape.ensures.value ∙ c.requires.costs) has) in
     one_expansion task c.expansions.known c.expansions.queue c.expansions.left c.unwrap-board.result live.0 c.expand.new.known c.expand.new.queue c.expansions.invariant (omega (arith, c.if-left-eq0.false)) next
     (c.in-Ok.ensures.ok ∙ ap (λ (cost : ℕ). after_expansion c.args.weights.now c.unwrap-board.result cost c.expansions.known) (sym live.2))
     (c.in-Ok.ensures.waits (subst (λ (key : ℕ). OthersWait c.expansions.known c.take_next.new.queue key) (sym has.packed) c.in-Some.ensures.waits))
