@@ -7,8 +7,8 @@ use plain_search::solve;
 use std::process::Abort;
 use std::test::Fail;
 
-// Solves a board, and checks that it is solved at this cost, by a plan that leads to the goal, with no rows.
-// The plan is handed out.
+// Solves a board, and checks that it is solved at this cost, by a plan that leads to the goal, with rows
+// that rise. The plan is handed out.
 fn solves(
     rt: &(impl Abort + AllocGlobal),
     start: &Board,
@@ -22,7 +22,7 @@ fn solves(
     match solve(rt.alloc(), start, goal, weights)? {
         Outcome::Optimal { cost, plan, rows } => {
             assert_eq!(rt; cost, least, "from {}", start.key());
-            assert_eq!(rt; rows.len(), 0);
+            rise(rt, rows.as_slice(), least);
             assert_eq!(rt;
                 follow(start, plan.as_slice(), weights),
                 Ok((*goal, u128::from(least)))
@@ -30,6 +30,16 @@ fn solves(
             Ok(plan)
         }
         outcome => panic!(rt; "from {}: {outcome:?}", start.key()),
+    }
+}
+
+// Checks that the keys of rows rise, and that each row costs less than a plan.
+fn rise(rt: &impl Abort, rows: &[(Board, u32)], least: u32) {
+    let mut last = 0;
+    for row in rows {
+        assert!(rt; last < row.0.key());
+        assert!(rt; row.1 < least);
+        last = row.0.key();
     }
 }
 
@@ -139,4 +149,40 @@ fn exhausts(rt: &(impl Abort + AllocGlobal), rows: u8, cols: u8, tiles: &[u8]) -
 fn boards_of_the_other_class(rt: HostRuntime) -> Result<(), Fail> {
     exhausts(&rt, 2, 2, &[0, 2, 1, 3])?;
     exhausts(&rt, 2, 3, &[0, 2, 1, 3, 4, 5])
+}
+
+// Checks that a board has a row at this cost.
+fn has_row(rt: &impl Abort, rows: &[(Board, u32)], board: &Board, cost: u32) -> Result<(), Fail> {
+    for row in rows {
+        if row.0.key() == board.key() {
+            assert_eq!(rt; row.1, cost);
+            return Ok(());
+        }
+    }
+    Err("a board has no row")?
+}
+
+// The five boards of 2 by 2 that cost less than 3 from this one.
+#[test]
+fn rows_below_the_cost(rt: HostRuntime) -> Result<(), Fail> {
+    let shape = Shape::new(2, 2)?;
+    let start = Board::from_tiles(shape, &[1, 3, 0, 2])?;
+    match solve(
+        rt.alloc(),
+        &start,
+        &Board::goal(shape),
+        &Weights::unit(shape),
+    )? {
+        Outcome::Optimal { cost, rows, .. } => {
+            assert_eq!(&rt; cost, 3);
+            let rows = rows.as_slice();
+            assert_eq!(&rt; rows.len(), 5);
+            has_row(&rt, rows, &Board::from_tiles(shape, &[0, 3, 1, 2])?, 1)?;
+            has_row(&rt, rows, &Board::from_tiles(shape, &[1, 0, 2, 3])?, 2)?;
+            has_row(&rt, rows, &start, 0)?;
+            has_row(&rt, rows, &Board::from_tiles(shape, &[1, 3, 2, 0])?, 1)?;
+            has_row(&rt, rows, &Board::from_tiles(shape, &[3, 0, 1, 2])?, 2)
+        }
+        _ => Err("there is a plan")?,
+    }
 }

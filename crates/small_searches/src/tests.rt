@@ -42,9 +42,8 @@ fn solves(rt: &(impl Abort + AllocGlobal), start: &Board, weights: &Weights, lea
 {
     let goal = Board::goal(start.shape());
     match solve(rt.alloc(), start, &goal, weights) {
-        Ok(Outcome::Optimal { cost, plan, rows }) => {
+        Ok(Outcome::Optimal { cost, plan, .. }) => {
             assert_eq!(rt; cost, least);
-            assert_eq!(rt; rows.len(), 0);
             leads(rt, start, plan.as_slice(), weights, cost);
             true
         }
