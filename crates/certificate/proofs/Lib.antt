@@ -1,0 +1,2 @@
+pub mod FieldLemmas
+pub mod BoardLemmas

@@ -1,0 +1,9 @@
+//! Certificates: answers written down so that any program can check them, with one spelling each.
+#![tactic(auto)]
+
+pub mod certificate;
+pub mod faults;
+pub mod read;
+
+pub use certificate::{Certificate, Parts};
+pub use faults::{ReadFault, WriteFault};
