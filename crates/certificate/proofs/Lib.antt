@@ -1,2 +1,3 @@
 pub mod FieldLemmas
+pub mod ReaderLemmas
 pub mod BoardLemmas
