@@ -31,7 +31,7 @@ tests-Decide : (grid : Grid) (text : List ℕ) → IsShape grid → length text 
 tests-Decide grid text sides one_each =
     Decides-like _ (λ p. record { sides = sides; one_each = one_each; in_range = p.0; different = p.1 }) (λ b. (b.in_range, b.different)) (Decides-and _ _ (in_range-Decides (cell_count grid) text) (all_differ-Decides text))
 
-not_true : (r : Bool) → (r ≡ true → ⊥) → r ≡ false
+pub not_true : (r : Bool) → (r ≡ true → ⊥) → r ≡ false
 not_true true h = absurd (h refl)
 not_true false h = refl
 

@@ -1,3 +1,4 @@
 pub mod FieldLemmas
+pub mod TextLemmas
 pub mod ReaderLemmas
 pub mod BoardLemmas
