@@ -96,10 +96,10 @@ Opens-seq a k A B law first next = record {
 abbrev pub Known : {X : Type 0} → X → X → List ℕ → Type 0
 Known x y text = (y ≡ x) × (text ≡ [])
 
-abbrev fine : {X : Type 0} → X → List ℕ → Result (X × List ℕ) (ReadFault × List ℕ)
+abbrev pub fine : {X : Type 0} → X → List ℕ → Result (X × List ℕ) (ReadFault × List ℕ)
 fine x s = Ok (x, s)
 
-abbrev faulty : (X : Type 0) → ReadFault → List ℕ → Result (X × List ℕ) (ReadFault × List ℕ)
+abbrev pub faulty : (X : Type 0) → ReadFault → List ℕ → Result (X × List ℕ) (ReadFault × List ℕ)
 faulty X f s = Err (f, s)
 
 ok_is : {X : Type 0} (x y : X) (s t : List ℕ) → fine x s ≡ fine y t → (x ≡ y) × (s ≡ t)
