@@ -1,4 +1,5 @@
 pub mod FieldLemmas
+pub mod CertificateLemmas
 pub mod RowLemmas
 pub mod TextLemmas
 pub mod ReaderLemmas

@@ -141,7 +141,7 @@ number_in_back n text all len e = by_test (leb (from_le_bytes w32 text) 1048575)
 pub number_law : Law number NumberText
 number_law = Law-field OutOfRange 4 number_in NumberText number_there number_in_back
 
-number_opens : Opens number NumberText
+pub number_opens : Opens number NumberText
 number_opens = Opens-field OutOfRange 4 number_in NumberText 0 (number_text 0) (record { within = omega arith; is = refl })
 
 pub record CountText (n : ℕ) (text : List ℕ) : Type 0 where
@@ -182,7 +182,7 @@ board_in_back grid sides b text all len e = let p = board_found grid text b side
 pub board_law : (grid : Grid) → IsShape grid → Law (board grid) (BoardText grid)
 board_law grid sides = Law-field OutOfRange (cell_count grid) (board_in grid) (BoardText grid) (board_there grid) (board_in_back grid sides)
 
-board_opens : (grid : Grid) → IsShape grid → Opens (board grid) (BoardText grid)
+pub board_opens : (grid : Grid) → IsShape grid → Opens (board grid) (BoardText grid)
 board_opens grid sides = Opens-field OutOfRange (cell_count grid) (board_in grid) (BoardText grid) (goal_of grid) (goal_of grid).tiles (record { board = record { board = goal_board grid sides; sides = refl }; is = refl })
 
 -- ---- letters

@@ -42,11 +42,11 @@ row_text row = row.0.tiles ++ number_text row.1
 
 -- all before the number of rows
 abbrev pub front_text : Statement → List ℕ
-front_text c = opening_text c.costs ++ c.start.tiles ++ c.goal.tiles ++ number_text c.cost ++ plan_text c.plan
+front_text c = opening_text c.costs ++ (c.start.tiles ++ (c.goal.tiles ++ (number_text c.cost ++ plan_text c.plan)))
 
 -- the spelling, but for the number of rows, which is given
 abbrev pub announcing : ℕ → Statement → List ℕ
-announcing count c = front_text c ++ count_text count ++ flat_map row_text c.rows
+announcing count c = front_text c ++ (count_text count ++ flat_map row_text c.rows)
 
 -- the fields in order, and nothing after them
 abbrev pub spelling : Statement → List ℕ
