@@ -1,4 +1,6 @@
 pub mod FieldLemmas
+pub mod EndLemmas
+pub mod SourceLemmas
 pub mod CertificateLemmas
 pub mod RowLemmas
 pub mod TextLemmas

@@ -15,6 +15,8 @@ use Rattle.certificate.specs.declared.faults.ReadFault.TheVariants.{NotRising}
 use Rattle.certificate.specs.Certificates.{IsBoardOf, IsWithinLimit, IsRow, RiseAfter}
 use Rattle.certificate.specs.Spellings.{number_text, count_text, row_text}
 use Rattle.certificate.specs.Readings.{Reader, ◌>>=◌, continued, give, as_one, number, count, board, may_follow, rising, row, rows, all_rows}
+use Rattle.std.proofs.KnownBytes.{Consumes-nil}
+use Rattle.certificate.specs.Sources.{Refuses}
 use Rattle.certificate.specs.Laws.{AreBytes}
 use Rattle.certificate.proofs.ReaderLemmas.{Law, Law-iff, Both, Law-seq, Known, Law-give, Law-as_one, as_one_from, fine, faulty, both_ok, one_fails, AreBytes-rest}
 use Rattle.certificate.proofs.TextLemmas.{NumberText, number_law, CountText, count_law, BoardText, board_law}
@@ -37,6 +39,9 @@ follows_from_test grid (Some a) b is is' e = (in_order grid a b is is').0 ((Deci
 pub test_from_follows : (grid : Grid) (before : Option Position) (b : Position) → IsBefore grid before → IsBoardOf grid b → Follows before b → may_follow before b ≡ true
 test_from_follows grid None b is is' f = refl
 test_from_follows grid (Some a) b is is' f = (Decides-ltb (key_of a) (key_of b)).1 ((in_order grid a b is is').1 f)
+
+pub sides_of : (grid : Grid) (b : Position) → IsBoardOf grid b → IsShape grid
+sides_of grid b is = subst (λ (g : Grid). IsShape g) is.sides is.board.sides
 
 -- ---- one row
 
@@ -161,3 +166,10 @@ rows_before grid before (suc n) sides is bytes all fault from e =
   where
     never : (x : List (Position × ℕ)) (l : List ℕ) → fine x l ≡ faulty (List (Position × ℕ)) fault from → ⊥
     never x l e = absurd cc
+
+pub not_risen : (before : Option Position) (r : Position × ℕ) (old : Option (List ℕ)) → may_follow before r.0 ≡ false → Refuses (rising before r) old old NotRising
+unfolding rising
+not_risen before r old fails = record {
+  taken = ([], Consumes-nil old);
+  first = λ of input is. (input, ap (λ (b : Bool). cond b (fine r input) (faulty (Position × ℕ) NotRising input)) fails);
+}

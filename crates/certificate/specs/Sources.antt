@@ -1,6 +1,6 @@
 -- What a reader of fields takes from a source.
 use Rattle.std.specs.Prelude.{ℕ, ◌≡◌, ◌⊎◌, ◌<◌, Bool, true, false, List, length, Option, Some, IfSome, Result, Ok, Err, ⊤}
-use Rattle.std.specs.Io.KnownBytes.{Consumes, Appends}
+use Rattle.std.specs.Io.KnownBytes.{Consumes, Appends, IsAtEnd, Keeps}
 use Rattle.byte_streams.specs.Sink.{AppendsBeginning}
 use Rattle.certificate.specs.declared.faults.ReadFault.{ReadFault}
 use Rattle.certificate.specs.declared.faults.ReadFault.TheVariants.{OtherMagic, Truncated, OutOfRange, NotRising, BytesAfterEnd, Failed, NoMemory}
@@ -42,6 +42,10 @@ pub record EndsEarly (old new : Option (List ℕ)) (n : ℕ) (fault : ReadFault)
   pub seen : List ℕ
   pub taken : Consumes old new seen
   pub end : IsOfBytes fault → (fault ≡ Truncated) × IfSome old (λ input. input ≡ seen) × (length seen < n)
+
+-- nothing was left, and nothing is
+abbrev pub EndsThere : Option (List ℕ) → Option (List ℕ) → Type 0
+EndsThere old new = IsAtEnd old × Keeps old new
 
 -- all of the text was written, or a beginning of it
 abbrev pub Writes : {E : Type 0} → Option (List ℕ) → Option (List ℕ) → List ℕ → Result (Unit {0}) E → Type 0

@@ -4,6 +4,9 @@ ghost use Rattle.certificate.specs.Certificates.{Statement, statement_of, IsCert
 use board::{Board, Move, Shape, Weights};
 use std::marker::Model;
 
+/// The greatest cost that a certificate can state, and the greatest length of its plan.
+pub const LIMIT: u32 = 1_048_575;
+
 /// The fields of a certificate.
 #[derive(Debug, Drop)]
 pub struct Parts {

@@ -3,6 +3,7 @@
 
 pub mod certificate;
 pub mod faults;
+mod fields;
 pub mod read;
 
 pub use certificate::{Certificate, Parts};

@@ -1,158 +1,132 @@
-ghost use Rattle.std.specs.Prelude.{◌≡◌, ◌<◌, ◌≤◌, ◌⊎◌, ◌∷◌, [], ℕ, List, Some, None, false, IfOk, IfErr, OnOk, IfSome, length, codes};
+ghost use Rattle.std.specs.Prelude.{◌≡◌, ◌≤◌, ◌<◌, ◌⊎◌, ◌↔◌, ◌^◌, ℕ, List, [], Option, Some, None, Ok, Err, true, false, IfOk, IfErr, OnOk, IfSome, length, map};
+ghost use Rattle.std.specs.List.{flat_map, AllByRecursion};
 ghost use Rattle.std.specs.Io.KnownBytes.{Consumes};
-ghost use Rattle.std.specs.Int.{w32, w64, from_le_bytes};
-ghost use Rattle.board.specs.Grids.{Grid};
-ghost use Rattle.board.specs.Positions.{Position};
-ghost use Rattle.board.specs.CostRules.{CostRule};
-ghost use Rattle.certificate.specs.Certificates.{IsBoardOf, AreNamedCosts, IsWithinLimit, IsRow};
-ghost use Rattle.certificate.specs.Spellings.{letter_of, number_text, count_text, opening_text, row_text};
-ghost use Rattle.certificate.specs.Readings.{magic, byte_within, number, count, board, letter, letter_in, opening, row};
-ghost use Rattle.certificate.specs.Sources.{EndsEarly, Refuses, tells_failure};
+ghost use Rattle.certificate.specs.Certificates.{Statement, statement_of, AreNamedCosts, IsWithinLimit, IsRow, RiseAfter, IsCertificate};
+ghost use Rattle.certificate.specs.Spellings.{letter_of, opening_text, plan_text, count_text, row_text, front_text, spelling, Spells};
+ghost use Rattle.certificate.specs.Readings.{costs_of, opening, letters, plan, rows, all_rows, front, IsFirstFault};
+ghost use Rattle.certificate.specs.Sources.{Refuses, tells_failure};
+ghost use Rattle.certificate.specs.declared.faults.ReadFault.{ReadFault};
 
+use crate::certificate::{Certificate, Parts};
 use crate::faults::ReadFault;
+use crate::fields::{read_board, read_byte, read_count, read_end, read_letter, read_magic, read_number, read_row};
 use board::{Board, Move, Shape, Weights};
 use byte_streams::Source;
+use std::alloc::Global;
 
-// The greatest cost, and the greatest length of a plan.
-const LIMIT: u32 = 1_048_575;
-
-// The next byte, which is due.
-fn next_due<S: Source>(source: &mut S) -> Result<u8, ReadFault>
-    ensures byte { IfOk result (λ byte. Consumes (S.left source.old) (S.left source.new) (byte ∷ [])) }
-    ensures early { IfErr result (EndsEarly (S.left source.old) (S.left source.new) 1) }
+// What the input is, the sides of the boards, the kind of costs, and no groups.
+fn read_opening<S: Source>(source: &mut S) -> Result<Weights, ReadFault>
+    ensures taken { IfOk result
+        (λ costs. Consumes (S.left source.old) (S.left source.new) (opening_text costs)) }
+    ensures named { IfOk result (λ costs. AreNamedCosts costs.grid costs) }
+    ensures refused { IfErr result (Refuses opening (S.left source.old) (S.left source.new)) }
     ensures fails { S.has_failed source.new ≡ tells_failure result }
 {
-    match source.next_byte() {
-        Ok(Some(byte)) => Ok(byte),
-        Ok(None) => Err(ReadFault::Truncated),
-        Err(_) => Err(ReadFault::Failed),
+    read_magic(source)?;
+    let rows = read_byte(source, 2, 5)?;
+    let cols = read_byte(source, 2, 5)?;
+    let kind = read_byte(source, 0, 1)?;
+    read_byte(source, 0, 0)?;
+    let shape = Shape::new(rows, cols).unwrap();
+    Ok(named_costs(shape, kind))
+}
+
+// Unit costs for kind 0, face costs for kind 1.
+fn named_costs(shape: Shape, kind: u8) -> Weights
+    ensures { result ≡ costs_of shape kind }
+{
+    match kind {
+        0 => Weights::unit(shape),
+        _ => Weights::face(shape),
     }
 }
 
-// The bytes of a field, as many as there is room for.
-fn fill<S: Source>(source: &mut S, text: &mut [u8]) -> Result<(), ReadFault>
-    ensures whole { OnOk result (Consumes (S.left source.old) (S.left source.new) text.new) }
-    ensures early { IfErr result (EndsEarly (S.left source.old) (S.left source.new) (length text.old)) }
-    ensures fails { (S.has_failed source.old ≡ false) ⊎ (0 < length text.old)
+// The length of the plan, and a letter for each move.
+fn read_plan<S: Source>(alloc: Global, source: &mut S) -> Result<Vec<Move>, ReadFault>
+    ensures taken { IfOk result
+        (λ moves. Consumes (S.left source.old) (S.left source.new) (plan_text moves.items)) }
+    ensures within { IfOk result (λ moves. IsWithinLimit (length moves.items)) }
+    ensures refused { IfErr result (Refuses plan (S.left source.old) (S.left source.new)) }
+    ensures fails { S.has_failed source.new ≡ tells_failure result }
+{
+    let count = read_number(source)?;
+    read_letters(alloc, source, count)
+}
+
+// So many letters of moves.
+fn read_letters<S: Source>(
+    alloc: Global,
+    source: &mut S,
+    count: u32,
+) -> Result<Vec<Move>, ReadFault>
+    ensures taken { IfOk result
+        (λ moves. Consumes (S.left source.old) (S.left source.new) (map letter_of moves.items)) }
+    ensures count { IfOk result (λ moves. length moves.items ≡ count) }
+    ensures refused { IfErr result (Refuses (letters count) (S.left source.old) (S.left source.new)) }
+    ensures fails { S.has_failed source.old ≡ false
         → S.has_failed source.new ≡ tells_failure result }
 {
-    'bytes: for place in 0..text.len() {
-        text[place] = next_due(source)?;
+    let mut moves = Vec::new(alloc);
+    'letters: for _ in 0..count {
+        let direction = read_letter(source)?;
+        if moves.push(direction).is_err() {
+            return Err(ReadFault::NoMemory);
+        }
     }
-    Ok(())
+    Ok(moves)
 }
 
-// The eight bytes that each certificate begins with.
-fn read_magic<S: Source>(source: &mut S) -> Result<(), ReadFault>
-    ensures taken { OnOk result (Consumes (S.left source.old) (S.left source.new) (codes "TILECRT1")) }
-    ensures refused { IfErr result (Refuses magic (S.left source.old) (S.left source.new)) }
+// So many rows, each after the one before it.
+fn read_rows<S: Source>(
+    alloc: Global,
+    source: &mut S,
+    shape: Shape,
+    count: u64,
+) -> Result<Vec<(Board, u32)>, ReadFault>
+    ensures taken { IfOk result
+        (λ read. Consumes (S.left source.old) (S.left source.new) (flat_map row_text read.items)) }
+    ensures count { IfOk result (λ read. length read.items ≡ count) }
+    ensures rows { IfOk result (λ read. AllByRecursion (IsRow shape) read.items) }
+    ensures rising { IfOk result (λ read. RiseAfter None read.items) }
+    ensures refused { IfErr result
+        (Refuses (rows shape None count) (S.left source.old) (S.left source.new)) }
+    ensures fails { S.has_failed source.old ≡ false
+        → S.has_failed source.new ≡ tells_failure result }
+{
+    let mut read = Vec::new(alloc);
+    let mut before = None;
+    'rows: for _ in 0..count {
+        let row = read_row(source, shape, before)?;
+        before = Some(row.0);
+        if read.push(row).is_err() {
+            return Err(ReadFault::NoMemory);
+        }
+    }
+    Ok(read)
+}
+
+// The fields before the rows, with no rows.
+fn read_front<S: Source>(alloc: Global, source: &mut S) -> Result<Parts, ReadFault>
+    ensures taken { IfOk result
+        (λ parts. Consumes (S.left source.old) (S.left source.new) (front_text (statement_of parts))) }
+    ensures fits { IfOk result (λ parts. IsCertificate (statement_of parts)) }
+    ensures bare { IfOk result (λ parts. parts.rows.items ≡ []) }
+    ensures refused { IfErr result (Refuses front (S.left source.old) (S.left source.new)) }
     ensures fails { S.has_failed source.new ≡ tells_failure result }
 {
-    let mut text = [0; 8];
-    fill(source, &mut text)?;
-    if text != *b"TILECRT1" {
-        return Err(ReadFault::OtherMagic);
-    }
-    Ok(())
-}
-
-// One byte within a range.
-fn read_byte<S: Source>(source: &mut S, low: u8, high: u8) -> Result<u8, ReadFault>
-    ensures taken { IfOk result (λ byte. Consumes (S.left source.old) (S.left source.new) (byte ∷ [])) }
-    ensures low { IfOk result (λ byte. low ≤ byte) }
-    ensures high { IfOk result (λ byte. byte ≤ high) }
-    ensures refused { IfErr result (Refuses (byte_within low high) (S.left source.old) (S.left source.new)) }
-    ensures fails { S.has_failed source.new ≡ tells_failure result }
-{
-    let byte = next_due(source)?;
-    if byte < low || high < byte {
-        return Err(ReadFault::OutOfRange);
-    }
-    Ok(byte)
-}
-
-// A cost, or the length of a plan.
-fn read_number<S: Source>(source: &mut S) -> Result<u32, ReadFault>
-    ensures taken { IfOk result (λ n. Consumes (S.left source.old) (S.left source.new) (number_text n)) }
-    ensures within { IfOk result IsWithinLimit }
-    ensures refused { IfErr result (Refuses number (S.left source.old) (S.left source.new)) }
-    ensures fails { S.has_failed source.new ≡ tells_failure result }
-{
-    let mut text = [0; 4];
-    fill(source, &mut text)?;
-    let number = number_from(text);
-    if number > LIMIT {
-        return Err(ReadFault::OutOfRange);
-    }
-    Ok(number)
-}
-
-// The number of four bytes, the lowest first.
-fn number_from(text: [u8; 4]) -> u32
-    ensures value { result ≡ from_le_bytes w32 text }
-    ensures text { number_text result ≡ text }
-{
-    u32::from_le_bytes(text)
-}
-
-// The number of eight bytes, the lowest first.
-fn count_from(text: [u8; 8]) -> u64
-    ensures value { result ≡ from_le_bytes w64 text }
-    ensures text { count_text result ≡ text }
-{
-    u64::from_le_bytes(text)
-}
-
-// The number of rows, whatever it is.
-fn read_count<S: Source>(source: &mut S) -> Result<u64, ReadFault>
-    ensures taken { IfOk result (λ n. Consumes (S.left source.old) (S.left source.new) (count_text n)) }
-    ensures refused { IfErr result (Refuses count (S.left source.old) (S.left source.new)) }
-    ensures fails { S.has_failed source.new ≡ tells_failure result }
-{
-    let mut text = [0; 8];
-    fill(source, &mut text)?;
-    Ok(count_from(text))
-}
-
-// A board of the shape.
-fn read_board<S: Source>(source: &mut S, shape: Shape) -> Result<Board, ReadFault>
-    ensures taken { IfOk result (λ b. Consumes (S.left source.old) (S.left source.new) b.tiles) }
-    ensures board { IfOk result (IsBoardOf shape) }
-    ensures refused { IfErr result (Refuses (board shape) (S.left source.old) (S.left source.new)) }
-    ensures fails { S.has_failed source.new ≡ tells_failure result }
-{
-    let mut text = [0; 25];
-    let tiles = &mut text[..shape.cells()];
-    fill(source, tiles)?;
-    match Board::from_tiles(shape, tiles) {
-        Ok(board) => Ok(board),
-        Err(_) => Err(ReadFault::OutOfRange),
-    }
-}
-
-// The letter of a move.
-fn read_letter<S: Source>(source: &mut S) -> Result<Move, ReadFault>
-    ensures taken { IfOk result (λ m. Consumes (S.left source.old) (S.left source.new) (letter_of m ∷ [])) }
-    ensures refused { IfErr result (Refuses letter (S.left source.old) (S.left source.new)) }
-    ensures fails { S.has_failed source.new ≡ tells_failure result }
-{
-    let byte = next_due(source)?;
-    match letter_move(byte) {
-        Some(direction) => Ok(direction),
-        None => Err(ReadFault::OutOfRange),
-    }
-}
-
-// The move with a letter.
-#[tactic(auto, unfolding(crate::specs::Readings::letter_in))]
-fn letter_move(byte: u8) -> Option<Move>
-    ensures { result ≡ letter_in (byte ∷ []) }
-{
-    match byte {
-        b'U' => Some(Move::U),
-        b'L' => Some(Move::L),
-        b'R' => Some(Move::R),
-        b'D' => Some(Move::D),
-        _ => None,
-    }
+    let costs = read_opening(source)?;
+    let shape = costs.shape();
+    let start = read_board(source, shape)?;
+    let goal = read_board(source, shape)?;
+    let cost = read_number(source)?;
+    let plan = read_plan(alloc, source)?;
+    Ok(Parts {
+        shape,
+        costs,
+        start,
+        goal,
+        cost,
+        plan,
+        rows: Vec::new(alloc),
+    })
 }

@@ -2,7 +2,7 @@ use Rattle.certificate.specs.Sources.{Refuses}
 use Rattle.certificate.specs.Readings.{count, count_in}
 use Rattle.certificate.specs.declared.faults.ReadFault.TheVariants.{OutOfRange}
 use Rattle.certificate.proofs.FieldLemmas.{passed, cut_short}
-use Rattle.certificate.proofs.read.read_count.Goals as goal
+use Rattle.certificate.proofs.fields.read_count.Goals as goal
 
 pub returns-in_err-fill-clause-refused : goal.returns-in_err-fill-clause-refused
 returns-in_err-fill-clause-refused g c =

@@ -1,6 +1,6 @@
 use Rattle.std.proofs.Common.{◌≡◌, ◌⊎◌, ◌<◌, false, length, take}
 use Rattle.std.specs.Io.KnownBytes.{Consumes}
-use Rattle.certificate.proofs.read.fill.Given as goal
+use Rattle.certificate.proofs.fields.fill.Given as goal
 
 abbrev pub invariant-bytes : goal.invariant-bytes
 invariant-bytes g l = record {

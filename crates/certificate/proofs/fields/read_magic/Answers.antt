@@ -3,7 +3,7 @@ use Rattle.certificate.specs.Sources.{Refuses}
 use Rattle.certificate.specs.Readings.{magic, magic_in}
 use Rattle.certificate.specs.declared.faults.ReadFault.TheVariants.{OtherMagic}
 use Rattle.certificate.proofs.FieldLemmas.{passed, cut_short, refused, other_magic, not_flipped}
-use Rattle.certificate.proofs.read.read_magic.Goals as goal
+use Rattle.certificate.proofs.fields.read_magic.Goals as goal
 
 pub returns-in_err-fill-clause-refused : goal.returns-in_err-fill-clause-refused
 returns-in_err-fill-clause-refused g c =

@@ -5,7 +5,7 @@ use Rattle.certificate.specs.Sources.{Refuses}
 use Rattle.certificate.specs.Readings.{letter, letter_in}
 use Rattle.certificate.specs.declared.faults.ReadFault.TheVariants.{OutOfRange}
 use Rattle.certificate.proofs.FieldLemmas.{passed, cut_short, refused, letter_found}
-use Rattle.certificate.proofs.read.read_letter.Goals as goal
+use Rattle.certificate.proofs.fields.read_letter.Goals as goal
 
 pub returns-in_err-byte-clause-refused : goal.returns-in_err-byte-clause-refused
 returns-in_err-byte-clause-refused g c =

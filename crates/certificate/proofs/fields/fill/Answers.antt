@@ -1,7 +1,7 @@
 use Rattle.std.proofs.Common.{length, take, length-take, arith}
 use Rattle.certificate.specs.Sources.{EndsEarly}
 use Rattle.certificate.proofs.FieldLemmas.{passed, ends_later}
-use Rattle.certificate.proofs.read.fill.Goals as goal
+use Rattle.certificate.proofs.fields.fill.Goals as goal
 
 pub returns-in_err-text-clause-early : goal.returns-in_err-text-clause-early
 returns-in_err-text-clause-early g c =

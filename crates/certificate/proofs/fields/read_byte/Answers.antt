@@ -3,8 +3,8 @@ use Rattle.certificate.specs.Sources.{Refuses}
 use Rattle.certificate.specs.Readings.{byte_within, byte_in}
 use Rattle.certificate.specs.declared.faults.ReadFault.TheVariants.{OutOfRange}
 use Rattle.certificate.proofs.FieldLemmas.{passed, cut_short, refused, below_range, above_range}
-use Rattle.certificate.proofs.read.read_byte.Goals.{then-byte-low-via-then-byte-low, then-byte-low-via-else-byte-low+then-high-byte}
-use Rattle.certificate.proofs.read.read_byte.Goals as goal
+use Rattle.certificate.proofs.fields.read_byte.Goals.{then-byte-low-via-then-byte-low, then-byte-low-via-else-byte-low+then-high-byte}
+use Rattle.certificate.proofs.fields.read_byte.Goals as goal
 
 pub returns-in_err-byte-clause-refused : goal.returns-in_err-byte-clause-refused
 returns-in_err-byte-clause-refused g c =

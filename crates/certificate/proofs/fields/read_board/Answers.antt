@@ -7,7 +7,7 @@ use Rattle.board.specs.Grids.{cell_count}
 use Rattle.certificate.specs.declared.faults.ReadFault.TheVariants.{OutOfRange}
 use Rattle.certificate.proofs.FieldLemmas.{passed, cut_short, refused}
 use Rattle.certificate.proofs.BoardLemmas.{no_board, room}
-use Rattle.certificate.proofs.read.read_board.Goals as goal
+use Rattle.certificate.proofs.fields.read_board.Goals as goal
 
 pub returns-in_err-fill-clause-refused : goal.returns-in_err-fill-clause-refused
 returns-in_err-fill-clause-refused g c =

@@ -3,7 +3,7 @@ use Rattle.certificate.specs.Sources.{Refuses}
 use Rattle.certificate.specs.Readings.{number, number_in}
 use Rattle.certificate.specs.declared.faults.ReadFault.TheVariants.{OutOfRange}
 use Rattle.certificate.proofs.FieldLemmas.{passed, cut_short, refused, number_too_high}
-use Rattle.certificate.proofs.read.read_number.Goals as goal
+use Rattle.certificate.proofs.fields.read_number.Goals as goal
 
 pub returns-in_err-fill-clause-refused : goal.returns-in_err-fill-clause-refused
 returns-in_err-fill-clause-refused g c =

@@ -1,5 +1,5 @@
 use Rattle.certificate.proofs.FieldLemmas.{ended}
-use Rattle.certificate.proofs.read.next_due.Goals as goal
+use Rattle.certificate.proofs.fields.next_due.Goals as goal
 
 pub returns-in-Ok-None-clause-early : goal.returns-in-Ok-None-clause-early
 returns-in-Ok-None-clause-early g c =
