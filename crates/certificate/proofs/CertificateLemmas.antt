@@ -36,10 +36,10 @@ FrontParts = Both OpeningText (λ costs. Both (BoardText costs.grid) (λ start. 
 front_there : (c : Statement) (text : List ℕ) → FrontParts c text → FrontText c text
 front_there c text (costs, s0, t0, o, (start, s1, t1, b, (goal, s2, t2, g, (cost, s3, t3, n, (moves, s4, t4, p, (known, nil), e4), e3), e2), e1), e0) =
     let made : FrontText (bare_of costs start goal cost moves) text = record {
-        fits = record { sides = o.sides; costs = o.named; start = b.board; goal = g.board; cost = n.within; plan = p.within; count = omega arith; rows = tt; rising = tt };
-        bare = refl;
-        is = e0 ∙ (λ i. o.is i ++ e1 i) ∙ (λ i. opening_text costs ++ (b.is i ++ e2 i)) ∙ (λ i. opening_text costs ++ (start.tiles ++ (g.is i ++ e3 i))) ∙ (λ i. opening_text costs ++ (start.tiles ++ (goal.tiles ++ (n.is i ++ e4 i))))
-            ∙ (λ i. opening_text costs ++ (start.tiles ++ (goal.tiles ++ (number_text cost ++ (p.is i ++ nil i))))) ∙ ap (λ (l : List ℕ). opening_text costs ++ (start.tiles ++ (goal.tiles ++ (number_text cost ++ l)))) (append-nil (plan_text moves));
+      fits = record { sides = o.sides; costs = o.named; start = b.board; goal = g.board; cost = n.within; plan = p.within; count = omega arith; rows = tt; rising = tt };
+      bare = refl;
+      is = e0 ∙ (λ i. o.is i ++ e1 i) ∙ (λ i. opening_text costs ++ (b.is i ++ e2 i)) ∙ (λ i. opening_text costs ++ (start.tiles ++ (g.is i ++ e3 i))) ∙ (λ i. opening_text costs ++ (start.tiles ++ (goal.tiles ++ (n.is i ++ e4 i))))
+          ∙ (λ i. opening_text costs ++ (start.tiles ++ (goal.tiles ++ (number_text cost ++ (p.is i ++ nil i))))) ∙ ap (λ (l : List ℕ). opening_text costs ++ (start.tiles ++ (goal.tiles ++ (number_text cost ++ l)))) (append-nil (plan_text moves));
     } in
     subst (λ (d : Statement). FrontText d text) (sym known) made
 
@@ -48,18 +48,29 @@ front_back c text t =
     let same : c.costs.grid ≡ c.grid = named_grid c.grid c.costs t.fits.costs in
     let costs = c.costs in
     let o : OpeningText costs (opening_text costs) = record {
-        sides = subst (λ (g : Grid). IsShape g) (sym same) t.fits.sides;
-        named = subst (λ (g : Grid). AreNamedCosts g c.costs) (sym same) t.fits.costs;
-        is = refl;
+      sides = subst (λ (g : Grid). IsShape g) (sym same) t.fits.sides;
+      named = subst (λ (g : Grid). AreNamedCosts g c.costs) (sym same) t.fits.costs;
+      is = refl;
     } in
     let b : BoardText costs.grid c.start c.start.tiles = record { board = subst (λ (g : Grid). IsBoardOf g c.start) (sym same) t.fits.start; is = refl } in
     let g : BoardText costs.grid c.goal c.goal.tiles = record { board = subst (λ (g : Grid). IsBoardOf g c.goal) (sym same) t.fits.goal; is = refl } in
     let n : NumberText c.cost (number_text c.cost) = record { within = t.fits.cost; is = refl } in
     let p : PlanText c.plan (plan_text c.plan) = record { within = t.fits.plan; is = refl } in
-    let known : c ≡ bare_of costs c.start c.goal c.cost c.plan = λ i. record { grid = sym same i; costs = c.costs; start = c.start; goal = c.goal; cost = c.cost; plan = c.plan; rows = t.bare i } in
-    (costs, opening_text costs, c.start.tiles ++ (c.goal.tiles ++ (number_text c.cost ++ plan_text c.plan)), o,
-    (c.start, c.start.tiles, c.goal.tiles ++ (number_text c.cost ++ plan_text c.plan), b,
-    (c.goal, c.goal.tiles, number_text c.cost ++ plan_text c.plan, g, (c.cost, number_text c.cost, plan_text c.plan, n, (c.plan, plan_text c.plan, [], p, (known, refl), sym (append-nil (plan_text c.plan))), refl), refl), refl), t.is)
+    let known : c ≡ bare_of costs c.start c.goal c.cost c.plan = λ i. record { grid = sym same i; costs = c.costs; start = c.start; goal = c.goal; cost = c.cost; plan = c.plan; rows = t.bare i } in (
+      costs,
+      opening_text costs,
+      c.start.tiles ++ (c.goal.tiles ++ (number_text c.cost ++ plan_text c.plan)),
+      o,
+      (
+        c.start,
+        c.start.tiles,
+        c.goal.tiles ++ (number_text c.cost ++ plan_text c.plan),
+        b,
+        (c.goal, c.goal.tiles, number_text c.cost ++ plan_text c.plan, g, (c.cost, number_text c.cost, plan_text c.plan, n, (c.plan, plan_text c.plan, [], p, (known, refl), sym (append-nil (plan_text c.plan))), refl), refl),
+        refl,
+      ),
+      t.is,
+    )
 
 pub front_law : Law front FrontText
 unfolding front
@@ -186,6 +197,7 @@ read_takes bytes all c rest e =
   where
     pair : Statement → List ℕ → Statement × List ℕ
     pair a s = (a, s)
+
     same_pair : (a b : Statement) (s t : List ℕ) → fine a s ≡ fine b t → pair a s ≡ pair b t
     same_pair a b s t e = cc
 

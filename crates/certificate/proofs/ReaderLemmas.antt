@@ -74,9 +74,9 @@ pub Opens-seq : {X Y : Type 0} (a : Reader X) (k : X → Reader Y) (A : X → Li
 unfolding ◌>>=◌
 Opens-seq a k A B law first next = record {
   some =
-    let p = first.some in
-    let q = (next p.0 p.1 p.2).some in
-    (q.0, p.1 ++ q.1, (p.0, p.1, q.1, p.2, q.2, refl));
+      let p = first.some in
+      let q = (next p.0 p.1 p.2).some in
+      (q.0, p.1 ++ q.1, (p.0, p.1, q.1, p.2, q.2, refl));
   before = λ bytes all fault from e.
       ⊎_elim
       (λ failed.

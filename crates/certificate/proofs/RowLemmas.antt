@@ -76,9 +76,9 @@ RowParts grid before = Both (BoardText grid) (λ b. Both NumberText (λ g. Risin
 row_there : (grid : Grid) (before : Option Position) → IsBefore grid before → (r : Position × ℕ) (text : List ℕ) → RowParts grid before r text → RowText grid before r text
 row_there grid before is r text (b, s0, t0, p, (g, s1, t1, n, up, e1), e0) =
     let made : RowText grid before (b, g) text = record {
-        row = record { board = p.board; cost = n.within };
-        follows = follows_from_test grid before b is p.board up.passes;
-        is = e0 ∙ (λ i. p.is i ++ e1 i) ∙ (λ i. b.tiles ++ (n.is i ++ up.nil i)) ∙ ap (λ (l : List ℕ). b.tiles ++ l) (append-nil (number_text g));
+      row = record { board = p.board; cost = n.within };
+      follows = follows_from_test grid before b is p.board up.passes;
+      is = e0 ∙ (λ i. p.is i ++ e1 i) ∙ (λ i. b.tiles ++ (n.is i ++ up.nil i)) ∙ ap (λ (l : List ℕ). b.tiles ++ l) (append-nil (number_text g));
     } in
     subst (λ (r : Position × ℕ). RowText grid before r text) (sym up.same) made
 
@@ -112,10 +112,10 @@ rows_there grid before zero rs text p =
     subst (λ (l : List (Position × ℕ)). RowsText grid before 0 l text) (sym p.0) made
 rows_there grid before (suc n) rs text (r, s0, t0, first, (others, s1, t1, rest, (known, nil), e1), e0) =
     let made : RowsText grid before (suc n) (r ∷ others) text = record {
-        count = ap suc rest.count;
-        rows = (first.row, rest.rows);
-        rising = (first.follows, rest.rising);
-        is = e0 ∙ (λ i. first.is i ++ e1 i) ∙ (λ i. row_text r ++ (rest.is i ++ nil i)) ∙ ap (λ (l : List ℕ). row_text r ++ l) (append-nil (flat_map row_text others)) ∙ sym (flat_map-cons row_text r others);
+      count = ap suc rest.count;
+      rows = (first.row, rest.rows);
+      rising = (first.follows, rest.rising);
+      is = e0 ∙ (λ i. first.is i ++ e1 i) ∙ (λ i. row_text r ++ (rest.is i ++ nil i)) ∙ ap (λ (l : List ℕ). row_text r ++ l) (append-nil (flat_map row_text others)) ∙ sym (flat_map-cons row_text r others);
     } in
     subst (λ (l : List (Position × ℕ)). RowsText grid before (suc n) l text) (sym known) made
 

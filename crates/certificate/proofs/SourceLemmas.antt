@@ -1,6 +1,6 @@
 -- Readers of a source that follow one another: the first refuses, or a later one does.
 use Rattle.std.proofs.Common.{◌≡◌, ℕ, zero, suc, ◌+◌, ◌<◌, ◌≤◌, List, [], ◌∷◌, ◌++◌, length, map, Option, Some, None, Result, Ok, Err, refl, sym, ap, subst, ◌∙◌, append_assoc, append-nil, arith}
-use Rattle.std.specs.Prelude.{IfSome, IfErr, IsErrAnd}
+use Rattle.std.specs.Prelude.{IfSome, IfErr, codes}
 use Rattle.std.specs.List.{flat_map, AllByRecursion}
 use Rattle.std.specs.Io.KnownBytes.{Consumes}
 use Rattle.std.proofs.KnownBytes.{Consumes-trans}
@@ -8,16 +8,17 @@ use Rattle.std.proofs.lemmas.List.Concat.{flat_map-cons}
 use Rattle.board.specs.declared.moves.Move.{Move}
 use Rattle.board.specs.Grids.{Grid, IsShape}
 use Rattle.board.specs.Positions.{Position}
+use Rattle.board.specs.CostRules.{CostRule}
 use Rattle.certificate.specs.declared.faults.ReadFault.{ReadFault}
 use Rattle.certificate.specs.declared.faults.ReadFault.TheVariants.{NoMemory}
 use Rattle.certificate.specs.Certificates.{IsRow, IsBoardOf, RiseAfter}
-use Rattle.certificate.specs.Spellings.{letter_of, row_text}
-use Rattle.certificate.specs.Readings.{Reader, ◌>>=◌, continued, give, as_one, blamed, letter, letters, row, rows}
+use Rattle.certificate.specs.Spellings.{letter_of, opening_text, row_text}
+use Rattle.certificate.specs.Readings.{Reader, ◌>>=◌, continued, give, as_one, blamed, letter, letters, row, rows, grid_of, costs_of}
 use Rattle.certificate.specs.Sources.{Refuses, IsOfBytes}
-use Rattle.certificate.proofs.FieldLemmas.{known, passed}
+use Rattle.certificate.proofs.FieldLemmas.{known}
 use Rattle.certificate.proofs.ReaderLemmas.{Law}
-use Rattle.certificate.proofs.TextLemmas.{letter_law}
-use Rattle.certificate.proofs.RowLemmas.{RowText, row_law, Follows, IsBefore}
+use Rattle.certificate.proofs.TextLemmas.{letter_law, ByteText, OpeningParts, opening_there}
+use Rattle.certificate.proofs.RowLemmas.{RowText, row_law, sides_of, Follows, IsBefore}
 
 pub first_refuses : {X Y : Type 0} {a : Reader X} (k : X → Reader Y) {old new : Option (List ℕ)} {f : ReadFault} → Refuses a old new f → Refuses (a >>= k) old new f
 unfolding ◌>>=◌
@@ -80,28 +81,47 @@ pub text_pushed : (rs : List (Position × ℕ)) (r : Position × ℕ) → flat_m
 text_pushed [] r = flat_map-cons row_text r [] ∙ append-nil (row_text r)
 text_pushed (s ∷ rs) r = flat_map-cons row_text s (rs ++ r ∷ []) ∙ ap (λ (l : List ℕ). row_text s ++ l) (text_pushed rs r) ∙ sym (append_assoc (row_text s) (flat_map row_text rs) (row_text r)) ∙ ap (λ (l : List ℕ). l ++ row_text r) (sym (flat_map-cons row_text s rs))
 
-rows_at : (grid : Grid) → IsShape grid → (before : Option Position) → IsBefore grid before → (done : List (Position × ℕ)) (n : ℕ) (rest : List ℕ) (f : ReadFault × List ℕ) → length done < n → AllByRecursion (IsRow grid) done → RiseAfter before done
+rows_at : (grid : Grid) (before : Option Position) → IsBefore grid before → (done : List (Position × ℕ)) (n : ℕ) (rest : List ℕ) (f : ReadFault × List ℕ) → length done < n → AllByRecursion (IsRow grid) done → RiseAfter before done
     → row grid (last_of before done) rest ≡ Err f → rows grid before n (flat_map row_text done ++ rest) ≡ Err f
 unfolding rows ◌>>=◌
-rows_at grid sides before is done zero rest f fewer all rise fails = absurd (omega (arith, fewer))
-rows_at grid sides before is [] (suc n) rest f fewer all rise fails = ap (continued (λ first. rows grid (Some first.0) n >>= λ others. give (first ∷ others))) fails
-rows_at grid sides before is (r ∷ done) (suc n) rest f fewer all rise fails =
+rows_at grid before is done zero rest f fewer all rise fails = absurd (omega (arith, fewer))
+rows_at grid before is [] (suc n) rest f fewer all rise fails = ap (continued (λ first. rows grid (Some first.0) n >>= λ others. give (first ∷ others))) fails
+rows_at grid before is (r ∷ done) (suc n) rest f fewer all rise fails =
     let text : flat_map row_text (r ∷ done) ++ rest ≡ row_text r ++ (flat_map row_text done ++ rest) = ap (λ (l : List ℕ). l ++ rest) (flat_map-cons row_text r done) ∙ append_assoc (row_text r) (flat_map row_text done) rest in
     let t : RowText grid before r (row_text r) = record { row = all.0; follows = rise.0; is = refl } in
     ap (rows grid before (suc n)) text
-    ∙ ap (continued (λ first. rows grid (Some first.0) n >>= λ others. give (first ∷ others))) ((row_law grid before sides is).again r (row_text r) (flat_map row_text done ++ rest) t)
-    ∙ ap (continued (λ others. give (r ∷ others))) (rows_at grid sides (Some r.0) all.0.board done n rest f (omega (arith, fewer)) all.1 rise.1 fails)
+    ∙ ap (continued (λ first. rows grid (Some first.0) n >>= λ others. give (first ∷ others))) ((row_law grid before (sides_of grid r.0 all.0.board) is).again r (row_text r) (flat_map row_text done ++ rest) t)
+    ∙ ap (continued (λ others. give (r ∷ others))) (rows_at grid (Some r.0) all.0.board done n rest f (omega (arith, fewer)) all.1 rise.1 fails)
 
-pub rows_refuse : (grid : Grid) → IsShape grid → (done : List (Position × ℕ)) (n : ℕ) (old mid new : Option (List ℕ)) (f : ReadFault) → length done < n → AllByRecursion (IsRow grid) done → RiseAfter None done
+pub rows_refuse : (grid : Grid) (done : List (Position × ℕ)) (n : ℕ) (old mid new : Option (List ℕ)) (f : ReadFault) → length done < n → AllByRecursion (IsRow grid) done → RiseAfter None done
     → Consumes old mid (flat_map row_text done) → Refuses (row grid (last_of None done)) mid new f → Refuses (rows grid None n) old new f
-rows_refuse grid sides done n old mid new f fewer all rise taken r = record {
+rows_refuse grid done n old mid new f fewer all rise taken r = record {
   taken = (flat_map row_text done ++ r.taken.0, Consumes-trans old mid new (flat_map row_text done) r.taken.0 taken r.taken.1);
   first = λ of input is.
       let q = known old mid (flat_map row_text done) input is taken in
       let p = r.first of q.0 q.1 in
-      (p.0, ap (rows grid None n) q.2 ∙ rows_at grid sides None tt done n q.0 (f, p.0) fewer all rise p.1);
+      (p.0, ap (rows grid None n) q.2 ∙ rows_at grid None tt done n q.0 (f, p.0) fewer all rise p.1);
 }
 
 pub last_is_board : (grid : Grid) (before : Option Position) (rs : List (Position × ℕ)) → IsBefore grid before → AllByRecursion (IsRow grid) rs → IsBefore grid (last_of before rs)
 last_is_board grid before [] is all = is
 last_is_board grid before (r ∷ rs) is all = last_is_board grid (Some r.0) rs all.0.board all.1
+
+-- ---- want of memory, and answers that are passed on
+
+pub lacks_memory : {X : Type 0} {r : Reader X} (old new : Option (List ℕ)) (text : List ℕ) → Consumes old new text → Refuses r old new NoMemory
+lacks_memory old new text taken = record { taken = (text, taken); first = λ of. absurd of }
+
+pub if_err : {X : Type 0} (r : Result X ReadFault) (P Q : ReadFault → Type 0) → ((f : ReadFault) → P f → Q f) → IfErr r P → IfErr r Q
+if_err (Ok x) P Q h p = tt
+if_err (Err f) P Q h p = h f p
+
+-- ---- the opening
+
+pub opening_taken : (a b c d e z : Option (List ℕ)) (rows cols kind none : ℕ) (costs : CostRule) → Consumes a b (codes "TILECRT1") → Consumes b c (rows ∷ []) → Consumes c d (cols ∷ []) → Consumes d e (kind ∷ []) → Consumes e z (none ∷ [])
+    → ByteText 2 5 rows (rows ∷ []) → ByteText 2 5 cols (cols ∷ []) → ByteText 0 1 kind (kind ∷ []) → ByteText 0 0 none (none ∷ []) → costs ≡ costs_of (grid_of rows cols) kind → Consumes a z (opening_text costs)
+opening_taken a b c d e z rows cols kind none costs t0 t1 t2 t3 t4 r s k g is =
+    let text : List ℕ = codes "TILECRT1" ++ rows ∷ cols ∷ kind ∷ none ∷ [] in
+    let parts : OpeningParts costs text = (tt, codes "TILECRT1", rows ∷ cols ∷ kind ∷ none ∷ [], refl, (rows, rows ∷ [], cols ∷ kind ∷ none ∷ [], r, (cols, cols ∷ [], kind ∷ none ∷ [], s, (kind, kind ∷ [], none ∷ [], k, (none, none ∷ [], [], g, (is, refl), refl), refl), refl), refl), refl) in
+    subst (λ (l : List ℕ). Consumes a z l) (opening_there costs text parts).is
+    (Consumes-trans a b z (codes "TILECRT1") (rows ∷ cols ∷ kind ∷ none ∷ []) t0 (Consumes-trans b c z (rows ∷ []) (cols ∷ kind ∷ none ∷ []) t1 (Consumes-trans c d z (cols ∷ []) (kind ∷ none ∷ []) t2 (Consumes-trans d e z (kind ∷ []) (none ∷ []) t3 t4))))

@@ -246,7 +246,7 @@ costs_again costs sides (inr face) =
     let kind : kind_of costs ≡ 1 = ap kind_of face ∙ face_kind costs.grid sides in
     (omega (arith, kind), ap (costs_of costs.grid) kind ∙ sym face)
 
-abbrev OpeningParts : CostRule → List ℕ → Type 0
+abbrev pub OpeningParts : CostRule → List ℕ → Type 0
 OpeningParts = Both MagicText (λ _. Both (ByteText 2 5) (λ rows. Both (ByteText 2 5) (λ cols. Both (ByteText 0 1) (λ kind. Both (ByteText 0 0) (λ _. Known (costs_of (grid_of rows cols) kind))))))
 
 opening_parts_law : Law opening OpeningParts
@@ -265,7 +265,7 @@ opening_parts_open = Opens-seq magic _ MagicText _ magic_law magic_opens (λ _ _
     Opens-seq (byte_within 0 1) _ (ByteText 0 1) _ (byte_law 0 1) (byte_opens 0 1 (omega arith)) (λ kind _ _.
     Opens-seq (byte_within 0 0) _ (ByteText 0 0) _ (byte_law 0 0) (byte_opens 0 0 (omega arith)) (λ _ _ _. Opens-give (costs_of (grid_of rows cols) kind))))))
 
-opening_there : (costs : CostRule) (text : List ℕ) → OpeningParts costs text → OpeningText costs text
+pub opening_there : (costs : CostRule) (text : List ℕ) → OpeningParts costs text → OpeningText costs text
 unfolding opening_text
 opening_there costs text (u, s0, t0, m, (rows, s1, t1, r, (cols, s2, t2, c, (kind, s3, t3, k, (none, s4, t4, g, (is, nil), e4), e3), e2), e1), e0) =
     let grid = grid_of rows cols in
@@ -275,9 +275,9 @@ opening_there costs text (u, s0, t0, m, (rows, s1, t1, r, (cols, s2, t2, c, (kin
     let end : t3 ≡ 0 ∷ [] = e4 ∙ (λ i. g.is i ++ nil i) ∙ ap (λ (b : ℕ). b ∷ []) zero_is in
     let bytes : text ≡ codes "TILECRT1" ++ rows ∷ cols ∷ kind ∷ 0 ∷ [] = e0 ∙ (λ i. m i ++ e1 i) ∙ (λ i. codes "TILECRT1" ++ (r.is i ++ e2 i)) ∙ (λ i. codes "TILECRT1" ++ rows ∷ (c.is i ++ e3 i)) ∙ (λ i. codes "TILECRT1" ++ rows ∷ cols ∷ (k.is i ++ end i)) in
     let made : OpeningText (costs_of grid kind) text = record {
-        sides = subst (λ (g : Grid). IsShape g) (sym p.2) sides;
-        named = subst (λ (g : Grid). AreNamedCosts g (costs_of grid kind)) (sym p.2) p.1;
-        is = bytes ∙ (λ i. codes "TILECRT1" ++ (sym p.2 i).rows ∷ (sym p.2 i).cols ∷ sym p.0 i ∷ 0 ∷ []);
+      sides = subst (λ (g : Grid). IsShape g) (sym p.2) sides;
+      named = subst (λ (g : Grid). AreNamedCosts g (costs_of grid kind)) (sym p.2) p.1;
+      is = bytes ∙ (λ i. codes "TILECRT1" ++ (sym p.2 i).rows ∷ (sym p.2 i).cols ∷ sym p.0 i ∷ 0 ∷ []);
     } in
     subst (λ (rule : CostRule). OpeningText rule text) (sym is) made
 

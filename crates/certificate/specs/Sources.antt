@@ -5,7 +5,8 @@ use Rattle.byte_streams.specs.Sink.{AppendsBeginning}
 use Rattle.certificate.specs.declared.faults.ReadFault.{ReadFault}
 use Rattle.certificate.specs.declared.faults.ReadFault.TheVariants.{OtherMagic, Truncated, OutOfRange, NotRising, BytesAfterEnd, Failed, NoMemory}
 use Rattle.certificate.specs.Certificates.{Statement}
-use Rattle.certificate.specs.Readings.{Reader}
+use Rattle.certificate.specs.Spellings.{Spells}
+use Rattle.certificate.specs.Readings.{Reader, IsFirstFault}
 
 -- the fault is one of the bytes, and neither a failure of the source nor a want of memory
 abbrev pub IsOfBytes : ReadFault → Type 0
@@ -46,6 +47,20 @@ pub record EndsEarly (old new : Option (List ℕ)) (n : ℕ) (fault : ReadFault)
 -- nothing was left, and nothing is
 abbrev pub EndsThere : Option (List ℕ) → Option (List ℕ) → Type 0
 EndsThere old new = IsAtEnd old × Keeps old new
+
+-- what an answer says of the input: the certificate that it spells, or its first fault; a failure of the source and a want of memory say nothing of it
+abbrev pub Tells : Result Statement ReadFault → List ℕ → Type 0
+Tells (Ok c) input = Spells c input
+Tells (Err fault) input = IsOfBytes fault → IsFirstFault input fault
+
+-- this is answered, but for a failure of the source or a want of memory
+abbrev pub AnswersOrLacks : Result Statement ReadFault → Result Statement ReadFault → Type 0
+AnswersOrLacks result answer = (result ≡ answer) ⊎ (result ≡ Err Failed) ⊎ (result ≡ Err NoMemory)
+
+-- an input that spells a certificate is answered by it, and one with a first fault by that
+pub record Decides (result : Result Statement ReadFault) (input : List ℕ) : Type 0 where
+  pub spelled : (c : Statement) → Spells c input → AnswersOrLacks result (Ok c)
+  pub faulty : (fault : ReadFault) → IsFirstFault input fault → AnswersOrLacks result (Err fault)
 
 -- all of the text was written, or a beginning of it
 abbrev pub Writes : {E : Type 0} → Option (List ℕ) → Option (List ℕ) → List ℕ → Result (Unit {0}) E → Type 0

@@ -93,6 +93,14 @@ impl Certificate {
         self.parts.rows.as_slice()
     }
 
+    // The certificate of fields that have a spelling.
+    pub(crate) fn from_parts(parts: Parts) -> Self
+        requires { IsCertificate (statement_of parts) }
+        ensures { result ≡ statement_of parts }
+    {
+        Certificate { parts }
+    }
+
     /// The fields.
     pub fn into_parts(self) -> Parts
         ensures { statement_of result ≡ self }

@@ -1,4 +1,4 @@
-ghost use Rattle.std.specs.Prelude.{◌≡◌, ◌<◌, ◌≤◌, ◌⊎◌, ◌∷◌, [], ℕ, Some, None, true, false, IfOk, IfErr, OnOk, IfSome, length, codes};
+ghost use Rattle.std.specs.Prelude.{◌≡◌, ◌<◌, ◌≤◌, ◌⊎◌, ◌^◌, ◌∷◌, [], ℕ, Some, None, true, false, IfOk, IfErr, OnOk, IfSome, length, codes};
 ghost use Rattle.std.specs.Io.KnownBytes.{Consumes};
 ghost use Rattle.std.specs.Int.{w32, w64, from_le_bytes};
 ghost use Rattle.board.specs.Positions.{Position};
@@ -103,6 +103,7 @@ fn count_from(text: [u8; 8]) -> u64
 // The number of rows, whatever it is.
 pub(crate) fn read_count<S: Source>(source: &mut S) -> Result<u64, ReadFault>
     ensures taken { IfOk result (λ n. Consumes (S.left source.old) (S.left source.new) (count_text n)) }
+    ensures within { IfOk result (λ n. n < 2 ^ 64) }
     ensures refused { IfErr result (Refuses count (S.left source.old) (S.left source.new)) }
     ensures fails { S.has_failed source.new ≡ tells_failure result }
 {

@@ -4,7 +4,9 @@
 pub mod certificate;
 pub mod faults;
 mod fields;
-pub mod read;
+pub mod laws;
+mod reading;
 
 pub use certificate::{Certificate, Parts};
 pub use faults::{ReadFault, WriteFault};
+pub use reading::read;

@@ -1,7 +1,7 @@
 use Rattle.std.proofs.Common.{◌≡◌, false, length, map}
 use Rattle.std.specs.Io.KnownBytes.{Consumes}
 use Rattle.certificate.specs.Spellings.{letter_of}
-use Rattle.certificate.proofs.read.read_letters.Given as goal
+use Rattle.certificate.proofs.reading.read_letters.Given as goal
 
 abbrev pub invariant-letters : goal.invariant-letters
 invariant-letters g l = record {

@@ -4,7 +4,7 @@ use Rattle.std.specs.Io.KnownBytes.{Consumes}
 use Rattle.certificate.specs.Certificates.{IsRow, RiseAfter}
 use Rattle.certificate.specs.Spellings.{row_text}
 use Rattle.certificate.proofs.SourceLemmas.{last_of}
-use Rattle.certificate.proofs.read.read_rows.Given as goal
+use Rattle.certificate.proofs.reading.read_rows.Given as goal
 
 abbrev pub invariant-rows : goal.invariant-rows
 invariant-rows g l = record {

@@ -1,15 +1,17 @@
-ghost use Rattle.std.specs.Prelude.{◌≡◌, ◌≤◌, ◌<◌, ◌⊎◌, ◌↔◌, ◌^◌, ℕ, List, [], Option, Some, None, Ok, Err, true, false, IfOk, IfErr, OnOk, IfSome, length, map};
+ghost use Rattle.std.specs.Prelude.{◌≡◌, ◌≤◌, ◌<◌, ◌⊎◌, ◌↔◌, ◌^◌, ◌++◌, ℕ, List, [], Option, Some, None, Ok, Err, true, false, IfOk, IfErr, OnOk, IfSome, length, map};
 ghost use Rattle.std.specs.List.{flat_map, AllByRecursion};
 ghost use Rattle.std.specs.Io.KnownBytes.{Consumes};
 ghost use Rattle.certificate.specs.Certificates.{Statement, statement_of, AreNamedCosts, IsWithinLimit, IsRow, RiseAfter, IsCertificate};
 ghost use Rattle.certificate.specs.Spellings.{letter_of, opening_text, plan_text, count_text, row_text, front_text, spelling, Spells};
-ghost use Rattle.certificate.specs.Readings.{costs_of, opening, letters, plan, rows, all_rows, front, IsFirstFault};
-ghost use Rattle.certificate.specs.Sources.{Refuses, tells_failure};
-ghost use Rattle.certificate.specs.declared.faults.ReadFault.{ReadFault};
+ghost use Rattle.certificate.specs.Readings.{costs_of, opening, letters, plan, rows, all_rows, front, certificate};
+ghost use Rattle.certificate.specs.Sources.{Refuses, Tells, Decides, tells_failure};
+ghost use Rattle.certificate.specs.declared.faults.ReadFault.TheVariants as ReadFault;
 
 use crate::certificate::{Certificate, Parts};
 use crate::faults::ReadFault;
-use crate::fields::{read_board, read_byte, read_count, read_end, read_letter, read_magic, read_number, read_row};
+use crate::fields::{
+    read_board, read_byte, read_count, read_end, read_letter, read_magic, read_number, read_row,
+};
 use board::{Board, Move, Shape, Weights};
 use byte_streams::Source;
 use std::alloc::Global;
@@ -105,6 +107,24 @@ fn read_rows<S: Source>(
     Ok(read)
 }
 
+// The number of rows, and the rows.
+fn read_all_rows<S: Source>(
+    alloc: Global,
+    source: &mut S,
+    shape: Shape,
+) -> Result<Vec<(Board, u32)>, ReadFault>
+    ensures taken { IfOk result (λ read. Consumes (S.left source.old) (S.left source.new)
+        (count_text (length read.items) ++ flat_map row_text read.items)) }
+    ensures count { IfOk result (λ read. length read.items < 2 ^ 64) }
+    ensures rows { IfOk result (λ read. AllByRecursion (IsRow shape) read.items) }
+    ensures rising { IfOk result (λ read. RiseAfter None read.items) }
+    ensures refused { IfErr result (Refuses (all_rows shape) (S.left source.old) (S.left source.new)) }
+    ensures fails { S.has_failed source.new ≡ tells_failure result }
+{
+    let count = read_count(source)?;
+    read_rows(alloc, source, shape, count)
+}
+
 // The fields before the rows, with no rows.
 fn read_front<S: Source>(alloc: Global, source: &mut S) -> Result<Parts, ReadFault>
     ensures taken { IfOk result
@@ -129,4 +149,32 @@ fn read_front<S: Source>(alloc: Global, source: &mut S) -> Result<Parts, ReadFau
         plan,
         rows: Vec::new(alloc),
     })
+}
+
+// A whole certificate.
+fn read_all<S: Source>(alloc: Global, source: &mut S) -> Result<Certificate, ReadFault>
+    ensures taken { IfOk result
+        (λ c. Consumes (S.left source.old) (S.left source.new) (spelling c)) }
+    ensures whole { IfOk result (λ c. IfSome (S.left source.old) (Spells c)) }
+    ensures refused { IfErr result (Refuses certificate (S.left source.old) (S.left source.new)) }
+    ensures fails { S.has_failed source.new ≡ tells_failure result }
+{
+    let mut parts = read_front(alloc, source)?;
+    parts.rows = read_all_rows(alloc, source, parts.shape)?;
+    read_end(source)?;
+    Ok(Certificate::from_parts(parts))
+}
+
+/// Reads a certificate, from front to back and up to its first fault: F1 to F5, F6 where the source
+/// fails, F7 for want of memory. Memory is taken for the moves and rows that are there, and not by their
+/// stated numbers. After a fault the source has given some beginning of its bytes.
+pub fn read<S: Source>(alloc: Global, source: &mut S) -> Result<Certificate, ReadFault>
+    ensures tells { IfSome (S.left source.old) (Tells result) }
+    ensures decides { IfSome (S.left source.old) (Decides result) }
+    ensures failed { (result ≡ Err ReadFault.Failed) ↔ (S.has_failed source.new ≡ true) }
+    ensures taken { IfOk result
+        (λ c. Consumes (S.left source.old) (S.left source.new) (spelling c)) }
+    ensures given { (seen : List ℕ) × Consumes (S.left source.old) (S.left source.new) seen }
+{
+    read_all(alloc, source)
 }
