@@ -1,4 +1,5 @@
 pub mod FieldLemmas
+pub mod SinkLemmas
 pub mod LawLemmas
 pub mod EndLemmas
 pub mod SourceLemmas

@@ -1,9 +1,10 @@
 -- Readers of a source that follow one another: the first refuses, or a later one does.
-use Rattle.std.proofs.Common.{◌≡◌, ℕ, zero, suc, ◌+◌, ◌<◌, ◌≤◌, List, [], ◌∷◌, ◌++◌, length, map, Option, Some, None, Result, Ok, Err, refl, sym, ap, subst, ◌∙◌, append_assoc, append-nil, arith}
+use Rattle.std.proofs.Common.{◌≡◌, ℕ, zero, suc, ◌+◌, ◌<◌, ◌≤◌, List, [], ◌∷◌, ◌++◌, length, get_or, take, drop, map, Option, Some, None, Result, Ok, Err, refl, sym, ap, subst, ◌∙◌, append_assoc, append-nil, arith}
 use Rattle.std.specs.Prelude.{IfSome, IfErr, codes}
 use Rattle.std.specs.List.{flat_map, AllByRecursion}
 use Rattle.std.specs.Io.KnownBytes.{Consumes}
 use Rattle.std.proofs.KnownBytes.{Consumes-trans}
+use Rattle.std.proofs.lemmas.List.{drop_more, take-append-drop}
 use Rattle.std.proofs.lemmas.List.Concat.{flat_map-cons}
 use Rattle.board.specs.declared.moves.Move.{Move}
 use Rattle.board.specs.Grids.{Grid, IsShape}
@@ -125,3 +126,24 @@ opening_taken a b c d e z rows cols kind none costs t0 t1 t2 t3 t4 r s k g is =
     let parts : OpeningParts costs text = (tt, codes "TILECRT1", rows ∷ cols ∷ kind ∷ none ∷ [], refl, (rows, rows ∷ [], cols ∷ kind ∷ none ∷ [], r, (cols, cols ∷ [], kind ∷ none ∷ [], s, (kind, kind ∷ [], none ∷ [], k, (none, none ∷ [], [], g, (is, refl), refl), refl), refl), refl), refl) in
     subst (λ (l : List ℕ). Consumes a z l) (opening_there costs text parts).is
     (Consumes-trans a b z (codes "TILECRT1") (rows ∷ cols ∷ kind ∷ none ∷ []) t0 (Consumes-trans b c z (rows ∷ []) (cols ∷ kind ∷ none ∷ []) t1 (Consumes-trans c d z (cols ∷ []) (kind ∷ none ∷ []) t2 (Consumes-trans d e z (kind ∷ []) (none ∷ []) t3 t4))))
+
+-- ---- a row among others
+
+rows_split : (rows : List (Position × ℕ)) (i : ℕ) (d : Position × ℕ) → i < length rows → rows ≡ take i rows ++ get_or rows i d ∷ drop (i + 1) rows
+rows_split rows i d within = sym (take-append-drop i rows) ∙ ap (λ (l : List (Position × ℕ)). take i rows ++ l) (drop_more rows i d within)
+
+all_middle : (grid : Grid) (xs : List (Position × ℕ)) (r : Position × ℕ) (ys : List (Position × ℕ)) → AllByRecursion (IsRow grid) (xs ++ r ∷ ys) → IsRow grid r
+all_middle grid [] r ys all = all.0
+all_middle grid (x ∷ xs) r ys all = all_middle grid xs r ys all.1
+
+rise_middle : (before : Option Position) (xs : List (Position × ℕ)) (r : Position × ℕ) (ys : List (Position × ℕ)) → RiseAfter before (xs ++ r ∷ ys) → Follows (last_of before xs) r.0
+rise_middle before [] r ys rise = rise.0
+rise_middle before (x ∷ xs) r ys rise = rise_middle (Some x.0) xs r ys rise.1
+
+-- each row of rows that rise is one, and comes after those before it
+pub row_there : (grid : Grid) (rows : List (Position × ℕ)) (i : ℕ) (r : Position × ℕ) → i < length rows → r ≡ get_or rows i r → AllByRecursion (IsRow grid) rows × RiseAfter None rows → IsRow grid r × Follows (last_of None (take i rows)) r.0
+row_there grid rows i r within is p =
+    let split : rows ≡ take i rows ++ r ∷ drop (i + 1) rows = rows_split rows i r within ∙ ap (λ (x : Position × ℕ). take i rows ++ x ∷ drop (i + 1) rows) (sym is) in (
+      all_middle grid (take i rows) r (drop (i + 1) rows) (subst (λ (l : List (Position × ℕ)). AllByRecursion (IsRow grid) l) split p.0),
+      rise_middle None (take i rows) r (drop (i + 1) rows) (subst (λ (l : List (Position × ℕ)). RiseAfter None l) split p.1),
+    )

@@ -1,5 +1,8 @@
-ghost use Rattle.std.specs.Prelude.{◌≡◌, ◌↔◌, IsSome, IfSome, IsTrue};
-ghost use Rattle.certificate.specs.Certificates.{Statement, statement_of, IsCertificate};
+ghost use Rattle.std.specs.Prelude.{◌≡◌, ◌↔◌, length, None, IsSome, IfSome, IsTrue};
+ghost use Rattle.std.specs.List.{AllByRecursion};
+ghost use Rattle.board.specs.Keys.{Precedes};
+ghost use Rattle.certificate.specs.Certificates.{Statement, statement_of, AreNamedCosts, IsBoardOf, IsWithinLimit, IsRow, RiseAfter, IsCertificate};
+ghost use Rattle.certificate.specs.Readings.{may_follow};
 
 use board::{Board, Move, Shape, Weights};
 use std::marker::Model;
@@ -43,6 +46,20 @@ impl Model for Certificate {
 }
 
 impl Certificate {
+    /// The certificate with these fields, or None where they have no spelling: shapes that differ,
+    /// costs that are neither unit nor face costs, a cost or a plan's length above 1,048,575, or rows
+    /// of which one does not come after the row before it.
+    pub fn new(parts: Parts) -> Option<Self>
+        ensures accepted { IsSome result ↔ IsCertificate (statement_of parts) }
+        ensures value { IfSome result (λ c. c ≡ statement_of parts) }
+    {
+        if has_spelling(&parts) {
+            Some(Certificate { parts })
+        } else {
+            None
+        }
+    }
+
     /// The shape of all boards.
     pub fn shape(&self) -> Shape
         ensures value { result ≡ self.now.grid }
@@ -81,7 +98,8 @@ impl Certificate {
 
     /// The moves from the start to the goal.
     pub fn plan(&self) -> &[Move]
-        ensures { result.now ≡ self.now.plan }
+        ensures value { result.now ≡ self.now.plan }
+        ensures within { IsWithinLimit (length self.now.plan) }
     {
         self.parts.plan.as_slice()
     }
@@ -106,5 +124,79 @@ impl Certificate {
         ensures { statement_of result ≡ self }
     {
         self.parts
+    }
+}
+
+// Whether fields have a spelling.
+fn has_spelling(parts: &Parts) -> bool
+    ensures { IsTrue result ↔ IsCertificate (statement_of parts.now) }
+{
+    let shape = parts.shape;
+    if !are_named(shape, &parts.costs) {
+        return false;
+    }
+    if !is_board_of(shape, &parts.start) || !is_board_of(shape, &parts.goal) {
+        return false;
+    }
+    if parts.cost > LIMIT || parts.plan.len() > LIMIT as usize {
+        return false;
+    }
+    are_rows(shape, parts.rows.as_slice())
+}
+
+// Whether these are the unit or the face costs of the shape.
+fn are_named(shape: Shape, costs: &Weights) -> bool
+    ensures { IsTrue result ↔ AreNamedCosts shape costs.now }
+{
+    *costs == Weights::unit(shape) || *costs == Weights::face(shape)
+}
+
+// Whether a board is of the shape.
+fn is_board_of(shape: Shape, board: &Board) -> bool
+    ensures { IsTrue result ↔ IsBoardOf shape board.now }
+{
+    board.shape() == shape
+}
+
+// Whether these are rows of the shape that rise by their lists of tiles.
+fn are_rows(shape: Shape, rows: &[(Board, u32)]) -> bool
+    ensures { IsTrue result ↔ (AllByRecursion (IsRow shape) rows.now × RiseAfter None rows.now) }
+{
+    let mut before = None;
+    'rows: for row in rows {
+        if !is_next_row(shape, before, row) {
+            return false;
+        }
+        before = Some(row.0);
+    }
+    true
+}
+
+// Whether this is a row of the shape that comes after the one with this board, if there is one.
+fn is_next_row(shape: Shape, before: Option<Board>, row: &(Board, u32)) -> bool
+    requires { IfSome before (IsBoardOf shape) }
+    ensures { IsTrue result
+        ↔ (IsRow shape row.now × IfSome before (λ b. Precedes b.tiles row.now.0.tiles)) }
+{
+    if !is_row(shape, row) {
+        return false;
+    }
+    comes_after(before, &row.0)
+}
+
+// Whether this is a row of the shape.
+fn is_row(shape: Shape, row: &(Board, u32)) -> bool
+    ensures { IsTrue result ↔ IsRow shape row.now }
+{
+    is_board_of(shape, &row.0) && row.1 <= LIMIT
+}
+
+// Whether the tiles of a board come after those of the one before it, if there is one.
+pub(crate) fn comes_after(before: Option<Board>, board: &Board) -> bool
+    ensures { result ≡ may_follow before board.now }
+{
+    match before {
+        None => true,
+        Some(before) => before.key() < board.key(),
     }
 }

@@ -5,10 +5,10 @@ ghost use Rattle.board.specs.Positions.{Position};
 ghost use Rattle.board.specs.Keys.{Precedes};
 ghost use Rattle.certificate.specs.Certificates.{IsBoardOf, IsWithinLimit, IsRow};
 ghost use Rattle.certificate.specs.Spellings.{letter_of, number_text, count_text, row_text};
-ghost use Rattle.certificate.specs.Readings.{magic, byte_within, number, count, board, letter, letter_in, may_follow, row, end};
+ghost use Rattle.certificate.specs.Readings.{magic, byte_within, number, count, board, letter, letter_in, row, end};
 ghost use Rattle.certificate.specs.Sources.{EndsEarly, Refuses, EndsThere, tells_failure};
 
-use crate::certificate::LIMIT;
+use crate::certificate::{LIMIT, comes_after};
 use crate::faults::ReadFault;
 use board::{Board, Move, Shape};
 use byte_streams::Source;
@@ -174,16 +174,6 @@ pub(crate) fn read_row<S: Source>(
         return Err(ReadFault::NotRising);
     }
     Ok((board, cost))
-}
-
-// Whether the tiles of a board come after those of the one before it, if there is one.
-fn comes_after(before: Option<Board>, board: &Board) -> bool
-    ensures { result ≡ may_follow before board.now }
-{
-    match before {
-        None => true,
-        Some(before) => before.key() < board.key(),
-    }
 }
 
 // Nothing is left.

@@ -6,7 +6,9 @@ pub mod faults;
 mod fields;
 pub mod laws;
 mod reading;
+mod writing;
 
 pub use certificate::{Certificate, Parts};
 pub use faults::{ReadFault, WriteFault};
 pub use reading::read;
+pub use writing::write;
