@@ -1,20 +1,19 @@
 -- Certificates are read where they are spelled, and what stands before the first fault begins a spelling.
-use Rattle.std.proofs.Common.{◌≡◌, ◌⊎◌, inl, inr, ⊎_elim, ℕ, zero, suc, ◌+◌, ◌<◌, ◌≤◌, ◌^◌, List, [], ◌∷◌, ◌++◌, length, Option, Some, None, Result, Ok, Err, refl, sym, ap, subst, ◌∙◌, append-nil, append_assoc, arith}
-use Rattle.std.specs.Prelude.{IfSome}
+use Rattle.std.proofs.Common.{◌≡◌, ◌⊎◌, inl, inr, ⊎_elim, ℕ, ◌<◌, ◌^◌, List, [], ◌∷◌, ◌++◌, length, None, Ok, Err, refl, sym, ap, subst, ◌∙◌, append-nil, append_assoc, arith}
 use Rattle.std.specs.List.{flat_map, AllByRecursion}
 use Rattle.board.specs.declared.moves.Move.{Move}
 use Rattle.board.specs.Grids.{Grid, IsShape}
-use Rattle.board.specs.Positions.{Position, IsBoard}
+use Rattle.board.specs.Positions.{Position}
 use Rattle.board.specs.CostRules.{CostRule}
 use Rattle.certificate.specs.declared.faults.ReadFault.{ReadFault}
 use Rattle.certificate.specs.declared.faults.ReadFault.TheVariants.{OutOfRange, BytesAfterEnd}
-use Rattle.certificate.specs.Certificates.{Statement, AreNamedCosts, IsBoardOf, IsWithinLimit, IsRow, RiseAfter, IsCertificate}
+use Rattle.certificate.specs.Certificates.{Statement, AreNamedCosts, IsBoardOf, IsRow, RiseAfter, IsCertificate}
 use Rattle.certificate.specs.Spellings.{opening_text, number_text, count_text, plan_text, row_text, front_text, announcing, spelling, Spells}
-use Rattle.certificate.specs.Readings.{Reader, ◌>>=◌, continued, give, number, count, count_in, board, opening, plan, rows, all_rows, end, front, certificate, IsFaultAt, IsFirstFault}
+use Rattle.certificate.specs.Readings.{◌>>=◌, continued, give, number, count, count_in, board, opening, plan, rows, all_rows, end, front, certificate, IsFaultAt}
 use Rattle.certificate.specs.Laws.{AreBytes, Begins}
 use Rattle.certificate.proofs.ReaderLemmas.{Law, Opens, Law-iff, Opens-iff, Both, Law-seq, Opens-seq, Known, Law-give, Opens-give, fine, faulty, both_ok, one_fails, field_from, AreBytes-rest}
 use Rattle.certificate.proofs.TextLemmas.{OpeningText, opening_law, opening_opens, BoardText, board_law, board_opens, NumberText, number_law, number_opens, PlanText, plan_law, plan_opens, CountText, count_law}
-use Rattle.certificate.proofs.RowLemmas.{RowsText, rows_law, RowsBefore, rows_before}
+use Rattle.certificate.proofs.RowLemmas.{RowsText, rows_law, rows_before}
 
 -- ---- all before the rows
 

@@ -1,5 +1,5 @@
 -- The end of a certificate.
-use Rattle.std.proofs.Common.{◌≡◌, ℕ, List, [], ◌∷◌, ◌++◌, Option, Some, Err, refl, ap, ◌∙◌}
+use Rattle.std.proofs.Common.{ℕ, List, [], ◌∷◌, Option, ap}
 use Rattle.std.specs.Io.KnownBytes.{Consumes}
 use Rattle.certificate.specs.declared.faults.ReadFault.TheVariants.{BytesAfterEnd}
 use Rattle.certificate.specs.Readings.{end}

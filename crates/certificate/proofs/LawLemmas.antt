@@ -1,5 +1,5 @@
 -- What follows of spellings and first faults.
-use Rattle.std.proofs.Common.{◌≡◌, ◌⊎◌, inl, inr, ℕ, List, [], ◌∷◌, ◌++◌, Option, None, Some, Result, Ok, Err, refl, sym, ap, subst, ◌∙◌, append-nil}
+use Rattle.std.proofs.Common.{◌≡◌, ◌⊎◌, inl, inr, ℕ, List, [], ◌∷◌, ◌++◌, Option, None, Some, Result, Ok, Err, refl, sym, ap, ◌∙◌, append-nil}
 use Rattle.std.specs.Prelude.{IfSome, IfOk, IfErr}
 use Rattle.std.specs.Io.KnownBytes.{Consumes}
 use Rattle.certificate.specs.declared.faults.ReadFault.{ReadFault}
@@ -7,7 +7,7 @@ use Rattle.certificate.specs.declared.faults.ReadFault.TheVariants.{OtherMagic, 
 use Rattle.certificate.specs.Certificates.{Statement}
 use Rattle.certificate.specs.Spellings.{Spells, spelling}
 use Rattle.certificate.specs.Readings.{certificate, give, end, continued, IsFirstFault}
-use Rattle.certificate.specs.Sources.{IsOfBytes, Refuses, Tells, AnswersOrLacks, Decides}
+use Rattle.certificate.specs.Sources.{IsOfBytes, Refuses, Tells, AnswersOrLacks, IsAnswerTo}
 use Rattle.certificate.specs.Laws.{AreBytes}
 use Rattle.certificate.proofs.ReaderLemmas.{fine, faulty}
 use Rattle.certificate.proofs.CertificateLemmas.{read_again, read_takes}
@@ -69,7 +69,7 @@ of_bytes_or_lacks BytesAfterEnd answer h = inl (h tt)
 of_bytes_or_lacks Failed answer h = inr (inl refl)
 of_bytes_or_lacks NoMemory answer h = inr (inr refl)
 
-decided : (result : Result Statement ReadFault) (input : List ℕ) → Tells result input → Decides result input
+decided : (result : Result Statement ReadFault) (input : List ℕ) → Tells result input → IsAnswerTo result input
 decided (Ok d) input tells = record {
   spelled = λ c s. inl (ap (λ (z : Statement). Ok z) (one_certificate c d input s tells));
   faulty = λ fault f. absurd (not_both input d fault tells f);
@@ -79,7 +79,7 @@ decided (Err g) input tells = record {
   faulty = λ fault f. of_bytes_or_lacks g (Err fault) (λ of. ap (λ (z : ReadFault). Err z) (one_first_fault input fault g f (tells of)));
 }
 
-pub all_decided : (result : Result Statement ReadFault) (old : Option (List ℕ)) → IfSome old (Tells result) → IfSome old (Decides result)
+pub all_decided : (result : Result Statement ReadFault) (old : Option (List ℕ)) → IfSome old (Tells result) → IfSome old (IsAnswerTo result)
 all_decided result None tells = tt
 all_decided result (Some input) tells = decided result input tells
 

@@ -1,25 +1,24 @@
 -- The text of rows, with the laws of its reader.
-use Rattle.std.proofs.Common.{◌≡◌, ◌⊎◌, inl, inr, ⊎_elim, ℕ, zero, suc, ◌+◌, ◌<◌, ◌≤◌, ◌^◌, Bool, true, false, cond, ltb, List, [], ◌∷◌, ◌++◌, length, Option, Some, None, Result, Ok, Err, refl, sym, ap, subst, ◌∙◌, append-nil, append_assoc, arith}
+use Rattle.std.proofs.Common.{◌≡◌, ⊎_elim, ℕ, zero, suc, ◌<◌, Bool, true, false, cond, List, [], ◌∷◌, ◌++◌, length, Option, Some, None, Err, refl, sym, ap, subst, ◌∙◌, append-nil, append_assoc, arith}
 use Rattle.std.specs.Prelude.{IfSome, ◌↔◌}
 use Rattle.std.specs.List.{flat_map, AllByRecursion}
-use Rattle.std.proofs.lemmas.Bool.{true≢false}
 use Rattle.std.proofs.lemmas.Bool.Decides.{Decides-ltb}
 use Rattle.std.proofs.lemmas.List.Concat.{flat_map-cons}
 use Rattle.std.proofs.lemmas.List.Elements.{recursion_from_All}
 use Rattle.board.specs.Grids.{Grid, IsShape, cell_count}
-use Rattle.board.specs.Positions.{Position, IsBoard}
+use Rattle.board.specs.Positions.{Position}
 use Rattle.board.specs.Keys.{key_of, Precedes}
 use Rattle.board.proofs.KeyLemmas.{packed_in_order, tiles_small}
 use Rattle.certificate.specs.declared.faults.ReadFault.{ReadFault}
 use Rattle.certificate.specs.declared.faults.ReadFault.TheVariants.{NotRising}
-use Rattle.certificate.specs.Certificates.{IsBoardOf, IsWithinLimit, IsRow, RiseAfter}
-use Rattle.certificate.specs.Spellings.{number_text, count_text, row_text}
-use Rattle.certificate.specs.Readings.{Reader, ◌>>=◌, continued, give, as_one, number, count, board, may_follow, rising, row, rows, all_rows}
+use Rattle.certificate.specs.Certificates.{IsBoardOf, IsRow, RiseAfter}
+use Rattle.certificate.specs.Spellings.{number_text, row_text}
+use Rattle.certificate.specs.Readings.{◌>>=◌, give, number, board, may_follow, rising, row, rows}
 use Rattle.std.proofs.KnownBytes.{Consumes-nil}
 use Rattle.certificate.specs.Sources.{Refuses}
 use Rattle.certificate.specs.Laws.{AreBytes}
-use Rattle.certificate.proofs.ReaderLemmas.{Law, Law-iff, Both, Law-seq, Known, Law-give, Law-as_one, as_one_from, fine, faulty, both_ok, one_fails, AreBytes-rest}
-use Rattle.certificate.proofs.TextLemmas.{NumberText, number_law, CountText, count_law, BoardText, board_law}
+use Rattle.certificate.proofs.ReaderLemmas.{Law, Law-iff, Both, Law-seq, Known, Law-give, Law-as_one, as_one_from, fine, faulty, one_fails, AreBytes-rest}
+use Rattle.certificate.proofs.TextLemmas.{NumberText, number_law, BoardText, board_law}
 
 -- the tiles of the board come after those of the one before it, if there is one
 abbrev pub Follows : Option Position → Position → Type 0

@@ -1,21 +1,21 @@
 -- Readers of a source that follow one another: the first refuses, or a later one does.
-use Rattle.std.proofs.Common.{◌≡◌, ℕ, zero, suc, ◌+◌, ◌<◌, ◌≤◌, List, [], ◌∷◌, ◌++◌, length, get_or, take, drop, map, Option, Some, None, Result, Ok, Err, refl, sym, ap, subst, ◌∙◌, append_assoc, append-nil, arith}
-use Rattle.std.specs.Prelude.{IfSome, IfErr, codes}
+use Rattle.std.proofs.Common.{◌≡◌, ℕ, zero, suc, ◌+◌, ◌<◌, List, [], ◌∷◌, ◌++◌, length, get_or, take, drop, map, Option, Some, None, Result, Ok, Err, refl, sym, ap, subst, ◌∙◌, append_assoc, append-nil, arith}
+use Rattle.std.specs.Prelude.{IfErr, codes}
 use Rattle.std.specs.List.{flat_map, AllByRecursion}
 use Rattle.std.specs.Io.KnownBytes.{Consumes}
 use Rattle.std.proofs.KnownBytes.{Consumes-trans}
 use Rattle.std.proofs.lemmas.List.{drop_more, take-append-drop}
 use Rattle.std.proofs.lemmas.List.Concat.{flat_map-cons}
 use Rattle.board.specs.declared.moves.Move.{Move}
-use Rattle.board.specs.Grids.{Grid, IsShape}
+use Rattle.board.specs.Grids.{Grid}
 use Rattle.board.specs.Positions.{Position}
 use Rattle.board.specs.CostRules.{CostRule}
 use Rattle.certificate.specs.declared.faults.ReadFault.{ReadFault}
 use Rattle.certificate.specs.declared.faults.ReadFault.TheVariants.{NoMemory}
-use Rattle.certificate.specs.Certificates.{IsRow, IsBoardOf, RiseAfter}
+use Rattle.certificate.specs.Certificates.{IsRow, RiseAfter}
 use Rattle.certificate.specs.Spellings.{letter_of, opening_text, row_text}
 use Rattle.certificate.specs.Readings.{Reader, ◌>>=◌, continued, give, as_one, blamed, letter, letters, row, rows, grid_of, costs_of}
-use Rattle.certificate.specs.Sources.{Refuses, IsOfBytes}
+use Rattle.certificate.specs.Sources.{Refuses}
 use Rattle.certificate.proofs.FieldLemmas.{known}
 use Rattle.certificate.proofs.ReaderLemmas.{Law}
 use Rattle.certificate.proofs.TextLemmas.{letter_law, ByteText, OpeningParts, opening_there}

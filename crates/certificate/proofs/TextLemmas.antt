@@ -1,34 +1,28 @@
 -- The text of each field and of each part of a certificate, with the laws of its reader.
-use Rattle.std.proofs.Common.{◌≡◌, ◌⊎◌, inl, inr, ⊎_elim, ℕ, zero, suc, ◌+◌, ◌*◌, ◌-◌, ◌<◌, ◌≤◌, ◌^◌, Bool, true, false, cond, eqb, leb, ltb, List, [], ◌∷◌, ◌++◌, length, get_or, map, replicate, Option, Some, None, Result, Ok, Err, refl, sym, ap, subst, ◌∙◌, append-nil, arith}
-use Rattle.std.specs.Prelude.{codes, IfSome, slice_index, ◌&&◌, ◌↔◌}
-use Rattle.std.specs.List.{flat_map, AllByRecursion}
+use Rattle.std.proofs.Common.{◌≡◌, inl, inr, ℕ, zero, suc, ◌+◌, ◌*◌, ◌-◌, ◌<◌, ◌≤◌, ◌^◌, Bool, true, false, cond, leb, List, [], ◌∷◌, ◌++◌, length, get_or, map, Some, None, refl, sym, ap, subst, ◌∙◌, append-nil, arith}
+use Rattle.std.specs.Prelude.{codes, slice_index, ◌&&◌}
 use Rattle.std.specs.Int.{w32, w64, from_le_bytes}
 use Rattle.std.specs.Str.{bytes_eq}
-use Rattle.std.proofs.lemmas.Bool.{leb-true, le-leb, lt-ltb, true≢false}
-use Rattle.std.proofs.lemmas.Bool.Decides.{Decides-ltb}
+use Rattle.std.proofs.lemmas.Bool.{leb-true, le-leb}
 use Rattle.std.proofs.lemmas.List.{get_or-replicate}
-use Rattle.std.proofs.lemmas.List.Concat.{flat_map-cons}
 use Rattle.std.proofs.lemmas.List.FromFn.{get_or-range_with_len}
-use Rattle.std.proofs.lemmas.List.Elements.{recursion_from_All}
 use Rattle.std.proofs.lemmas.Nat.{from_le_bytes-to_le_bytes_4, from_le_bytes-to_le_bytes_8, mul-le}
 use Rattle.std.proofs.lemmas.Slice.Eq.{bytes_eq-Decides}
 use Rattle.board.specs.declared.moves.Move.{Move}
 use Rattle.board.specs.declared.moves.Move.TheVariants.{U, L, R, D}
-use Rattle.board.specs.Equality.{rule_eq, rules_Decide}
+use Rattle.board.specs.Equality.{rules_Decide}
 use Rattle.board.specs.Grids.{Grid, IsShape, cell_count}
-use Rattle.board.specs.Positions.{Position, IsBoard, goal_of}
+use Rattle.board.specs.Positions.{Position, goal_of}
 use Rattle.board.specs.CostRules.{CostRule, unit_rule, face_rule}
-use Rattle.board.specs.Keys.{key_of, Precedes}
 use Rattle.board.proofs.GoalLemmas.{goal_board}
-use Rattle.board.proofs.KeyLemmas.{packed_in_order, tiles_small}
 use Rattle.certificate.specs.declared.faults.ReadFault.TheVariants.{OtherMagic, OutOfRange}
-use Rattle.certificate.specs.Certificates.{AreNamedCosts, IsBoardOf, IsWithinLimit, IsRow}
-use Rattle.certificate.specs.Spellings.{kind_of, opening_text, letter_of, number_text, count_text, plan_text, row_text}
-use Rattle.certificate.specs.Readings.{Reader, ◌>>=◌, give, field, magic, magic_in, byte_within, byte_in, number, number_in, count, count_in, board, board_in, letter, letter_in, grid_of, costs_of, opening, letters, plan, may_follow, rising, row, rows, all_rows}
+use Rattle.certificate.specs.Certificates.{AreNamedCosts, IsBoardOf, IsWithinLimit}
+use Rattle.certificate.specs.Spellings.{kind_of, opening_text, letter_of, number_text, count_text, plan_text}
+use Rattle.certificate.specs.Readings.{give, magic, magic_in, byte_within, byte_in, number, number_in, count, count_in, board, board_in, letter, letter_in, grid_of, costs_of, opening, letters, plan, rows}
 use Rattle.certificate.specs.Laws.{AreBytes}
 use Rattle.certificate.proofs.FieldLemmas.{number_back, count_back, letter_found}
 use Rattle.certificate.proofs.BoardLemmas.{not_true, board_back, board_found}
-use Rattle.certificate.proofs.ReaderLemmas.{Law, Opens, Law-iff, Opens-iff, Both, Law-seq, Opens-seq, Known, Law-give, Opens-give, Law-field, Opens-field, Law-as_one}
+use Rattle.certificate.proofs.ReaderLemmas.{Law, Opens, Law-iff, Opens-iff, Both, Law-seq, Opens-seq, Known, Law-give, Opens-give, Law-field, Opens-field}
 
 some_number : (m n : ℕ) → Some m ≡ Some n → m ≡ n
 some_number m n e = cc

@@ -58,7 +58,7 @@ abbrev pub AnswersOrLacks : Result Statement ReadFault → Result Statement Read
 AnswersOrLacks result answer = (result ≡ answer) ⊎ (result ≡ Err Failed) ⊎ (result ≡ Err NoMemory)
 
 -- an input that spells a certificate is answered by it, and one with a first fault by that
-pub record Decides (result : Result Statement ReadFault) (input : List ℕ) : Type 0 where
+pub record IsAnswerTo (result : Result Statement ReadFault) (input : List ℕ) : Type 0 where
   pub spelled : (c : Statement) → Spells c input → AnswersOrLacks result (Ok c)
   pub faulty : (fault : ReadFault) → IsFirstFault input fault → AnswersOrLacks result (Err fault)
 

@@ -123,7 +123,8 @@ impl Certificate {
     pub fn into_parts(self) -> Parts
         ensures { statement_of result ≡ self }
     {
-        self.parts
+        let Certificate { parts } = self;
+        parts
     }
 }
 

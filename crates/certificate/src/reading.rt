@@ -4,7 +4,7 @@ ghost use Rattle.std.specs.Io.KnownBytes.{Consumes};
 ghost use Rattle.certificate.specs.Certificates.{Statement, statement_of, AreNamedCosts, IsWithinLimit, IsRow, RiseAfter, IsCertificate};
 ghost use Rattle.certificate.specs.Spellings.{letter_of, opening_text, plan_text, count_text, row_text, front_text, spelling, Spells};
 ghost use Rattle.certificate.specs.Readings.{costs_of, opening, letters, plan, rows, all_rows, front, certificate};
-ghost use Rattle.certificate.specs.Sources.{Refuses, Tells, Decides, tells_failure};
+ghost use Rattle.certificate.specs.Sources.{Refuses, Tells, IsAnswerTo, tells_failure};
 ghost use Rattle.certificate.specs.declared.faults.ReadFault.TheVariants as ReadFault;
 
 use crate::certificate::{Certificate, Parts};
@@ -170,7 +170,7 @@ fn read_all<S: Source>(alloc: Global, source: &mut S) -> Result<Certificate, Rea
 /// stated numbers. After a fault the source has given some beginning of its bytes.
 pub fn read<S: Source>(alloc: Global, source: &mut S) -> Result<Certificate, ReadFault>
     ensures tells { IfSome (S.left source.old) (Tells result) }
-    ensures decides { IfSome (S.left source.old) (Decides result) }
+    ensures answer { IfSome (S.left source.old) (IsAnswerTo result) }
     ensures failed { (result ≡ Err ReadFault.Failed) ↔ (S.has_failed source.new ≡ true) }
     ensures taken { IfOk result
         (λ c. Consumes (S.left source.old) (S.left source.new) (spelling c)) }

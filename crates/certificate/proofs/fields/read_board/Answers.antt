@@ -1,4 +1,4 @@
-use Rattle.std.proofs.Common.{rules, arith, subst, ◌∙◌, refl}
+use Rattle.std.proofs.Common.{subst, ◌∙◌}
 use Rattle.std.specs.Prelude.{ℕ}
 use Rattle.certificate.specs.Sources.{Refuses, EndsEarly}
 use Rattle.certificate.specs.Readings.{board, board_in}

@@ -1,4 +1,4 @@
-use Rattle.std.proofs.Common.{refl, [], ◌∷◌, sym, ◌∙◌, ap, subst}
+use Rattle.std.proofs.Common.{refl, [], ◌∷◌, sym, ◌∙◌, subst}
 use Rattle.std.specs.Prelude.{ℕ}
 use Rattle.std.specs.Io.KnownBytes.{Consumes}
 use Rattle.certificate.specs.Sources.{Refuses}

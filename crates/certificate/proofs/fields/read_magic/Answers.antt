@@ -1,4 +1,4 @@
-use Rattle.std.proofs.Common.{rules, refl, sym, ◌∙◌}
+use Rattle.std.proofs.Common.{rules, sym, ◌∙◌}
 use Rattle.certificate.specs.Sources.{Refuses}
 use Rattle.certificate.specs.Readings.{magic, magic_in}
 use Rattle.certificate.specs.declared.faults.ReadFault.TheVariants.{OtherMagic}

@@ -1,4 +1,4 @@
-use Rattle.std.proofs.Common.{◌≡◌, ◌+◌, ◌∙◌, ◌++◌, List, ℕ, take, drop, get_or, sym, ap}
+use Rattle.std.proofs.Common.{◌+◌, ◌∙◌, ◌++◌, ℕ, take, drop, sym, ap}
 use Rattle.std.specs.List.{flat_map}
 use Rattle.board.specs.Positions.{Position}
 use Rattle.certificate.specs.Spellings.{row_text}

@@ -5,7 +5,7 @@ use Rattle.board.specs.CostRules.{CostRule}
 use Rattle.board.specs.Positions.{Position}
 use Rattle.board.specs.declared.moves.Move.{Move}
 use Rattle.certificate.specs.Certificates.{IsWithinLimit}
-use Rattle.certificate.specs.Spellings.{opening_text, number_text, plan_text, front_text}
+use Rattle.certificate.specs.Spellings.{opening_text, number_text, plan_text}
 use Rattle.certificate.specs.Sources.{Writes}
 use Rattle.certificate.proofs.SinkLemmas.{writes_stop, writes_then}
 use Rattle.certificate.proofs.writing.write_front.Goals as goal
