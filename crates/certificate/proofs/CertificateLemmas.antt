@@ -1,0 +1,278 @@
+-- Certificates are read where they are spelled, and what stands before the first fault begins a spelling.
+use Rattle.std.proofs.Common.{◌≡◌, ◌⊎◌, inl, inr, ⊎_elim, ℕ, ◌<◌, ◌^◌, List, [], ◌∷◌, ◌++◌, length, None, Ok, Err, refl, sym, ap, subst, ◌∙◌, append-nil, append_assoc, arith}
+use Rattle.std.specs.List.{flat_map, AllByRecursion}
+use Rattle.board.specs.declared.moves.Move.{Move}
+use Rattle.board.specs.Grids.{Grid, IsShape}
+use Rattle.board.specs.Positions.{Position}
+use Rattle.board.specs.CostRules.{CostRule}
+use Rattle.certificate.specs.declared.faults.ReadFault.{ReadFault}
+use Rattle.certificate.specs.declared.faults.ReadFault.TheVariants.{OutOfRange, BytesAfterEnd}
+use Rattle.certificate.specs.Certificates.{Statement, AreNamedCosts, IsBoardOf, IsRow, RiseAfter, IsCertificate}
+use Rattle.certificate.specs.Spellings.{opening_text, number_text, count_text, plan_text, row_text, front_text, announcing, spelling, Spells}
+use Rattle.certificate.specs.Readings.{◌>>=◌, continued, give, number, count, count_in, board, opening, plan, rows, all_rows, end, front, certificate, IsFaultAt}
+use Rattle.certificate.specs.Laws.{AreBytes, Begins}
+use Rattle.certificate.proofs.ReaderLemmas.{Law, Opens, Law-iff, Opens-iff, Both, Law-seq, Opens-seq, Known, Law-give, Opens-give, fine, faulty, both_ok, one_fails, field_from, AreBytes-rest}
+use Rattle.certificate.proofs.TextLemmas.{OpeningText, opening_law, opening_opens, BoardText, board_law, board_opens, NumberText, number_law, number_opens, PlanText, plan_law, plan_opens, CountText, count_law}
+use Rattle.certificate.proofs.RowLemmas.{RowsText, rows_law, rows_before}
+
+-- ---- all before the rows
+
+abbrev pub bare_of : CostRule → Position → Position → ℕ → List Move → Statement
+bare_of costs start goal cost moves = record { grid = costs.grid; costs = costs; start = start; goal = goal; cost = cost; plan = moves; rows = [] }
+
+named_grid : (grid : Grid) (costs : CostRule) → AreNamedCosts grid costs → costs.grid ≡ grid
+named_grid grid costs (inl unit) = ap (λ (rule : CostRule). rule.grid) unit
+named_grid grid costs (inr face) = ap (λ (rule : CostRule). rule.grid) face
+
+pub record FrontText (c : Statement) (text : List ℕ) : Type 0 where
+  pub fits : IsCertificate c
+  pub bare : c.rows ≡ []
+  pub is : text ≡ front_text c
+
+abbrev FrontParts : Statement → List ℕ → Type 0
+FrontParts = Both OpeningText (λ costs. Both (BoardText costs.grid) (λ start. Both (BoardText costs.grid) (λ goal. Both NumberText (λ cost. Both PlanText (λ moves. Known (bare_of costs start goal cost moves))))))
+
+front_there : (c : Statement) (text : List ℕ) → FrontParts c text → FrontText c text
+front_there c text (costs, s0, t0, o, (start, s1, t1, b, (goal, s2, t2, g, (cost, s3, t3, n, (moves, s4, t4, p, (known, nil), e4), e3), e2), e1), e0) =
+    let made : FrontText (bare_of costs start goal cost moves) text = record {
+      fits = record { sides = o.sides; costs = o.named; start = b.board; goal = g.board; cost = n.within; plan = p.within; count = omega arith; rows = tt; rising = tt };
+      bare = refl;
+      is = e0 ∙ (λ i. o.is i ++ e1 i) ∙ (λ i. opening_text costs ++ (b.is i ++ e2 i)) ∙ (λ i. opening_text costs ++ (start.tiles ++ (g.is i ++ e3 i))) ∙ (λ i. opening_text costs ++ (start.tiles ++ (goal.tiles ++ (n.is i ++ e4 i))))
+          ∙ (λ i. opening_text costs ++ (start.tiles ++ (goal.tiles ++ (number_text cost ++ (p.is i ++ nil i))))) ∙ ap (λ (l : List ℕ). opening_text costs ++ (start.tiles ++ (goal.tiles ++ (number_text cost ++ l)))) (append-nil (plan_text moves));
+    } in
+    subst (λ (d : Statement). FrontText d text) (sym known) made
+
+front_back : (c : Statement) (text : List ℕ) → FrontText c text → FrontParts c text
+front_back c text t =
+    let same : c.costs.grid ≡ c.grid = named_grid c.grid c.costs t.fits.costs in
+    let costs = c.costs in
+    let o : OpeningText costs (opening_text costs) = record {
+      sides = subst (λ (g : Grid). IsShape g) (sym same) t.fits.sides;
+      named = subst (λ (g : Grid). AreNamedCosts g c.costs) (sym same) t.fits.costs;
+      is = refl;
+    } in
+    let b : BoardText costs.grid c.start c.start.tiles = record { board = subst (λ (g : Grid). IsBoardOf g c.start) (sym same) t.fits.start; is = refl } in
+    let g : BoardText costs.grid c.goal c.goal.tiles = record { board = subst (λ (g : Grid). IsBoardOf g c.goal) (sym same) t.fits.goal; is = refl } in
+    let n : NumberText c.cost (number_text c.cost) = record { within = t.fits.cost; is = refl } in
+    let p : PlanText c.plan (plan_text c.plan) = record { within = t.fits.plan; is = refl } in
+    let known : c ≡ bare_of costs c.start c.goal c.cost c.plan = λ i. record { grid = sym same i; costs = c.costs; start = c.start; goal = c.goal; cost = c.cost; plan = c.plan; rows = t.bare i } in (
+      costs,
+      opening_text costs,
+      c.start.tiles ++ (c.goal.tiles ++ (number_text c.cost ++ plan_text c.plan)),
+      o,
+      (
+        c.start,
+        c.start.tiles,
+        c.goal.tiles ++ (number_text c.cost ++ plan_text c.plan),
+        b,
+        (c.goal, c.goal.tiles, number_text c.cost ++ plan_text c.plan, g, (c.cost, number_text c.cost, plan_text c.plan, n, (c.plan, plan_text c.plan, [], p, (known, refl), sym (append-nil (plan_text c.plan))), refl), refl),
+        refl,
+      ),
+      t.is,
+    )
+
+pub front_law : Law front FrontText
+unfolding front
+front_law = Law-iff _ FrontParts FrontText front_there front_back
+    (Law-seq opening _ OpeningText _ opening_law (λ costs _ o.
+    Law-seq (board costs.grid) _ (BoardText costs.grid) _ (board_law costs.grid o.sides) (λ start _ _.
+    Law-seq (board costs.grid) _ (BoardText costs.grid) _ (board_law costs.grid o.sides) (λ goal _ _.
+    Law-seq number _ NumberText _ number_law (λ cost _ _.
+    Law-seq plan _ PlanText _ plan_law (λ moves _ _. Law-give (bare_of costs start goal cost moves)))))))
+
+front_opens : Opens front FrontText
+unfolding front
+front_opens = Opens-iff _ FrontParts FrontText front_there
+    (Opens-seq opening _ OpeningText _ opening_law opening_opens (λ costs _ o.
+    Opens-seq (board costs.grid) _ (BoardText costs.grid) _ (board_law costs.grid o.sides) (board_opens costs.grid o.sides) (λ start _ _.
+    Opens-seq (board costs.grid) _ (BoardText costs.grid) _ (board_law costs.grid o.sides) (board_opens costs.grid o.sides) (λ goal _ _.
+    Opens-seq number _ NumberText _ number_law number_opens (λ cost _ _.
+    Opens-seq plan _ PlanText _ plan_law plan_opens (λ moves _ _. Opens-give (bare_of costs start goal cost moves)))))))
+
+-- ---- the rows
+
+pub record ProofText (grid : Grid) (rs : List (Position × ℕ)) (text : List ℕ) : Type 0 where
+  pub count : length rs < 2 ^ 64
+  pub rows : AllByRecursion (IsRow grid) rs
+  pub rising : RiseAfter None rs
+  pub is : text ≡ count_text (length rs) ++ flat_map row_text rs
+
+proof_there : (grid : Grid) (rs : List (Position × ℕ)) (text : List ℕ) → Both CountText (λ n. RowsText grid None n) rs text → ProofText grid rs text
+proof_there grid rs text (n, s, t, c, r, e) = record {
+  count = subst (λ (m : ℕ). m < 2 ^ 64) (sym r.count) c.within;
+  rows = r.rows;
+  rising = r.rising;
+  is = e ∙ (λ i. c.is i ++ r.is i) ∙ ap (λ (m : ℕ). count_text m ++ flat_map row_text rs) (sym r.count);
+}
+
+proof_back : (grid : Grid) (rs : List (Position × ℕ)) (text : List ℕ) → ProofText grid rs text → Both CountText (λ n. RowsText grid None n) rs text
+proof_back grid rs text t = (length rs, count_text (length rs), flat_map row_text rs, record { within = t.count; is = refl }, record { count = refl; rows = t.rows; rising = t.rising; is = refl }, t.is)
+
+pub all_rows_law : (grid : Grid) → IsShape grid → Law (all_rows grid) (ProofText grid)
+unfolding all_rows
+all_rows_law grid sides = Law-iff _ (Both CountText (λ n. RowsText grid None n)) (ProofText grid) (proof_there grid) (proof_back grid) (Law-seq count _ CountText _ count_law (λ n _ _. rows_law grid None n sides tt))
+
+-- ---- the whole
+
+-- the statement without its rows
+abbrev pub bare : Statement → Statement
+bare c = record c { rows = [] }
+
+bare_fits : (c : Statement) → IsCertificate c → IsCertificate (bare c)
+bare_fits c fits = record {
+  sides = fits.sides;
+  costs = fits.costs;
+  start = fits.start;
+  goal = fits.goal;
+  cost = fits.cost;
+  plan = fits.plan;
+  count = omega arith;
+  rows = tt;
+  rising = tt;
+}
+
+pub with_rows : (d : Statement) (rs : List (Position × ℕ)) → IsCertificate d → length rs < 2 ^ 64 → AllByRecursion (IsRow d.grid) rs → RiseAfter None rs → IsCertificate (record d { rows = rs })
+with_rows d rs fits count all rising = record {
+  sides = fits.sides;
+  costs = fits.costs;
+  start = fits.start;
+  goal = fits.goal;
+  cost = fits.cost;
+  plan = fits.plan;
+  count = count;
+  rows = all;
+  rising = rising;
+}
+
+abbrev rows_text : Statement → List ℕ
+rows_text c = count_text (length c.rows) ++ flat_map row_text c.rows
+
+-- after the spelling only the end is left to be judged
+pub read_again : (c : Statement) (rest : List ℕ) → IsCertificate c → certificate (spelling c ++ rest) ≡ continued (λ (u : Unit {0}). give c) (end rest)
+unfolding certificate ◌>>=◌
+read_again c rest fits =
+    let first : front (front_text c ++ (rows_text c ++ rest)) ≡ Ok (bare c, rows_text c ++ rest) = front_law.again (bare c) (front_text c) (rows_text c ++ rest) (record { fits = bare_fits c fits; bare = refl; is = refl }) in
+    let second : all_rows c.grid (rows_text c ++ rest) ≡ Ok (c.rows, rest) = (all_rows_law c.grid fits.sides).again c.rows (rows_text c) rest (record { count = fits.count; rows = fits.rows; rising = fits.rising; is = refl }) in
+    ap (λ (l : List ℕ). certificate l) (append_assoc (front_text c) (rows_text c) rest)
+    ∙ ap (continued (λ (d : Statement). all_rows d.grid >>= λ rs. end >>= λ u. give (record d { rows = rs }))) first
+    ∙ ap (continued (λ (rs : List (Position × ℕ)). end >>= λ u. give (record (bare c) { rows = rs }))) second
+
+end_takes : (bytes : List ℕ) (u : Unit {0}) (rest : List ℕ) → end bytes ≡ fine u rest → (bytes ≡ []) × (rest ≡ [])
+unfolding end
+end_takes [] u rest e =
+    let p : Unit {0} × List ℕ = (tt, []) in
+    let q : Unit {0} × List ℕ = (u, rest) in
+    let same : p ≡ q = cc in
+    (refl, ap (λ (z : Unit {0} × List ℕ). z.1) (sym same))
+end_takes (b ∷ bytes) u rest e = absurd cc
+
+end_from : (bytes : List ℕ) (fault : ReadFault) (from : List ℕ) → end bytes ≡ faulty (Unit {0}) fault from → bytes ≡ from
+unfolding end
+end_from [] fault from e = absurd cc
+end_from (b ∷ bytes) fault from e =
+    let p : ReadFault × List ℕ = (BytesAfterEnd, b ∷ bytes) in
+    let q : ReadFault × List ℕ = (fault, from) in
+    let same : p ≡ q = cc in
+    ap (λ (z : ReadFault × List ℕ). z.1) same
+
+pub read_takes : (bytes : List ℕ) → AreBytes bytes → (c : Statement) (rest : List ℕ) → certificate bytes ≡ fine c rest → Spells c bytes × (rest ≡ [])
+unfolding certificate ◌>>=◌ give
+read_takes bytes all c rest e =
+    let r = both_ok (front bytes) (λ (d : Statement). all_rows d.grid >>= λ rs. end >>= λ u. give (record d { rows = rs })) (c, rest) e in
+    let d = r.0.0 in
+    let p = front_law.takes bytes all d r.0.1 r.1 in
+    let left : AreBytes r.0.1 = AreBytes-rest p.0 r.0.1 (subst (λ (l : List ℕ). AreBytes l) p.2 all) in
+    let s = both_ok (all_rows d.grid r.0.1) (λ (rs : List (Position × ℕ)). end >>= λ u. give (record d { rows = rs })) (c, rest) r.2 in
+    let q = (all_rows_law d.grid p.1.fits.sides).takes r.0.1 left s.0.0 s.0.1 s.1 in
+    let t = both_ok (end s.0.1) (λ (u : Unit {0}). give (record d { rows = s.0.0 })) (c, rest) s.2 in
+    let done = end_takes s.0.1 t.0.0 t.0.1 t.1 in
+    let made : Statement = record d { rows = s.0.0 } in
+    let x : Statement × List ℕ = (made, t.0.1) in
+    let y : Statement × List ℕ = (c, rest) in
+    let same : x ≡ y = same_pair made c t.0.1 rest t.2 in
+    let fits : IsCertificate made = with_rows d s.0.0 p.1.fits q.1.count q.1.rows q.1.rising in
+    let whole : bytes ≡ spelling made = p.2 ∙ (λ i. p.1.is i ++ q.2 i) ∙ (λ i. front_text d ++ (q.1.is i ++ done.0 i)) ∙ ap (λ (l : List ℕ). front_text d ++ l) (append-nil (rows_text made)) in
+    (subst (λ (z : Statement). Spells z bytes) (ap (λ (z : Statement × List ℕ). z.0) same) (fits, whole), ap (λ (z : Statement × List ℕ). z.1) (sym same) ∙ done.1)
+  where
+    pair : Statement → List ℕ → Statement × List ℕ
+    pair a s = (a, s)
+
+    same_pair : (a b : Statement) (s t : List ℕ) → fine a s ≡ fine b t → pair a s ≡ pair b t
+    same_pair a b s t e = cc
+
+-- ---- what stands before a fault
+
+-- the beginning of a spelling, or a spelling of which more rows are announced than stand there
+pub record Precedent (bytes from : List ℕ) : Type 0 where
+  pub before : List ℕ
+  pub c : Statement
+  pub parts : bytes ≡ before ++ from
+  pub fits : IsCertificate c
+  pub begins : Begins (spelling c) before ⊎ ((count : ℕ) × (length c.rows < count) × (count < 2 ^ 64) × (before ≡ announcing count c))
+
+-- within all before the rows
+before_front : (bytes : List ℕ) → AreBytes bytes → (fault : ReadFault) (from : List ℕ) → front bytes ≡ Err (fault, from) → Precedent bytes from
+before_front bytes all fault from e =
+    let p = front_opens.before bytes all fault from e in
+    let d = p.2 in
+    record {
+      before = p.0;
+      c = d;
+      parts = p.3;
+      fits = p.4.fits;
+      begins = inl (p.1 ++ rows_text d, ap (λ (l : List ℕ). l ++ rows_text d) (sym p.4.is) ∙ append_assoc p.0 p.1 (rows_text d));
+    }
+
+-- within the rows
+before_rows : (d : Statement) → IsCertificate d → d.rows ≡ [] → (bytes : List ℕ) → AreBytes bytes → (fault : ReadFault) (from : List ℕ) → all_rows d.grid bytes ≡ Err (fault, from) → Precedent (front_text d ++ bytes) from
+unfolding all_rows ◌>>=◌
+before_rows d fits none bytes all fault from e =
+    ⊎_elim
+    (λ failed.
+    let here : bytes ≡ from = field_from OutOfRange 8 count_in bytes fault from failed in
+    record { before = front_text d; c = d; parts = ap (λ (l : List ℕ). front_text d ++ l) here; fits = fits; begins = inl (rows_text d, refl) })
+    (λ r.
+    let p = count_law.takes bytes all r.0.0 r.0.1 r.1 in
+    let left : AreBytes r.0.1 = AreBytes-rest p.0 r.0.1 (subst (λ (l : List ℕ). AreBytes l) p.2 all) in
+    let q = rows_before d.grid None r.0.0 fits.sides tt r.0.1 left fault from r.2 in
+    let made : Statement = record d { rows = q.done } in
+    let text : bytes ≡ (count_text r.0.0 ++ flat_map row_text q.done) ++ from = p.2 ∙ (λ i. p.1.is i ++ q.is i) ∙ sym (append_assoc (count_text r.0.0) (flat_map row_text q.done) from) in
+    record {
+      before = announcing r.0.0 made;
+      c = made;
+      parts = ap (λ (l : List ℕ). front_text d ++ l) text ∙ sym (append_assoc (front_text d) (count_text r.0.0 ++ flat_map row_text q.done) from);
+      fits = with_rows d q.done fits (omega (arith, q.fewer, p.1.within)) q.rows q.rising;
+      begins = inr (r.0.0, q.fewer, p.1.within, refl);
+    })
+    (one_fails (count bytes) (λ n. rows d.grid None n) (fault, from) e)
+
+pub before_fault : (bytes : List ℕ) → AreBytes bytes → (fault : ReadFault) (from : List ℕ) → IsFaultAt bytes fault from → Precedent bytes from
+unfolding certificate ◌>>=◌ give
+before_fault bytes all fault from e =
+    ⊎_elim (λ failed. before_front bytes all fault from failed)
+    (λ r.
+    let d = r.0.0 in
+    let p = front_law.takes bytes all d r.0.1 r.1 in
+    let left : AreBytes r.0.1 = AreBytes-rest p.0 r.0.1 (subst (λ (l : List ℕ). AreBytes l) p.2 all) in
+    let begun : bytes ≡ front_text d ++ r.0.1 = p.2 ∙ ap (λ (l : List ℕ). l ++ r.0.1) p.1.is in
+    ⊎_elim (λ failed. subst (λ (l : List ℕ). Precedent l from) (sym begun) (before_rows d p.1.fits p.1.bare r.0.1 left fault from failed))
+    (λ s.
+    let q = (all_rows_law d.grid p.1.fits.sides).takes r.0.1 left s.0.0 s.0.1 s.1 in
+    let made : Statement = record d { rows = s.0.0 } in
+    ⊎_elim
+    (λ failed.
+    let here : s.0.1 ≡ from = end_from s.0.1 fault from failed in
+    record {
+      before = spelling made;
+      c = made;
+      parts = begun ∙ ap (λ (l : List ℕ). front_text d ++ l) q.2 ∙ (λ i. front_text d ++ (q.1.is i ++ here i)) ∙ sym (append_assoc (front_text d) (rows_text made) from);
+      fits = with_rows d s.0.0 p.1.fits q.1.count q.1.rows q.1.rising;
+      begins = inl ([], sym (append-nil (spelling made)));
+    })
+    (λ t. absurd (never made t.0.1 t.2))
+    (one_fails (end s.0.1) (λ (u : Unit {0}). give made) (fault, from) s.2))
+    (one_fails (all_rows d.grid r.0.1) (λ (rs : List (Position × ℕ)). end >>= λ u. give (record d { rows = rs })) (fault, from) r.2))
+    (one_fails (front bytes) (λ (d : Statement). all_rows d.grid >>= λ rs. end >>= λ u. give (record d { rows = rs })) (fault, from) e)
+  where
+    never : (c : Statement) (l : List ℕ) → fine c l ≡ faulty Statement fault from → ⊥
+    never c l e = absurd cc

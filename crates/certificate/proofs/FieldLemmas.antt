@@ -1,0 +1,127 @@
+-- A field of a source: what was taken of it, and what reading the bytes that were left gives.
+use Rattle.std.proofs.Common.{◌≡◌, ℕ, ◌+◌, ◌<◌, ◌≤◌, Bool, true, false, cond, eqb, ltb, leb, List, [], ◌∷◌, ◌++◌, length, get_or, Option, Some, None, Result, Ok, Err, refl, sym, ap, subst, ◌∙◌, arith}
+use Rattle.std.specs.Prelude.{IfErr, IfSome, IsErrAnd, not, codes}
+use Rattle.std.specs.Io.KnownBytes.{Consumes, IsAtEnd, Keeps}
+use Rattle.std.proofs.KnownBytes.{Consumes-trans, Consumes-nil, Consumes-kept}
+use Rattle.std.proofs.lemmas.Bool.{lt-ltb, le-ltb, lt-leb, eqb-true}
+use Rattle.std.proofs.Math.Bool.{and-false}
+use Rattle.std.proofs.lemmas.List.{take_at, length-append}
+use Rattle.certificate.specs.declared.faults.ReadFault.{ReadFault}
+use Rattle.certificate.specs.declared.faults.ReadFault.TheVariants.{Truncated, Failed}
+use Rattle.std.specs.Int.{w32, w64, from_le_bytes}
+use Rattle.std.proofs.lemmas.Nat.{le_bytes_4, le_bytes_8}
+use Rattle.board.specs.declared.moves.Move.{Move}
+use Rattle.board.specs.declared.moves.Move.TheVariants.{U, L, R, D}
+use Rattle.certificate.specs.Spellings.{letter_of, number_text, count_text}
+use Rattle.certificate.specs.Readings.{field, number_in, byte_in, letter_in, magic_in}
+use Rattle.std.specs.Str.{bytes_eq}
+use Rattle.certificate.specs.Sources.{Refuses, EndsEarly}
+
+-- the exit of a `?` passes the fault on
+pub passed : {T E : Type 0} (r : Result T E) (e : E) (P : E → Type 0) → IsErrAnd r (λ y. y ≡ e) → P e → IfErr r P
+passed (Ok x) e P is p = absurd is
+passed (Err y) e P is p = subst P (sym is) p
+
+-- bytes that are known are known after some were taken
+pub known : (old new : Option (List ℕ)) (text input : List ℕ) → old ≡ Some input → Consumes old new text → (rest : List ℕ) × (new ≡ Some rest) × (input ≡ text ++ rest)
+known old new text input is taken = rest_of new (subst (λ (o : Option (List ℕ)). Consumes o new text) is taken)
+  where
+    rest_of : (later : Option (List ℕ)) → Consumes (Some input) later text → (rest : List ℕ) × (later ≡ Some rest) × (input ≡ text ++ rest)
+    rest_of None c = absurd c
+    rest_of (Some rest) c = (rest, refl, c)
+
+-- where what was left is all that was taken, the bytes that are known are those
+whole_is : (old : Option (List ℕ)) (seen input : List ℕ) → old ≡ Some input → IfSome old (λ all. all ≡ seen) → input ≡ seen
+whole_is old seen input is all = subst (λ (o : Option (List ℕ)). IfSome o (λ all. all ≡ seen)) is all
+
+-- fewer bytes are left than the field has
+pub cut_short : {X : Type 0} (fault : ReadFault) (n : ℕ) (value : List ℕ → Option X) (old new : Option (List ℕ)) (f : ReadFault) → EndsEarly old new n f → Refuses (field fault n value) old new f
+unfolding field
+cut_short fault n value old new f early = record {
+  taken = (early.seen, early.taken);
+  first = λ of input is.
+      let end = early.end of in
+      let whole = whole_is old early.seen input is end.1 in
+      let few : ltb (length input) n ≡ true = lt-ltb _ _ (subst (λ (bytes : List ℕ). length bytes < n) (sym whole) end.2) in
+      (input, rw (few, end.0) refl);
+}
+
+-- the field is there, and its bytes have no value
+pub refused : {X : Type 0} (fault : ReadFault) (n : ℕ) (value : List ℕ → Option X) (old new : Option (List ℕ)) (text : List ℕ) → Consumes old new text → length text ≡ n → value text ≡ None → Refuses (field fault n value) old new fault
+unfolding field
+refused fault n value old new text taken len none = record {
+  taken = (text, taken);
+  first = λ of input is.
+      let k = known old new text input is taken in
+      let long : ltb (length (text ++ k.0)) n ≡ false = le-ltb _ _ (omega (arith, length-append text k.0)) in
+      (input, rw k.2 (rw (long, take_at text k.0 n len, none) refl));
+}
+
+-- where nothing is left after the text, the text was all that was left before it
+pub all_after : (a b : Option (List ℕ)) (text seen : List ℕ) → Consumes a b text → IfSome b (λ all. all ≡ seen) → IfSome a (λ all. all ≡ text ++ seen)
+all_after None b text seen taken all = tt
+all_after (Some xs) None text seen taken all = absurd taken
+all_after (Some xs) (Some ys) text seen taken all = taken ∙ ap (λ (l : List ℕ). text ++ l) all
+
+-- some bytes were there, and then too few
+pub ends_later : (a b c : Option (List ℕ)) (text : List ℕ) (n k : ℕ) (f : ReadFault) → length text + n ≤ k → Consumes a b text → EndsEarly b c n f → EndsEarly a c k f
+ends_later a b c text n k f few taken early = record {
+  seen = text ++ early.seen;
+  taken = Consumes-trans a b c text early.seen taken early.taken;
+  end = λ of. let end = early.end of in (end.0, all_after a b text early.seen taken end.1, omega (arith, length-append text early.seen, end.2));
+}
+
+-- nothing is left, where a byte is due
+pub ended : (old new : Option (List ℕ)) → IsAtEnd old → Keeps old new → EndsEarly old new 1 Truncated
+ended None new end kept = record { seen = []; taken = tt; end = λ of. (refl, tt, omega arith) }
+ended (Some xs) None end kept = absurd kept
+ended (Some xs) (Some ys) end kept = record { seen = []; taken = sym kept; end = λ of. (refl, end, omega arith) }
+
+-- the source failed
+pub failed : (old new : Option (List ℕ)) → Keeps old new → EndsEarly old new 1 Failed
+failed old new kept = record { seen = []; taken = Consumes-kept old old new [] (Consumes-nil old) kept; end = λ of. absurd of }
+
+-- the number that four bytes give has those bytes
+pub number_back : (text : List ℕ) (n : ℕ) → length text ≡ 4 → ((i : ℕ) → get_or text i 0 < 256) → n ≡ from_le_bytes w32 text → number_text n ≡ text
+unfolding number_text
+number_back text n len small is = le_bytes_4 text n len small is
+
+pub count_back : (text : List ℕ) (n : ℕ) → length text ≡ 8 → ((i : ℕ) → get_or text i 0 < 256) → n ≡ from_le_bytes w64 text → count_text n ≡ text
+unfolding count_text
+count_back text n len small is = le_bytes_8 text n len small is
+
+pub number_too_high : (text : List ℕ) (n : ℕ) → n ≡ from_le_bytes w32 text → 1048575 < n → number_in text ≡ None
+unfolding number_in
+number_too_high text n is high = let past : leb n 1048575 ≡ false = lt-leb _ _ high in rw (← is, past) refl
+
+pub below_range : (low high byte : ℕ) → byte < low → byte_in low high (byte ∷ []) ≡ None
+unfolding byte_in
+below_range low high byte below = let past : leb low byte ≡ false = lt-leb _ _ below in rw past refl
+
+pub above_range : (low high byte : ℕ) → high < byte → byte_in low high (byte ∷ []) ≡ None
+unfolding byte_in
+above_range low high byte above = let past : leb byte high ≡ false = lt-leb _ _ above in rw (past, and-false (leb low byte)) refl
+
+some_move : (m m' : Move) → Some m ≡ Some m' → m ≡ m'
+some_move m m' e = cc
+
+-- the letter of a move that was found
+pub letter_found : (byte : ℕ) (m : Move) → letter_in (byte ∷ []) ≡ Some m → byte ≡ letter_of m
+unfolding letter_in
+letter_found byte m found = by_letter (eqb byte 85) (eqb byte 76) (eqb byte 82) (eqb byte 68) refl refl refl refl found
+  where
+    by_letter : (u l r d : Bool) → eqb byte 85 ≡ u → eqb byte 76 ≡ l → eqb byte 82 ≡ r → eqb byte 68 ≡ d → cond u (Some U) (cond l (Some L) (cond r (Some R) (cond d (Some D) None))) ≡ Some m → byte ≡ letter_of m
+    by_letter true l r d u-is l-is r-is d-is e = eqb-true _ _ u-is ∙ ap letter_of (some_move U m e)
+    by_letter false true r d u-is l-is r-is d-is e = eqb-true _ _ l-is ∙ ap letter_of (some_move L m e)
+    by_letter false false true d u-is l-is r-is d-is e = eqb-true _ _ r-is ∙ ap letter_of (some_move R m e)
+    by_letter false false false true u-is l-is r-is d-is e = eqb-true _ _ d-is ∙ ap letter_of (some_move D m e)
+    by_letter false false false false u-is l-is r-is d-is e = absurd cc
+
+-- bytes that no certificate begins with
+pub other_magic : (text : List ℕ) → bytes_eq text (codes "TILECRT1") ≡ false → magic_in text ≡ None
+unfolding magic_in
+other_magic text differ = rw differ refl
+
+pub not_flipped : (b : Bool) → not b ≡ true → b ≡ false
+not_flipped true e = sym e
+not_flipped false e = refl

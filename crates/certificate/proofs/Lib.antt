@@ -1,0 +1,10 @@
+pub mod FieldLemmas
+pub mod SinkLemmas
+pub mod LawLemmas
+pub mod EndLemmas
+pub mod SourceLemmas
+pub mod CertificateLemmas
+pub mod RowLemmas
+pub mod TextLemmas
+pub mod ReaderLemmas
+pub mod BoardLemmas

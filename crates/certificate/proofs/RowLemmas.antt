@@ -1,0 +1,174 @@
+-- The text of rows, with the laws of its reader.
+use Rattle.std.proofs.Common.{◌≡◌, ⊎_elim, ℕ, zero, suc, ◌<◌, Bool, true, false, cond, List, [], ◌∷◌, ◌++◌, length, Option, Some, None, Err, refl, sym, ap, subst, ◌∙◌, append-nil, append_assoc, arith}
+use Rattle.std.specs.Prelude.{IfSome, ◌↔◌}
+use Rattle.std.specs.List.{flat_map, AllByRecursion}
+use Rattle.std.proofs.lemmas.Bool.Decides.{Decides-ltb}
+use Rattle.std.proofs.lemmas.List.Concat.{flat_map-cons}
+use Rattle.std.proofs.lemmas.List.Elements.{recursion_from_All}
+use Rattle.board.specs.Grids.{Grid, IsShape, cell_count}
+use Rattle.board.specs.Positions.{Position}
+use Rattle.board.specs.Keys.{key_of, Precedes}
+use Rattle.board.proofs.KeyLemmas.{packed_in_order, tiles_small}
+use Rattle.certificate.specs.declared.faults.ReadFault.{ReadFault}
+use Rattle.certificate.specs.declared.faults.ReadFault.TheVariants.{NotRising}
+use Rattle.certificate.specs.Certificates.{IsBoardOf, IsRow, RiseAfter}
+use Rattle.certificate.specs.Spellings.{number_text, row_text}
+use Rattle.certificate.specs.Readings.{◌>>=◌, give, number, board, may_follow, rising, row, rows}
+use Rattle.std.proofs.KnownBytes.{Consumes-nil}
+use Rattle.certificate.specs.Sources.{Refuses}
+use Rattle.certificate.specs.Laws.{AreBytes}
+use Rattle.certificate.proofs.ReaderLemmas.{Law, Law-iff, Both, Law-seq, Known, Law-give, Law-as_one, as_one_from, fine, faulty, one_fails, AreBytes-rest}
+use Rattle.certificate.proofs.TextLemmas.{NumberText, number_law, BoardText, board_law}
+
+-- the tiles of the board come after those of the one before it, if there is one
+abbrev pub Follows : Option Position → Position → Type 0
+Follows before b = IfSome before (λ a. Precedes a.tiles b.tiles)
+
+abbrev pub IsBefore : Grid → Option Position → Type 0
+IsBefore grid before = IfSome before (IsBoardOf grid)
+
+in_order : (grid : Grid) (a b : Position) → IsBoardOf grid a → IsBoardOf grid b → (key_of a < key_of b) ↔ Precedes a.tiles b.tiles
+in_order grid a b is is' =
+    packed_in_order a.tiles b.tiles (is.board.one_each ∙ ap cell_count (is.sides ∙ sym is'.sides) ∙ sym is'.board.one_each) (recursion_from_All (λ x. x < 32) a.tiles (tiles_small a is.board)) (recursion_from_All (λ x. x < 32) b.tiles (tiles_small b is'.board))
+
+pub follows_from_test : (grid : Grid) (before : Option Position) (b : Position) → IsBefore grid before → IsBoardOf grid b → may_follow before b ≡ true → Follows before b
+follows_from_test grid None b is is' e = tt
+follows_from_test grid (Some a) b is is' e = (in_order grid a b is is').0 ((Decides-ltb (key_of a) (key_of b)).0 e)
+
+pub test_from_follows : (grid : Grid) (before : Option Position) (b : Position) → IsBefore grid before → IsBoardOf grid b → Follows before b → may_follow before b ≡ true
+test_from_follows grid None b is is' f = refl
+test_from_follows grid (Some a) b is is' f = (Decides-ltb (key_of a) (key_of b)).1 ((in_order grid a b is is').1 f)
+
+pub sides_of : (grid : Grid) (b : Position) → IsBoardOf grid b → IsShape grid
+sides_of grid b is = subst (λ (g : Grid). IsShape g) is.sides is.board.sides
+
+-- ---- one row
+
+pub record RisingText (before : Option Position) (r r' : Position × ℕ) (text : List ℕ) : Type 0 where
+  pub passes : may_follow before r.0 ≡ true
+  pub same : r' ≡ r
+  pub nil : text ≡ []
+
+rising_law : (before : Option Position) (r : Position × ℕ) → Law (rising before r) (RisingText before r)
+unfolding rising
+rising_law before r = record {
+  again = λ r' text rest p. ap (λ (b : Bool). cond b (fine r (text ++ rest)) (faulty (Position × ℕ) NotRising (text ++ rest))) p.passes ∙ (λ i. fine (sym p.same i) (p.nil i ++ rest));
+  takes = λ bytes all r' rest e. by_test bytes r' rest (may_follow before r.0) refl e;
+}
+  where
+    by_test : (bytes : List ℕ) (r' : Position × ℕ) (rest : List ℕ) (b : Bool) → may_follow before r.0 ≡ b → cond b (fine r bytes) (faulty (Position × ℕ) NotRising bytes) ≡ fine r' rest → (text : List ℕ) × RisingText before r r' text × (bytes ≡ text ++ rest)
+    by_test bytes r' rest false is e = absurd cc
+    by_test bytes r' rest true is e =
+        let p : (Position × ℕ) × List ℕ = (r, bytes) in
+        let q : (Position × ℕ) × List ℕ = (r', rest) in
+        let same : p ≡ q = cc in
+        ([], record { passes = is; same = ap (λ (z : (Position × ℕ) × List ℕ). z.0) (sym same); nil = refl }, ap (λ (z : (Position × ℕ) × List ℕ). z.1) same)
+
+pub record RowText (grid : Grid) (before : Option Position) (r : Position × ℕ) (text : List ℕ) : Type 0 where
+  pub row : IsRow grid r
+  pub follows : Follows before r.0
+  pub is : text ≡ row_text r
+
+abbrev RowParts : Grid → Option Position → Position × ℕ → List ℕ → Type 0
+RowParts grid before = Both (BoardText grid) (λ b. Both NumberText (λ g. RisingText before (b, g)))
+
+row_there : (grid : Grid) (before : Option Position) → IsBefore grid before → (r : Position × ℕ) (text : List ℕ) → RowParts grid before r text → RowText grid before r text
+row_there grid before is r text (b, s0, t0, p, (g, s1, t1, n, up, e1), e0) =
+    let made : RowText grid before (b, g) text = record {
+      row = record { board = p.board; cost = n.within };
+      follows = follows_from_test grid before b is p.board up.passes;
+      is = e0 ∙ (λ i. p.is i ++ e1 i) ∙ (λ i. b.tiles ++ (n.is i ++ up.nil i)) ∙ ap (λ (l : List ℕ). b.tiles ++ l) (append-nil (number_text g));
+    } in
+    subst (λ (r : Position × ℕ). RowText grid before r text) (sym up.same) made
+
+row_back : (grid : Grid) (before : Option Position) → IsBefore grid before → (r : Position × ℕ) (text : List ℕ) → RowText grid before r text → RowParts grid before r text
+row_back grid before is r text t = (r.0, r.0.tiles, number_text r.1, record { board = t.row.board; is = refl }, (r.1, number_text r.1, [], record { within = t.row.cost; is = refl }, record { passes = test_from_follows grid before r.0 is t.row.board t.follows; same = refl; nil = refl }, sym (append-nil (number_text r.1))), t.is)
+
+pub row_law : (grid : Grid) (before : Option Position) → IsShape grid → IsBefore grid before → Law (row grid before) (RowText grid before)
+unfolding row
+row_law grid before sides is = Law-as_one _ (RowText grid before)
+    (Law-iff _ (RowParts grid before) (RowText grid before) (row_there grid before is) (row_back grid before is) (Law-seq (board grid) _ (BoardText grid) _ (board_law grid sides) (λ b _ _. Law-seq number _ NumberText _ number_law (λ g _ _. rising_law before (b, g)))))
+
+pub row_from : (grid : Grid) (before : Option Position) (bytes : List ℕ) (fault : ReadFault) (from : List ℕ) → row grid before bytes ≡ Err (fault, from) → bytes ≡ from
+unfolding row
+row_from grid before bytes fault from e = as_one_from _ bytes fault from e
+
+-- ---- several rows
+
+pub record RowsText (grid : Grid) (before : Option Position) (n : ℕ) (rs : List (Position × ℕ)) (text : List ℕ) : Type 0 where
+  pub count : length rs ≡ n
+  pub rows : AllByRecursion (IsRow grid) rs
+  pub rising : RiseAfter before rs
+  pub is : text ≡ flat_map row_text rs
+
+abbrev RowsParts : Grid → Option Position → ℕ → List (Position × ℕ) → List ℕ → Type 0
+RowsParts grid before zero = Known []
+RowsParts grid before (suc n) = Both (RowText grid before) (λ first. Both (RowsText grid (Some first.0) n) (λ others. Known (first ∷ others)))
+
+rows_there : (grid : Grid) (before : Option Position) (n : ℕ) (rs : List (Position × ℕ)) (text : List ℕ) → RowsParts grid before n rs text → RowsText grid before n rs text
+rows_there grid before zero rs text p =
+    let made : RowsText grid before 0 [] text = record { count = refl; rows = tt; rising = tt; is = p.1 } in
+    subst (λ (l : List (Position × ℕ)). RowsText grid before 0 l text) (sym p.0) made
+rows_there grid before (suc n) rs text (r, s0, t0, first, (others, s1, t1, rest, (known, nil), e1), e0) =
+    let made : RowsText grid before (suc n) (r ∷ others) text = record {
+      count = ap suc rest.count;
+      rows = (first.row, rest.rows);
+      rising = (first.follows, rest.rising);
+      is = e0 ∙ (λ i. first.is i ++ e1 i) ∙ (λ i. row_text r ++ (rest.is i ++ nil i)) ∙ ap (λ (l : List ℕ). row_text r ++ l) (append-nil (flat_map row_text others)) ∙ sym (flat_map-cons row_text r others);
+    } in
+    subst (λ (l : List (Position × ℕ)). RowsText grid before (suc n) l text) (sym known) made
+
+rows_back : (grid : Grid) (before : Option Position) (n : ℕ) (rs : List (Position × ℕ)) (text : List ℕ) → RowsText grid before n rs text → RowsParts grid before n rs text
+rows_back grid before zero [] text t = (refl, t.is)
+rows_back grid before zero (r ∷ rs) text t = absurd (omega (arith, t.count))
+rows_back grid before (suc n) [] text t = absurd (omega (arith, t.count))
+rows_back grid before (suc n) (r ∷ rs) text t =
+    (r, row_text r, flat_map row_text rs, record { row = t.rows.0; follows = t.rising.0; is = refl }, (rs, flat_map row_text rs, [], record { count = omega (arith, t.count); rows = t.rows.1; rising = t.rising.1; is = refl }, (refl, refl), sym (append-nil (flat_map row_text rs))), t.is ∙ flat_map-cons row_text r rs)
+
+pub rows_law : (grid : Grid) (before : Option Position) (n : ℕ) → IsShape grid → IsBefore grid before → Law (rows grid before n) (RowsText grid before n)
+unfolding rows
+rows_law grid before zero sides is = Law-iff (give []) (Known []) (RowsText grid before zero) (rows_there grid before zero) (rows_back grid before zero) (Law-give [])
+rows_law grid before (suc n) sides is = Law-iff _ (RowsParts grid before (suc n)) (RowsText grid before (suc n)) (rows_there grid before (suc n)) (rows_back grid before (suc n))
+    (Law-seq (row grid before) _ (RowText grid before) _ (row_law grid before sides is)
+    (λ first _ t. Law-seq (rows grid (Some first.0) n) _ (RowsText grid (Some first.0) n) _ (rows_law grid (Some first.0) n sides t.row.board) (λ others _ _. Law-give (first ∷ others))))
+
+-- before a faulty row stand fewer rows than are due
+pub record RowsBefore (grid : Grid) (before : Option Position) (n : ℕ) (bytes from : List ℕ) : Type 0 where
+  pub done : List (Position × ℕ)
+  pub fewer : length done < n
+  pub rows : AllByRecursion (IsRow grid) done
+  pub rising : RiseAfter before done
+  pub is : bytes ≡ flat_map row_text done ++ from
+
+pub rows_before : (grid : Grid) (before : Option Position) (n : ℕ) → IsShape grid → IsBefore grid before → (bytes : List ℕ) → AreBytes bytes → (fault : ReadFault) (from : List ℕ) → rows grid before n bytes ≡ Err (fault, from)
+    → RowsBefore grid before n bytes from
+unfolding rows ◌>>=◌ give
+rows_before grid before zero sides is bytes all fault from e = absurd cc
+rows_before grid before (suc n) sides is bytes all fault from e =
+    ⊎_elim (λ failed. record { done = []; fewer = omega arith; rows = tt; rising = tt; is = row_from grid before bytes fault from failed })
+    (λ r.
+    let p = (row_law grid before sides is).takes bytes all r.0.0 r.0.1 r.1 in
+    let left : AreBytes r.0.1 = AreBytes-rest p.0 r.0.1 (subst (λ (l : List ℕ). AreBytes l) p.2 all) in
+    ⊎_elim
+    (λ failed.
+    let q = rows_before grid (Some r.0.0.0) n sides p.1.row.board r.0.1 left fault from failed in
+    record {
+      done = r.0.0 ∷ q.done;
+      fewer = omega (arith, q.fewer);
+      rows = (p.1.row, q.rows);
+      rising = (p.1.follows, q.rising);
+      is = p.2 ∙ (λ i. p.1.is i ++ q.is i) ∙ sym (append_assoc (row_text r.0.0) (flat_map row_text q.done) from) ∙ ap (λ (l : List ℕ). l ++ from) (sym (flat_map-cons row_text r.0.0 q.done));
+    })
+    (λ q. absurd (never (r.0.0 ∷ q.0.0) q.0.1 q.2))
+    (one_fails (rows grid (Some r.0.0.0) n r.0.1) (λ others. give (r.0.0 ∷ others)) (fault, from) r.2))
+    (one_fails (row grid before bytes) (λ first. rows grid (Some first.0) n >>= λ others. give (first ∷ others)) (fault, from) e)
+  where
+    never : (x : List (Position × ℕ)) (l : List ℕ) → fine x l ≡ faulty (List (Position × ℕ)) fault from → ⊥
+    never x l e = absurd cc
+
+pub not_risen : (before : Option Position) (r : Position × ℕ) (old : Option (List ℕ)) → may_follow before r.0 ≡ false → Refuses (rising before r) old old NotRising
+unfolding rising
+not_risen before r old fails = record {
+  taken = ([], Consumes-nil old);
+  first = λ of input is. (input, ap (λ (b : Bool). cond b (fine r input) (faulty (Position × ℕ) NotRising input)) fails);
+}

@@ -1,0 +1,6 @@
+use Rattle.std.proofs.Common.{rules}
+use Rattle.certificate.proofs.FieldLemmas.{count_back}
+use Rattle.certificate.proofs.fields.count_from.Goals as goal
+
+pub returns-clause-text : goal.returns-clause-text
+returns-clause-text c = count_back c.args.text _ (search rules) (search rules) c.from_le_bytes.ensures

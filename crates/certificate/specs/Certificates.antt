@@ -1,0 +1,58 @@
+-- What a certificate states, and when it has a spelling.
+use Rattle.std.specs.Prelude.{ℕ, ◌≡◌, ◌⊎◌, ◌≤◌, ◌<◌, ◌^◌, List, [], ◌∷◌, length, Option, None, Some, IfSome, ⊤}
+use Rattle.std.specs.List.{AllByRecursion}
+use Rattle.board.specs.declared.moves.Move.{Move}
+use Rattle.board.specs.Grids.{Grid, IsShape}
+use Rattle.board.specs.Positions.{Position, IsBoard}
+use Rattle.board.specs.CostRules.{CostRule, unit_rule, face_rule}
+use Rattle.board.specs.Keys.{Precedes}
+use Rattle.certificate.specs.declared.certificate.Parts.{Parts}
+
+-- a plan leads from the start to the goal at this cost, and rows, which are boards with a cost, prove that none is cheaper
+pub record Statement : Type 0 where
+  pub grid : Grid
+  pub costs : CostRule
+  pub start : Position
+  pub goal : Position
+  pub cost : ℕ
+  pub plan : List Move
+  pub rows : List (Position × ℕ)
+
+-- what the fields state
+abbrev pub statement_of : Parts → Statement
+statement_of p = record { grid = p.shape; costs = p.costs; start = p.start; goal = p.goal; cost = p.cost; plan = p.plan.items; rows = p.rows.items }
+
+-- every move costs 1, or moving tile t costs t
+abbrev pub AreNamedCosts : Grid → CostRule → Type 0
+AreNamedCosts grid costs = (costs ≡ unit_rule grid) ⊎ (costs ≡ face_rule grid)
+
+-- a board of this grid
+pub record IsBoardOf (grid : Grid) (b : Position) : Type 0 where
+  pub board : IsBoard b
+  pub sides : b.grid ≡ grid
+
+-- the greatest cost, and the greatest length of a plan, that can be written
+abbrev pub IsWithinLimit : ℕ → Type 0
+IsWithinLimit n = n ≤ 1048575
+
+-- a row: a board of the grid, and a cost
+pub record IsRow (grid : Grid) (row : Position × ℕ) : Type 0 where
+  pub board : IsBoardOf grid row.0
+  pub cost : IsWithinLimit row.1
+
+-- the list of tiles of each row comes after that of the row before it, and that of the first after this board's, if there is one
+abbrev pub RiseAfter : Option Position → List (Position × ℕ) → Type 0
+RiseAfter before [] = ⊤
+RiseAfter before (row ∷ rows) = IfSome before (λ b. Precedes b.tiles row.0.tiles) × RiseAfter (Some row.0) rows
+
+-- all boards are of one shape, the numbers are in their ranges, and the rows rise by their lists of tiles
+pub record IsCertificate (c : Statement) : Type 0 where
+  pub sides : IsShape c.grid
+  pub costs : AreNamedCosts c.grid c.costs
+  pub start : IsBoardOf c.grid c.start
+  pub goal : IsBoardOf c.grid c.goal
+  pub cost : IsWithinLimit c.cost
+  pub plan : IsWithinLimit (length c.plan)
+  pub count : length c.rows < 2 ^ 64
+  pub rows : AllByRecursion (IsRow c.grid) c.rows
+  pub rising : RiseAfter None c.rows

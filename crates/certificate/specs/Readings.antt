@@ -1,0 +1,185 @@
+-- Reading from front to back: each field is judged as a whole before the next is read, and the first fault decides.
+use Rattle.std.specs.Prelude.{ℕ, ◌≡◌, ◌==◌, ◌&&◌, zero, suc, Bool, true, nat_lt, nat_le, not, List, [], ◌∷◌, length, take, drop, slice_index, Option, None, Some, Result, Ok, Err, if◌then◌else◌, codes}
+use Rattle.std.specs.List.{list_all}
+use Rattle.std.specs.Int.{w32, w64, from_le_bytes}
+use Rattle.std.specs.Str.{bytes_eq}
+use Rattle.board.specs.declared.moves.Move.{Move}
+use Rattle.board.specs.declared.moves.Move.TheVariants.{U, L, R, D}
+use Rattle.board.specs.Grids.{Grid, cell_count}
+use Rattle.board.specs.Positions.{Position}
+use Rattle.board.specs.CostRules.{CostRule, unit_rule, face_rule}
+use Rattle.board.specs.Keys.{key_of}
+use Rattle.certificate.specs.Certificates.{Statement}
+use Rattle.certificate.specs.declared.faults.ReadFault.{ReadFault}
+use Rattle.certificate.specs.declared.faults.ReadFault.TheVariants.{OtherMagic, Truncated, OutOfRange, NotRising, BytesAfterEnd}
+
+-- What is read from the front: a value and the bytes behind it, or a fault and the bytes from the faulty field on.
+abbrev pub Reader : Type 0 → Type 0
+Reader X = List ℕ → Result (X × List ℕ) (ReadFault × List ℕ)
+
+-- what is done with the outcome of a field: the next field is read behind it
+abbrev pub continued : {X Y : Type 0} → (X → Reader Y) → Result (X × List ℕ) (ReadFault × List ℕ) → Result (Y × List ℕ) (ReadFault × List ℕ)
+continued next (Ok found) = next found.0 found.1
+continued next (Err fault) = Err fault
+
+-- one after the other
+infixl 10 ◌>>=◌
+unfoldable pub ◌>>=◌ : {X Y : Type 0} → Reader X → (X → Reader Y) → Reader Y
+(first >>= next) bytes = continued next (first bytes)
+
+-- nothing is read, and the value is known
+unfoldable pub give : {X : Type 0} → X → Reader X
+give x bytes = Ok (x, bytes)
+
+-- the value of a field that was found, or a fault where it has none
+abbrev pub judged : {X : Type 0} → ReadFault → List ℕ → List ℕ → Option X → Result (X × List ℕ) (ReadFault × List ℕ)
+judged fault bytes rest None = Err (fault, bytes)
+judged fault bytes rest (Some x) = Ok (x, rest)
+
+-- a field of n bytes
+unfoldable pub field : {X : Type 0} → ReadFault → ℕ → (List ℕ → Option X) → Reader X
+field fault n value bytes = if nat_lt (length bytes) n then Err (Truncated, bytes) else judged fault bytes (drop n bytes) (value (take n bytes))
+
+-- a fault within counts from here
+abbrev pub blamed : {X : Type 0} → List ℕ → Result (X × List ℕ) (ReadFault × List ℕ) → Result (X × List ℕ) (ReadFault × List ℕ)
+blamed bytes (Ok found) = Ok found
+blamed bytes (Err fault) = Err (fault.0, bytes)
+
+unfoldable pub as_one : {X : Type 0} → Reader X → Reader X
+as_one reader bytes = blamed bytes (reader bytes)
+
+-- ---- the fields
+
+unfoldable pub magic_in : List ℕ → Option (Unit {0})
+magic_in text = if bytes_eq text (codes "TILECRT1") then Some tt else None
+
+abbrev pub magic : Reader (Unit {0})
+magic = field OtherMagic 8 magic_in
+
+-- one byte within a range
+unfoldable pub byte_in : ℕ → ℕ → List ℕ → Option ℕ
+byte_in low high text = if nat_le low (slice_index text 0) && nat_le (slice_index text 0) high then Some (slice_index text 0) else None
+
+abbrev pub byte_within : ℕ → ℕ → Reader ℕ
+byte_within low high = field OutOfRange 1 (byte_in low high)
+
+-- a cost, or the length of a plan
+unfoldable pub number_in : List ℕ → Option ℕ
+number_in text = if nat_le (from_le_bytes w32 text) 1048575 then Some (from_le_bytes w32 text) else None
+
+abbrev pub number : Reader ℕ
+number = field OutOfRange 4 number_in
+
+-- the number of rows, whatever it is
+unfoldable pub count_in : List ℕ → Option ℕ
+count_in text = Some (from_le_bytes w64 text)
+
+abbrev pub count : Reader ℕ
+count = field OutOfRange 8 count_in
+
+-- no two numbers are the same
+abbrev pub all_differ : List ℕ → Bool
+all_differ [] = true
+all_differ (x ∷ xs) = list_all (λ y. not (x == y)) xs && all_differ xs
+
+-- each number is below the count of cells, and no two are the same
+unfoldable pub board_in : Grid → List ℕ → Option Position
+board_in grid text = if list_all (λ tile. nat_lt tile (cell_count grid)) text && all_differ text then Some (record { grid = grid; tiles = text }) else None
+
+abbrev pub board : Grid → Reader Position
+board grid = field OutOfRange (cell_count grid) (board_in grid)
+
+unfoldable pub letter_in : List ℕ → Option Move
+letter_in text =
+    if slice_index text 0 == 85 then Some U else if slice_index text 0 == 76 then Some L else if slice_index text 0 == 82 then Some R else if slice_index text 0 == 68 then Some D else None
+
+abbrev pub letter : Reader Move
+letter = field OutOfRange 1 letter_in
+
+-- ---- the certificate
+
+abbrev pub grid_of : ℕ → ℕ → Grid
+grid_of rows cols = record { rows = rows; cols = cols }
+
+-- kind 0 is unit cost, kind 1 face cost
+abbrev pub costs_of : Grid → ℕ → CostRule
+costs_of grid zero = unit_rule grid
+costs_of grid (suc kind) = face_rule grid
+
+unfoldable pub opening : Reader CostRule
+opening = do
+  _ ← magic
+  rows ← byte_within 2 5
+  cols ← byte_within 2 5
+  kind ← byte_within 0 1
+  _ ← byte_within 0 0
+  give (costs_of (grid_of rows cols) kind)
+
+unfoldable pub letters : ℕ → Reader (List Move)
+letters zero = give []
+letters (suc n) = do
+  m ← letter
+  ms ← letters n
+  give (m ∷ ms)
+
+unfoldable pub plan : Reader (List Move)
+plan = do
+  n ← number
+  letters n
+
+-- whether the board may stand in the row after this one, if there is one: boards of a grid have their keys in the order of their lists of tiles
+abbrev pub may_follow : Option Position → Position → Bool
+may_follow None b = true
+may_follow (Some before) b = nat_lt (key_of before) (key_of b)
+
+unfoldable pub rising : Option Position → Position × ℕ → Reader (Position × ℕ)
+rising before row bytes = if may_follow before row.0 then Ok (row, bytes) else Err (NotRising, bytes)
+
+-- a row is at fault as a whole, and its order is judged last
+unfoldable pub row : Grid → Option Position → Reader (Position × ℕ)
+row grid before = as_one (do
+  b ← board grid
+  g ← number
+  rising before (b, g))
+
+unfoldable pub rows : Grid → Option Position → ℕ → Reader (List (Position × ℕ))
+rows grid before zero = give []
+rows grid before (suc n) = do
+  first ← row grid before
+  others ← rows grid (Some first.0) n
+  give (first ∷ others)
+
+unfoldable pub all_rows : Grid → Reader (List (Position × ℕ))
+all_rows grid = do
+  n ← count
+  rows grid None n
+
+-- no byte is left
+unfoldable pub end : Reader (Unit {0})
+end [] = Ok (tt, [])
+end (b ∷ bytes) = Err (BytesAfterEnd, b ∷ bytes)
+
+-- all before the rows
+unfoldable pub front : Reader Statement
+front = do
+  costs ← opening
+  start ← board costs.grid
+  goal ← board costs.grid
+  cost ← number
+  moves ← plan
+  give (record { grid = costs.grid; costs = costs; start = start; goal = goal; cost = cost; plan = moves; rows = [] })
+
+unfoldable pub certificate : Reader Statement
+certificate = do
+  c ← front
+  proof ← all_rows c.grid
+  _ ← end
+  give (record c { rows = proof })
+
+-- this is the first fault of the bytes, in a field or a row with which these of them begin
+abbrev pub IsFaultAt : List ℕ → ReadFault → List ℕ → Type 0
+IsFaultAt bytes fault from = certificate bytes ≡ Err (fault, from)
+
+-- this is the first fault of the bytes
+abbrev pub IsFirstFault : List ℕ → ReadFault → Type 0
+IsFirstFault bytes fault = (from : List ℕ) × IsFaultAt bytes fault from

@@ -1,0 +1,57 @@
+-- The one spelling of a certificate. Numbers of several bytes have their lowest byte first.
+use Rattle.std.specs.Prelude.{ℕ, ◌≡◌, List, [], ◌∷◌, ◌++◌, length, map, if◌then◌else◌, codes}
+use Rattle.std.specs.List.{flat_map}
+use Rattle.std.specs.Int.{w32, w64, to_le_bytes}
+use Rattle.board.specs.declared.moves.Move.{Move}
+use Rattle.board.specs.declared.moves.Move.TheVariants.{U, L, R, D}
+use Rattle.board.specs.Equality.{rule_eq}
+use Rattle.board.specs.Positions.{Position}
+use Rattle.board.specs.CostRules.{CostRule, unit_rule}
+use Rattle.certificate.specs.Certificates.{Statement, IsCertificate}
+
+-- 0 where every move costs 1, else 1
+abbrev pub kind_of : CostRule → ℕ
+kind_of costs = if rule_eq costs (unit_rule costs.grid) then 0 else 1
+
+-- what it is, the sides of the boards, the kind of costs, and no groups of tiles
+unfoldable pub opening_text : CostRule → List ℕ
+opening_text costs = codes "TILECRT1" ++ costs.grid.rows ∷ costs.grid.cols ∷ kind_of costs ∷ 0 ∷ []
+
+-- the letter of a move
+abbrev pub letter_of : Move → ℕ
+letter_of U = 85
+letter_of L = 76
+letter_of R = 82
+letter_of D = 68
+
+-- a cost, or the length of a plan: four bytes
+unfoldable pub number_text : ℕ → List ℕ
+number_text n = to_le_bytes w32 n
+
+-- the number of rows: eight bytes
+unfoldable pub count_text : ℕ → List ℕ
+count_text n = to_le_bytes w64 n
+
+-- the number of moves, and a letter for each
+abbrev pub plan_text : List Move → List ℕ
+plan_text plan = number_text (length plan) ++ map letter_of plan
+
+-- the tiles, and the cost
+abbrev pub row_text : Position × ℕ → List ℕ
+row_text row = row.0.tiles ++ number_text row.1
+
+-- all before the number of rows
+abbrev pub front_text : Statement → List ℕ
+front_text c = opening_text c.costs ++ (c.start.tiles ++ (c.goal.tiles ++ (number_text c.cost ++ plan_text c.plan)))
+
+-- the spelling, but for the number of rows, which is given
+abbrev pub announcing : ℕ → Statement → List ℕ
+announcing count c = front_text c ++ (count_text count ++ flat_map row_text c.rows)
+
+-- the fields in order, and nothing after them
+abbrev pub spelling : Statement → List ℕ
+spelling c = announcing (length c.rows) c
+
+-- these bytes spell this certificate
+abbrev pub Spells : Statement → List ℕ → Type 0
+Spells c bytes = IsCertificate c × (bytes ≡ spelling c)

@@ -1,0 +1,66 @@
+ghost use Rattle.std.specs.Prelude.{◌≡◌};
+ghost use Rattle.certificate.specs.Codes.{read_code_of, write_code_of};
+
+use thiserror::Error;
+
+/// Why no certificate was read.
+#[derive(Clone, Copy, Debug, PartialEq, Eq, Error)]
+pub enum ReadFault {
+    /// F1
+    #[error("the bytes begin as no certificate does")]
+    OtherMagic,
+    /// F2
+    #[error("the input ends before the last byte due")]
+    Truncated,
+    /// F3
+    #[error("a value is out of its range")]
+    OutOfRange,
+    /// F4
+    #[error("a row does not come after the row before it")]
+    NotRising,
+    /// F5
+    #[error("bytes stand after the last row")]
+    BytesAfterEnd,
+    /// F6
+    #[error("the input cannot be read")]
+    Failed,
+    /// F7
+    #[error("no memory for the plan or the rows")]
+    NoMemory,
+}
+
+impl ReadFault {
+    /// The code that the fault is reported by: `F1` to `F7`.
+    pub fn code(self) -> &'static str
+        ensures { result.now ≡ read_code_of self }
+    {
+        match self {
+            ReadFault::OtherMagic => "F1",
+            ReadFault::Truncated => "F2",
+            ReadFault::OutOfRange => "F3",
+            ReadFault::NotRising => "F4",
+            ReadFault::BytesAfterEnd => "F5",
+            ReadFault::Failed => "F6",
+            ReadFault::NoMemory => "F7",
+        }
+    }
+}
+
+/// Why no certificate was written.
+#[derive(Clone, Copy, Debug, PartialEq, Eq, Error)]
+pub enum WriteFault {
+    /// F8
+    #[error("the output cannot be written")]
+    Failed,
+}
+
+impl WriteFault {
+    /// The code that the fault is reported by: `F8`.
+    pub fn code(self) -> &'static str
+        ensures { result.now ≡ write_code_of self }
+    {
+        match self {
+            WriteFault::Failed => "F8",
+        }
+    }
+}

@@ -1,0 +1,27 @@
+//! The laws of the definitions: each is the contract of a function that does nothing.
+
+ghost use Rattle.certificate.specs.Laws.{ReadingIsSpelling, SpelledOrFaulty, NotBoth, OneFirstFault, FaultsComeFirst, NoneBeginsAnother, OneCertificate, OneSpelling};
+
+/// A certificate is read exactly where the bytes spell it. Else they have one first fault.
+pub fn reading_is_spelling()
+    ensures both_ways { ReadingIsSpelling }
+    ensures all { SpelledOrFaulty }
+    ensures apart { NotBoth }
+    ensures one { OneFirstFault }
+{}
+
+/// What stands before the first fault is the beginning of some spelling.
+pub fn faults_come_first()
+    ensures { FaultsComeFirst }
+{}
+
+/// No spelling begins another one.
+pub fn none_begins_another()
+    ensures { NoneBeginsAnother }
+{}
+
+/// A certificate has one spelling, and a spelling is of one certificate.
+pub fn one_spelling_a_certificate()
+    ensures certificate { OneCertificate }
+    ensures spelling { OneSpelling }
+{}

@@ -1,0 +1,14 @@
+//! Certificates: answers written down so that any program can check them, with one spelling each.
+#![tactic(auto)]
+
+pub mod certificate;
+pub mod faults;
+mod fields;
+pub mod laws;
+mod reading;
+mod writing;
+
+pub use certificate::{Certificate, LIMIT, Parts};
+pub use faults::{ReadFault, WriteFault};
+pub use reading::read;
+pub use writing::write;

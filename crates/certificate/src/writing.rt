@@ -1,0 +1,168 @@
+ghost use Rattle.std.specs.Prelude.{◌≡◌, ◌++◌, false, OnOk, OnErr, is_err, length, map, take};
+ghost use Rattle.std.specs.List.{flat_map};
+ghost use Rattle.std.specs.Io.KnownBytes.{Appends};
+ghost use Rattle.byte_streams.specs.Sink.{AppendsBeginning};
+ghost use Rattle.board.specs.Grids.{cell_count};
+ghost use Rattle.certificate.specs.Certificates.{IsWithinLimit, IsCertificate};
+ghost use Rattle.certificate.specs.Spellings.{kind_of, letter_of, opening_text, number_text, count_text, plan_text, row_text, front_text, spelling};
+ghost use Rattle.certificate.specs.Sources.{Writes};
+
+use crate::certificate::Certificate;
+use crate::faults::WriteFault;
+use board::{Board, Move, Weights};
+use byte_streams::{Sink, WriteFailed};
+
+/// Writes a certificate: the bytes of its spelling. F8 where the sink fails; what went out is then a
+/// beginning of them. The sink is not flushed. Nothing takes memory.
+pub fn write<K: Sink>(sink: &mut K, certificate: &Certificate) -> Result<(), WriteFault>
+    ensures all { OnOk result
+        (Appends (K.contents sink.old) (K.contents sink.new) (spelling certificate.now)) }
+    ensures begun { OnErr result
+        (AppendsBeginning (K.contents sink.old) (K.contents sink.new) (spelling certificate.now)) }
+    ensures failed { K.has_failed sink.new ≡ is_err result }
+{
+    match write_all(sink, certificate) {
+        Ok(()) => Ok(()),
+        Err(_) => Err(WriteFault::Failed),
+    }
+}
+
+fn write_all<K: Sink>(sink: &mut K, certificate: &Certificate) -> Result<(), WriteFailed>
+    ensures text { Writes (K.contents sink.old) (K.contents sink.new) (spelling certificate.now) result }
+    ensures fails { K.has_failed sink.new ≡ is_err result }
+{
+    write_front(sink, certificate)?;
+    write_rows(sink, certificate.rows())
+}
+
+// All before the number of rows.
+fn write_front<K: Sink>(sink: &mut K, certificate: &Certificate) -> Result<(), WriteFailed>
+    ensures text { Writes (K.contents sink.old) (K.contents sink.new) (front_text certificate.now) result }
+    ensures fails { K.has_failed sink.new ≡ is_err result }
+{
+    write_opening(sink, &certificate.costs())?;
+    write_tiles(sink, &certificate.start())?;
+    write_tiles(sink, &certificate.goal())?;
+    write_number(sink, certificate.cost())?;
+    write_plan(sink, certificate.plan())
+}
+
+// What it is, the sides of the boards, the kind of costs, and no groups.
+fn write_opening<K: Sink>(sink: &mut K, costs: &Weights) -> Result<(), WriteFailed>
+    ensures text { Writes (K.contents sink.old) (K.contents sink.new) (opening_text costs.now) result }
+    ensures fails { K.has_failed sink.new ≡ is_err result }
+{
+    let shape = costs.shape();
+    sink.put(b"TILECRT1")?;
+    sink.put(&[shape.rows(), shape.cols(), kind(costs), 0])
+}
+
+// 0 for unit costs, else 1.
+fn kind(costs: &Weights) -> u8
+    ensures { result ≡ kind_of costs.now }
+{
+    if *costs == Weights::unit(costs.shape()) {
+        0
+    } else {
+        1
+    }
+}
+
+// The tiles of a board.
+fn write_tiles<K: Sink>(sink: &mut K, board: &Board) -> Result<(), WriteFailed>
+    ensures text { Writes (K.contents sink.old) (K.contents sink.new) board.now.tiles result }
+    ensures fails { K.has_failed sink.new ≡ is_err result }
+{
+    let tiles = tiles_of(board);
+    sink.put(&tiles[..board.shape().cells()])
+}
+
+// The tiles of a board, and whatever behind them.
+fn tiles_of(board: &Board) -> [u8; 25]
+    ensures { take (cell_count board.now.grid) result ≡ board.now.tiles }
+{
+    let mut tiles = [0; 25];
+    'cells: for cell in 0..board.shape().cells() {
+        tiles[cell] = board.tile(cell);
+    }
+    tiles
+}
+
+// A cost, or the length of a plan.
+fn write_number<K: Sink>(sink: &mut K, number: u32) -> Result<(), WriteFailed>
+    ensures text { Writes (K.contents sink.old) (K.contents sink.new) (number_text number) result }
+    ensures fails { K.has_failed sink.new ≡ is_err result }
+{
+    sink.put(&number.to_le_bytes())
+}
+
+// The length of the plan, and a letter for each move.
+fn write_plan<K: Sink>(sink: &mut K, plan: &[Move]) -> Result<(), WriteFailed>
+    requires { IsWithinLimit (length plan.now) }
+    ensures text { Writes (K.contents sink.old) (K.contents sink.new) (plan_text plan.now) result }
+    ensures fails { K.has_failed sink.new ≡ is_err result }
+{
+    write_number(sink, plan.len() as u32)?;
+    write_letters(sink, plan)
+}
+
+// A letter for each move.
+fn write_letters<K: Sink>(sink: &mut K, plan: &[Move]) -> Result<(), WriteFailed>
+    ensures text { Writes (K.contents sink.old) (K.contents sink.new) (map letter_of plan.now) result }
+    ensures fails { K.has_failed sink.old ≡ false → K.has_failed sink.new ≡ is_err result }
+{
+    'letters: for direction in plan {
+        sink.put(&[letter(*direction)])?;
+    }
+    Ok(())
+}
+
+// The letter of a move.
+fn letter(direction: Move) -> u8
+    ensures { result ≡ letter_of direction }
+{
+    match direction {
+        Move::U => b'U',
+        Move::L => b'L',
+        Move::R => b'R',
+        Move::D => b'D',
+    }
+}
+
+// The number of rows, and the rows.
+fn write_rows<K: Sink>(sink: &mut K, rows: &[(Board, u32)]) -> Result<(), WriteFailed>
+    ensures text { Writes (K.contents sink.old) (K.contents sink.new)
+        (count_text (length rows.now) ++ flat_map row_text rows.now) result }
+    ensures fails { K.has_failed sink.new ≡ is_err result }
+{
+    write_count(sink, rows.len() as u64)?;
+    write_each_row(sink, rows)
+}
+
+// The number of rows.
+fn write_count<K: Sink>(sink: &mut K, count: u64) -> Result<(), WriteFailed>
+    ensures text { Writes (K.contents sink.old) (K.contents sink.new) (count_text count) result }
+    ensures fails { K.has_failed sink.new ≡ is_err result }
+{
+    sink.put(&count.to_le_bytes())
+}
+
+// The rows, one after the other.
+fn write_each_row<K: Sink>(sink: &mut K, rows: &[(Board, u32)]) -> Result<(), WriteFailed>
+    ensures text { Writes (K.contents sink.old) (K.contents sink.new) (flat_map row_text rows.now) result }
+    ensures fails { K.has_failed sink.old ≡ false → K.has_failed sink.new ≡ is_err result }
+{
+    'rows: for row in rows {
+        write_row(sink, row)?;
+    }
+    Ok(())
+}
+
+// The tiles of a row, and its cost.
+fn write_row<K: Sink>(sink: &mut K, row: &(Board, u32)) -> Result<(), WriteFailed>
+    ensures text { Writes (K.contents sink.old) (K.contents sink.new) (row_text row.now) result }
+    ensures fails { K.has_failed sink.new ≡ is_err result }
+{
+    write_tiles(sink, &row.0)?;
+    write_number(sink, row.1)
+}
