@@ -1,0 +1,2 @@
+pub mod RefusalLemmas
+pub mod RowLemmas

@@ -1,0 +1,234 @@
+-- The rows of a certificate rise by their keys, so a board has one row at most.
+use Rattle.std.proofs.Common.{◌≡◌, ◌⊎◌, inl, inr, ⊎_elim, ℕ, zero, suc, ◌+◌, ◌<◌, ◌≤◌, Bool, true, false, not, ltb, leb, eq-eqb, unwrap_or, List, [], ◌∷◌, length, get_or, Option, None, Some, refl, sym, ap, ◌∙◌, subst, arith}
+use Rattle.std.specs.Prelude.{slice_get, ◌↔◌, IsTrue}
+use Rattle.std.specs.List.{AllByRecursion}
+use Rattle.std.specs.List.Sorted.{IsNonDecreasingBy, IsPartitionPoint}
+use Rattle.std.proofs.lemmas.Bool.{cases_order, cases_lt, true≢false, leb-true}
+use Rattle.std.proofs.lemmas.Bool.Decides.{Decides-ltb, leb_tells}
+use Rattle.std.proofs.lemmas.Option.{slice_get_within, get_or_from_slice_get, slice_get-get_or}
+use Rattle.std.proofs.lemmas.List.Elements.{recursion_from_All}
+use Rattle.board.specs.Grids.{Grid, cell_count}
+use Rattle.board.specs.declared.moves.Move.{Move}
+use Rattle.board.specs.declared.moves.Move.TheVariants.{U, L, R, D}
+use Rattle.board.specs.Positions.{Position}
+use Rattle.board.specs.Equality.{number_of, moves_Decide}
+use Rattle.board.specs.Moves.{Moves}
+use Rattle.board.specs.Rows.{HasRow}
+use Rattle.board.proofs.MoveLemmas.{one_move}
+use Rattle.board.specs.Keys.{key_of, Precedes}
+use Rattle.board.proofs.KeyLemmas.{packed_in_order, tiles_small}
+use Rattle.certificate.specs.Certificates.{Statement, IsBoardOf, IsRow, RiseAfter, IsCertificate}
+use Rattle.certificate_check.specs.Refusals.{HasRowAt, LeavesOpen, LeavesOpenAt, IsFirstOpen}
+use Rattle.certificate_check.proofs.RefusalLemmas.{contains_at, at_contains}
+
+abbrev Rows : Type 0
+Rows = List (Position × ℕ)
+
+-- the key of a row's board
+abbrev pub row_key : Position × ℕ → ℕ
+row_key row = key_of row.0
+
+-- a board that comes before another one has the lower key
+lower_key : (grid : Grid) (a b : Position) → IsBoardOf grid a → IsBoardOf grid b → Precedes a.tiles b.tiles → key_of a < key_of b
+lower_key grid a b is is' =
+    (packed_in_order a.tiles b.tiles (is.board.one_each ∙ ap cell_count (is.sides ∙ sym is'.sides) ∙ sym is'.board.one_each) (recursion_from_All (λ x. x < 32) a.tiles (tiles_small a is.board)) (recursion_from_All (λ x. x < 32) b.tiles (tiles_small b is'.board))).1
+
+-- each row that comes after a board has a greater key
+keys_above : (grid : Grid) (before : Position) (rows : Rows) → IsBoardOf grid before → AllByRecursion (IsRow grid) rows → RiseAfter (Some before) rows → (j : ℕ) (d : Position × ℕ) → j < length rows → key_of before < row_key (get_or rows j d)
+keys_above grid before [] is all rise j d within = absurd (omega (arith, within))
+keys_above grid before (row ∷ rows) is all rise zero d within = lower_key grid before row.0 is all.0.board rise.0
+keys_above grid before (row ∷ rows) is all rise (suc j) d within =
+    let first = lower_key grid before row.0 is all.0.board rise.0 in
+    let rest = keys_above grid row.0 rows all.0.board all.1 rise.1 j d (omega (arith, within)) in
+    omega (arith, first, rest)
+
+keys_rise_after : (grid : Grid) (before : Option Position) (rows : Rows) → AllByRecursion (IsRow grid) rows → RiseAfter before rows → (i j : ℕ) (d : Position × ℕ) → i < j → j < length rows → row_key (get_or rows i d) < row_key (get_or rows j d)
+keys_rise_after grid before [] all rise i j d less within = absurd (omega (arith, within))
+keys_rise_after grid before (row ∷ rows) all rise i zero d less within = absurd (omega (arith, less))
+keys_rise_after grid before (row ∷ rows) all rise zero (suc j) d less within = keys_above grid row.0 rows all.0.board all.1 rise.1 j d (omega (arith, within))
+keys_rise_after grid before (row ∷ rows) all rise (suc i) (suc j) d less within = keys_rise_after grid (Some row.0) rows all.1 rise.1 i j d (omega (arith, less)) (omega (arith, within))
+
+pub keys_rise : (c : Statement) → IsCertificate c → (i j : ℕ) (d : Position × ℕ) → i < j → j < length c.rows → row_key (get_or c.rows i d) < row_key (get_or c.rows j d)
+keys_rise c is = keys_rise_after c.grid None c.rows is.rows is.rising
+
+pub keys_never_fall : (c : Statement) → IsCertificate c → IsNonDecreasingBy row_key c.rows
+keys_never_fall c is i j d le within = ⊎_elim
+    (λ (e : i ≡ j). subst (λ (k : ℕ). row_key (get_or c.rows i d) ≤ row_key (get_or c.rows k d)) e (omega arith))
+    (λ (o : (i < j) ⊎ (j < i)). ⊎_elim (λ (l : i < j). let low = keys_rise c is i j d l within in omega (arith, low)) (λ (l : j < i). absurd (omega (arith, l, le))) o)
+    (cases_order i j)
+
+-- a row at a place is a row
+row_of : (grid : Grid) (rows : Rows) (place : ℕ) (row : Position × ℕ) → AllByRecursion (IsRow grid) rows → slice_get rows place ≡ Some row → IsRow grid row
+row_of grid [] place row all at = let low = slice_get_within [] place row at in absurd (omega (arith, low))
+row_of grid (r ∷ rows) zero row all at = subst (IsRow grid) (cc) all.0
+row_of grid (r ∷ rows) (suc place) row all at = row_of grid rows place row all.1 at
+
+pub row_at : (c : Statement) → IsCertificate c → (place : ℕ) (row : Position × ℕ) → slice_get c.rows place ≡ Some row → IsRow c.grid row
+row_at c is place row at = row_of c.grid c.rows place row is.rows at
+
+-- the key at the place of a board's row is the board's
+key_there : (c : Statement) (b : Position) (place : ℕ) (d : Position × ℕ) → HasRowAt c b place → row_key (get_or c.rows place d) ≡ key_of b
+key_there c b place d (g, at) = ap row_key (get_or_from_slice_get c.rows place (b, g) d at)
+
+-- a board has one row at most
+pub one_row : (c : Statement) → IsCertificate c → (b : Position) (p q : ℕ) → HasRowAt c b p → HasRowAt c b q → q ≡ p
+one_row c is b p q (g, at) (g', at') =
+    let d : Position × ℕ = (b, g) in
+    let key = key_there c b p d (g, at) in
+    let key' = key_there c b q d (g', at') in
+    let p_in = slice_get_within c.rows p (b, g) at in
+    let q_in = slice_get_within c.rows q (b, g') at' in
+    ⊎_elim (λ (e : q ≡ p). e)
+    (λ (o : (q < p) ⊎ (p < q)).
+    ⊎_elim (λ (l : q < p). let low = keys_rise c is q p d l p_in in absurd (omega (arith, low, key, key'))) (λ (l : p < q). let low = keys_rise c is p q d l q_in in absurd (omega (arith, low, key, key'))) o)
+    (cases_order q p)
+
+-- keys that the test says to be lower, and the others
+pub parted_by_keys : (rows : Rows) (key place : ℕ) → IsPartitionPoint (λ row. ltb (row_key row) key ≡ true) (λ row. ltb (row_key row) key ≡ false) rows place → IsPartitionPoint (λ row. row_key row < key) (λ row. key ≤ row_key row) rows place
+parted_by_keys rows key place parted = (
+  (λ k d low high. (Decides-ltb (row_key (get_or rows k d)) key).0 (parted.0 k d low high)),
+  (λ k d low high.
+      ⊎_elim (λ (l : row_key (get_or rows k d) < key). absurd (true≢false (sym ((Decides-ltb (row_key (get_or rows k d)) key).1 l) ∙ parted.1 k d low high))) (λ (le : key ≤ row_key (get_or rows k d)). le) (cases_lt (row_key (get_or rows k d)) key)),
+)
+
+-- where the rows before a place have lower keys, and those from it on have not, a board's row stands at that place
+found_there : (c : Statement) → IsCertificate c → (b : Position) (place : ℕ) → IsPartitionPoint (λ row. row_key row < key_of b) (λ row. key_of b ≤ row_key row) c.rows place → (p : ℕ) → HasRowAt c b p → p ≡ place
+found_there c is b place parted p has =
+    let d : Position × ℕ = (b, has.0) in
+    let key = key_there c b p d has in
+    let within = slice_get_within c.rows p (b, has.0) has.1 in
+    ⊎_elim (λ (e : p ≡ place). e)
+    (λ (o : (p < place) ⊎ (place < p)).
+    ⊎_elim
+    (λ (l : p < place). let low = parted.0 p d (omega arith) l in absurd (omega (arith, low, key)))
+    (λ (l : place < p).
+    let less = keys_rise c is place p d l within in
+    let high = parted.1 place d (omega arith) (omega (arith, l, within)) in
+    absurd (omega (arith, less, high, key)))
+    o)
+    (cases_order p place)
+
+-- the same where the rows and the key have other names
+pub found_by : (c : Statement) → IsCertificate c → (b : Position) (rows : Rows) (key place : ℕ) → rows ≡ c.rows → key ≡ key_of b → IsPartitionPoint (λ row. row_key row < key) (λ row. key ≤ row_key row) rows place → (p : ℕ) → HasRowAt c b p → p ≡ place
+found_by c is b rows key place same same_key parted =
+    let among : IsPartitionPoint (λ row. row_key row < key) (λ row. key ≤ row_key row) c.rows place = subst (λ (rs : Rows). IsPartitionPoint (λ row. row_key row < key) (λ row. key ≤ row_key row) rs place) same parted in
+    found_there c is b place (subst (λ (k : ℕ). IsPartitionPoint (λ row. row_key row < k) (λ row. k ≤ row_key row) c.rows place) same_key among)
+
+-- the row at a place, whose board is this one
+pub has_row_here : (c : Statement) (b : Position) (rows : Rows) (place : ℕ) (row : Position × ℕ) → rows ≡ c.rows → place < length rows → row ≡ get_or rows place row → (get_or rows place row).0 ≡ b → HasRowAt c b place
+has_row_here c b rows place row same within is board =
+    let at : slice_get rows place ≡ Some row = slice_get-get_or rows place row within ∙ ap Some (sym is) in
+    (row.1, subst (λ (rs : Rows). slice_get rs place ≡ Some (b, row.1)) same (at ∙ ap (λ (x : Position). Some (x, row.1)) (ap (λ (r : Position × ℕ). r.0) is ∙ board)))
+
+-- the row at a place
+pub row_here_at : (c : Statement) (rows : Rows) (place : ℕ) (row : Position × ℕ) → rows ≡ c.rows → place < length rows → row ≡ get_or rows place row → slice_get c.rows place ≡ Some row
+row_here_at c rows place row same within is = subst (λ (rs : Rows). slice_get rs place ≡ Some row) same (slice_get-get_or rows place row within ∙ ap Some (sym is))
+
+-- at the place of a board's row stands that board
+pub board_there : (c : Statement) (b : Position) (rows : Rows) (place : ℕ) (d : Position × ℕ) → rows ≡ c.rows → HasRowAt c b place → (get_or rows place d).0 ≡ b
+board_there c b rows place d same (g, at) = ap (λ (rs : Rows). (get_or rs place d).0) same ∙ ap (λ (row : Position × ℕ). row.0) (get_or_from_slice_get c.rows place (b, g) d at)
+
+pub place_within : (c : Statement) (b : Position) (rows : Rows) (place : ℕ) → rows ≡ c.rows → HasRowAt c b place → place < length rows
+place_within c b rows place same (g, at) = subst (λ (rs : Rows). place < length rs) (sym same) (slice_get_within c.rows place (b, g) at)
+
+-- an answer that names the one place of a board's row, and the answer that there is none
+pub found_one : (c : Statement) (b : Position) (at : ℕ) → HasRowAt c b at → ((p : ℕ) → HasRowAt c b p → p ≡ at) → (place : ℕ) → (Some at ≡ Some place) ↔ HasRowAt c b place
+found_one c b at has once place = ((λ e. let same : at ≡ place = ap (λ (o : Option ℕ). unwrap_or o 0) e in subst (λ (p : ℕ). HasRowAt c b p) same has), (λ h. ap Some (sym (once place h))))
+
+pub found_none : (c : Statement) (b : Position) → ((p : ℕ) → HasRowAt c b p → ⊥) → (place : ℕ) → ◌↔◌ (◌≡◌ {A = Option ℕ} None (Some place)) (HasRowAt c b place)
+found_none c b none place = ((λ e. absurd (cc)), (λ h. absurd (none place h)))
+
+leb_from_le : (a b : ℕ) → a ≤ b → leb a b ≡ true
+leb_from_le a b le = ⊎_elim (λ (t : (leb a b ≡ true) × (a ≤ b)). t.0) (λ (f : (leb a b ≡ false) × (b < a)). let high = f.1 in absurd (omega (arith, le, high))) (leb_tells a b)
+
+-- where a board has a row, it has one with at most this cost if that row has
+pub row_within : (c : Statement) → IsCertificate c → (b : Position) (rows : Rows) (place : ℕ) (d : Position × ℕ) (cost : ℕ) → rows ≡ c.rows → HasRowAt c b place → IsTrue (leb (get_or rows place d).1 cost) ↔ HasRow c.rows b cost
+row_within c is b rows place d cost same (g, at) =
+    let here : (get_or rows place d).1 ≡ g = ap (λ (rs : Rows). (get_or rs place d).1) same ∙ ap (λ (row : Position × ℕ). row.1) (get_or_from_slice_get c.rows place (b, g) d at) in (
+      (λ test. let low = leb-true (get_or rows place d).1 cost test in (g, contains_at c.rows place (b, g) at, omega (arith, low, here))),
+      (λ h.
+          let there = at_contains c.rows (b, h.0) h.1 in
+          let one : there.0 ≡ place = one_row c is b place there.0 (g, at) (h.0, there.1) in
+          let row : slice_get c.rows place ≡ Some (b, h.0) = subst (λ (p : ℕ). slice_get c.rows p ≡ Some (b, h.0)) one there.1 in
+          let cost_is : g ≡ h.0 = ap (λ (o : Option (Position × ℕ)). (unwrap_or o d).1) (sym at ∙ row) in
+          leb_from_le (get_or rows place d).1 cost (omega (arith, here, cost_is, h.2))),
+    )
+
+pub no_row_within : (c : Statement) (b : Position) (cost : ℕ) → ((p : ℕ) → HasRowAt c b p → ⊥) → IsTrue false ↔ HasRow c.rows b cost
+no_row_within c b cost none = ((λ e. absurd (true≢false (sym e))), (λ h. let there = at_contains c.rows (b, h.0) h.1 in absurd (none there.0 (h.0, there.1))))
+
+-- ---- open successors
+
+pub opens : (c : Statement) (row : Position × ℕ) (m : Move) (next : Position) (k : ℕ) → Moves c.costs row.0 m next k → row.1 + k < c.cost → (t : Bool) → (IsTrue t ↔ HasRow c.rows next (row.1 + k)) → IsTrue (not t) ↔ LeavesOpen c row m
+opens c row m next k moves low true test = (
+  (λ e. absurd (true≢false (sym e))),
+  (λ o.
+      let one = one_move c.costs row.0 m next o.0 k o.1 moves o.2 in
+      let has : HasRow c.rows o.0 (row.1 + o.1) = subst (λ (x : Position). HasRow c.rows x (row.1 + o.1)) (sym one.0) (subst (λ (n : ℕ). HasRow c.rows next (row.1 + n)) (sym one.1) (test.0 refl)) in
+      absurd (o.4 has)),
+)
+opens c row m next k moves low false test = ((λ e. (next, k, moves, low, (λ has. true≢false (sym (test.1 has))))), (λ o. refl))
+
+pub opens_not : (c : Statement) (row : Position × ℕ) (m : Move) (next : Position) (k cost : ℕ) → Moves c.costs row.0 m next k → cost ≡ c.cost → cost ≤ row.1 + k → IsTrue (ltb (row.1 + k) cost) ↔ LeavesOpen c row m
+opens_not c row m next k cost moves same high = (
+  (λ e. let low = (Decides-ltb (row.1 + k) cost).0 e in absurd (omega (arith, low, high))),
+  (λ o. let one = one_move c.costs row.0 m next o.0 k o.1 moves o.2 in let low = o.3 in absurd (omega (arith, low, high, same, one.1))),
+)
+
+pub opens_never : (c : Statement) (row : Position × ℕ) (m : Move) → ((next : Position) (k : ℕ) → Moves c.costs row.0 m next k → ⊥) → IsTrue false ↔ LeavesOpen c row m
+opens_never c row m edge = ((λ e. absurd (true≢false (sym e))), (λ o. absurd (edge o.0 o.1 o.2)))
+
+pub number_at : (i : ℕ) → i < 4 → number_of (get_or (U ∷ L ∷ R ∷ D ∷ []) i U) ≡ i
+number_at zero low = refl
+number_at (suc zero) low = refl
+number_at (suc (suc zero)) low = refl
+number_at (suc (suc (suc zero))) low = refl
+number_at (suc (suc (suc (suc i)))) low = absurd (omega (arith, low))
+
+pub number_low : (m : Move) → number_of m < 4
+number_low U = omega arith
+number_low L = omega arith
+number_low R = omega arith
+number_low D = omega arith
+
+pub same_move : (m m' : Move) → number_of m ≡ number_of m' → m ≡ m'
+same_move m m' e = (moves_Decide m m').0 (eq-eqb (number_of m) (number_of m') e)
+
+-- one move more, in their order
+pub one_move_more : (c : Statement) (row : Position × ℕ) (i : ℕ) → i < 4 → ((m : Move) → number_of m < i → LeavesOpen c row m → ⊥) → (LeavesOpen c row (get_or (U ∷ L ∷ R ∷ D ∷ []) i U) → ⊥) → (m : Move) → number_of m < i + 1 → LeavesOpen c row m → ⊥
+one_move_more c row i low before here m less open_here =
+    ⊎_elim (λ (l : number_of m < i). before m l open_here)
+    (λ (le : i ≤ number_of m).
+    let at : Move = get_or (U ∷ L ∷ R ∷ D ∷ []) i U in
+    let number : number_of at ≡ i = number_at i low in
+    let same : m ≡ at = same_move m at (omega (arith, number, le, less)) in
+    here (subst (LeavesOpen c row) same open_here))
+    (cases_lt (number_of m) i)
+
+-- what is left open from the row at a place is left open from that row
+row_again : (c : Statement) (p place : ℕ) (row : Position × ℕ) (m : Move) → p ≡ place → slice_get c.rows place ≡ Some row → LeavesOpenAt c p m → LeavesOpen c row m
+row_again c p place row m same at o =
+    let there : slice_get c.rows place ≡ Some o.0 = subst (λ (k : ℕ). slice_get c.rows k ≡ Some o.0) same o.1 in
+    let one : o.0 ≡ row = ap (λ (x : Option (Position × ℕ)). unwrap_or x row) (sym there ∙ at) in
+    subst (λ (r : Position × ℕ). LeavesOpen c r m) one o.2
+
+-- the first open successor of a row is the first of all where the rows before have none
+pub first_here : (c : Statement) (place : ℕ) (row : Position × ℕ) (m : Move) → slice_get c.rows place ≡ Some row → LeavesOpen c row m → ((m' : Move) → number_of m' < number_of m → LeavesOpen c row m' → ⊥) → ((p : ℕ) (m' : Move) → p < place → LeavesOpenAt c p m' → ⊥) → IsFirstOpen c place m
+first_here c place row m at opened first before = ((row, at, opened), earlier)
+  where
+    earlier : (p : ℕ) (m' : Move) → Precedes (p ∷ number_of m' ∷ []) (place ∷ number_of m ∷ []) → LeavesOpenAt c p m' → ⊥
+    earlier p m' (inl l) o = before p m' l o
+    earlier p m' (inr (same, inl l)) o = first m' l (row_again c p place row m' same at o)
+    earlier p m' (inr (same, inr e)) o = e.1
+
+-- one row more
+pub one_row_more : (c : Statement) (place : ℕ) (row : Position × ℕ) → slice_get c.rows place ≡ Some row → ((p : ℕ) (m : Move) → p < place → LeavesOpenAt c p m → ⊥) → ((m : Move) → LeavesOpen c row m → ⊥) → (p : ℕ) (m : Move) → p < place + 1 → LeavesOpenAt c p m → ⊥
+one_row_more c place row at before here p m less o =
+    ⊎_elim (λ (l : p < place). before p m l o) (λ (le : place ≤ p). let same : p ≡ place = omega (arith, le, less) in here m (row_again c p place row m same at o)) (cases_lt p place)
+
+-- an open successor is one of a row, so it is among those seen where all rows were seen
+pub place_of_open : (c : Statement) (rows : Rows) (seen place : ℕ) (m : Move) → rows ≡ c.rows → length rows ≤ seen → LeavesOpenAt c place m → place < seen
+place_of_open c rows seen place m same all o =
+    let within = slice_get_within c.rows place o.0 o.1 in
+    let count : length rows ≡ length c.rows = ap (λ (rs : Rows). length rs) same in
+    omega (arith, within, count, all)

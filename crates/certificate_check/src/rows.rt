@@ -1,0 +1,99 @@
+ghost use Rattle.std.specs.Prelude.{◌≡◌, ◌<◌, ◌≤◌, ◌⊎◌, ◌↔◌, ℕ, IsTrue, IsNone, IfSome, Some, length};
+ghost use Rattle.std.specs.List.Sorted.{IsNonDecreasingBy, IsPartitionPoint};
+ghost use Rattle.board.specs.declared.moves.Move.{Move};
+ghost use Rattle.board.specs.Equality.{number_of};
+ghost use Rattle.board.specs.Keys.{key_of};
+ghost use Rattle.board.specs.Rows.{HasRow};
+ghost use Rattle.certificate.specs.Certificates.{IsCertificate, IsBoardOf, IsRow};
+ghost use Rattle.certificate_check.specs.Refusals.{HasRowAt, LeavesOpen, LeavesOpenAt, IsFirstOpen};
+
+use board::{Board, Move};
+use certificate::Certificate;
+
+// The first place from which on no key is below this one: the rows are halved until one place is left.
+fn first_from(rows: &[(Board, u32)], key: u128) -> usize
+    requires { IsNonDecreasingBy (λ row. key_of row.0) rows.now }
+    ensures { IsPartitionPoint (λ row. key_of row.0 < key) (λ row. key ≤ key_of row.0) rows.now result }
+{
+    rows.partition_point(|row| row.0.key() < key)
+}
+
+// The place of a board's row, if it has one.
+pub(crate) fn find_row(certificate: &Certificate, board: &Board) -> Option<usize>
+    requires certificate { IsCertificate certificate.now }
+    requires board { IsBoardOf certificate.now.grid board.now }
+    ensures found { (place : ℕ) → (result ≡ Some place) ↔ HasRowAt certificate.now board.now place }
+    ensures within { IfSome result (λ place. place < length certificate.now.rows) }
+{
+    let rows = certificate.rows();
+    let place = first_from(rows, board.key());
+    if place < rows.len() && rows[place].0 == *board {
+        Some(place)
+    } else {
+        None
+    }
+}
+
+// Whether a board has a row with at most this cost.
+fn has_row(certificate: &Certificate, board: &Board, cost: u32) -> bool
+    requires certificate { IsCertificate certificate.now }
+    requires board { IsBoardOf certificate.now.grid board.now }
+    ensures { IsTrue result ↔ HasRow certificate.now.rows board.now cost }
+{
+    match find_row(certificate, board) {
+        Some(place) => certificate.rows()[place].1 <= cost,
+        None => false,
+    }
+}
+
+// Whether the start has a row at 0, where the cost is above 0.
+pub(crate) fn is_start_proved(certificate: &Certificate) -> bool
+    requires { IsCertificate certificate.now }
+    ensures { IsTrue result ↔ (HasRow certificate.now.rows certificate.now.start 0 ⊎ (certificate.now.cost ≤ 0)) }
+{
+    certificate.cost() == 0 || has_row(certificate, &certificate.start(), 0)
+}
+
+// The first open successor of a row: the place of the row, and the move.
+pub(crate) fn find_open(certificate: &Certificate) -> Option<(usize, Move)>
+    requires { IsCertificate certificate.now }
+    ensures first { IfSome result (λ found. IsFirstOpen certificate.now found.0 found.1) }
+    ensures none { IsNone result → (place : ℕ) (m : Move) → ¬ LeavesOpenAt certificate.now place m }
+{
+    'rows: for (place, row) in certificate.rows().iter().enumerate() {
+        if let Some(direction) = open_move(certificate, row) {
+            return Some((place, direction));
+        }
+    }
+    None
+}
+
+// The first move from a row to an open board.
+fn open_move(certificate: &Certificate, row: &(Board, u32)) -> Option<Move>
+    requires certificate { IsCertificate certificate.now }
+    requires row { IsRow certificate.now.grid row.now }
+    ensures leaves { IfSome result (LeavesOpen certificate.now row.now) }
+    ensures first { IfSome result (λ m. (m' : Move) → number_of m' < number_of m → ¬ LeavesOpen certificate.now row.now m') }
+    ensures none { IsNone result → (m : Move) → ¬ LeavesOpen certificate.now row.now m }
+{
+    'moves: for direction in [Move::U, Move::L, Move::R, Move::D] {
+        if leaves_open(certificate, row, direction) {
+            return Some(direction);
+        }
+    }
+    None
+}
+
+// Whether a move leads from a row to a board that is below the cost and has no row with at most the cost
+// of going there.
+fn leaves_open(certificate: &Certificate, row: &(Board, u32), direction: Move) -> bool
+    requires certificate { IsCertificate certificate.now }
+    requires row { IsRow certificate.now.grid row.now }
+    ensures { IsTrue result ↔ LeavesOpen certificate.now row.now direction }
+{
+    let Some(next) = row.0.step(direction, &certificate.costs()) else {
+        return false;
+    };
+    let cost = row.1 + next.1;
+    cost < certificate.cost() && !has_row(certificate, &next.0, cost)
+}
