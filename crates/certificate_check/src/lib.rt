@@ -31,6 +31,7 @@ pub fn check(certificate: &Certificate) -> Result<(), Refusal>
         (IsLeast certificate.now.costs certificate.now.start certificate.now.goal certificate.now.cost) }
     ensures refused { (refusal : Refusal) → IsErrOf result refusal ↔ IsFirstRefusal certificate.now refusal }
 {
+    // What holds of every certificate, as that its rows rise, is told by this call.
     let _ = certificate.shape();
     if let Err(refusal) = check_plan(certificate) {
         return Err(refusal);
