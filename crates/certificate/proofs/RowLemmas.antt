@@ -132,6 +132,11 @@ rows_law grid before (suc n) sides is = Law-iff _ (RowsParts grid before (suc n)
     (Law-seq (row grid before) _ (RowText grid before) _ (row_law grid before sides is)
     (λ first _ t. Law-seq (rows grid (Some first.0) n) _ (RowsText grid (Some first.0) n) _ (rows_law grid (Some first.0) n sides t.row.board) (λ others _ _. Law-give (first ∷ others))))
 
+-- one row, and then those before a faulty one
+row_before : (bytes s mid from : List ℕ) (r : Position × ℕ) (done : List (Position × ℕ)) → bytes ≡ s ++ mid → s ≡ row_text r → mid ≡ flat_map row_text done ++ from → bytes ≡ flat_map row_text (r ∷ done) ++ from
+row_before bytes s mid from r done parts first others =
+    parts ∙ (λ i. first i ++ others i) ∙ sym (append_assoc (row_text r) (flat_map row_text done) from) ∙ ap (λ (l : List ℕ). l ++ from) (sym (flat_map-cons row_text r done))
+
 -- before a faulty row stand fewer rows than are due
 pub record RowsBefore (grid : Grid) (before : Option Position) (n : ℕ) (bytes from : List ℕ) : Type 0 where
   pub done : List (Position × ℕ)
@@ -157,7 +162,7 @@ rows_before grid before (suc n) sides is bytes all fault from e =
       fewer = omega (arith, q.fewer);
       rows = (p.1.row, q.rows);
       rising = (p.1.follows, q.rising);
-      is = p.2 ∙ (λ i. p.1.is i ++ q.is i) ∙ sym (append_assoc (row_text r.0.0) (flat_map row_text q.done) from) ∙ ap (λ (l : List ℕ). l ++ from) (sym (flat_map-cons row_text r.0.0 q.done));
+      is = row_before bytes p.0 r.0.1 from r.0.0 q.done p.2 p.1.is q.is;
     })
     (λ q. absurd (never (r.0.0 ∷ q.0.0) q.0.1 q.2))
     (one_fails (rows grid (Some r.0.0.0) n r.0.1) (λ others. give (r.0.0 ∷ others)) (fault, from) r.2))

@@ -93,7 +93,15 @@ fn write_number<K: Sink>(sink: &mut K, number: u32) -> Result<(), WriteFailed>
     ensures text { Writes (K.contents sink.old) (K.contents sink.new) (number_text number) result }
     ensures fails { K.has_failed sink.new ≡ is_err result }
 {
-    sink.put(&number.to_le_bytes())
+    sink.put(&number_bytes(number))
+}
+
+// The four bytes of a number, the lowest first.
+#[tactic(auto, unfolding(crate::specs::Spellings::number_text))]
+fn number_bytes(number: u32) -> [u8; 4]
+    ensures { result ≡ number_text number }
+{
+    number.to_le_bytes()
 }
 
 // The length of the plan, and a letter for each move.
@@ -144,7 +152,15 @@ fn write_count<K: Sink>(sink: &mut K, count: u64) -> Result<(), WriteFailed>
     ensures text { Writes (K.contents sink.old) (K.contents sink.new) (count_text count) result }
     ensures fails { K.has_failed sink.new ≡ is_err result }
 {
-    sink.put(&count.to_le_bytes())
+    sink.put(&count_bytes(count))
+}
+
+// The eight bytes of a number, the lowest first.
+#[tactic(auto, unfolding(crate::specs::Spellings::count_text))]
+fn count_bytes(count: u64) -> [u8; 8]
+    ensures { result ≡ count_text count }
+{
+    count.to_le_bytes()
 }
 
 // The rows, one after the other.

@@ -3,7 +3,6 @@ use Rattle.certificate.proofs.SinkLemmas.{writes_put}
 use Rattle.certificate.proofs.writing.write_number.Goals as goal
 
 pub returns-clause-text : goal.returns-clause-text
-unfolding number_text
 returns-clause-text g c =
     let contents = g.K.Sink.contents in
-    writes_put (contents c.args.sink.now) (contents c.put.new.self) _ (number_text c.args.number) c.put.result c.to_le_bytes.ensures c.put.ensures.all c.put.ensures.beginning
+    writes_put (contents c.args.sink.now) (contents c.put.new.self) _ (number_text c.args.number) c.put.result c.number_bytes.ensures c.put.ensures.all c.put.ensures.beginning
