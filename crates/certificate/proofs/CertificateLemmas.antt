@@ -157,6 +157,11 @@ read_again c rest fits =
     ∙ ap (continued (λ (d : Statement). all_rows d.grid >>= λ rs. end >>= λ u. give (record d { rows = rs }))) first
     ∙ ap (continued (λ (rs : List (Position × ℕ)). end >>= λ u. give (record (bare c) { rows = rs }))) second
 
+-- all before the rows, and then the rows
+whole_text : (bytes s mid t rest : List ℕ) (d : Statement) (rs : List (Position × ℕ)) → bytes ≡ s ++ mid → s ≡ front_text d → mid ≡ t ++ rest → t ≡ count_text (length rs) ++ flat_map row_text rs → bytes ≡ spelling (record d { rows = rs }) ++ rest
+whole_text bytes s mid t rest d rs parts first others proof =
+    parts ∙ (λ i. first i ++ others i) ∙ ap (λ (l : List ℕ). front_text d ++ (l ++ rest)) proof ∙ sym (append_assoc (front_text d) (count_text (length rs) ++ flat_map row_text rs) rest)
+
 end_takes : (bytes : List ℕ) (u : Unit {0}) (rest : List ℕ) → end bytes ≡ fine u rest → (bytes ≡ []) × (rest ≡ [])
 unfolding end
 end_takes [] u rest e =
@@ -191,7 +196,7 @@ read_takes bytes all c rest e =
     let y : Statement × List ℕ = (c, rest) in
     let same : x ≡ y = same_pair made c t.0.1 rest t.2 in
     let fits : IsCertificate made = with_rows d s.0.0 p.1.fits q.1.count q.1.rows q.1.rising in
-    let whole : bytes ≡ spelling made = p.2 ∙ (λ i. p.1.is i ++ q.2 i) ∙ (λ i. front_text d ++ (q.1.is i ++ done.0 i)) ∙ ap (λ (l : List ℕ). front_text d ++ l) (append-nil (rows_text made)) in
+    let whole : bytes ≡ spelling made = whole_text bytes p.0 r.0.1 q.0 s.0.1 d s.0.0 p.2 p.1.is q.2 q.1.is ∙ ap (λ (l : List ℕ). spelling made ++ l) done.0 ∙ append-nil (spelling made) in
     (subst (λ (z : Statement). Spells z bytes) (ap (λ (z : Statement × List ℕ). z.0) same) (fits, whole), ap (λ (z : Statement × List ℕ). z.1) (sym same) ∙ done.1)
   where
     pair : Statement → List ℕ → Statement × List ℕ
@@ -265,7 +270,7 @@ before_fault bytes all fault from e =
     record {
       before = spelling made;
       c = made;
-      parts = begun ∙ ap (λ (l : List ℕ). front_text d ++ l) q.2 ∙ (λ i. front_text d ++ (q.1.is i ++ here i)) ∙ sym (append_assoc (front_text d) (rows_text made) from);
+      parts = whole_text bytes p.0 r.0.1 q.0 s.0.1 d s.0.0 p.2 p.1.is q.2 q.1.is ∙ ap (λ (l : List ℕ). spelling made ++ l) here;
       fits = with_rows d s.0.0 p.1.fits q.1.count q.1.rows q.1.rising;
       begins = inl ([], sym (append-nil (spelling made)));
     })
