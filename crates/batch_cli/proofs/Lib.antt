@@ -1,2 +1,1 @@
-pub mod BatchLemmas
 pub mod ProgramLemmas

@@ -5,8 +5,8 @@ use Rattle.std.proofs.KnownBytes.{Appends-kept}
 use Rattle.board.specs.Grids.{Grid}
 use Rattle.board.specs.Positions.{Position}
 use Rattle.outcomes.specs.declared.outcome.Outcome.{Outcome}
-use Rattle.batch_cli.specs.declared.batch.Summary.{Summary}
-use Rattle.batch_cli.specs.Batches.{AreAll, AreFirst, WritesAll, WritesSome}
+use Rattle.batch_runs.specs.declared.batch.Summary.{Summary}
+use Rattle.batch_runs.specs.Batches.{AreAll, AreFirst, WritesAll, WritesSome}
 
 -- all lines are the first lines
 AreFirst-all : (input : Option (List ℕ)) (lines : List (List ℕ)) → AreAll input lines → AreFirst input lines

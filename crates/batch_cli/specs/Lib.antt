@@ -1,4 +1,1 @@
-pub mod Batches
-pub mod Setups
-pub mod Solving
 pub mod Programs

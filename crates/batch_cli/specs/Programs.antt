@@ -1,14 +1,16 @@
 -- The program: how it ends, what it writes of that, and its status.
-use Rattle.std.specs.Prelude.{ℕ, ◌≡◌, ◌⊎◌, ◌==◌, Bool, true, false, cond, List, [], ◌∷◌, ◌++◌, Option, codes}
+use Rattle.std.specs.Prelude.{ℕ, ◌≡◌, ◌⊎◌, Bool, true, false, List, [], ◌∷◌, ◌++◌, Option, codes}
+use Rattle.std.specs.Io.KnownBytes.{Appends}
+use Rattle.byte_streams.specs.Sink.{AppendsBeginning}
 use Rattle.board.specs.Grids.{Grid}
 use Rattle.board.specs.Positions.{goal_of}
 use Rattle.board.specs.CostRules.{unit_rule}
-use Rattle.batch_cli.specs.declared.batch.BatchFault.TheVariants.{Read, Write, Memory}
+use Rattle.batch_runs.specs.declared.faults.BatchFault.TheVariants.{Read, Write, Memory, CertificateRead, CertificateMemory, CertificateWrite}
 use Rattle.batch_cli.specs.declared.program.Ending.{Ending}
 use Rattle.batch_cli.specs.declared.program.Ending.TheVariants.{Usage, NoBuffers, Ran, Faulted}
-use Rattle.batch_cli.specs.Batches.{WritesAll, WritesWhole, WritesSome, IsTooLong}
-use Rattle.batch_cli.specs.Setups.{SetupState}
-use Rattle.batch_cli.specs.Solving.{MayAnswer}
+use Rattle.batch_runs.specs.Batches.{status_of_counts, WritesAll, WritesWhole, WritesSome, IsTooLong}
+use Rattle.batch_runs.specs.Setups.{SetupState}
+use Rattle.batch_runs.specs.Solving.{MayAnswer}
 
 -- 3 by 3, Korf's goal, unit cost
 abbrev pub small_grid : Grid
@@ -22,10 +24,13 @@ default_setup = record { goal = goal_of small_grid; rule = unit_rule small_grid 
 abbrev pub status_of : Ending → ℕ
 status_of Usage = 2
 status_of NoBuffers = 4
-status_of (Ran counts) = cond (counts.bounded == 0) (cond (counts.refused == 0) 0 1) 1
+status_of (Ran counts) = status_of_counts counts
 status_of (Faulted Read) = 3
 status_of (Faulted Write) = 3
 status_of (Faulted Memory) = 4
+status_of (Faulted CertificateRead) = 3
+status_of (Faulted CertificateMemory) = 4
+status_of (Faulted CertificateWrite) = 3
 
 -- a line for standard error
 abbrev pub line_of : List ℕ → List ℕ
@@ -38,6 +43,13 @@ message_of (Ran counts) = []
 message_of (Faulted Read) = line_of (codes "tilesolve: B1")
 message_of (Faulted Write) = line_of (codes "tilesolve: B2")
 message_of (Faulted Memory) = line_of (codes "tilesolve: B3")
+message_of (Faulted CertificateRead) = line_of (codes "tilesolve: F6")
+message_of (Faulted CertificateMemory) = line_of (codes "tilesolve: F7")
+message_of (Faulted CertificateWrite) = line_of (codes "tilesolve: F8")
+
+-- a beginning of the text was written, and all of it where the stream has not failed
+abbrev pub IsTold : Option (List ℕ) → Option (List ℕ) → Bool → List ℕ → Type 0
+IsTold written written' failed text = AppendsBeginning written written' text × (failed ≡ false → Appends written written' text)
 
 -- How a run ends, by the input, what is left of it, what was written before and after, and whether the streams have failed: all
 -- lines are reported; or reading failed, and the lines read whole are reported; or writing or memory failed, and a
@@ -52,3 +64,6 @@ EndsRun input left written written' unread unwritten (Faulted Read) =
 EndsRun input left written written' unread unwritten (Faulted Write) =
     WritesSome small_grid (MayAnswer default_setup) input written written' × (unwritten ≡ true)
 EndsRun input left written written' unread unwritten (Faulted Memory) = WritesSome small_grid (MayAnswer default_setup) input written written'
+EndsRun input left written written' unread unwritten (Faulted CertificateRead) = ⊥
+EndsRun input left written written' unread unwritten (Faulted CertificateMemory) = ⊥
+EndsRun input left written written' unread unwritten (Faulted CertificateWrite) = ⊥

@@ -1,12 +1,9 @@
 ghost use Rattle.std.specs.Prelude.{◌≡◌, ◌≢◌, ◌⊎◌, true, false, []};
-ghost use Rattle.byte_streams.specs.Sink.{AppendsBeginning};
 ghost use Rattle.batch_cli.specs.declared.program.Ending.{Ending};
 ghost use Rattle.batch_cli.specs.declared.program.Ending.TheVariants.{Usage};
-ghost use Rattle.batch_cli.specs.Programs.{default_setup, status_of, message_of, EndsRun};
+ghost use Rattle.batch_cli.specs.Programs.{default_setup, status_of, message_of, IsTold, EndsRun};
 
-use crate::batch::{BatchFault, Summary};
-use crate::setup::Setup;
-use crate::solving::run_batch;
+use batch_runs::{BatchFault, Setup, Summary, run_batch};
 use board::{Board, Shape, Weights};
 use byte_streams::{Sink, Source};
 use std::alloc::Global;
@@ -20,7 +17,7 @@ pub enum Ending {
     NoBuffers,
     /// All lines were answered or refused.
     Ran(Summary),
-    /// The batch ended early.
+    /// The run ended early.
     Faulted(BatchFault),
 }
 
@@ -35,7 +32,7 @@ impl Ending {
             Ending::NoBuffers => 4,
             Ending::Ran(counts) if counts.bounded == 0 && counts.refused == 0 => 0,
             Ending::Ran(_) => 1,
-            Ending::Faulted(BatchFault::Memory) => 4,
+            Ending::Faulted(BatchFault::Memory | BatchFault::CertificateMemory) => 4,
             Ending::Faulted(_) => 3,
         }
     }
@@ -53,13 +50,16 @@ impl Ending {
             Ending::Faulted(BatchFault::Read) => "tilesolve: B1\n",
             Ending::Faulted(BatchFault::Write) => "tilesolve: B2\n",
             Ending::Faulted(BatchFault::Memory) => "tilesolve: B3\n",
+            Ending::Faulted(BatchFault::CertificateRead) => "tilesolve: F6\n",
+            Ending::Faulted(BatchFault::CertificateMemory) => "tilesolve: F7\n",
+            Ending::Faulted(BatchFault::CertificateWrite) => "tilesolve: F8\n",
         }
     }
 
-    /// Writes the message, and answers the status whether it could be written or not.
+    /// Writes the message, or a beginning of it where it cannot be written, and answers the status.
     pub fn tell<E: Sink>(self, errors: &mut E) -> u8
         ensures status { result ≡ status_of self }
-        ensures told { AppendsBeginning (E.contents errors.old) (E.contents errors.new) (message_of self) }
+        ensures told { IsTold (E.contents errors.old) (E.contents errors.new) (E.has_failed errors.new) (message_of self) }
     {
         let _ = errors.put(self.message().as_bytes());
         self.status()
@@ -80,7 +80,7 @@ pub fn run_program<S: Source, K: Sink, E: Sink>(
 ) -> u8
     requires { K.has_failed sink.old ≡ false }
     ensures ended { (ending : Ending) × (result ≡ status_of ending)
-        × AppendsBeginning (E.contents errors.old) (E.contents errors.new) (message_of ending)
+        × IsTold (E.contents errors.old) (E.contents errors.new) (E.has_failed errors.new) (message_of ending)
         × ((words.now ≡ [] × EndsRun (S.left source.old) (S.left source.new) (K.contents sink.old) (K.contents sink.new)
         (S.has_failed source.new) (K.has_failed sink.new) ending)
         ⊎ (words.now ≢ [] × (ending ≡ Usage) × (source.new ≡ source.old) × (sink.new ≡ sink.old))) }

@@ -42,6 +42,14 @@ abbrev pub refused_data : List ℕ → ℕ → Data
 refused_data code line =
     object (member (codes "fault") (string code) (member (codes "line") (number (unsigned line)) (member (codes "status") (string (codes "refused")) no_members)))
 
+-- the report of a certificate that is accepted: the cost that it proves
+abbrev pub accepted_data : ℕ → Data
+accepted_data cost = object (member (codes "cost") (number (unsigned cost)) (member (codes "status") (string (codes "accepted")) no_members))
+
+-- the report of a certificate that is refused by a fault with this code
+abbrev pub refused_certificate_data : List ℕ → Data
+refused_certificate_data code = object (member (codes "fault") (string code) (member (codes "status") (string (codes "refused")) no_members))
+
 -- an object on a line of its own
 abbrev pub report_text : Data → List ℕ
 report_text data_value = compact_text data_value ++ 10 ∷ []

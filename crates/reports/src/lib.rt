@@ -1,6 +1,6 @@
-//! The reports of outcomes and of refused lines, as JSON.
+//! The reports of outcomes, of refused lines and of certificates, as JSON.
 #![tactic(auto)]
 
 pub mod report;
 
-pub use report::{outcome_report, refused_report};
+pub use report::{accepted_report, outcome_report, refused_certificate_report, refused_report};

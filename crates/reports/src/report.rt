@@ -6,7 +6,7 @@ ghost use Rattle.board.specs.declared.moves.Move.{Move};
 ghost use Rattle.board.specs.declared.boards.Board.{Board};
 ghost use Rattle.outcomes.specs.Outcomes.{best_of};
 ghost use Rattle.outcomes.specs.declared.outcome.Outcome.TheVariants.{Optimal, Unsolvable, Bounded};
-ghost use Rattle.reports.specs.Reports.{letter_of, letters_of, best_data, outcome_data, refused_data, report_text};
+ghost use Rattle.reports.specs.Reports.{letter_of, letters_of, best_data, outcome_data, refused_data, accepted_data, refused_certificate_data, report_text};
 
 use board::Move;
 use outcomes::{Cause, Outcome, Why};
@@ -25,6 +25,20 @@ pub fn refused_report(alloc: Global, code: &str, line: u64) -> Result<String, Al
     ensures { IfOk result (λ text. string_bytes text ≡ report_text (refused_data code.now line)) }
 {
     json_line(alloc, &refused_value(alloc, code, line)?)
+}
+
+/// The report of a certificate that is accepted: one JSON object and a line feed. The cost is the least.
+pub fn accepted_report(alloc: Global, cost: u32) -> Result<String, AllocError>
+    ensures { IfOk result (λ text. string_bytes text ≡ report_text (accepted_data cost)) }
+{
+    json_line(alloc, &accepted_value(alloc, cost)?)
+}
+
+/// The report of a certificate that is refused by a fault with this code: one JSON object and a line feed.
+pub fn refused_certificate_report(alloc: Global, code: &str) -> Result<String, AllocError>
+    ensures { IfOk result (λ text. string_bytes text ≡ report_text (refused_certificate_data code.now)) }
+{
+    json_line(alloc, &refused_certificate_value(alloc, code)?)
 }
 
 // The object of an outcome.
@@ -95,6 +109,20 @@ fn refused_value(alloc: Global, code: &str, line: u64) -> Result<Value, AllocErr
     ensures { IfOk result (λ built. view built ≡ refused_data code.now line) }
 {
     json!(in alloc; {"fault": code, "line": line, "status": "refused"})
+}
+
+// The object of a certificate that is accepted.
+fn accepted_value(alloc: Global, cost: u32) -> Result<Value, AllocError>
+    ensures { IfOk result (λ built. view built ≡ accepted_data cost) }
+{
+    json!(in alloc; {"cost": cost, "status": "accepted"})
+}
+
+// The object of a certificate that is refused.
+fn refused_certificate_value(alloc: Global, code: &str) -> Result<Value, AllocError>
+    ensures { IfOk result (λ built. view built ≡ refused_certificate_data code.now) }
+{
+    json!(in alloc; {"fault": code, "status": "refused"})
 }
 
 // The letters of the moves of a plan.

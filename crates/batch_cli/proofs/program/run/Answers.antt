@@ -1,8 +1,8 @@
 use Rattle.std.proofs.Common.{subst, sym, ◌∙◌}
 use Rattle.batch_cli.specs.Programs.{default_setup, small_grid}
-use Rattle.batch_cli.specs.Solving.{MayAnswer}
-use Rattle.batch_cli.specs.Setups.{SetupState}
-use Rattle.batch_cli.specs.Batches.{WritesAll}
+use Rattle.batch_runs.specs.Solving.{MayAnswer}
+use Rattle.batch_runs.specs.Setups.{SetupState}
+use Rattle.batch_runs.specs.Batches.{WritesAll}
 use Rattle.batch_cli.proofs.ProgramLemmas.{WritesSome-all}
 use Rattle.batch_cli.proofs.program.run.Goals as goal
 

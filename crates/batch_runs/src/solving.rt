@@ -1,8 +1,10 @@
-ghost use Rattle.std.specs.Prelude.{◌≡◌, ◌⊎◌, ◌↔◌, true, false, IfOk, OnErr, Err};
-ghost use Rattle.batch_cli.specs.Batches.{WritesAll, WritesWhole, WritesSome, IsTooLong};
-ghost use Rattle.batch_cli.specs.Solving.{MayAnswer};
+ghost use Rattle.std.specs.Prelude.{◌≡◌, ◌⊎◌, ◌↔◌, true, false, IfOk, IfErr, OnErr, Err};
+ghost use Rattle.batch_runs.specs.Batches.{WritesAll, WritesWhole, WritesSome, IsTooLong};
+ghost use Rattle.batch_runs.specs.Faults.{IsOfLines};
+ghost use Rattle.batch_runs.specs.Solving.{MayAnswer};
 
-use crate::batch::{Answerer, BatchFault, Summary, run_lines};
+use crate::batch::{Answerer, Summary, run_lines};
+use crate::faults::BatchFault;
 use crate::setup::Setup;
 use board::Board;
 use byte_streams::{Sink, Source};
@@ -11,7 +13,7 @@ use plain_search::solve;
 use std::alloc::{AllocError, Global};
 
 impl Answerer for Setup {
-    ghost use Rattle.batch_cli.specs.Solving.{MayAnswer};
+    ghost use Rattle.batch_runs.specs.Solving.{MayAnswer};
 
     ghost grid = { λ s. s.goal.grid };
 
@@ -42,6 +44,7 @@ pub fn run_batch<S: Source, K: Sink>(
     ensures read_failed { S.has_failed source.new ≡ true → result ≡ Err BatchFault.Read }
     ensures cannot_write { K.has_failed sink.old ≡ false
         → (result ≡ Err BatchFault.Write) ↔ (K.has_failed sink.new ≡ true) }
+    ensures of_lines { IfErr result IsOfLines }
     ensures begun { OnErr result (WritesSome setup.now.goal.grid (MayAnswer setup.now)
         (S.left source.old) (K.contents sink.old) (K.contents sink.new)) }
 {

@@ -1,7 +1,7 @@
 use Rattle.std.proofs.Common.{◌≡◌, ◌-◌, false}
 use Rattle.batch_lines.specs.Readings.{CountsTaken}
-use Rattle.batch_cli.proofs.BatchLemmas.{IsRunning}
-use Rattle.batch_cli.proofs.batch.run_lines.Given as goal
+use Rattle.batch_runs.proofs.BatchLemmas.{IsRunning}
+use Rattle.batch_runs.proofs.batch.run_lines.Given as goal
 
 abbrev pub invariant-lines : goal.invariant-lines
 invariant-lines g l = record {

@@ -2,8 +2,8 @@ use Rattle.std.proofs.Common.{◌≡◌, ℕ, List, ◌∙◌, subst}
 use Rattle.std.specs.Prelude.{string_bytes}
 use Rattle.std.specs.Io.KnownBytes.{Appends}
 use Rattle.byte_streams.specs.Sink.{AppendsBeginning}
-use Rattle.batch_cli.proofs.BatchLemmas.{IsRunning-more, writes_part, CountsTaken-more}
-use Rattle.batch_cli.proofs.batch.run_lines.Goals as goal
+use Rattle.batch_runs.proofs.BatchLemmas.{IsRunning-more, writes_part, CountsTaken-more}
+use Rattle.batch_runs.proofs.batch.run_lines.Goals as goal
 
 pub returns-in_default-put-clause-begun : goal.returns-in_default-put-clause-begun
 returns-in_default-put-clause-begun g c =

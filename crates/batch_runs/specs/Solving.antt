@@ -5,7 +5,7 @@ use Rattle.outcomes.specs.declared.outcome.Outcome.{Outcome}
 use Rattle.outcomes.specs.Outcomes.{Task, Answers}
 use Rattle.plain_search.specs.Soundness.{unguided}
 use Rattle.plain_search.specs.Results.{IsExcused}
-use Rattle.batch_cli.specs.Setups.{SetupState}
+use Rattle.batch_runs.specs.Setups.{SetupState}
 
 -- what is asked of a board: the plans from it to the setup's goal, at the setup's costs
 abbrev pub task_of : SetupState → Position → Task

@@ -1,5 +1,5 @@
 -- What is written for an input: a report for each line that isn't passed over, in order.
-use Rattle.std.specs.Prelude.{ℕ, ◌≡◌, ◌⊎◌, ◌+◌, ◌-◌, ◌<◌, List, [], ◌∷◌, ◌++◌, length, Option, None, Some, ⊤, codes}
+use Rattle.std.specs.Prelude.{ℕ, ◌≡◌, ◌⊎◌, ◌+◌, ◌-◌, ◌<◌, List, [], ◌∷◌, ◌++◌, length, Option, None, Some, ⊤, ◌==◌, cond, codes}
 use Rattle.std.specs.Io.KnownBytes.{Appends}
 use Rattle.byte_streams.specs.Sink.{AppendsBeginning}
 use Rattle.board.specs.Grids.{Grid}
@@ -13,15 +13,7 @@ use Rattle.batch_lines.specs.declared.lines.LineKind.{LineKind}
 use Rattle.batch_lines.specs.declared.lines.LineKind.TheVariants.{PassedOver, Within, TooLong}
 use Rattle.outcomes.specs.declared.outcome.Outcome.{Outcome}
 use Rattle.outcomes.specs.declared.outcome.Outcome.TheVariants.{Optimal, Unsolvable, Bounded}
-use Rattle.batch_cli.specs.declared.batch.Summary.{Summary}
-use Rattle.batch_cli.specs.declared.batch.BatchFault.{BatchFault}
-use Rattle.batch_cli.specs.declared.batch.BatchFault.TheVariants.{Read, Write, Memory as NoMemory}
-
--- the code that a fault of a batch is reported by
-abbrev pub batch_code_of : BatchFault → List ℕ
-batch_code_of Read = codes "B1"
-batch_code_of Write = codes "B2"
-batch_code_of NoMemory = codes "B3"
+use Rattle.batch_runs.specs.declared.batch.Summary.{Summary}
 
 -- one line more of the kind of this outcome
 abbrev pub with_outcome : Summary → Outcome → Summary
@@ -63,6 +55,10 @@ abbrev pub IsBatch : Grid → (Position → Option Outcome → Type 0) → ℕ �
 IsBatch grid allows n [] before text after = (text ≡ []) × (after ≡ before)
 IsBatch grid allows n (line ∷ lines) before text after =
     (first : List ℕ) × (rest : List ℕ) × (middle : Summary) × IsReport grid allows n line before first middle × IsBatch grid allows (n + 1) lines middle rest after × (text ≡ first ++ rest)
+
+-- the status of a run with these counts: 1 where some line is bounded or refused
+abbrev pub status_of_counts : Summary → ℕ
+status_of_counts counts = cond (counts.bounded == 0) (cond (counts.refused == 0) 0 1) 1
 
 -- no line is counted yet
 abbrev pub no_lines : Summary

@@ -12,7 +12,7 @@ pub struct Setup {
 
 impl Model for Setup {
     ghost use Rattle.std.specs.Prelude.{◌≡◌};
-    ghost use Rattle.batch_cli.specs.Setups.{SetupState};
+    ghost use Rattle.batch_runs.specs.Setups.{SetupState};
 
     ghost Value = { SetupState };
 

@@ -1,16 +1,17 @@
-ghost use Rattle.std.specs.Prelude.{◌≡◌, ◌⊎◌, ◌+◌, ◌↔◌, true, false, IfOk, OnErr, Err, Option, Some, None, string_bytes};
+ghost use Rattle.std.specs.Prelude.{◌≡◌, ◌⊎◌, ◌+◌, ◌↔◌, true, false, IfOk, IfErr, OnErr, Err, Option, Some, None, string_bytes};
 ghost use Rattle.board.specs.Grids.{Grid};
 ghost use Rattle.board.specs.Positions.{Position};
-ghost use Rattle.batch_cli.specs.Batches.{IsReportOf, IsAnswer, HasRoom, batch_code_of, with_outcome, with_refused, WritesAll, WritesWhole, WritesSome, IsTooLong};
+ghost use Rattle.batch_runs.specs.Batches.{IsReportOf, IsAnswer, HasRoom, with_outcome, with_refused, WritesAll, WritesWhole, WritesSome, IsTooLong};
+ghost use Rattle.batch_runs.specs.Faults.{IsOfLines};
 ghost use Rattle.outcomes.specs.declared.outcome.Outcome.{Outcome};
 
+use crate::faults::BatchFault;
 use batch_lines::{EntryFault, Line, LineKind, LineReader, read_entry};
 use board::{Board, Shape};
 use byte_streams::{Sink, Source};
 use outcomes::{Outcome, SolveFault};
 use reports::{outcome_report, refused_report};
 use std::alloc::{AllocError, Global};
-use thiserror::Error;
 
 /// What answers boards.
 pub trait Answerer {
@@ -25,33 +26,6 @@ pub trait Answerer {
         requires { start.now.grid ≡ grid self.now }
         ensures answered { IfOk result (λ outcome. allows self.now start.now (Some outcome)) }
         ensures lacking { OnErr result (allows self.now start.now None) };
-}
-
-/// Why a batch ended early.
-#[derive(Clone, Copy, Debug, PartialEq, Eq, Error)]
-pub enum BatchFault {
-    /// B1
-    #[error("the input cannot be read")]
-    Read,
-    /// B2
-    #[error("the output cannot be written")]
-    Write,
-    /// B3
-    #[error("no memory for a report")]
-    Memory,
-}
-
-impl BatchFault {
-    /// The code that the fault is reported by: `B1` to `B3`.
-    pub fn code(self) -> &'static str
-        ensures { result.now ≡ batch_code_of self }
-    {
-        match self {
-            BatchFault::Read => "B1",
-            BatchFault::Write => "B2",
-            BatchFault::Memory => "B3",
-        }
-    }
 }
 
 /// How many lines were answered, and how.
@@ -107,6 +81,7 @@ pub fn run_lines<S: Source, K: Sink, A: Answerer>(
     ensures read_failed { S.has_failed source.new ≡ true → result ≡ Err BatchFault.Read }
     ensures cannot_write { K.has_failed sink.old ≡ false
         → (result ≡ Err BatchFault.Write) ↔ (K.has_failed sink.new ≡ true) }
+    ensures of_lines { IfErr result IsOfLines }
     ensures begun { OnErr result (WritesSome shape (A.allows answerer.now)
         (S.left source.old) (K.contents sink.old) (K.contents sink.new)) }
 {

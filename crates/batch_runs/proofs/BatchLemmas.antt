@@ -8,12 +8,12 @@ use Rattle.byte_streams.specs.Sink.{AppendsBeginning}
 use Rattle.byte_streams.proofs.SinkLemmas.{AppendsBeginning-after}
 use Rattle.batch_lines.specs.Lines.{lines_of, without_return}
 use Rattle.batch_lines.specs.Readings.{TakesKnown, CountsTaken, IsJudged}
-use Rattle.batch_cli.specs.Batches.{IsAnswer, IsReportOf, IsReport, IsBatch, AreRead, AreFirst, WritesSome, no_lines, with_outcome}
+use Rattle.batch_runs.specs.Batches.{IsAnswer, IsReportOf, IsReport, IsBatch, AreRead, AreFirst, WritesSome, no_lines, with_outcome}
 use Rattle.batch_lines.specs.declared.lines.LineKind.{LineKind}
 use Rattle.batch_lines.specs.declared.lines.LineKind.TheVariants.{PassedOver, Within, TooLong}
 use Rattle.outcomes.specs.declared.outcome.Outcome.{Outcome}
 use Rattle.outcomes.specs.declared.outcome.Outcome.TheVariants.{Optimal, Unsolvable, Bounded}
-use Rattle.batch_cli.specs.declared.batch.Summary.{Summary}
+use Rattle.batch_runs.specs.declared.batch.Summary.{Summary}
 
 module _ (grid : Grid) (allows : Position → Option Outcome → Type 0) where
   -- one line more

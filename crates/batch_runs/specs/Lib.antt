@@ -1,0 +1,4 @@
+pub mod Faults
+pub mod Batches
+pub mod Setups
+pub mod Solving
