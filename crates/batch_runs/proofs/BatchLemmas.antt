@@ -52,7 +52,7 @@ counted_once grid allows n Within bytes before text after (inr (inl (id, b, outc
 counted_once grid allows n Within bytes before text after (inr (inr (id, b, entry, lacking, written, counted))) = let e = ap total counted in omega arith
 
 -- one line more was read
-AreRead-more : (input now new : Option (List ℕ)) (lines : List (List ℕ)) (line : List ℕ) → AreRead input now lines → TakesKnown now new line → AreRead input new (lines ++ line ∷ [])
+pub AreRead-more : (input now new : Option (List ℕ)) (lines : List (List ℕ)) (line : List ℕ) → AreRead input now lines → TakesKnown now new line → AreRead input new (lines ++ line ∷ [])
 AreRead-more None now new lines line read taken = tt
 AreRead-more (Some bytes) None new lines line read taken = absurd read
 AreRead-more (Some bytes) (Some left) None lines line read taken = absurd taken

@@ -1,11 +1,14 @@
 //! Tests of the crate `batch_cli`: how an input is cut into lines, what its words spell, what is reported,
-//! the run over lines, by any answerer and by the search, and the program.
+//! the run over lines, by any answerer and by the search, the runs that write and check certificates, and the
+//! program.
 #![tactic(auto)]
 
 #[cfg(test)]
 mod batches;
 #[cfg(test)]
 mod cases;
+#[cfg(test)]
+mod certificates;
 #[cfg(test)]
 mod fakes;
 #[cfg(test)]

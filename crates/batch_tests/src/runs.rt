@@ -186,6 +186,9 @@ fn codes_and_setup(rt: HostRuntime) -> Result<(), Fail> {
         (BatchFault::Read, "B1"),
         (BatchFault::Write, "B2"),
         (BatchFault::Memory, "B3"),
+        (BatchFault::CertificateRead, "F6"),
+        (BatchFault::CertificateMemory, "F7"),
+        (BatchFault::CertificateWrite, "F8"),
     ];
     for (fault, code) in faults {
         assert!(rt; fault.code() == code);

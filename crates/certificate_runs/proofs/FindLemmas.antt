@@ -1,0 +1,34 @@
+-- The lines that are passed over before the first other one.
+use Rattle.std.proofs.Common.{◌≡◌, ℕ, ◌+◌, List, [], ◌∷◌, ◌++◌, Option, None, Some, All, length, refl, sym, ◌∙◌, arith, length-append}
+use Rattle.batch_lines.specs.Readings.{TakesKnown, IsJudged}
+use Rattle.batch_lines.specs.declared.lines.LineKind.{LineKind}
+use Rattle.batch_lines.specs.declared.lines.LineKind.TheVariants.{PassedOver}
+use Rattle.batch_runs.specs.Batches.{AreRead}
+use Rattle.batch_runs.proofs.BatchLemmas.{AreRead-more}
+use Rattle.certificate_runs.specs.Certifying.{IsPassedOver}
+use Rattle.std.proofs.lemmas.List.Elements.{All-nil, All-cons, All-append}
+
+-- so many lines were read, and all are passed over
+pub record IsSearching (input now : Option (List ℕ)) (numbered : ℕ) : Type 0 where
+  pub lines : List (List ℕ)
+  pub read : AreRead input now lines
+  pub passed : All IsPassedOver lines
+  pub counted : numbered ≡ length lines
+
+read_none : (input : Option (List ℕ)) → AreRead input input []
+read_none None = tt
+read_none (Some bytes) = refl
+
+pub searching_begins : (input : Option (List ℕ)) → IsSearching input input 0
+searching_begins input = record { lines = []; read = read_none input; passed = All-nil IsPassedOver; counted = refl }
+
+-- one line more is passed over
+pub searching_on : (input now new : Option (List ℕ)) (n m : ℕ) (bytes kept : List ℕ) (kind : LineKind) → IsSearching input now n → TakesKnown now new bytes → IsJudged bytes kind kept → kind ≡ PassedOver → m ≡ n + 1 → IsSearching input new m
+searching_on input now new n m bytes kept kind searching taken judged passed next =
+    let longer = length-append searching.lines (bytes ∷ []) in
+    record {
+      lines = searching.lines ++ bytes ∷ [];
+      read = AreRead-more input now new searching.lines bytes searching.read taken;
+      passed = All-append IsPassedOver searching.lines (bytes ∷ []) searching.passed (All-cons IsPassedOver bytes [] (sym judged.judged ∙ passed) (All-nil IsPassedOver));
+      counted = omega (arith, next, searching.counted, longer);
+    }

@@ -1,0 +1,3 @@
+pub mod CheckLemmas
+pub mod FindLemmas
+pub mod CertifyLemmas

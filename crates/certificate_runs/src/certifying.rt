@@ -1,0 +1,194 @@
+ghost use Rattle.std.specs.Prelude.{◌≡◌, ◌≢◌, ◌⊎◌, ◌↔◌, [], true, false, Err, IfOk, IfErr, OnErr, IsErr, is_err};
+ghost use Rattle.std.specs.Io.KnownBytes.{Appends};
+ghost use Rattle.byte_streams.specs.Sink.{AppendsBeginning};
+ghost use Rattle.outcomes.specs.declared.outcome.Outcome.TheVariants.{Optimal};
+ghost use Rattle.outcomes.specs.Outcomes.{Answers};
+ghost use Rattle.batch_lines.specs.declared.lines.LineKind.TheVariants.{PassedOver, Within};
+ghost use Rattle.certificate.specs.Certificates.{AreNamedCosts, IsBoardOf};
+ghost use Rattle.batch_runs.specs.Batches.{IsTooLong, no_lines, with_outcome, status_of_counts};
+ghost use Rattle.batch_runs.specs.Solving.{task_of};
+ghost use Rattle.certificate_runs.specs.Certifying.{FindsLine, LosesLine, AnswersFirst, EndsFirst, IsCertificateOf, IsReply, IsRefusal, text_of, reply_status, write_fault_of};
+
+use batch_lines::{EntryFault, Line, LineKind, LineReader, read_entry};
+use batch_runs::{Answerer, BatchFault, Setup};
+use board::laws::keys_are_in_order;
+use board::{Board, Move};
+use byte_streams::{ReadFailed, Sink, Source};
+use certificate::{Certificate, Parts, write};
+use outcomes::{Outcome, SolveFault};
+use reports::{outcome_report, refused_report};
+use std::alloc::{AllocError, Global};
+
+/// Answers the first line of the source that isn't passed over, and takes nothing behind it: where a plan of
+/// least cost is found, its certificate is written, else the line's report.
+///
+/// Answers the status: 0 for a certificate, for a board without a plan, and where no line is to be answered;
+/// 1 for a bound and for a line that is refused. Nothing is written where reading fails or memory is wanting.
+/// Nothing is flushed.
+pub fn run_cert<S: Source, K: Sink>(
+    alloc: Global,
+    source: &mut S,
+    sink: &mut K,
+    setup: &Setup,
+) -> Result<u8, BatchFault>
+    requires named { AreNamedCosts setup.now.goal.grid setup.now.rule }
+    ensures answered { IfOk result (AnswersFirst setup.now (S.left source.old) (S.left source.new)
+        (K.contents sink.old) (K.contents sink.new)) }
+    ensures ended { IfErr result (EndsFirst setup.now (S.left source.old) (S.left source.new)
+        (K.contents sink.old) (K.contents sink.new)) }
+    ensures cannot_read { result ≡ Err BatchFault.Read
+        → (S.has_failed source.new ≡ true) ⊎ IsTooLong (S.left source.old) }
+    ensures read_failed { S.has_failed source.new ≡ true → result ≡ Err BatchFault.Read }
+    ensures cannot_write { K.has_failed sink.old ≡ false
+        → ((result ≡ Err BatchFault.Write) ⊎ (result ≡ Err BatchFault.CertificateWrite))
+        ↔ (K.has_failed sink.new ≡ true) }
+{
+    let mut reader = LineReader::new();
+    match find_line(source, &mut reader) {
+        Ok(Some(line)) => match reply_to_line(alloc, setup, line, reader.bytes()) {
+            Ok(reply) => put_reply(sink, &reply),
+            Err(_) => Err(BatchFault::Memory),
+        },
+        Ok(None) => Ok(0),
+        Err(_) => Err(BatchFault::Read),
+    }
+}
+
+// What is written for a line: a certificate, or a report with its status.
+#[derive(Drop)]
+enum Reply {
+    Certified(Certificate),
+    Reported(String, u8),
+}
+
+// The next line that isn't passed over.
+fn find_line<S: Source>(source: &mut S, reader: &mut LineReader) -> Result<Option<Line>, ReadFailed>
+    requires { reader.old ≡ record { lines = 0; taken = 0; kept = [] } }
+    ensures found { IfOk result (FindsLine (S.left source.old) (S.left source.new) reader.new.kept) }
+    ensures lost { OnErr result (LosesLine (S.left source.old) (S.left source.new)) }
+    ensures fails { IsErr result → (S.has_failed source.new ≡ true) ⊎ IsTooLong (S.left source.old) }
+    ensures failed { S.has_failed source.new ≡ true → IsErr result }
+{
+    'lines: loop {
+        let next = match reader.next_line(source) {
+            Ok(next) => next,
+            Err(failure) => return Err(failure),
+        };
+        let Some(line) = next else {
+            return Ok(None);
+        };
+        match line.kind {
+            LineKind::PassedOver => {}
+            _ => return Ok(Some(line)),
+        }
+    }
+}
+
+// The reply to a line that isn't passed over, whose bytes are given where it is to be read.
+fn reply_to_line(
+    alloc: Global,
+    setup: &Setup,
+    line: Line,
+    bytes: &[u8],
+) -> Result<Reply, AllocError>
+    requires named { AreNamedCosts setup.now.goal.grid setup.now.rule }
+    requires kind { line.kind ≢ PassedOver }
+    ensures { IfOk result (IsReply setup.now line.number line.kind bytes.now) }
+{
+    match line.kind {
+        LineKind::Within => reply_to_entry(alloc, setup, line.number, bytes),
+        _ => refuse(alloc, EntryFault::NoText.code(), line.number),
+    }
+}
+
+// The reply to a line that is to be read.
+fn reply_to_entry(
+    alloc: Global,
+    setup: &Setup,
+    number: u64,
+    bytes: &[u8],
+) -> Result<Reply, AllocError>
+    requires { AreNamedCosts setup.now.goal.grid setup.now.rule }
+    ensures { IfOk result (IsReply setup.now number Within bytes.now) }
+{
+    let entry = match read_entry(setup.shape(), bytes) {
+        Ok(entry) => entry,
+        Err(fault) => return refuse(alloc, fault.code(), number),
+    };
+    match setup.answer(alloc, &entry.board) {
+        Ok(Outcome::Optimal { cost, plan, rows }) => {
+            let certificate = certify(setup, entry.board, cost, plan, rows);
+            Ok(Reply::Certified(certificate))
+        }
+        Ok(outcome) => {
+            let text = outcome_report(alloc, entry.id, &outcome)?;
+            Ok(Reply::Reported(text, status_of(&outcome)))
+        }
+        Err(_) => refuse(alloc, SolveFault::Memory.code(), number),
+    }
+}
+
+// The report of a line that is refused.
+fn refuse(alloc: Global, code: &str, number: u64) -> Result<Reply, AllocError>
+    ensures { IfOk result (IsRefusal code.now number) }
+{
+    Ok(Reply::Reported(refused_report(alloc, code, number)?, 1))
+}
+
+// 1 for a bound, 0 for a board without a plan.
+fn status_of(outcome: &Outcome) -> u8
+    ensures { result ≡ status_of_counts (with_outcome no_lines outcome.now) }
+{
+    match outcome {
+        Outcome::Bounded { .. } => 1,
+        _ => 0,
+    }
+}
+
+// The certificate of a plan of least cost.
+fn certify(
+    setup: &Setup,
+    start: Board,
+    cost: u32,
+    plan: Vec<Move>,
+    rows: Vec<(Board, u32)>,
+) -> Certificate
+    requires named { AreNamedCosts setup.now.goal.grid setup.now.rule }
+    requires start { IsBoardOf setup.now.goal.grid start }
+    requires answers { Answers (task_of setup.now start) (Optimal cost plan rows) }
+    ensures { IsCertificateOf setup.now start result }
+{
+    // The order of the rows, which is by key, is that of their lists of tiles by this law.
+    keys_are_in_order();
+    let goal = setup.goal();
+    let parts = Parts {
+        shape: goal.shape(),
+        costs: setup.weights(),
+        start,
+        goal,
+        cost,
+        plan,
+        rows,
+    };
+    Certificate::new(parts).unwrap()
+}
+
+// Writes a reply, and answers its status.
+fn put_reply<K: Sink>(sink: &mut K, reply: &Reply) -> Result<u8, BatchFault>
+    ensures put { IfOk result (λ status. (status ≡ reply_status reply.now)
+        × Appends (K.contents sink.old) (K.contents sink.new) (text_of reply.now)) }
+    ensures begun { IfErr result (λ fault. (fault ≡ write_fault_of reply.now)
+        × AppendsBeginning (K.contents sink.old) (K.contents sink.new) (text_of reply.now)) }
+    ensures failed { K.has_failed sink.new ≡ is_err result }
+{
+    match reply {
+        Reply::Certified(certificate) => match write(sink, certificate) {
+            Ok(()) => Ok(0),
+            Err(_) => Err(BatchFault::CertificateWrite),
+        },
+        Reply::Reported(text, status) => match sink.put(text.as_str().as_bytes()) {
+            Ok(()) => Ok(*status),
+            Err(_) => Err(BatchFault::Write),
+        },
+    }
+}

@@ -1,0 +1,8 @@
+//! Runs that write and check certificates: a line in and a certificate out, a certificate in and a verdict out.
+#![tactic(auto)]
+
+pub mod certifying;
+pub mod checking;
+
+pub use certifying::run_cert;
+pub use checking::run_check;
