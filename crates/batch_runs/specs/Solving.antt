@@ -1,7 +1,10 @@
 -- What a batch of boards may be answered.
-use Rattle.std.specs.Prelude.{⊤, Option, None, Some}
+use Rattle.std.specs.Prelude.{◌≡◌, ◌⊎◌, Option, None, Some}
 use Rattle.board.specs.Positions.{Position}
+use Rattle.board.specs.Classes.{SameClass}
 use Rattle.outcomes.specs.declared.outcome.Outcome.{Outcome}
+use Rattle.outcomes.specs.declared.outcome.Outcome.TheVariants.{Unsolvable}
+use Rattle.outcomes.specs.declared.outcome.Why.TheVariants.{Parity}
 use Rattle.outcomes.specs.Outcomes.{Task, Answers}
 use Rattle.plain_search.specs.Soundness.{unguided}
 use Rattle.plain_search.specs.Results.{IsExcused}
@@ -11,8 +14,11 @@ use Rattle.batch_runs.specs.Setups.{SetupState}
 abbrev pub task_of : SetupState → Position → Task
 task_of setup start = unguided start setup.goal setup.rule
 
--- A board is answered by an outcome that answers its task, where a bound alone is given only with an excuse. Or memory was
--- wanting before the first step, which no definition can rule out.
+-- A board is answered by an outcome that answers its task. A board that isn't in the goal's class is answered by its parity;
+-- any other one by a search, which gives a bound alone only with an excuse, and which may want memory before the first step:
+-- when it does, no definition can tell.
 abbrev pub MayAnswer : SetupState → Position → Option Outcome → Type 0
-MayAnswer setup start None = ⊤
-MayAnswer setup start (Some outcome) = Answers (task_of setup start) outcome × IsExcused (task_of setup start) outcome
+MayAnswer setup start None = SameClass start setup.goal
+MayAnswer setup start (Some outcome) =
+    Answers (task_of setup start) outcome
+    × ((SameClass start setup.goal × IsExcused (task_of setup start) outcome) ⊎ ((¬ SameClass start setup.goal) × (outcome ≡ Unsolvable Parity)))

@@ -6,9 +6,10 @@ ghost use Rattle.batch_runs.specs.Solving.{MayAnswer};
 use crate::batch::{Answerer, Summary, run_lines};
 use crate::faults::BatchFault;
 use crate::setup::Setup;
-use board::Board;
+use board::laws::plans_keep_the_class;
+use board::{Board, same_class};
 use byte_streams::{Sink, Source};
-use outcomes::Outcome;
+use outcomes::{Outcome, Why};
 use plain_search::solve;
 use std::alloc::{AllocError, Global};
 
@@ -20,12 +21,19 @@ impl Answerer for Setup {
     ghost allows = { MayAnswer };
 
     fn answer(&self, alloc: Global, start: &Board) -> Result<Outcome, AllocError> {
-        solve(alloc, start, &self.goal(), &self.weights())
+        let goal = self.goal();
+        // By this law no plan leads from a board, which `shape` says that the start is, to another class.
+        plans_keep_the_class();
+        let _ = start.shape();
+        if !same_class(start, &goal) {
+            return Ok(Outcome::Unsolvable { why: Why::Parity });
+        }
+        solve(alloc, start, &goal, &self.weights())
     }
 }
 
 /// Writes a report for each line of the source that isn't passed over, in order: that of its first fault, or
-/// of an outcome that answers its board.
+/// of an outcome that answers its board. A board that isn't in the goal's class is answered without a search.
 ///
 /// After `Read` exactly the reports of the lines that were read whole are written; after the other faults a
 /// beginning of the reports. Nothing is flushed.

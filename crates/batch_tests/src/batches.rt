@@ -87,9 +87,10 @@ fn boards_of_two_by_two(rt: HostRuntime) -> Result<(), Fail> {
         writes(
             &rt,
             &setup,
-            b"a 0 2 1 3",
-            "{\"id\":\"a\",\"status\":\"unsolvable\",\"why\":\"exhausted\"}\n",
-            counted(0, 1, 0, 0),
+            b"a 0 2 1 3\na 1 0 2 3\n",
+            "{\"id\":\"a\",\"status\":\"unsolvable\",\"why\":\"parity\"}\n\
+             {\"cost\":1,\"id\":\"a\",\"plan\":\"L\",\"status\":\"optimal\"}\n",
+            counted(1, 1, 0, 0),
         )?;
     }
     Ok(())

@@ -75,7 +75,7 @@ fn reports_of_lines(rt: HostRuntime) -> Result<(), Fail> {
     let cases = [
         ("", "", 0),
         ("\n# nothing\n  \n", "", 0),
-        ("a 0 2 1 3\n", "{\"id\":\"a\",\"status\":\"unsolvable\",\"why\":\"exhausted\"}\n", 0),
+        ("a 0 2 1 3\n", "{\"id\":\"a\",\"status\":\"unsolvable\",\"why\":\"parity\"}\n", 0),
         ("\nx 0 1 2\na 0 1 2 3\n", "{\"fault\":\"E2\",\"line\":2,\"status\":\"refused\"}\n", 1),
         ("x 0 1 2 4", "{\"fault\":\"E3\",\"line\":1,\"status\":\"refused\"}\n", 1),
     ];
