@@ -57,6 +57,7 @@ group_room grid ts some group =
 
 -- there are at least as many ways as orders
 ways_least : (n r : ℕ) → r ≤ n → factorial r ≤ ways n r
+unfolding ways
 ways_least n zero le = omega arith
 ways_least zero (suc r) le = absurd (omega arith)
 ways_least (suc n) (suc r) le =
@@ -76,6 +77,7 @@ factorial_more r (suc k) =
 
 -- and more where not every place is used
 ways_more : (n r : ℕ) → r < n → factorial (suc r) ≤ ways n r
+unfolding ways
 ways_more n zero lt = omega arith
 ways_more zero (suc r) lt = absurd (omega arith)
 ways_more (suc n) (suc r) lt =
@@ -201,6 +203,7 @@ regroup : (s f w : ℕ) → s * f * w ≡ s * (f * w)
 regroup s f w = mul_assoc s f w
 
 pub ways_step : (n r i size total : ℕ) → i < r → r ≤ n → size * ways (n - i) (r - i) ≡ total → size * (n - i) * ways (n - (i + 1)) (r - (i + 1)) ≡ total
+unfolding ways
 ways_step n r i size total i_in le e =
     let rest : r - i ≡ suc (r - (i + 1)) = omega arith in
     let less : n - i - 1 ≡ n - (i + 1) = omega arith in

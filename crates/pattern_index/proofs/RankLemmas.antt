@@ -136,7 +136,7 @@ same_digit : (x y cs ct : ℕ) → cs ≡ cond (ltb x y) 1 0 + ct → y - cs ≡
 same_digit x y cs ct e = grind (arith, nat_tests)
 
 take_out : (n : ℕ) (s t : List ℕ) (x : ℕ) (q : List ℕ) → Agrees x s t → Other x q → rank_after n s q ≡ rank_after n t (map (squeeze x) q)
-unfolding Agrees
+unfolding rank_after Agrees
 take_out n s t x [] agrees other = refl
 take_out n s t x (y ∷ ys) agrees other =
     let digit = same_digit x y (smaller y s) (smaller (squeeze x y) t) (agrees y other.0) in
@@ -154,9 +154,11 @@ pub one_less : (n : ℕ) → suc n - 1 ≡ n
 one_less n = omega arith
 
 pub ways-suc : (n r : ℕ) → ways (suc n) (suc r) ≡ suc n * ways n r
+unfolding ways
 ways-suc n r = ap (λ m. suc n * ways m r) (one_less n)
 
 pub rank_of-cons : (n x : ℕ) (xs : List ℕ) → Other x xs → rank_of (suc n) (x ∷ xs) ≡ x * ways n (length xs) + rank_of n (map (squeeze x) xs)
+unfolding rank_of rank_after
 rank_of-cons n x xs other =
     (λ i. sub-zero x i * ways (one_less n i) (length xs) + rank_after (one_less n i) (x ∷ []) xs)
     ∙ ap (λ m. x * ways n (length xs) + m) (take_out n (x ∷ []) [] x xs (first_agrees x) other)
@@ -165,6 +167,7 @@ rank_of-cons n x xs other =
 
 -- ranks stay below the number of ways
 pub rank_below : (n : ℕ) (xs : List ℕ) → Below n xs → Differ xs → rank_of n xs < ways n (length xs)
+unfolding rank_of rank_after ways
 rank_below n [] below differ = omega arith
 rank_below zero (x ∷ xs) below differ = absurd (omega (arith, below.0))
 rank_below (suc n) (x ∷ xs) below differ =
@@ -177,6 +180,7 @@ rank_below (suc n) (x ∷ xs) below differ =
 
 -- lists of one length with one rank are one list
 pub rank_differs : (n : ℕ) (xs ys : List ℕ) → Below n xs → Differ xs → Below n ys → Differ ys → length xs ≡ length ys → rank_of n xs ≡ rank_of n ys → xs ≡ ys
+unfolding rank_of
 rank_differs n [] [] bx dx by' dy same rank = refl
 rank_differs n [] (y ∷ ys) bx dx by' dy same rank = absurd (omega arith)
 rank_differs n (x ∷ xs) [] bx dx by' dy same rank = absurd (omega arith)
@@ -201,16 +205,19 @@ rank_differs (suc n) (x ∷ xs) (y ∷ ys) bx dx by' dy same rank =
 
 -- there is a way to list cells that are there
 pub ways_some : (n r : ℕ) → r ≤ n → 0 < ways n r
+unfolding ways
 ways_some n zero le = omega arith
 ways_some zero (suc r) le = absurd (omega arith)
 ways_some (suc n) (suc r) le = let h = ways_some n r (omega arith) in let w = ways-suc n r in let m : 1 * ways n r ≤ suc n * ways n r = mul-le-mul_right (ways n r) (omega arith) in omega arith
 
 pub length-list_at : (n r k : ℕ) → r ≤ n → length (list_at n r k) ≡ r
+unfolding list_at
 length-list_at n zero k le = refl
 length-list_at zero (suc r) k le = absurd (omega arith)
 length-list_at (suc n) (suc r) k le = ap suc (length-map (list_at n r (k % ways n r)) (spread (k / ways n r)) ∙ length-list_at n r (k % ways n r) (omega arith))
 
 pub list_at_below : (n r k : ℕ) → r ≤ n → k < ways n r → Below n (list_at n r k)
+unfolding list_at
 list_at_below n zero k le lt = tt
 list_at_below zero (suc r) k le lt = absurd (omega arith)
 list_at_below (suc n) (suc r) k le lt =
@@ -219,12 +226,14 @@ list_at_below (suc n) (suc r) k le lt =
     (div_below k (ways n r) (suc n) some (omega arith), spread_listing n (k / ways n r) (list_at n r (k % ways n r)) (list_at_below n r (k % ways n r) (omega arith) (mod_below k (ways n r) some)))
 
 pub list_at_differ : (n r k : ℕ) → Differ (list_at n r k)
+unfolding list_at
 list_at_differ n zero k = tt
 list_at_differ zero (suc r) k = tt
 list_at_differ (suc n) (suc r) k =
     (spread_others (k / ways n r) (list_at n r (k % ways n r)), spread_differs (k / ways n r) (list_at n r (k % ways n r)) (list_at_differ n r (k % ways n r)))
 
 pub rank_of-list_at : (n r k : ℕ) → r ≤ n → k < ways n r → rank_of n (list_at n r k) ≡ k
+unfolding list_at ways rank_of rank_after
 rank_of-list_at n zero k le lt = omega arith
 rank_of-list_at zero (suc r) k le lt = absurd (omega arith)
 rank_of-list_at (suc n) (suc r) k le lt =

@@ -54,7 +54,6 @@ sight_of_list grid group v k room low is =
     let made = listing_from n (cells_of v) below differ in
     (record { one_each = omega arith; in_range = made.in_range; different = made.different }, ap (rank_of n) is ∙ rank_of-list_at n r k room low)
 
-
 -- some view has each rank below the size
 pub sight_at : (grid : Grid) (group : List ℕ) (k : ℕ) → suc (length group) ≤ cell_count grid → k < ways (cell_count grid) (suc (length group)) → (v : Sight) × IsView grid group v × (rank_in grid v ≡ k)
 sight_at grid group k room low =

@@ -139,7 +139,6 @@ module _ (grid : Grid) (rule : CostRule) (group : List ℕ) (v : Sight) (m : Mov
         cost = moves.cost ∙ sym (ap (λ xs. weight_on rule group xs v.blank) cells ∙ weight_put rule group v.cells v.blank v'.blank differ.0);
       }
 
-
 -- ---- views of boards
 
 -- a tile does not stand where the blank is
@@ -237,8 +236,7 @@ seen_move rule group b m b' c board is_group moves =
     let tiles = recursion_from_All (IsTile b.grid) group is_group.tiles in
     let to_below = cell_below b.grid m (blank_of b) to moves.towards in
     let now : blank_of b' ≡ to = ap blank_of moves.after ∙ blank_after b board to to_below in
-    let cells : map (cell_of b') group ≡ map (λ cell. cond (eqb cell to) (blank_of b) cell) (map (cell_of b) group) = ap (λ p. map (cell_of p) group) moves.after ∙ cells_after b board to to_below group tiles in
-    (
+    let cells : map (cell_of b') group ≡ map (λ cell. cond (eqb cell to) (blank_of b) cell) (map (cell_of b) group) = ap (λ p. map (cell_of p) group) moves.after ∙ cells_after b board to to_below group tiles in (
       weight_on rule group (map (cell_of b) group) to,
       record {
         towards = subst (λ (x : ℕ). LiesTowards b.grid m (blank_of b) x) (sym now) moves.towards;

@@ -3,7 +3,7 @@ use Rattle.std.specs.Prelude.{◌≡◌, ◌≢◌, ◌⊎◌, ℕ, zero, suc, �
 use Rattle.std.specs.Int.{bit_at}
 
 -- in how many ways r different cells of n can be listed
-abbrev pub ways : ℕ → ℕ → ℕ
+unfoldable pub ways : ℕ → ℕ → ℕ
 ways n zero = 1
 ways n (suc r) = n * ways (n - 1) r
 
@@ -14,12 +14,12 @@ pub record IsListing (n : ℕ) (cells : List ℕ) : Type 0 where
 
 -- The rank of what is left of a list, where n cells have not been taken and those of `seen` have.
 -- Each cell counts without the smaller ones that stood before it, times the ways to go on.
-abbrev pub rank_after : ℕ → List ℕ → List ℕ → ℕ
+unfoldable pub rank_after : ℕ → List ℕ → List ℕ → ℕ
 rank_after n seen [] = 0
 rank_after n seen (x ∷ xs) = (x - count_by (λ y. nat_lt y x) seen) * ways (n - 1) (length xs) + rank_after (n - 1) (x ∷ seen) xs
 
 -- the rank of a list of different cells, of n
-abbrev pub rank_of : ℕ → List ℕ → ℕ
+unfoldable pub rank_of : ℕ → List ℕ → ℕ
 rank_of n cells = rank_after n [] cells
 
 -- a cell among those that are left after x is taken out
@@ -27,7 +27,7 @@ abbrev pub spread : ℕ → ℕ → ℕ
 spread x y = if nat_le x y then y + 1 else y
 
 -- the list of r of n cells that has a rank
-abbrev pub list_at : ℕ → ℕ → ℕ → List ℕ
+unfoldable pub list_at : ℕ → ℕ → ℕ → List ℕ
 list_at n zero k = []
 list_at zero (suc r) k = []
 list_at (suc n) (suc r) k = (k / ways n r) ∷ map (spread (k / ways n r)) (list_at n r (k % ways n r))

@@ -148,6 +148,7 @@ impl Group {
         requires { rank < size_of self.now }
         ensures view { IsView self.now.grid self.now.tiles result }
         ensures rank { rank_in self.now.grid result ≡ rank }
+        ensures one { (v : Sight) → IsView self.now.grid self.now.tiles v → rank_in self.now.grid v ≡ rank → v ≡ result }
     {
         let shape = self.shape();
         View::of_rank(shape.cells(), self.tiles().len() + 1, rank)

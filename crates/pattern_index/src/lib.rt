@@ -5,7 +5,7 @@
 //! place in lexicographic order.
 #![tactic(auto)]
 
-pub mod cells;
+mod cells;
 pub mod fault;
 pub mod group;
 pub mod laws;

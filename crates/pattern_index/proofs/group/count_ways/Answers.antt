@@ -10,6 +10,7 @@ pub places-preserved : goal.places-preserved
 places-preserved c = (ways_step c.args.cells c.args.places c.places.place c.places.ways (ways c.args.cells c.args.places) c.places-test.true c.requires.room c.places.invariant.0, c.if-ways-gt-MAX_SIZE.false)
 
 pub returns : goal.returns
+unfolding ways
 returns c =
     let none : c.args.places - c.places.place ≡ 0 = omega arith in
     let e : c.places.ways * ways (c.args.cells - c.places.place) 0 ≡ ways c.args.cells c.args.places = ap (λ r. c.places.ways * ways (c.args.cells - c.places.place) r) (sym none) ∙ c.places.invariant.0 in

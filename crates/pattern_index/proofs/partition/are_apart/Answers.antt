@@ -14,8 +14,7 @@ returns-then-not-is_apart-clause-apart c =
 
 pub groups-preserved : goal.groups-preserved
 groups-preserved c =
-    let test = of_tiles c.args.groups.now c.groups.i c.tiles.result.now c.index-groups-i.result c.is_apart.result c.tiles.ensures.value c.is_apart.ensures in
-    (
+    let test = of_tiles c.args.groups.now c.groups.i c.tiles.result.now c.index-groups-i.result c.is_apart.result c.tiles.ensures.value c.is_apart.ensures in (
       apart_more c.args.groups.now c.groups.i c.index-groups-i.result c.groups-test.true c.index-groups-i.is (test.0 c.if-not-is_apart.false) c.groups.invariant.0,
       All-more (λ (g : Selection). IsSelection g) c.args.groups.now c.groups.i c.index-groups-i.result c.groups-test.true c.groups.invariant.1 (subst (λ (g : Selection). IsSelection g) c.index-groups-i.is c.tiles.ensures.group),
     )
