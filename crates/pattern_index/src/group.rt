@@ -118,6 +118,7 @@ impl Group {
     pub fn size(&self) -> usize
         ensures value { result ≡ size_of self.now }
         ensures quotient { result ≡ factorial (cell_count self.now.grid) / factorial (cell_count self.now.grid - suc (length self.now.tiles)) }
+        ensures low { 1 ≤ result }
         ensures high { result ≤ max_size }
     {
         self.size
