@@ -140,8 +140,7 @@ impl Group {
         ensures below { result < size_of self.now }
         ensures high { result < max_size }
     {
-        let shape = self.shape();
-        rank_cells(shape.cells(), view.cells())
+        rank_cells(self.shape().cells(), view.cells())
     }
 
     /// The view at a place.
@@ -151,8 +150,7 @@ impl Group {
         ensures rank { rank_in self.now.grid result ≡ rank }
         ensures one { (v : Sight) → IsView self.now.grid self.now.tiles v → rank_in self.now.grid v ≡ rank → v ≡ result }
     {
-        let shape = self.shape();
-        View::of_rank(shape.cells(), self.tiles().len() + 1, rank)
+        View::of_rank(self.shape().cells(), self.tiles().len() + 1, rank)
     }
 
     /// The view after a move of the blank, and the weight of the tile moved where it is the group's, else 0;
@@ -166,8 +164,7 @@ impl Group {
         ensures view { IfSome result (λ moved. IsView self.now.grid self.now.tiles moved.0) }
         ensures high { IfSome result (λ moved. moved.1 ≤ 255) }
     {
-        let shape = self.shape();
-        let to = shape.neighbour(view.blank() as usize, direction)?;
+        let to = self.shape().neighbour(view.blank() as usize, direction)?;
         let cost = weight_on(weights, self.tiles(), &view.cells()[1..], to);
         Some((view.moved_to(to as u8), cost))
     }

@@ -13,14 +13,14 @@ use Rattle.pattern_index.proofs.group.Group.step.Goals as goal
 pub overflow_cast-to : goal.overflow_cast-to
 overflow_cast-to c =
     let lies = (c.neighbour.ensures.towards c.in_ok-to.to).0 c.in_ok-to.was in
-    let low : c.in_ok-to.to < cell_count c.shape-shape.result = cell_below c.shape-shape.result c.args.direction c.blank.result c.in_ok-to.to lies in
-    let same : cell_count c.shape-shape.result ≡ cell_count c.args.self.now.grid = ap cell_count c.shape-shape.ensures.value in
-    let high : cell_count c.args.self.now.grid ≤ 25 = cells_high c.args.self.now.grid c.shape-shape.ensures.group.sides in
+    let low : c.in_ok-to.to < cell_count c.shape.result = cell_below c.shape.result c.args.direction c.blank.result c.in_ok-to.to lies in
+    let same : cell_count c.shape.result ≡ cell_count c.args.self.now.grid = ap cell_count c.shape.ensures.value in
+    let high : cell_count c.args.self.now.grid ≤ 25 = cells_high c.args.self.now.grid c.shape.ensures.group.sides in
     omega arith
 
 pub returns-clause-value : goal.returns-clause-value
 returns-clause-value c =
-    let there : neighbour c.args.self.now.grid c.args.direction c.args.view.now.blank ≡ Some c.in_ok-to.to = sym (sym c.in_ok-to.was ∙ c.neighbour.ensures.value ∙ (λ i. neighbour (c.shape-shape.ensures.value i) c.args.direction (c.blank.ensures i))) in
+    let there : neighbour c.args.self.now.grid c.args.direction c.args.view.now.blank ≡ Some c.in_ok-to.to = sym (sym c.in_ok-to.was ∙ c.neighbour.ensures.value ∙ (λ i. neighbour (c.shape.ensures.value i) c.args.direction (c.blank.ensures i))) in
     let cost : c.weight_on-cost.result ≡ weight_on c.args.weights.now c.args.self.now.tiles c.args.view.now.cells c.in_ok-to.to =
     c.weight_on-cost.ensures.value
     ∙ (λ i. weight_on c.args.weights.now (c.tiles.ensures.value i) (take_rest c.cells.result.now 1 i) c.in_ok-to.to)

@@ -10,7 +10,7 @@ is_view : (c : goal.After-of_rank) → IsView c.args.self.now.grid c.args.self.n
 is_view c =
     let is : cells_of c.of_rank.result ≡ list_at (cell_count c.args.self.now.grid) (suc (length c.args.self.now.tiles)) c.args.rank =
     let few : length c.tiles.result.now + 1 ≡ suc (length c.args.self.now.tiles) = ap (λ ts. length ts + 1) c.tiles.ensures.value ∙ add-one (length c.args.self.now.tiles) in
-    let cells : c.cells.result ≡ cell_count c.args.self.now.grid = c.cells.ensures.value ∙ ap cell_count c.shape-shape.ensures.value in
+    let cells : c.cells.result ≡ cell_count c.args.self.now.grid = c.cells.ensures.value ∙ ap cell_count c.shape.ensures.value in
     c.of_rank.ensures ∙ (λ i. list_at (cells i) (few i) c.args.rank)
     in
     sight_of_list c.args.self.now.grid c.args.self.now.tiles c.of_rank.result c.args.rank c.tiles.ensures.room c.requires is
