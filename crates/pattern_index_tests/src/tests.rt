@@ -1,4 +1,4 @@
-ghost use Rattle.std.specs.Prelude.{◌≡◌, All};
+ghost use Rattle.std.specs.Prelude.{◌≡◌, All, IfOk};
 
 use board::{Board, BoardFault, Move, Shape, Weights};
 use pattern_index::{Group, GroupFault, MAX_SIZE, Partition};
@@ -15,7 +15,9 @@ const TILES: [u8; 24] = [
 
 // A board on which the numbers from 0 on stand on these cells, and the others on the cells that are left, in
 // order.
-fn board_with(shape: Shape, cells: &[u8]) -> Result<Board, BoardFault> {
+fn board_with(shape: Shape, cells: &[u8]) -> Result<Board, BoardFault>
+    ensures { IfOk result (λ b. b.grid ≡ shape) }
+{
     let mut numbers = [0; 25];
     let mut next: u8 = 0;
     for cell in cells {
@@ -42,7 +44,7 @@ fn has_rank(
     size: usize,
 ) -> Result<(), Fail> {
     let shape = Shape::new(sides.0, sides.1)?;
-    let tiles = TILES.get(..cells.len() - 1).ok_or("tiles")?;
+    let tiles = TILES.get(..cells.len().saturating_sub(1)).ok_or("tiles")?;
     let group = Group::new(shape, tiles)?;
     let view = group.view(&board_with(shape, cells)?);
     assert_eq!(rt; (group.rank(&view), group.size()), (rank, size));
