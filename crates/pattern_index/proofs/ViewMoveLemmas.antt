@@ -1,6 +1,6 @@
 -- Moves of views.
-use Rattle.std.proofs.Common.{◌≡◌, ◌≢◌, ◌⊎◌, ℕ, zero, suc, ◌<◌, cond, true, false, eqb, List, [], ◌∷◌, map, length, get_or, refl, sym, ap, ◌∙◌, subst, inl, inr, ⊎_elim, arith, Option, Some, None}
-use Rattle.std.specs.Prelude.{◌↔◌, AllPairs, Contains, option_map, ◌==◌, if◌then◌else◌}
+use Rattle.std.proofs.Common.{◌≡◌, ◌≢◌, ℕ, zero, suc, ◌<◌, cond, true, false, eqb, List, [], ◌∷◌, map, length, get_or, refl, sym, ap, ◌∙◌, subst, ⊎_elim, arith, Option, Some, None}
+use Rattle.std.specs.Prelude.{◌↔◌, Contains, option_map, ◌==◌, if◌then◌else◌}
 use Rattle.std.specs.List.{AllByRecursion}
 use Rattle.std.proofs.lemmas.Bool.{eqb-true, cases_Bool, cond-true, cond-false, eq-eqb, ne_eqb, false≢true}
 use Rattle.std.proofs.lemmas.Bool.Decides.{nat_tests}
@@ -8,13 +8,13 @@ use Rattle.std.proofs.lemmas.List.{length-map, get_or-map}
 use Rattle.std.proofs.lemmas.List.Elements.{recursion_from_All, All-from_recursion}
 use Rattle.board.specs.declared.moves.Move.{Move}
 use Rattle.board.specs.declared.moves.Move.TheVariants.{U, L, R, D}
-use Rattle.board.specs.Grids.{Grid, IsShape, cell_count}
+use Rattle.board.specs.Grids.{Grid, cell_count}
 use Rattle.board.specs.Neighbours.{LiesTowards, neighbour, opposite}
 use Rattle.board.specs.Positions.{Position, IsBoard, cell_of, blank_of}
 use Rattle.board.specs.CostRules.{CostRule, weight_of}
 use Rattle.board.specs.Moves.{Moves}
 use Rattle.board.proofs.TileLemmas.{same_place, all_differ, cell_is, has_cell}
-use Rattle.board.proofs.MoveLemmas.{exchange, exchange_board, cell_of-exchange, blank_after, other_cell, cell_below}
+use Rattle.board.proofs.MoveLemmas.{exchange, cell_of-exchange, blank_after, other_cell, cell_below}
 use Rattle.board.proofs.NeighbourLemmas.{neighbour_lies, cells_above}
 use Rattle.pattern_index.specs.Views.{Sight, IsView, ViewMoves, view_of, weight_on}
 use Rattle.pattern_index.specs.Selections.{IsTile, IsGroup, sight_moved_to, sight_successor}

@@ -1,6 +1,6 @@
 -- Why numbers make no group, and the code of each reason.
 use Rattle.std.specs.Prelude.{ℕ, ◌≡◌, ◌≢◌, ◌<◌, List, [], length, take, Contains, slice_index, codes}
-use Rattle.board.specs.Grids.{Grid, cell_count}
+use Rattle.board.specs.Grids.{Grid}
 use Rattle.pattern_index.specs.Selections.{IsTile, IsGroup, size_of, max_size}
 use Rattle.pattern_index.specs.declared.fault.GroupFault.{GroupFault}
 use Rattle.pattern_index.specs.declared.fault.GroupFault.TheVariants.{Empty, NotATile, Repeated, TooManyViews, SharedTile, TooManyGroups, WrongCount}

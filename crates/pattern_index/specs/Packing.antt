@@ -1,7 +1,7 @@
 -- How views and groups lie in memory: their numbers, and zeros behind them.
-use Rattle.std.specs.Prelude.{◌≡◌, ℕ, zero, suc, ◌+◌, ◌-◌, ◌<◌, ◌≤◌, List, [], ◌∷◌, ◌++◌, length, take, drop, replicate, slice_index}
-use Rattle.std.proofs.Common.{refl, sym, ap, ◌∙◌, arith, get_or}
-use Rattle.std.proofs.lemmas.List.{take-append-drop, length-take-le, length-drop}
+use Rattle.std.specs.Prelude.{◌≡◌, ℕ, zero, suc, ◌-◌, ◌<◌, ◌≤◌, List, [], ◌∷◌, ◌++◌, length, take, drop, replicate, slice_index}
+use Rattle.std.proofs.Common.{refl, sym, ap, ◌∙◌, arith}
+use Rattle.std.proofs.lemmas.List.{take-append-drop, length-take-le}
 use Rattle.pattern_index.specs.Views.{Sight}
 use Rattle.pattern_index.specs.Selections.{Selection, IsSelection, size_of}
 use Rattle.pattern_index.specs.declared.view.View.TheInside as view
@@ -40,6 +40,20 @@ pub record IsStoredView (inside : view.Inside) : Type 0 where
   pub some : 0 < inside.count
   pub places : IsPadded 10 inside.count inside.places
 
+take_first : (count : ℕ) (places : List ℕ) → 0 < count → count ≤ length places → slice_index places 0 ∷ drop 1 (take count places) ≡ take count places
+take_first count [] some le = absurd (omega arith)
+take_first zero (x ∷ xs) some le = absurd (omega arith)
+take_first (suc count) (x ∷ xs) some le = refl
+
+pub view_storage-sight_in : (inside : view.Inside) → IsStoredView inside → view_storage (sight_in inside) ≡ inside
+view_storage-sight_in inside stored =
+    let all = stored.places.all in
+    let few = stored.places.few in
+    let used : length (take inside.count inside.places) ≡ inside.count = length-take-le inside.count inside.places (omega arith) in
+    let first : slice_index inside.places 0 ∷ drop 1 (take inside.count inside.places) ≡ take inside.count inside.places = take_first inside.count inside.places stored.some (omega arith) in
+    let back : padded 10 (take inside.count inside.places) ≡ inside.places = padded_back 10 inside.count inside.places stored.places in
+    λ i. record { count = (ap length first ∙ used) i; places = (ap (padded 10) first ∙ back) i }
+
 -- ---- groups
 
 -- what readers see of a group's memory
@@ -63,19 +77,3 @@ group_storage-selection_in inside stored =
     let used : length (take inside.count inside.tiles) ≡ inside.count = length-take-le inside.count inside.tiles (omega arith) in
     let tiles : padded 9 (take inside.count inside.tiles) ≡ inside.tiles = padded_back 9 inside.count inside.tiles stored.tiles in
     λ i. record { shape = inside.shape; count = used i; tiles = tiles i; size = sym stored.size i }
-
--- ---- a view's first number and the others
-
-take_first : (count : ℕ) (places : List ℕ) → 0 < count → count ≤ length places → slice_index places 0 ∷ drop 1 (take count places) ≡ take count places
-take_first count [] some le = absurd (omega arith)
-take_first zero (x ∷ xs) some le = absurd (omega arith)
-take_first (suc count) (x ∷ xs) some le = refl
-
-pub view_storage-sight_in : (inside : view.Inside) → IsStoredView inside → view_storage (sight_in inside) ≡ inside
-view_storage-sight_in inside stored =
-    let all = stored.places.all in
-    let few = stored.places.few in
-    let used : length (take inside.count inside.places) ≡ inside.count = length-take-le inside.count inside.places (omega arith) in
-    let first : slice_index inside.places 0 ∷ drop 1 (take inside.count inside.places) ≡ take inside.count inside.places = take_first inside.count inside.places stored.some (omega arith) in
-    let back : padded 10 (take inside.count inside.places) ≡ inside.places = padded_back 10 inside.count inside.places stored.places in
-    λ i. record { count = (ap length first ∙ used) i; places = (ap (padded 10) first ∙ back) i }

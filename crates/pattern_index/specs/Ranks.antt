@@ -1,8 +1,7 @@
 -- Lists of different cells, and their ranks.
-use Rattle.std.specs.Prelude.{◌≡◌, ◌≢◌, ◌⊎◌, ℕ, zero, suc, ◌+◌, ◌-◌, ◌*◌, ◌/◌, ◌%◌, ◌<◌, List, [], ◌∷◌, map, length, All, AllPairs, count_by, nat_lt, nat_le, ◌==◌, if◌then◌else◌}
-use Rattle.std.specs.Int.{bit_at}
+use Rattle.std.specs.Prelude.{◌≢◌, ℕ, zero, suc, ◌+◌, ◌-◌, ◌*◌, ◌/◌, ◌%◌, ◌<◌, List, [], ◌∷◌, map, length, All, AllPairs, count_by, nat_lt, nat_le, if◌then◌else◌}
 
--- in how many ways r different cells of n can be listed
+-- in how many ways r cells of n, no two the same, can be listed
 unfoldable pub ways : ℕ → ℕ → ℕ
 ways n zero = 1
 ways n (suc r) = n * ways (n - 1) r
@@ -26,12 +25,9 @@ rank_of n cells = rank_after n [] cells
 abbrev pub spread : ℕ → ℕ → ℕ
 spread x y = if nat_le x y then y + 1 else y
 
--- the list of r of n cells that has a rank
+-- the list of r of n cells that has this rank: a first cell, and behind it the list that has what is left of the
+-- rank, moved up past that cell
 unfoldable pub list_at : ℕ → ℕ → ℕ → List ℕ
 list_at n zero k = []
 list_at zero (suc r) k = []
 list_at (suc n) (suc r) k = (k / ways n r) ∷ map (spread (k / ways n r)) (list_at n r (k % ways n r))
-
--- the bits of the mask are the cells of the list
-abbrev pub IsMask : ℕ → List ℕ → Type 0
-IsMask mask cells = (cell : ℕ) → bit_at mask cell ≡ count_by (λ y. y == cell) cells

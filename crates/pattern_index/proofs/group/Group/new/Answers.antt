@@ -1,7 +1,6 @@
-use Rattle.std.proofs.Common.{◌≡◌, ◌≤◌, ℕ, length, replicate, take, sym}
-use Rattle.std.proofs.lemmas.List.{length-take-le}
+use Rattle.std.proofs.Common.{length, sym}
 use Rattle.pattern_index.proofs.GroupLemmas.{numbers_few, numbers_small, group_stored, room_taken}
-use Rattle.pattern_index.proofs.FaultLemmas.{no_fault, one_fault}
+use Rattle.pattern_index.proofs.FaultLemmas.{no_fault}
 use Rattle.pattern_index.proofs.group.Group.new.Goals as goal
 
 pub slice_bounds-tiles-end : goal.slice_bounds-tiles-end

@@ -1,12 +1,12 @@
-use Rattle.std.proofs.Common.{◌≡◌, ◌<◌, ◌≤◌, Some, refl, sym, ap, ◌∙◌, subst, drop, arith}
+use Rattle.std.proofs.Common.{◌≡◌, ◌<◌, ◌≤◌, Some, refl, sym, ap, ◌∙◌, drop, arith}
 use Rattle.std.proofs.lemmas.List.{take_rest}
 use Rattle.std.specs.Prelude.{option_map}
-use Rattle.board.specs.Grids.{Grid, cell_count}
-use Rattle.board.specs.Neighbours.{neighbour, LiesTowards}
+use Rattle.board.specs.Grids.{cell_count}
+use Rattle.board.specs.Neighbours.{neighbour}
 use Rattle.board.proofs.MoveLemmas.{cell_below}
 use Rattle.pattern_index.specs.Views.{weight_on}
-use Rattle.pattern_index.specs.Selections.{sight_successor, sight_moved_to}
-use Rattle.pattern_index.proofs.ViewMoveLemmas.{successor_of_sight, moved_view, blank_inside, sight_moves_from}
+use Rattle.pattern_index.specs.Selections.{sight_moved_to}
+use Rattle.pattern_index.proofs.ViewMoveLemmas.{moved_view, blank_inside, sight_moves_from}
 use Rattle.pattern_index.proofs.GroupLemmas.{cells_high}
 use Rattle.pattern_index.proofs.group.Group.step.Goals as goal
 

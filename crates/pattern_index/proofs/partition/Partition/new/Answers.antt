@@ -1,4 +1,4 @@
-use Rattle.std.proofs.Common.{◌≡◌, ◌≤◌, Err, length, refl, subst, sym, ap, List, arith}
+use Rattle.std.proofs.Common.{◌≡◌, Err, refl, subst, sym, ap, List, arith}
 use Rattle.std.specs.Prelude.{All}
 use Rattle.std.proofs.lemmas.Bool.{false≢true}
 use Rattle.pattern_index.specs.Selections.{Selection, IsSelection}
