@@ -1,0 +1,10 @@
+pub mod RankLemmas
+pub mod WaysLemmas
+pub mod MaskLemmas
+pub mod CellLemmas
+pub mod SightLemmas
+pub mod ViewMoveLemmas
+pub mod GroupLemmas
+pub mod FaultLemmas
+pub mod StorageLemmas
+pub mod SplitLemmas

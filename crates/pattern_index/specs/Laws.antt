@@ -1,0 +1,92 @@
+-- The laws of the definitions. Each is the contract of a function that does nothing.
+use Rattle.std.specs.Prelude.{ℕ, zero, suc, ◌≡◌, ◌↔◌, ◌-◌, ◌*◌, ◌/◌, ◌<◌, ◌≤◌, List, length, Some, Contains, slice_index}
+use Rattle.board.specs.declared.moves.Move.{Move}
+use Rattle.board.specs.Grids.{Grid, cell_count}
+use Rattle.board.specs.Neighbours.{opposite}
+use Rattle.board.specs.Positions.{Position, IsBoard, blank_of}
+use Rattle.board.specs.CostRules.{CostRule}
+use Rattle.board.specs.Keys.{Precedes}
+use Rattle.board.specs.Moves.{Moves}
+use Rattle.pattern_index.specs.Ranks.{ways, IsListing, rank_of}
+use Rattle.pattern_index.specs.Views.{Sight, IsView, ViewMoves, view_of}
+use Rattle.pattern_index.specs.Selections.{Selection, IsSelection, IsGroup, rank_in, size_of, sight_successor}
+
+abbrev pub factorial : ℕ → ℕ
+factorial zero = 1
+factorial (suc n) = suc n * factorial n
+
+-- the ways to list r of n cells are n! divided by (n - r)!
+abbrev pub WaysAreFactorials : Type 0
+WaysAreFactorials = (n r : ℕ) → r ≤ n → ways n r ≡ factorial n / factorial (n - r)
+
+-- a rank is below the count of ways
+abbrev pub RanksAreBelow : Type 0
+RanksAreBelow = (n : ℕ) (xs : List ℕ) → IsListing n xs → rank_of n xs < ways n (length xs)
+
+-- lists of one length with one rank are one list
+abbrev pub RanksDiffer : Type 0
+RanksDiffer = (n : ℕ) (xs ys : List ℕ) → IsListing n xs → IsListing n ys → length xs ≡ length ys → rank_of n xs ≡ rank_of n ys → xs ≡ ys
+
+-- each number below the count of ways is the rank of a list
+abbrev pub RanksFill : Type 0
+RanksFill = (n r k : ℕ) → r ≤ n → k < ways n r → (xs : List ℕ) × IsListing n xs × (length xs ≡ r) × (rank_of n xs ≡ k)
+
+-- of two lists of one length the earlier has the smaller rank
+abbrev pub RanksAreInOrder : Type 0
+RanksAreInOrder =
+    (n : ℕ) (xs ys : List ℕ) → IsListing n xs → IsListing n ys → length xs ≡ length ys → (rank_of n xs < rank_of n ys) ↔ Precedes xs ys
+
+-- a group has 9 tiles at most, and there is a cell for the blank and for each of them
+abbrev pub GroupsAreSmall : Type 0
+GroupsAreSmall = (g : Selection) → IsSelection g → (length g.tiles ≤ 9) × (suc (length g.tiles) ≤ cell_count g.grid)
+
+-- the rank of a group's view is below the group's size
+abbrev pub ViewRanksAreBelow : Type 0
+ViewRanksAreBelow = (g : Selection) (v : Sight) → IsView g.grid g.tiles v → rank_in g.grid v < size_of g
+
+-- views of a group with one rank are one view
+abbrev pub ViewRanksDiffer : Type 0
+ViewRanksDiffer = (g : Selection) (v w : Sight) → IsView g.grid g.tiles v → IsView g.grid g.tiles w → rank_in g.grid v ≡ rank_in g.grid w → v ≡ w
+
+-- each number below a group's size is the rank of one of its views
+abbrev pub ViewRanksFill : Type 0
+ViewRanksFill = (g : Selection) (k : ℕ) → IsSelection g → k < size_of g → (v : Sight) × IsView g.grid g.tiles v × (rank_in g.grid v ≡ k)
+
+-- what a group sees of a board is a view
+abbrev pub BoardsHaveViews : Type 0
+BoardsHaveViews = (tiles : List ℕ) (b : Position) → IsBoard b → IsGroup b.grid tiles → IsView b.grid tiles (view_of tiles b)
+
+-- a move of a board is a view move of what a group sees, at the move's cost where the tile moved is the group's, else at 0
+abbrev pub MovesAreViewMoves : Type 0
+MovesAreViewMoves =
+    (rule : CostRule) (tiles : List ℕ) (b : Position) (m : Move) (b' : Position) (c : ℕ)
+    → IsBoard b
+    → IsGroup b.grid tiles
+    → Moves rule b m b' c
+    → (seen : ℕ)
+    × ViewMoves b.grid rule tiles (view_of tiles b) m (view_of tiles b') seen
+    × (Contains tiles (slice_index b.tiles (blank_of b')) → seen ≡ c)
+    × (¬ Contains tiles (slice_index b.tiles (blank_of b')) → seen ≡ 0)
+
+-- what is computed of a view's move is what it does
+abbrev pub SuccessorsAreViewMoves : Type 0
+SuccessorsAreViewMoves =
+    (grid : Grid) (rule : CostRule) (tiles : List ℕ) (v : Sight) (m : Move) (v' : Sight) (c : ℕ)
+    → IsView grid tiles v
+    → (sight_successor grid rule tiles v m ≡ Some (v', c)) ↔ ViewMoves grid rule tiles v m v' c
+
+-- a view's move leads to a view
+abbrev pub ViewMovesKeepViews : Type 0
+ViewMovesKeepViews =
+    (grid : Grid) (rule : CostRule) (tiles : List ℕ) (v : Sight) (m : Move) (v' : Sight) (c : ℕ)
+    → IsView grid tiles v
+    → ViewMoves grid rule tiles v m v' c
+    → IsView grid tiles v'
+
+-- the opposite move takes a view's move back, at the same cost
+abbrev pub ViewMovesAreTakenBack : Type 0
+ViewMovesAreTakenBack =
+    (grid : Grid) (rule : CostRule) (tiles : List ℕ) (v : Sight) (m : Move) (v' : Sight) (c : ℕ)
+    → IsView grid tiles v
+    → ViewMoves grid rule tiles v m v' c
+    → ViewMoves grid rule tiles v' (opposite m) v c

@@ -1,0 +1,51 @@
+-- Groups of tiles, the ranks of their views, and moves of views as they are computed.
+use Rattle.std.specs.Prelude.{ℕ, suc, ◌≢◌, ◌<◌, ◌≤◌, ◌==◌, List, ◌∷◌, length, map, All, AllPairs, Option, option_map, if◌then◌else◌}
+use Rattle.std.specs.List.Sorted.{IsStrictlyIncreasing}
+use Rattle.board.specs.Grids.{Grid, IsShape, cell_count}
+use Rattle.board.specs.declared.moves.Move.{Move}
+use Rattle.board.specs.Neighbours.{neighbour}
+use Rattle.board.specs.CostRules.{CostRule}
+use Rattle.pattern_index.specs.Views.{Sight, weight_on}
+use Rattle.pattern_index.specs.Ranks.{ways, rank_of}
+
+-- Some tiles of the boards of a grid.
+pub record Selection : Type 0 where
+  pub grid : Grid
+  pub tiles : List ℕ
+
+-- a number above 0 that stands on the boards of the grid
+abbrev pub IsTile : Grid → ℕ → Type 0
+IsTile grid number = (0 < number) × (number < cell_count grid)
+
+-- the numbers are tiles, and no two are the same
+pub record IsGroup (grid : Grid) (numbers : List ℕ) : Type 0 where
+  pub tiles : All (λ number. IsTile grid number) numbers
+  pub different : AllPairs (λ x y. x ≢ y) numbers
+
+-- how many views the group has: the ways to list a cell for the blank and for each tile, all different
+abbrev pub size_of : Selection → ℕ
+size_of g = ways (cell_count g.grid) (suc (length g.tiles))
+
+-- the greatest number of views that a group may have, 2^26
+abbrev pub max_size : ℕ
+max_size = 67108864
+
+-- some tiles in rising order, with no more views than a group may have
+pub record IsSelection (g : Selection) : Type 0 where
+  pub sides : IsShape g.grid
+  pub group : IsGroup g.grid g.tiles
+  pub rising : IsStrictlyIncreasing g.tiles
+  pub some : 0 < length g.tiles
+  pub small : size_of g ≤ max_size
+
+-- the rank of a view: that of its cells, the blank's first
+abbrev pub rank_in : Grid → Sight → ℕ
+rank_in grid v = rank_of (cell_count grid) (v.blank ∷ v.cells)
+
+-- the view after the blank goes to a cell, and what that costs
+abbrev pub sight_moved_to : CostRule → List ℕ → Sight → ℕ → Sight × ℕ
+sight_moved_to rule tiles v to = (record { blank = to; cells = map (λ cell. if cell == to then v.blank else cell) v.cells }, weight_on rule tiles v.cells to)
+
+-- the view move computed: the view after it and its cost, where the blank stays on the board
+abbrev pub sight_successor : Grid → CostRule → List ℕ → Sight → Move → Option (Sight × ℕ)
+sight_successor grid rule tiles v m = option_map (sight_moved_to rule tiles v) (neighbour grid m v.blank)

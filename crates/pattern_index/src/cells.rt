@@ -1,0 +1,81 @@
+//! Ranks of lists of cells.
+
+ghost use Rattle.std.specs.Prelude.{ℕ, ◌≡◌, ◌+◌, ◌-◌, ◌*◌, ◌%◌, ◌^◌, ◌<◌, ◌≤◌, length, map, All, bit_or, count_ones};
+ghost use Rattle.pattern_index.specs.Ranks.{ways, IsListing, rank_of, spread, list_at};
+ghost use Rattle.pattern_index.specs.Selections.{max_size};
+
+// The rank of a list of different cells, of so many cells. It is made from the front, and each cell counts
+// without the smaller ones that were seen.
+pub(crate) fn rank_cells(cells: usize, list: &[u8]) -> usize
+    requires few { cells ≤ 25 }
+    requires listing { IsListing cells list.now }
+    requires fits { length list.now ≤ cells }
+    requires small { ways cells (length list.now) ≤ max_size }
+    ensures { result ≡ rank_of cells list.now }
+{
+    let mut rank = 0;
+    let mut free = cells;
+    let mut seen: u32 = 0;
+    for cell in list {
+        let digit = *cell as usize - bits_below(seen, *cell);
+        rank = rank * free + digit;
+        seen = with_bit(seen, *cell);
+        free -= 1;
+    }
+    rank
+}
+
+// How many bits of the mask are below a cell's.
+fn bits_below(mask: u32, cell: u8) -> usize
+    requires { cell < 32 }
+    ensures value { result ≡ count_ones (mask % 2 ^ cell) }
+    ensures bound { result ≤ cell }
+{
+    (mask & ((1u32 << cell) - 1)).count_ones() as usize
+}
+
+// The mask with a cell's bit set.
+fn with_bit(mask: u32, cell: u8) -> u32
+    requires { cell < 32 }
+    ensures { result ≡ bit_or mask (1 * 2 ^ cell % 2 ^ 32) }
+{
+    mask | (1u32 << cell)
+}
+
+// Writes the list of different cells that has a rank, from its end: each cell taken out before those that
+// are written moves them up past itself.
+pub(crate) fn list_cells(cells: usize, rank: usize, list: &mut [u8])
+    requires few { cells ≤ 25 }
+    requires fits { length list.old ≤ cells }
+    requires below { rank < ways cells (length list.old) }
+    ensures { list.new ≡ list_at cells (length list.old) rank }
+{
+    let mut rest = rank;
+    let mut place = list.len();
+    'places: while place > 0 {
+        let free = cells - (place - 1);
+        let at = (rest % free) as u8;
+        rest = rest / free;
+        spread_cells(&mut list[place..], at);
+        list[place - 1] = at;
+        place -= 1;
+    }
+}
+
+// Moves the cells from one on up by one.
+fn spread_cells(later: &mut [u8], at: u8)
+    requires { All (λ cell. cell < 255) later.old }
+    ensures { later.new ≡ map (spread at) later.old }
+{
+    for cell in later.iter_mut() {
+        *cell = spread_cell(at, *cell);
+    }
+}
+
+// A cell among those that are left after another is taken out.
+fn spread_cell(at: u8, cell: u8) -> u8
+    requires { cell < 255 }
+    ensures { result ≡ spread at cell }
+{
+    if at <= cell { cell + 1 } else { cell }
+}

@@ -1,0 +1,238 @@
+//! Groups of tiles.
+
+ghost use Rattle.std.specs.Prelude.{ℕ, suc, ◌≡◌, ◌↔◌, ◌+◌, ◌-◌, ◌/◌, ◌<◌, ◌≤◌, length, All, IsTrue, IsOk, IsErrOf, IfOk, IfErr, IfSome, OnOk, OnSome, MatchOption, IsPermutation, Some};
+ghost use Rattle.std.specs.List.Sorted.{IsNonDecreasing};
+ghost use Rattle.board.specs.Grids.{cell_count};
+ghost use Rattle.pattern_index.specs.Views.{Sight, IsView, ViewMoves, view_of, weight_on};
+ghost use Rattle.pattern_index.specs.Ranks.{ways};
+ghost use Rattle.pattern_index.specs.Selections.{Selection, IsTile, IsGroup, IsSelection, size_of, max_size, rank_in, sight_successor};
+ghost use Rattle.pattern_index.specs.Laws.{factorial};
+ghost use Rattle.pattern_index.specs.Faults.{IsFirstFault};
+ghost use Rattle.pattern_index.specs.declared.fault.GroupFault.{GroupFault};
+
+use super::cells::rank_cells;
+use super::fault::GroupFault;
+use super::view::View;
+use board::{Board, Move, Shape, Weights};
+use std::marker::Model;
+
+/// The greatest number of views that a group may have, 2^26.
+pub const MAX_SIZE: usize = 67_108_864;
+
+/// Some tiles in rising order, 9 at most, with no more than 67,108,864 views.
+#[derive(Clone, Copy, Debug)]
+pub struct Group {
+    shape: Shape,
+    count: u8,
+    tiles: [u8; 9],
+    size: usize,
+}
+
+impl Model for Group {
+    ghost use Rattle.pattern_index.specs.Selections.{Selection};
+
+    ghost Value = { Selection };
+
+    ghost use Rattle.pattern_index.specs.Packing.{selection_in, group_storage, IsStoredGroup, group_storage-selection_in};
+
+    ghost view = { selection_in };
+
+    ghost invariant = { IsStoredGroup };
+
+    ghost inverse = { group_storage };
+
+    ghost inverse_ok = { group_storage-selection_in };
+}
+
+impl PartialEq for Group {
+    ghost use Rattle.std.specs.Cmp.{partial_equiv_from_equiv};
+    ghost use Rattle.pattern_index.specs.Equality.{selection_eq, selection_eq-laws};
+
+    ghost eq = { selection_eq };
+
+    ghost laws = { partial_equiv_from_equiv selection_eq-laws };
+
+    /// Whether the groups have one shape and the same tiles.
+    fn eq(&self, other: &Self) -> bool
+        ensures value { result ≡ selection_eq self.now other.now }
+        ensures same { IsTrue result ↔ (self.now ≡ other.now) }
+    {
+        self.shape == other.shape && self.tiles() == other.tiles()
+    }
+}
+
+impl Eq for Group {
+    ghost use Rattle.pattern_index.specs.Equality.{selection_eq-laws};
+
+    ghost laws = { selection_eq-laws };
+}
+
+impl Group {
+    /// The group of these tiles, or the first fault: E5 where there is none, else by place E6 where a number
+    /// is no tile of the shape's boards, E7 where it stood before, else E8 where there are more than
+    /// 67,108,864 views.
+    pub fn new(shape: Shape, numbers: &[u8]) -> Result<Self, GroupFault>
+        ensures accepted { IsOk result ↔
+            (0 < length numbers.now) × IsGroup shape numbers.now × (size_of (record { grid = shape; tiles = numbers.now }) ≤ max_size) }
+        ensures grid { IfOk result (λ g. g.grid ≡ shape) }
+        ensures tiles { IfOk result (λ g. IsPermutation numbers.now g.tiles) }
+        ensures group { IfOk result IsSelection }
+        ensures fault { (fault : GroupFault) → IsErrOf result fault ↔ IsFirstFault shape numbers.now fault }
+    {
+        if let Err(fault) = check_tiles(shape, numbers) {
+            return Err(fault);
+        }
+        let Some(size) = count_ways(shape.cells(), numbers.len() + 1) else {
+            return Err(GroupFault::TooManyViews);
+        };
+        let count = numbers.len();
+        let mut tiles = [0; 9];
+        sort_into(numbers, &mut tiles[..count]);
+        Ok(Group {
+            shape,
+            count: count as u8,
+            tiles,
+            size,
+        })
+    }
+
+    /// The shape of its boards.
+    pub fn shape(&self) -> Shape
+        ensures value { result ≡ self.now.grid }
+        ensures group { IsSelection self.now }
+    {
+        self.shape
+    }
+
+    /// Its tiles in rising order.
+    pub fn tiles(&self) -> &[u8]
+        ensures value { result.now ≡ self.now.tiles }
+        ensures group { IsSelection self.now }
+        ensures few { length self.now.tiles ≤ 9 }
+        ensures room { suc (length self.now.tiles) ≤ cell_count self.now.grid }
+    {
+        &self.tiles[..self.count as usize]
+    }
+
+    /// How many views it has: N! / (N - k - 1)! for k tiles and N cells.
+    pub fn size(&self) -> usize
+        ensures value { result ≡ size_of self.now }
+        ensures quotient { result ≡ factorial (cell_count self.now.grid) / factorial (cell_count self.now.grid - suc (length self.now.tiles)) }
+        ensures low { 1 ≤ result }
+        ensures high { result ≤ max_size }
+    {
+        self.size
+    }
+
+    /// What it sees of a board.
+    pub fn view(&self, board: &Board) -> View
+        requires { board.now.grid ≡ self.now.grid }
+        ensures value { result ≡ view_of self.now.tiles board.now }
+        ensures view { IsView self.now.grid self.now.tiles result }
+    {
+        View::of_board(self.tiles(), board)
+    }
+
+    /// The place of a view among all views of the group, in lexicographic order.
+    pub fn rank(&self, view: &View) -> usize
+        requires { IsView self.now.grid self.now.tiles view.now }
+        ensures value { result ≡ rank_in self.now.grid view.now }
+        ensures below { result < size_of self.now }
+        ensures high { result < max_size }
+    {
+        rank_cells(self.shape().cells(), view.cells())
+    }
+
+    /// The view at a place.
+    pub fn unrank(&self, rank: usize) -> View
+        requires { rank < size_of self.now }
+        ensures view { IsView self.now.grid self.now.tiles result }
+        ensures rank { rank_in self.now.grid result ≡ rank }
+        ensures one { (v : Sight) → IsView self.now.grid self.now.tiles v → rank_in self.now.grid v ≡ rank → v ≡ result }
+    {
+        View::of_rank(self.shape().cells(), self.tiles().len() + 1, rank)
+    }
+
+    /// The view after a move of the blank, and the weight of the tile moved where it is the group's, else 0;
+    /// or None where the blank would leave the board.
+    pub fn step(&self, view: &View, direction: Move, weights: &Weights) -> Option<(View, u32)>
+        requires grid { weights.now.grid ≡ self.now.grid }
+        requires view { IsView self.now.grid self.now.tiles view.now }
+        ensures moves { (v : Sight) (cost : ℕ) →
+            (result ≡ Some (v, cost)) ↔ ViewMoves self.now.grid weights.now self.now.tiles view.now direction v cost }
+        ensures value { result ≡ sight_successor self.now.grid weights.now self.now.tiles view.now direction }
+        ensures view { IfSome result (λ moved. IsView self.now.grid self.now.tiles moved.0) }
+        ensures high { IfSome result (λ moved. moved.1 ≤ 255) }
+    {
+        let to = self.shape().neighbour(view.blank() as usize, direction)?;
+        let cost = weight_on(weights, self.tiles(), &view.cells()[1..], to);
+        Some((view.moved_to(to as u8), cost))
+    }
+}
+
+// The first fault of numbers that should be some different tiles, if there is one.
+fn check_tiles(shape: Shape, numbers: &[u8]) -> Result<(), GroupFault>
+    ensures some { OnOk result (0 < length numbers.now) }
+    ensures group { OnOk result (IsGroup shape numbers.now) }
+    ensures room { OnOk result (length numbers.now + 1 ≤ cell_count shape) }
+    ensures fault { IfErr result (IsFirstFault shape numbers.now) }
+{
+    if numbers.is_empty() {
+        return Err(GroupFault::Empty);
+    }
+    let cells = shape.cells();
+    'places: for place in 0..numbers.len() {
+        let number = numbers[place];
+        if number == 0 {
+            return Err(GroupFault::NotATile);
+        }
+        if number as usize >= cells {
+            return Err(GroupFault::NotATile);
+        }
+        if numbers[..place].contains(&number) {
+            return Err(GroupFault::Repeated);
+        }
+    }
+    Ok(())
+}
+
+// In how many ways so many different cells can be listed, where a group may have as many views.
+fn count_ways(cells: usize, places: usize) -> Option<usize>
+    requires few { cells ≤ 25 }
+    requires room { places ≤ cells }
+    ensures { MatchOption result (max_size < ways cells places) (λ n. (n ≡ ways cells places) × (n ≤ max_size)) }
+{
+    let mut ways = 1;
+    'places: for place in 0..places {
+        ways *= cells - place;
+        if ways > MAX_SIZE {
+            return None;
+        }
+    }
+    Some(ways)
+}
+
+// Writes the numbers in rising order.
+fn sort_into(numbers: &[u8], tiles: &mut [u8])
+    requires { length tiles.old ≡ length numbers.now }
+    ensures tiles { IsPermutation numbers.now tiles.new }
+    ensures rising { IsNonDecreasing tiles.new }
+{
+    tiles.copy_from_slice(numbers);
+    tiles.sort_unstable();
+}
+
+// The weight of the tile that stands on a cell, or 0 where none of the tiles does.
+fn weight_on(weights: &Weights, tiles: &[u8], cells: &[u8], cell: usize) -> u32
+    requires same { length cells.now ≡ length tiles.now }
+    requires tiles { All (λ tile. IsTile weights.now.grid tile) tiles.now }
+    ensures value { result ≡ weight_on weights.now tiles.now cells.now cell }
+    ensures high { result ≤ 255 }
+{
+    for i in 0..tiles.len() {
+        if cells[i] as usize == cell {
+            return weights.of(tiles[i]);
+        }
+    }
+    0
+}

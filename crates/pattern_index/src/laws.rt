@@ -1,0 +1,51 @@
+//! The laws of the definitions: each is the contract of a function that does nothing.
+
+ghost use Rattle.pattern_index.specs.Laws.{WaysAreFactorials, RanksAreBelow, RanksDiffer, RanksFill, RanksAreInOrder, GroupsAreSmall, ViewRanksAreBelow, ViewRanksDiffer, ViewRanksFill, BoardsHaveViews, MovesAreViewMoves, SuccessorsAreViewMoves, ViewMovesKeepViews, ViewMovesAreTakenBack};
+
+/// The ways to list different cells are a quotient of factorials.
+pub fn ways_are_factorials()
+    ensures { WaysAreFactorials }
+{}
+
+/// A rank is a place in lexicographic order: the ranks of lists of one length are the numbers below the
+/// count of ways, no two lists share one, and the earlier list has the smaller one.
+pub fn ranks_are_places()
+    ensures below { RanksAreBelow }
+    ensures differ { RanksDiffer }
+    ensures fill { RanksFill }
+    ensures order { RanksAreInOrder }
+{}
+
+/// A group has 9 tiles at most.
+pub fn groups_are_small()
+    ensures { GroupsAreSmall }
+{}
+
+/// The ranks of a group's views are the numbers below its size, and no two views share one.
+pub fn views_are_ranked()
+    ensures below { ViewRanksAreBelow }
+    ensures differ { ViewRanksDiffer }
+    ensures fill { ViewRanksFill }
+{}
+
+/// What a group sees of a board is a view.
+pub fn boards_have_views()
+    ensures { BoardsHaveViews }
+{}
+
+/// A move of a board is a view move of what each group sees, at the move's cost where the tile moved is
+/// the group's, else at 0.
+pub fn moves_are_view_moves()
+    ensures { MovesAreViewMoves }
+{}
+
+/// What is computed of a view's move is what it does, both ways.
+pub fn successors_are_view_moves()
+    ensures { SuccessorsAreViewMoves }
+{}
+
+/// A view's move leads to a view, and the opposite move takes it back at the same cost.
+pub fn view_moves_are_taken_back()
+    ensures views { ViewMovesKeepViews }
+    ensures back { ViewMovesAreTakenBack }
+{}

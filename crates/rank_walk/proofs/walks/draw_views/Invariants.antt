@@ -1,0 +1,8 @@
+use Rattle.std.proofs.Common.{◌≡◌, length}
+use Rattle.std.specs.Prelude.{All}
+use Rattle.pattern_index.specs.Views.{IsView}
+use Rattle.rank_walk.proofs.walks.draw_views.Given as goal
+
+-- each is a view of the group
+abbrev pub invariant-views : goal.invariant-views
+invariant-views l = (length l.views ≡ 1024) × All (λ view. IsView l.group.grid l.group.tiles view) l.views

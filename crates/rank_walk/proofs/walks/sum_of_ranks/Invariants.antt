@@ -1,0 +1,6 @@
+use Rattle.std.proofs.Common.{◌≤◌, ◌*◌}
+use Rattle.rank_walk.proofs.walks.sum_of_ranks.Given as goal
+
+-- each rank adds less than the greatest size of a group
+abbrev pub invariant-ranks : goal.invariant-ranks
+invariant-ranks l = l.sum ≤ 67108864 * l.counter
