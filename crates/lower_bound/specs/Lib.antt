@@ -1,0 +1,3 @@
+pub mod Potentials
+pub mod Bounds
+pub mod Laws

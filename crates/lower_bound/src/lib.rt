@@ -1,0 +1,5 @@
+//! Lower bounds on the costs of plans: the values of a board's views, added over groups of tiles that share
+//! no tile (Korf, Felner 2002).
+#![tactic(auto)]
+
+pub mod laws;
