@@ -17,7 +17,7 @@ use Rattle.pattern_index.specs.Views.{IsView, ViewMoves, view_of}
 use Rattle.pattern_index.specs.Selections.{IsGroup}
 use Rattle.pattern_index.specs.Splits.{ShareNoTile}
 use Rattle.pattern_index.proofs.ViewMoveLemmas.{board_view, seen_move}
-use Rattle.lower_bound.specs.Potentials.{IsPotential}
+use Rattle.database_build.specs.Values.{IsPotential}
 use Rattle.lower_bound.specs.Bounds.{Part, IsBound, sum_of}
 
 AllPairs-head : {X : Type 0} (P : X → X → Type 0) (x : X) (xs : List X) → AllPairs P (x ∷ xs) → All (P x) xs
@@ -108,7 +108,7 @@ sum_at_goal rule goal (part ∷ parts) slow =
     omega arith
 
 -- a plan leads to a board of the same sides
-led_grid : (rule : CostRule) (b : Position) (plan : List Move) (q : Position) (k : ℕ) → Leads rule b plan q k → q.grid ≡ b.grid
+pub led_grid : (rule : CostRule) (b : Position) (plan : List Move) (q : Position) (k : ℕ) → Leads rule b plan q k → q.grid ≡ b.grid
 led_grid rule b [] q k leads = ap (λ (x : Position). x.grid) leads.0
 led_grid rule b (m ∷ plan) q k leads = led_grid rule leads.0 plan q leads.2 leads.4 ∙ ap (λ (x : Position). x.grid) leads.3.after
 

@@ -1,3 +1,3 @@
-pub mod Potentials
 pub mod Bounds
+pub mod Tables
 pub mod Laws

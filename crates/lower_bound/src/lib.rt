@@ -2,4 +2,7 @@
 //! no tile (Korf, Felner 2002).
 #![tactic(auto)]
 
+pub mod bound;
 pub mod laws;
+
+pub use bound::Bound;
