@@ -1,0 +1,3 @@
+pub mod BucketLemmas
+pub mod ReachLemmas
+pub mod PotentialLemmas

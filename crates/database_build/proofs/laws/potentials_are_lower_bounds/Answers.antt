@@ -1,0 +1,5 @@
+use Rattle.database_build.proofs.PotentialLemmas.{potential_below}
+use Rattle.database_build.proofs.laws.potentials_are_lower_bounds.Goals as goal
+
+pub returns : goal.returns
+returns c = potential_below

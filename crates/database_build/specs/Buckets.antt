@@ -1,0 +1,55 @@
+-- Ranks that wait in buckets of cost.
+use Rattle.std.specs.Prelude.{ℕ, ◌≡◌, ◌⊎◌, ◌+◌, ◌*◌, ◌≤◌, List, Vec, length, Contains, Option, Some, None, slice_get, slice_index, sum}
+use Rattle.std.specs.declared.alloc.Global.{Global}
+
+-- the bucket of each cost, from 0 on
+abbrev pub Buckets : Type 0
+Buckets = List (Vec ℕ Global)
+
+-- the rank is in the bucket of this cost
+abbrev pub Waits : Buckets → ℕ → ℕ → Type 0
+Waits buckets cost rank = (bucket : Vec ℕ Global) × (slice_get buckets cost ≡ Some bucket) × Contains bucket.items rank
+
+-- how many are in a bucket, if there is one
+abbrev pub count_in : Option (Vec ℕ Global) → ℕ
+count_in None = 0
+count_in (Some bucket) = length bucket.items
+
+-- how many are in the bucket of this cost
+abbrev pub waiting : Buckets → ℕ → ℕ
+waiting buckets cost = count_in (slice_get buckets cost)
+
+-- the same wait in both, and no bucket is lost
+pub record IsGrown (b b' : Buckets) : Type 0 where
+  pub waits : (cost rank : ℕ) → Waits b cost rank → Waits b' cost rank
+  pub only : (cost rank : ℕ) → Waits b' cost rank → Waits b cost rank
+  pub same : (cost : ℕ) → waiting b' cost ≡ waiting b cost
+  pub wide : length b ≤ length b'
+
+-- one more waits
+pub record IsPut (cost rank : ℕ) (b b' : Buckets) : Type 0 where
+  pub here : Waits b' cost rank
+  pub waits : (at k : ℕ) → Waits b at k → Waits b' at k
+  pub only : (at k : ℕ) → Waits b' at k → Waits b at k ⊎ (k ≡ rank)
+  pub count : (at : ℕ) → waiting b' at ≤ waiting b at + 1
+  pub same_length : length b' ≡ length b
+
+-- one that waited is gone
+pub record IsTaken (cost rank : ℕ) (b b' : Buckets) : Type 0 where
+  pub here : Waits b cost rank
+  pub waits : (at k : ℕ) → Waits b at k → Waits b' at k ⊎ ((at ≡ cost) × (k ≡ rank))
+  pub only : (at k : ℕ) → Waits b' at k → Waits b at k
+  pub count : waiting b' cost + 1 ≡ waiting b cost
+  pub same_length : length b' ≡ length b
+
+-- The value of a rank becomes no more than a cost. Where it was more, the rank waits in that bucket.
+pub record IsLowered (rank cost : ℕ) (values values' : List ℕ) (b b' : Buckets) : Type 0 where
+  pub same_length : length values' ≡ length values
+  pub falls : (k : ℕ) → slice_index values' k ≤ slice_index values k
+  pub low : slice_index values' rank ≤ cost
+  pub cases : (k : ℕ) → (slice_index values' k ≡ slice_index values k) ⊎ ((k ≡ rank) × (slice_index values' k ≡ cost) × Waits b' cost rank)
+  pub waits : (at k : ℕ) → Waits b at k → Waits b' at k
+  pub only : (at k : ℕ) → Waits b' at k → Waits b at k ⊎ (k ≡ rank)
+  pub few : length b ≤ 65535 → length b' ≤ 65535
+  pub wide : length b ≤ length b'
+  pub work : (at : ℕ) → 2 * sum values' + waiting b' at ≤ 2 * sum values + waiting b at

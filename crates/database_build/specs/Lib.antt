@@ -1,0 +1,5 @@
+pub mod Values
+pub mod Tables
+pub mod Buckets
+pub mod Searches
+pub mod Laws

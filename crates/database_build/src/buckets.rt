@@ -1,0 +1,71 @@
+//! Ranks that wait in buckets of cost.
+
+ghost use Rattle.std.specs.Prelude.{ℕ, ◌≡◌, ◌+◌, ◌^◌, ◌<◌, ◌≤◌, length, OnOk, MatchOption};
+ghost use Rattle.database_build.specs.Buckets.{IsGrown, IsPut, IsTaken, IsLowered, waiting};
+
+use std::alloc::{AllocError, Global};
+
+// Makes the buckets up to that of a cost.
+fn grow(alloc: Global, buckets: &mut Vec<Vec<u32>>, cost: usize) -> Result<(), AllocError>
+    requires { cost < 65535 }
+    ensures grown { OnOk result (IsGrown buckets.old.items buckets.new.items) }
+    ensures there { OnOk result (cost < length buckets.new.items) }
+    ensures few { OnOk result (length buckets.old.items ≤ 65535 → length buckets.new.items ≤ 65535) }
+{
+    'costs: while buckets.len() <= cost {
+        buckets.push(Vec::new(alloc))?;
+    }
+    Ok(())
+}
+
+// Lets a rank wait in the bucket of a cost.
+fn put(buckets: &mut Vec<Vec<u32>>, cost: usize, rank: u32) -> Result<(), AllocError>
+    requires { cost < length buckets.old.items }
+    ensures { OnOk result (IsPut cost rank buckets.old.items buckets.new.items) }
+{
+    buckets[cost].push(rank)?;
+    Ok(())
+}
+
+// Lowers the value of a rank to a cost where it is more. The rank then waits in that bucket, so a cost of
+// 65,535 or more is never written.
+pub(crate) fn lower(
+    alloc: Global,
+    values: &mut [u16],
+    buckets: &mut Vec<Vec<u32>>,
+    rank: usize,
+    cost: usize,
+) -> Result<(), AllocError>
+    requires inside { rank < length values.old }
+    requires small { rank < 2 ^ 32 }
+    ensures { OnOk result (IsLowered rank cost values.old values.new buckets.old.items buckets.new.items) }
+{
+    if values[rank] as usize <= cost {
+        return Ok(());
+    }
+    grow(alloc, buckets, cost)?;
+    put(buckets, cost, rank as u32)?;
+    values[rank] = cost as u16;
+    Ok(())
+}
+
+// Takes a rank out of the bucket of a cost.
+pub(crate) fn take(buckets: &mut Vec<Vec<u32>>, cost: usize) -> Option<u32>
+    requires { cost < length buckets.old.items }
+    ensures { MatchOption result ((waiting buckets.old.items cost ≡ 0) × (buckets.new.items ≡ buckets.old.items)) (λ rank. IsTaken cost rank buckets.old.items buckets.new.items) }
+{
+    if buckets[cost].is_empty() {
+        return None;
+    }
+    buckets[cost].pop()
+}
+
+// Gives back the memory of a bucket in which nothing waits.
+pub(crate) fn release(alloc: Global, buckets: &mut Vec<Vec<u32>>, cost: usize)
+    requires inside { cost < length buckets.old.items }
+    requires empty { waiting buckets.old.items cost ≡ 0 }
+    ensures same { IsGrown buckets.old.items buckets.new.items }
+    ensures length { length buckets.new.items ≡ length buckets.old.items }
+{
+    buckets[cost] = Vec::new(alloc);
+}

@@ -1,0 +1,78 @@
+//! The test for a potential.
+
+ghost use Rattle.std.specs.Prelude.{ℕ, ◌≡◌, ◌↔◌, ◌<◌, ◌≤◌, IsTrue};
+ghost use Rattle.pattern_index.specs.Views.{IsView};
+ghost use Rattle.pattern_index.specs.Selections.{size_of, sight_successor};
+ghost use Rattle.database_build.specs.Values.{IsPotential};
+ghost use Rattle.database_build.specs.Tables.{FallsTo, FallsSlowlyAt, value_in};
+
+use super::table::Table;
+use board::{Board, Move, Weights};
+use pattern_index::{Group, View};
+
+/// Whether the table is one of this group, and its values are a potential: the goal's view has 0, and no
+/// view move lowers the value by more than its cost.
+pub fn is_potential(table: &Table, group: &Group, goal: &Board, weights: &Weights) -> bool
+    requires grid { goal.now.grid ≡ group.now.grid }
+    requires weights { weights.now.grid ≡ group.now.grid }
+    ensures { IsTrue result ↔ (table.now.selection ≡ group.now) × IsPotential weights.now group.now.tiles goal.now (value_in table.now) }
+{
+    if table.group() != group {
+        return false;
+    }
+    falls_home(table, goal, weights)
+}
+
+// Whether the values of a table are a potential.
+fn falls_home(table: &Table, goal: &Board, weights: &Weights) -> bool
+    requires grid { goal.now.grid ≡ table.now.selection.grid }
+    requires weights { weights.now.grid ≡ table.now.selection.grid }
+    ensures { IsTrue result ↔ IsPotential weights.now table.now.selection.tiles goal.now (value_in table.now) }
+{
+    let group = table.group();
+    let view = group.view(goal);
+    if table.value(&view) != 0 {
+        return false;
+    }
+    for rank in 0..group.size() {
+        if !falls_slowly(table, weights, rank) {
+            return false;
+        }
+    }
+    true
+}
+
+// Whether no move from the view of a rank lowers its value by more than it costs.
+fn falls_slowly(table: &Table, weights: &Weights, rank: usize) -> bool
+    requires weights { weights.now.grid ≡ table.now.selection.grid }
+    requires inside { rank < size_of table.now.selection }
+    ensures { IsTrue result ↔ FallsSlowlyAt table.now weights.now rank }
+{
+    let view = table.group().unrank(rank);
+    let value = table.at(rank);
+    let up = falls_to(table, weights, &view, value, Move::U);
+    if !up {
+        return false;
+    }
+    let left = falls_to(table, weights, &view, value, Move::L);
+    if !left {
+        return false;
+    }
+    let right = falls_to(table, weights, &view, value, Move::R);
+    if !right {
+        return false;
+    }
+    falls_to(table, weights, &view, value, Move::D)
+}
+
+// Whether a value is no more than the cost of a move and the value that it leads to.
+fn falls_to(table: &Table, weights: &Weights, view: &View, value: u16, direction: Move) -> bool
+    requires weights { weights.now.grid ≡ table.now.selection.grid }
+    requires view { IsView table.now.selection.grid table.now.selection.tiles view.now }
+    ensures { IsTrue result ↔ FallsTo table.now value (sight_successor table.now.selection.grid weights.now table.now.selection.tiles view.now direction) }
+{
+    let Some(moved) = table.group().step(view, direction, weights) else {
+        return true;
+    };
+    value as u32 <= moved.1 + table.value(&moved.0) as u32
+}

@@ -1,0 +1,82 @@
+//! Tables: a number for each view of a group.
+
+ghost use Rattle.std.specs.Prelude.{ℕ, ◌≡◌, ◌≢◌, ◌↔◌, ◌<◌, length, slice_index, IsOk, IsErrOf, IfOk};
+ghost use Rattle.pattern_index.specs.Views.{IsView};
+ghost use Rattle.pattern_index.specs.Selections.{IsSelection, size_of};
+ghost use Rattle.pattern_index.specs.declared.fault.GroupFault.{GroupFault};
+ghost use Rattle.database_build.specs.Tables.{value_in};
+
+use pattern_index::{Group, GroupFault, View};
+use std::marker::Model;
+
+/// The value of a view from which the goal's isn't reached below this cost.
+pub const NO_VALUE: u16 = 65_535;
+
+/// A number for each view of a group.
+#[derive(Debug, Drop)]
+pub struct Table {
+    group: Group,
+    values: Vec<u16>,
+}
+
+impl Model for Table {
+    ghost use Rattle.std.specs.Prelude.{◌≡◌, length};
+    ghost use Rattle.pattern_index.specs.Selections.{size_of};
+    ghost use Rattle.database_build.specs.Tables.{Lookup};
+
+    ghost Value = { Lookup };
+
+    ghost view = { λ t. record { selection = t.group; values = t.values.items } };
+
+    ghost invariant = { λ t. length t.values.items ≡ size_of t.group };
+}
+
+impl Table {
+    // The table of as many values as the group has views.
+    pub(crate) fn of_group(group: &Group, values: Vec<u16>) -> Self
+        requires { length values.items ≡ size_of group.now }
+        ensures { result ≡ record { selection = group.now; values = values.items } }
+    {
+        Table {
+            group: *group,
+            values,
+        }
+    }
+
+    /// The table of these values, which it keeps by rank; or E11 where there aren't as many as the group has
+    /// views.
+    pub fn from_values(group: &Group, values: Vec<u16>) -> Result<Self, GroupFault>
+        ensures accepted { IsOk result ↔ (length values.items ≡ size_of group.now) }
+        ensures value { IfOk result (λ t. t ≡ record { selection = group.now; values = values.items }) }
+        ensures fault { (fault : GroupFault) → IsErrOf result fault ↔ ((fault ≡ GroupFault.WrongCount) × (length values.items ≢ size_of group.now)) }
+    {
+        if values.len() != group.size() {
+            return Err(GroupFault::WrongCount);
+        }
+        Ok(Table::of_group(group, values))
+    }
+
+    /// Its group, which has as many views as the table has values.
+    pub fn group(&self) -> &Group
+        ensures value { result.now ≡ self.now.selection }
+        ensures size { length self.now.values ≡ size_of self.now.selection }
+    {
+        &self.group
+    }
+
+    /// The value of a view.
+    pub fn value(&self, view: &View) -> u16
+        requires { IsView self.now.selection.grid self.now.selection.tiles view.now }
+        ensures { result ≡ value_in self.now view.now }
+    {
+        self.values[self.group.rank(view)]
+    }
+
+    // The value of the view of a rank.
+    pub(crate) fn at(&self, rank: usize) -> u16
+        requires { rank < size_of self.now.selection }
+        ensures { result ≡ slice_index self.now.values rank }
+    {
+        self.values[rank]
+    }
+}
