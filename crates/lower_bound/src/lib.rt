@@ -6,3 +6,4 @@ pub mod bound;
 pub mod laws;
 
 pub use bound::Bound;
+pub use database_build::is_potential;
