@@ -1,18 +1,17 @@
 -- Why tables of a partition are a bound.
-use Rattle.std.proofs.Common.{◌≡◌, ℕ, ◌<◌, ◌≤◌, List, [], ◌∷◌, map, length, get_or, refl, sym, ap, ◌∙◌, subst, arith}
+use Rattle.std.proofs.Common.{◌≡◌, ℕ, ◌<◌, List, [], ◌∷◌, map, length, get_or, refl, sym, ap, ◌∙◌, subst, arith}
 use Rattle.std.specs.Prelude.{All, AllPairs, sum_by}
 use Rattle.std.proofs.lemmas.List.{length-map, get_or-map}
 use Rattle.std.proofs.lemmas.List.Elements.{All-map}
 use Rattle.std.proofs.lemmas.List.Sums.{sum_by-cons}
-use Rattle.board.specs.declared.moves.Move.{Move}
 use Rattle.board.specs.Grids.{Grid}
 use Rattle.board.specs.Positions.{Position, IsBoard}
 use Rattle.board.specs.CostRules.{CostRule}
-use Rattle.board.specs.Plans.{Leads, NothingBelow}
+use Rattle.board.specs.Plans.{NothingBelow}
 use Rattle.board.specs.Rows.{IsLowerBound}
 use Rattle.pattern_index.specs.Views.{view_of}
 use Rattle.pattern_index.specs.Selections.{Selection, IsSelection, IsGroup}
-use Rattle.pattern_index.specs.Splits.{Split, AreApart, ShareNoTile}
+use Rattle.pattern_index.specs.Splits.{AreApart, ShareNoTile}
 use Rattle.database_build.specs.Values.{IsPotential}
 use Rattle.database_build.specs.Tables.{Lookup, value_in}
 use Rattle.lower_bound.specs.Bounds.{Part, IsBound, sum_of}

@@ -1,4 +1,4 @@
-use Rattle.std.proofs.Common.{ℕ, ◌≡◌, take, length}
+use Rattle.std.proofs.Common.{◌≡◌, take, length}
 use Rattle.lower_bound.specs.Tables.{AreTablesOf}
 use Rattle.lower_bound.proofs.bound.are_tables_of.Given as goal
 

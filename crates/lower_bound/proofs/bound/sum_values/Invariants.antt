@@ -1,4 +1,4 @@
-use Rattle.std.proofs.Common.{ℕ, ◌≡◌, ◌*◌, ◌≤◌, take, sum_by}
+use Rattle.std.proofs.Common.{◌≡◌, ◌*◌, ◌≤◌, take, sum_by}
 use Rattle.pattern_index.specs.Views.{view_of}
 use Rattle.database_build.specs.Tables.{value_in}
 use Rattle.lower_bound.proofs.bound.sum_values.Given as goal
