@@ -73,8 +73,8 @@ module _ (rule : CostRule) (goal b : Position) (board : IsBoard b) (same : b.gri
   sum_stays (part ∷ parts) groups slow without =
       let falls = value_falls part groups.0 slow.0 in
       let rest = sum_stays parts groups.1 slow.1 without.1 in
-      let now = sum_by-cons here part parts in
-      let then_ = sum_by-cons there part parts in
+      let before = sum_by-cons here part parts in
+      let after = sum_by-cons there part parts in
       omega (arith, falls.1, falls.3 without.0)
 
   others_without : (xs : List ℕ) (parts : List Part) → Contains xs moved → AllByRecursion (λ q. ShareNoTile xs q.tiles) parts → AllByRecursion (λ part. ¬ Contains part.tiles moved) parts
@@ -86,8 +86,8 @@ module _ (rule : CostRule) (goal b : Position) (board : IsBoard b) (same : b.gri
   sum_falls [] groups slow apart = omega arith
   sum_falls (part ∷ parts) groups slow apart =
       let falls = value_falls part groups.0 slow.0 in
-      let now = sum_by-cons here part parts in
-      let then_ = sum_by-cons there part parts in
+      let before = sum_by-cons here part parts in
+      let after = sum_by-cons there part parts in
       ⊎_elim
       (λ (within : Contains part.tiles moved).
       let others = recursion_from_All (λ q. ShareNoTile part.tiles q.tiles) parts (AllPairs-head (λ p q. ShareNoTile p.tiles q.tiles) part parts apart) in

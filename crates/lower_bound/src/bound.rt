@@ -1,6 +1,6 @@
 //! Tables for the groups of a partition, whose values are added.
 
-ghost use Rattle.std.specs.Prelude.{ℕ, ◌≡◌, ◌≢◌, ◌↔◌, ◌*◌, ◌<◌, ◌≤◌, length, slice_get, map, All, IsTrue, IsOk, IsErrOf, IfOk, MatchOption, Some, sum_by};
+ghost use Rattle.std.specs.Prelude.{◌≡◌, ◌↔◌, ◌*◌, ◌<◌, ◌≤◌, length, slice_get, All, IsTrue, IsOk, IsErrOf, IfOk, MatchOption, Some, sum_by};
 ghost use Rattle.board.specs.Positions.{Position};
 ghost use Rattle.board.specs.CostRules.{CostRule};
 ghost use Rattle.board.specs.Plans.{NothingBelow};
@@ -54,7 +54,7 @@ impl Bound {
         ensures high { result ≤ 1572840 }
         ensures nothing_below { (rule : CostRule) (goal : Position) → ArePotentials rule goal self.now → NothingBelow rule board.now goal result }
     {
-        // That it is a board is what its shape says.
+        // That it is a board, without which the last clause would be false, is told by this call.
         let _ = board.shape();
         sum_values(&self.tables, board)
     }
