@@ -54,7 +54,8 @@ pub(crate) fn take(buckets: &mut Vec<Vec<u32>>, cost: usize) -> Option<u32>
     requires { cost < length buckets.old.items }
     ensures { MatchOption result ((waiting buckets.old.items cost ≡ 0) × (buckets.new.items ≡ buckets.old.items)) (λ rank. IsTaken cost rank buckets.old.items buckets.new.items) }
 {
-    if buckets[cost].is_empty() {
+    let left = buckets[cost].len();
+    if left == 0 {
         return None;
     }
     buckets[cost].pop()

@@ -31,10 +31,12 @@ fn falls_home(table: &Table, goal: &Board, weights: &Weights) -> bool
 {
     let group = table.group();
     let view = group.view(goal);
-    if table.value(&view) != 0 {
+    let home = table.value(&view);
+    if home > 0 {
         return false;
     }
-    for rank in 0..group.size() {
+    let size = group.size();
+    for rank in 0..size {
         if !falls_slowly(table, weights, rank) {
             return false;
         }
@@ -49,7 +51,7 @@ fn falls_slowly(table: &Table, weights: &Weights, rank: usize) -> bool
     ensures { IsTrue result ↔ FallsSlowlyAt table.now weights.now rank }
 {
     let view = table.group().unrank(rank);
-    let value = table.at(rank);
+    let value = table.values()[rank];
     let up = falls_to(table, weights, &view, value, Move::U);
     if !up {
         return false;

@@ -1,6 +1,6 @@
 //! Tables: a number for each view of a group.
 
-ghost use Rattle.std.specs.Prelude.{ℕ, ◌≡◌, ◌≢◌, ◌↔◌, ◌<◌, length, slice_index, IsOk, IsErrOf, IfOk};
+ghost use Rattle.std.specs.Prelude.{ℕ, ◌≡◌, ◌≢◌, ◌↔◌, length, IsOk, IsErrOf, IfOk};
 ghost use Rattle.pattern_index.specs.Views.{IsView};
 ghost use Rattle.pattern_index.specs.Selections.{IsSelection, size_of};
 ghost use Rattle.pattern_index.specs.declared.fault.GroupFault.{GroupFault};
@@ -72,11 +72,10 @@ impl Table {
         self.values[self.group.rank(view)]
     }
 
-    // The value of the view of a rank.
-    pub(crate) fn at(&self, rank: usize) -> u16
-        requires { rank < size_of self.now.selection }
-        ensures { result ≡ slice_index self.now.values rank }
+    /// The values of all views, by rank.
+    pub fn values(&self) -> &[u16]
+        ensures { result.now ≡ self.now.values }
     {
-        self.values[rank]
+        &self.values
     }
 }

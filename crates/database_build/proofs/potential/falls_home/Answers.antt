@@ -14,8 +14,9 @@ returns-then-not-falls_slowly c = (
 
 pub returns : goal.returns
 returns c =
+    let home : c.value-home.result ≡ 0 = omega (arith, c.if-home-gt0.false) in
     let none : value_in c.args.table.now (view_of c.args.table.now.selection.tiles c.args.goal.now) ≡ 0 =
-    ap (value_in c.args.table.now) (sym (c.view-view.ensures.value ∙ ap (λ (s : Selection). view_of s.tiles c.args.goal.now) c.group-group.ensures.value)) ∙ sym c.value.ensures ∙ c.if-value-ne0.false
+    ap (value_in c.args.table.now) (sym (c.view-view.ensures.value ∙ ap (λ (s : Selection). view_of s.tiles c.args.goal.now) c.group-group.ensures.value)) ∙ sym c.value-home.ensures ∙ home
     in
-    let size : c.size-rank-end.result ≡ size_of c.args.table.now.selection = c.size-rank-end.ensures.value ∙ ap size_of c.group-group.ensures.value in
+    let size : c.size-size.result ≡ size_of c.args.table.now.selection = c.size-size.ensures.value ∙ ap size_of c.group-group.ensures.value in
     ((λ h. potential_from_ranks c.args.table.now c.args.weights.now c.args.goal.now c.requires.grid none (λ k k_in. c.loop-rank.invariant k (omega arith))), (λ h. refl))
