@@ -1,0 +1,10 @@
+use Rattle.std.proofs.Common.{◌≡◌, ◌*◌, ◌≤◌, take, sum_by}
+use Rattle.pattern_index.specs.Views.{view_of}
+use Rattle.database_build.specs.Tables.{value_in}
+use Rattle.lower_bound.proofs.bound.sum_values.Given as goal
+
+abbrev pub invariant-tables : goal.invariant-tables
+invariant-tables l = record {
+  is : l.sum ≡ sum_by (λ table. value_in table (view_of table.selection.tiles l.board)) (take l.table-index l.tables);
+  high : l.sum ≤ 65535 * l.table-index;
+}

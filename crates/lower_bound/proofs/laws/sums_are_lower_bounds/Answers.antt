@@ -1,0 +1,9 @@
+use Rattle.lower_bound.proofs.BoundLemmas.{sums_are_bounds}
+use Rattle.lower_bound.proofs.TableLemmas.{tables_are_bounds}
+use Rattle.lower_bound.proofs.laws.sums_are_lower_bounds.Goals as goal
+
+pub returns-clause-parts : goal.returns-clause-parts
+returns-clause-parts c = sums_are_bounds
+
+pub returns-clause-tables : goal.returns-clause-tables
+returns-clause-tables c = tables_are_bounds

@@ -1,0 +1,3 @@
+pub mod Bounds
+pub mod Tables
+pub mod Laws

@@ -1,0 +1,9 @@
+//! Lower bounds on the costs of plans: the values of a board's views, added over groups of tiles that share
+//! no tile (Korf, Felner 2002).
+#![tactic(auto)]
+
+pub mod bound;
+pub mod laws;
+
+pub use bound::Bound;
+pub use database_build::is_potential;
