@@ -75,9 +75,21 @@ fn reports_of_lines(rt: HostRuntime) -> Result<(), Fail> {
     let cases = [
         ("", "", 0),
         ("\n# nothing\n  \n", "", 0),
-        ("a 0 2 1 3\n", "{\"id\":\"a\",\"status\":\"unsolvable\",\"why\":\"parity\"}\n", 0),
-        ("\nx 0 1 2\na 0 1 2 3\n", "{\"fault\":\"E2\",\"line\":2,\"status\":\"refused\"}\n", 1),
-        ("x 0 1 2 4", "{\"fault\":\"E3\",\"line\":1,\"status\":\"refused\"}\n", 1),
+        (
+            "a 0 2 1 3\n",
+            "{\"id\":\"a\",\"status\":\"unsolvable\",\"why\":\"parity\"}\n",
+            0,
+        ),
+        (
+            "\nx 0 1 2\na 0 1 2 3\n",
+            "{\"fault\":\"E2\",\"line\":2,\"status\":\"refused\"}\n",
+            1,
+        ),
+        (
+            "x 0 1 2 4",
+            "{\"fault\":\"E3\",\"line\":1,\"status\":\"refused\"}\n",
+            1,
+        ),
     ];
     for (input, report, due) in cases {
         let (written, status) = certified(alloc, input.as_bytes())?;
@@ -104,7 +116,10 @@ fn verdicts(rt: HostRuntime) -> Result<(), Fail> {
     assert_eq!(rt; written.as_slice(), ACCEPTED);
     assert_eq!(rt; status, 0);
     let (written, status) = checked(alloc, &SOLVED)?;
-    assert_eq!(rt; std::str::from_utf8(written.as_slice())?, "{\"cost\":0,\"status\":\"accepted\"}\n");
+    assert_eq!(rt;
+        std::str::from_utf8(written.as_slice())?,
+        "{\"cost\":0,\"status\":\"accepted\"}\n"
+    );
     assert_eq!(rt; status, 0);
     // One byte changed, by its place.
     let changes = [
@@ -165,7 +180,9 @@ fn verdicts_on_rows(rt: HostRuntime) -> Result<(), Fail> {
 fn refuses(rt: &(impl Abort + AllocGlobal), bytes: &[u8], code: &str) -> Result<(), Fail> {
     let (written, status) = checked(rt.alloc(), bytes)?;
     let text = std::str::from_utf8(written.as_slice())?;
-    let cut = text.strip_prefix("{\"fault\":\"").and_then(|rest| rest.strip_suffix("\",\"status\":\"refused\"}\n"));
+    let cut = text
+        .strip_prefix("{\"fault\":\"")
+        .and_then(|rest| rest.strip_suffix("\",\"status\":\"refused\"}\n"));
     assert_eq!(rt; cut, Some(code), "{text}");
     assert_eq!(rt; status, 5, "{code}");
     Ok(())
@@ -177,11 +194,19 @@ fn hardest_board_of_three_by_three(rt: HostRuntime) -> Result<(), Fail> {
     let alloc = rt.alloc();
     let mut sink = ByteSink::new(Vec::new(alloc));
     let input = "h 8 0 6 5 4 7 2 3 1\n";
-    let status = run_cert(alloc, &mut ByteSource::new(input.as_bytes()), &mut sink, &plain(3, 3)?)?;
+    let status = run_cert(
+        alloc,
+        &mut ByteSource::new(input.as_bytes()),
+        &mut sink,
+        &plain(3, 3)?,
+    )?;
     assert_eq!(rt; status, 0);
     let certificate = sink.into_inner();
     let (written, status) = checked(alloc, &certificate)?;
-    assert_eq!(rt; std::str::from_utf8(written.as_slice())?, "{\"cost\":31,\"status\":\"accepted\"}\n");
+    assert_eq!(rt;
+        std::str::from_utf8(written.as_slice())?,
+        "{\"cost\":31,\"status\":\"accepted\"}\n"
+    );
     assert_eq!(rt; status, 0);
     Ok(())
 }
@@ -193,7 +218,12 @@ fn failing_sources(rt: HostRuntime) -> Result<(), Fail> {
     let line = b"\nr 1 0 2 3";
     for at in 0..=line.len() {
         let mut sink = ByteSink::new(Vec::new(alloc));
-        let result = run_cert(alloc, &mut SourceFails::new(line, at), &mut sink, &plain(2, 2)?);
+        let result = run_cert(
+            alloc,
+            &mut SourceFails::new(line, at),
+            &mut sink,
+            &plain(2, 2)?,
+        );
         assert_eq!(rt; result, Err(BatchFault::Read), "at {at}");
         assert!(rt; sink.into_inner().is_empty(), "at {at}");
     }

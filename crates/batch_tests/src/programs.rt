@@ -201,9 +201,21 @@ fn endings(rt: HostRuntime) -> Result<(), Fail> {
         (Ending::Faulted(BatchFault::Read), 3, "tilesolve: B1\n"),
         (Ending::Faulted(BatchFault::Write), 3, "tilesolve: B2\n"),
         (Ending::Faulted(BatchFault::Memory), 4, "tilesolve: B3\n"),
-        (Ending::Faulted(BatchFault::CertificateRead), 3, "tilesolve: F6\n"),
-        (Ending::Faulted(BatchFault::CertificateMemory), 4, "tilesolve: F7\n"),
-        (Ending::Faulted(BatchFault::CertificateWrite), 3, "tilesolve: F8\n"),
+        (
+            Ending::Faulted(BatchFault::CertificateRead),
+            3,
+            "tilesolve: F6\n",
+        ),
+        (
+            Ending::Faulted(BatchFault::CertificateMemory),
+            4,
+            "tilesolve: F7\n",
+        ),
+        (
+            Ending::Faulted(BatchFault::CertificateWrite),
+            3,
+            "tilesolve: F8\n",
+        ),
         (Ending::NoBuffers, 4, "tilesolve: memory\n"),
     ] {
         assert_eq!(rt; ending.status(), status, "{ending:?}");

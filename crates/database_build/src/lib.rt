@@ -6,10 +6,11 @@
 #![tactic(auto)]
 
 mod buckets;
-pub mod build;
+pub mod building;
 pub mod laws;
 pub mod potential;
 pub mod table;
 
+pub use building::build;
 pub use potential::is_potential;
 pub use table::{NO_VALUE, Table};

@@ -1,8 +1,7 @@
 ghost use Rattle.std.specs.Prelude.{◌≡◌, IfOk};
 
 use board::{Board, Shape, Weights, same_class};
-use database_build::Table;
-use database_build::build::build;
+use database_build::{Table, build};
 use lower_bound::{Bound, is_potential};
 use outcomes::Outcome;
 use pattern_index::{Group, GroupFault, Partition};

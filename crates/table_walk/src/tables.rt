@@ -1,8 +1,7 @@
 ghost use Rattle.std.specs.Prelude.{◌≡◌, length};
 
 use board::{Board, Weights};
-use database_build::build::build;
-use database_build::{NO_VALUE, Table};
+use database_build::{NO_VALUE, Table, build};
 use pattern_index::Group;
 use std::alloc::{AllocError, Global};
 

@@ -2,7 +2,7 @@ use Rattle.std.proofs.Common.{◌+◌, ◌*◌, ◌<◌, ◌≤◌, length, arit
 use Rattle.std.specs.Prelude.{sum}
 use Rattle.database_build.specs.Buckets.{waiting}
 use Rattle.database_build.proofs.ReachLemmas.{IsUnderWay, quest_of, first_from, next_from, visited, values_are}
-use Rattle.database_build.proofs.build.search.Goals as goal
+use Rattle.database_build.proofs.building.search.Goals as goal
 
 pub costs-init : goal.costs-init
 costs-init c =

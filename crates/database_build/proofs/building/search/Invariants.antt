@@ -2,7 +2,7 @@ use Rattle.std.proofs.Common.{◌+◌, ◌-◌, ◌*◌, ◌<◌, length}
 use Rattle.std.specs.Prelude.{sum}
 use Rattle.database_build.specs.Buckets.{waiting}
 use Rattle.database_build.proofs.ReachLemmas.{IsUnderWay, quest_of}
-use Rattle.database_build.proofs.build.search.Given as goal
+use Rattle.database_build.proofs.building.search.Given as goal
 
 abbrev pub invariant-ranks : goal.invariant-ranks
 invariant-ranks l = IsUnderWay (quest_of l.group l.weights l.goal) l.cost l.values l.buckets.items × (l.cost < length l.buckets.items)
