@@ -11,12 +11,7 @@ use std::process::Abort;
 use std::test::Fail;
 
 // The table of some tiles, for the goal of a shape.
-fn table_of(
-    alloc: Global,
-    shape: Shape,
-    tiles: &[u8],
-    weights: &Weights,
-) -> Result<Table, Fail>
+fn table_of(alloc: Global, shape: Shape, tiles: &[u8], weights: &Weights) -> Result<Table, Fail>
     requires { weights.now.grid ≡ shape }
     ensures { IfOk result (λ t. t.selection.grid ≡ shape) }
 {
@@ -35,7 +30,10 @@ fn one_tile_of_two_by_two(rt: HostRuntime) -> Result<(), Fail> {
     let shape = Shape::new(2, 2)?;
     let table = table_of(rt.alloc(), shape, &[1], &Weights::unit(shape))?;
     // The blank on cell 0 and the tile on 1, 2, 3; the blank on 1 and the tile on 0, 2, 3; and so on.
-    assert_eq!(rt; table.values(), [0, 2, 1, 1, 2, 1, 1, 0, 1, 1, 0, 2].as_slice());
+    assert_eq!(rt;
+        table.values(),
+        [0, 2, 1, 1, 2, 1, 1, 0, 1, 1, 0, 2].as_slice()
+    );
     Ok(())
 }
 
@@ -55,7 +53,11 @@ fn a_view_of_three_by_three(rt: HostRuntime) -> Result<(), Fail> {
 }
 
 // Checks each view of each single tile: its value is the tile's distance from its place times its weight.
-fn are_distances(rt: &(impl Abort + AllocGlobal), shape: Shape, weights: &Weights) -> Result<(), Fail>
+fn are_distances(
+    rt: &(impl Abort + AllocGlobal),
+    shape: Shape,
+    weights: &Weights,
+) -> Result<(), Fail>
     requires { weights.now.grid ≡ shape }
 {
     let cells = shape.cells();
@@ -111,7 +113,11 @@ fn board_of(shape: Shape, digits: u32) -> Option<Board>
 }
 
 // Checks the table of all tiles of 2 by 3 beside a search from each board.
-fn are_least_costs(rt: &(impl Abort + AllocGlobal), shape: Shape, weights: &Weights) -> Result<(), Fail>
+fn are_least_costs(
+    rt: &(impl Abort + AllocGlobal),
+    shape: Shape,
+    weights: &Weights,
+) -> Result<(), Fail>
     requires { weights.now.grid ≡ shape }
 {
     let goal = Board::goal(shape);
@@ -225,7 +231,10 @@ fn a_count_for_each_view(rt: HostRuntime) -> Result<(), Fail> {
         assert_eq!(rt; fault, GroupFault::WrongCount);
         assert_eq!(rt; fault.code(), "E11");
     }
-    let numbers = Vec::from_slice(rt.alloc(), &[7, 8, 9, 10, 11, 12, 13, 14, 15, 16, 17, 65535])?;
+    let numbers = Vec::from_slice(
+        rt.alloc(),
+        &[7, 8, 9, 10, 11, 12, 13, 14, 15, 16, 17, 65535],
+    )?;
     let table = Table::from_values(&group, numbers)?;
     assert!(rt; *table.group() == group);
     for rank in 0..12 {

@@ -17,7 +17,11 @@ fn is_refused(alloc: Global) -> bool {
 
 // Builds the table of tile 3 at face cost, which has these values, or finds no memory. Where a refusal comes
 // only behind the building, the test fails by words from which `checks/refusals` learns that it is at the end.
-fn whole_or_no_memory(rt: &(impl Abort + AllocGlobal), shape: Shape, expected: &[u16]) -> Result<(), Fail> {
+fn whole_or_no_memory(
+    rt: &(impl Abort + AllocGlobal),
+    shape: Shape,
+    expected: &[u16],
+) -> Result<(), Fail> {
     let group = Group::new(shape, &[3])?;
     let goal = Board::goal(shape);
     let whole = match build(rt.alloc(), &group, &goal, &Weights::face(shape)) {
@@ -36,5 +40,9 @@ fn whole_or_no_memory(rt: &(impl Abort + AllocGlobal), shape: Shape, expected: &
 
 #[test]
 fn two_by_two(rt: HostRuntime) -> Result<(), Fail> {
-    whole_or_no_memory(&rt, Shape::new(2, 2)?, &[3, 3, 0, 6, 3, 0, 6, 3, 0, 6, 3, 3])
+    whole_or_no_memory(
+        &rt,
+        Shape::new(2, 2)?,
+        &[3, 3, 0, 6, 3, 0, 6, 3, 0, 6, 3, 3],
+    )
 }
