@@ -4,7 +4,8 @@ ghost use Rattle.std.specs.Prelude.{ℕ, ◌≡◌, ◌↔◌, ◌<◌, ◌≤�
 ghost use Rattle.pattern_index.specs.Views.{IsView, view_of};
 ghost use Rattle.pattern_index.specs.Selections.{size_of, sight_successor};
 ghost use Rattle.database_build.specs.Values.{IsPotential};
-ghost use Rattle.database_build.specs.Tables.{FallsTo, FallsSlowlyAt, value_in};
+ghost use Rattle.database_build.specs.Tables.{value_in};
+ghost use Rattle.database_build.specs.Falls.{FallsTo, FallsSlowlyAt};
 
 use super::table::Table;
 use board::{Board, Move, Weights};
