@@ -42,12 +42,6 @@ none_some e = cc
 
 -- ---- a bucket more, with nothing in it
 
-grown_same : (b : Buckets) → IsGrown b b
-grown_same b = record { waits = λ cost rank w. w; only = λ cost rank w. w; same = λ cost. refl; wide = omega arith }
-
-Empty : Vec ℕ Global → Type 0
-Empty bucket = bucket.items ≡ []
-
 none_in : (xs : List ℕ) (x : ℕ) → xs ≡ [] → Contains xs x → ⊥
 none_in xs x e has = let n : length xs ≡ 0 = ap length e in omega (arith, has.1)
 
@@ -83,9 +77,6 @@ grown_more b b' bucket grown empty = record {
         (λ (ne : cost ≢ length b'). ap count_in (get_push_past b' bucket cost (omega arith)) ∙ sym none)
         (cases_eq cost (length b')))
         (cases_lt cost (length b'))
-
-pub grown_none : (b : Buckets) → IsGrown b b
-grown_none b = grown_same b
 
 -- ---- a rank more in a bucket
 
@@ -201,9 +192,6 @@ module _ (b : Buckets) (cost rank : ℕ) (old now : Vec ℕ Global) (inside : co
         count = omega arith;
         same_length = length-set b cost now;
       }
-
-pub empty_is : (b : Buckets) (cost : ℕ) (old : Vec ℕ Global) → cost < length b → old ≡ get_or b cost old → length old.items ≡ 0 → waiting b cost ≡ 0
-empty_is b cost old inside was none = ap count_in (slice_get_read b (length b) cost old refl inside was) ∙ none
 
 pub none_waits : (b : Buckets) (cost k : ℕ) → waiting b cost ≡ 0 → Waits b cost k → ⊥
 none_waits b cost k none w = let e : waiting b cost ≡ length w.0.items = ap count_in w.1 in omega (arith, w.2.1)

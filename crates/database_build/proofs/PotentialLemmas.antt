@@ -13,7 +13,8 @@ use Rattle.pattern_index.specs.Equality.{selection_eq, selections_Decide}
 use Rattle.pattern_index.proofs.SightLemmas.{sight_below, sight_from_rank}
 use Rattle.pattern_index.proofs.ViewMoveLemmas.{successor_of_sight, moved_view, blank_inside, board_view}
 use Rattle.database_build.specs.Values.{IsPotential}
-use Rattle.database_build.specs.Tables.{Lookup, HoldsValues, FallsTo, FallsSlowlyAt, value_in}
+use Rattle.database_build.specs.Tables.{Lookup, HoldsValues, value_in}
+use Rattle.database_build.specs.Falls.{FallsTo, FallsSlowlyAt}
 
 -- a potential falls by no more than the plan costs, and ends at 0
 pub potential_below : (rule : CostRule) (tiles : List ℕ) (goal : Position) (value : Sight → ℕ) → IsPotential rule tiles goal value → (v : Sight) (plan : List Move) (j : ℕ) → IsView goal.grid tiles v → ViewLeads goal.grid rule tiles v plan (view_of tiles goal) j → value v ≤ j

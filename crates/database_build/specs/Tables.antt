@@ -1,10 +1,9 @@
 -- Tables: a number for each view of a group.
-use Rattle.std.specs.Prelude.{ℕ, ◌≡◌, ◌+◌, ◌≤◌, List, Option, None, Some, slice_index}
-use Rattle.board.specs.declared.moves.Move.{Move}
+use Rattle.std.specs.Prelude.{ℕ, List, slice_index}
 use Rattle.board.specs.Positions.{Position}
 use Rattle.board.specs.CostRules.{CostRule}
 use Rattle.pattern_index.specs.Views.{Sight, IsView, view_of}
-use Rattle.pattern_index.specs.Selections.{Selection, rank_in, sight_successor}
+use Rattle.pattern_index.specs.Selections.{Selection, rank_in}
 use Rattle.database_build.specs.Values.{IsValue}
 
 -- A group, and the entry of each of its views, by rank.
@@ -22,17 +21,3 @@ HoldsValues table rule goal =
     (v : Sight)
     → IsView table.selection.grid table.selection.tiles v
     → IsValue table.selection.grid rule table.selection.tiles (view_of table.selection.tiles goal) v (value_in table v)
-
--- n is no more than the cost of a move and the entry of the view that it leads to, if there is one
-abbrev pub FallsTo : Lookup → ℕ → Option (Sight × ℕ) → Type 0
-FallsTo table n None = Unit {0}
-FallsTo table n (Some moved) = n ≤ moved.1 + value_in table moved.0
-
--- no move from the view of this rank lowers the entry by more than its cost
-abbrev pub FallsSlowlyAt : Lookup → CostRule → ℕ → Type 0
-FallsSlowlyAt table rule rank =
-    (v : Sight)
-    → IsView table.selection.grid table.selection.tiles v
-    → rank_in table.selection.grid v ≡ rank
-    → (m : Move)
-    → FallsTo table (value_in table v) (sight_successor table.selection.grid rule table.selection.tiles v m)

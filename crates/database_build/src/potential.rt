@@ -1,10 +1,11 @@
 //! The test for a potential.
 
 ghost use Rattle.std.specs.Prelude.{ℕ, ◌≡◌, ◌↔◌, ◌<◌, ◌≤◌, IsTrue};
-ghost use Rattle.pattern_index.specs.Views.{IsView};
+ghost use Rattle.pattern_index.specs.Views.{IsView, view_of};
 ghost use Rattle.pattern_index.specs.Selections.{size_of, sight_successor};
 ghost use Rattle.database_build.specs.Values.{IsPotential};
-ghost use Rattle.database_build.specs.Tables.{FallsTo, FallsSlowlyAt, value_in};
+ghost use Rattle.database_build.specs.Tables.{value_in};
+ghost use Rattle.database_build.specs.Falls.{FallsTo, FallsSlowlyAt};
 
 use super::table::Table;
 use board::{Board, Move, Weights};
@@ -29,19 +30,25 @@ fn falls_home(table: &Table, goal: &Board, weights: &Weights) -> bool
     requires weights { weights.now.grid ≡ table.now.selection.grid }
     ensures { IsTrue result ↔ IsPotential weights.now table.now.selection.tiles goal.now (value_in table.now) }
 {
-    let group = table.group();
-    let view = group.view(goal);
-    let home = table.value(&view);
-    if home > 0 {
+    if !is_zero_at_goal(table, goal) {
         return false;
     }
-    let size = group.size();
+    let size = table.group().size();
     for rank in 0..size {
         if !falls_slowly(table, weights, rank) {
             return false;
         }
     }
     true
+}
+
+// Whether the goal's view has 0.
+fn is_zero_at_goal(table: &Table, goal: &Board) -> bool
+    requires { goal.now.grid ≡ table.now.selection.grid }
+    ensures { IsTrue result ↔ (value_in table.now (view_of table.now.selection.tiles goal.now) ≡ 0) }
+{
+    let view = table.group().view(goal);
+    table.value(&view) == 0
 }
 
 // Whether no move from the view of a rank lowers its value by more than it costs.
