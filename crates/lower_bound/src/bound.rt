@@ -54,7 +54,7 @@ impl Bound {
         ensures high { result ≤ 1572840 }
         ensures nothing_below { (rule : CostRule) (goal : Position) → ArePotentials rule goal self.now → NothingBelow rule board.now goal result }
     {
-        // That it is a board, without which the last clause would be false, is told by this call.
+        // What the last clause needs of the board, that it is one, is told by this call.
         let _ = board.shape();
         sum_values(&self.tables, board)
     }
