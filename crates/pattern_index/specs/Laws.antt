@@ -11,6 +11,7 @@ use Rattle.pattern_index.specs.Ranks.{ways, IsListing, rank_of}
 use Rattle.pattern_index.specs.Views.{Sight, IsView, ViewMoves, view_of}
 use Rattle.pattern_index.specs.Selections.{Selection, IsSelection, IsGroup, rank_in, size_of, sight_successor}
 
+-- n!, the numbers from 1 to n multiplied
 abbrev pub factorial : ℕ → ℕ
 factorial zero = 1
 factorial (suc n) = suc n * factorial n
