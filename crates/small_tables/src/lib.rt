@@ -1,5 +1,5 @@
-//! Small tables that are built where memory is refused. The tests take no memory of their own, so each refusal
-//! meets the building; `checks/refusals` refuses each allocation in turn.
+//! Small tables that are built, and a partition that is copied, where memory is refused; `checks/refusals` refuses
+//! each allocation in turn.
 #![tactic(auto)]
 
 #[cfg(test)]

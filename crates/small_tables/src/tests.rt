@@ -1,6 +1,6 @@
 use board::{Board, Shape, Weights};
 use database_build::build;
-use pattern_index::Group;
+use pattern_index::{Group, Partition};
 use std::alloc::Global;
 use std::process::Abort;
 use std::test::Fail;
@@ -15,8 +15,16 @@ fn is_refused(alloc: Global) -> bool {
     false
 }
 
-// Builds the table of tile 3 at face cost, which has these values, or finds no memory. Where a refusal comes
-// only behind the building, the test fails by words from which `checks/refusals` learns that it is at the end.
+// Ends a test. Where a refusal comes only now, what was asked for met none, so that it has to be whole; and the
+// test fails, by words from which `checks/refusals` learns that it is at the end.
+fn ends(rt: &(impl Abort + AllocGlobal), whole: bool) {
+    if is_refused(rt.alloc()) {
+        assert!(rt; whole, "not given, though nothing was refused");
+        panic!(rt; "nothing was left to refuse");
+    }
+}
+
+// Builds the table of tile 3 at face cost, which has these values, or finds no memory.
 fn whole_or_no_memory(
     rt: &(impl Abort + AllocGlobal),
     shape: Shape,
@@ -31,10 +39,29 @@ fn whole_or_no_memory(
         }
         Err(_) => false,
     };
-    if is_refused(rt.alloc()) {
-        assert!(rt; whole, "not built, though nothing was refused");
-        panic!(rt; "nothing was left to refuse");
+    ends(rt, whole);
+    Ok(())
+}
+
+// A partition of one group is copied, or finds no memory. Its own list of groups takes memory first; where that is
+// refused there is no partition to copy.
+#[test]
+fn a_partition_copied(rt: HostRuntime) -> Result<(), Fail> {
+    let shape = Shape::new(2, 2)?;
+    let group = Group::new(shape, &[3])?;
+    let mut groups = Vec::new(rt.alloc());
+    if groups.push(group).is_err() {
+        return Ok(());
     }
+    let partition = Partition::new(shape, groups)?;
+    let whole = match partition.copy(rt.alloc()) {
+        Ok(copy) => {
+            assert!(rt; copy.groups() == partition.groups());
+            true
+        }
+        Err(_) => false,
+    };
+    ends(&rt, whole);
     Ok(())
 }
 
