@@ -1,0 +1,35 @@
+use batch_cli::{BatchFault, Ending, Summary};
+use std::io;
+
+/// Prints each ending of the program with its status and its message, which is quoted.
+pub fn print(rt: &impl Print) -> io::Result<()> {
+    rt.println("\n# Endings of the program")?;
+    for ending in [
+        Ending::Ran(counted(0, 0, 0, 0)),
+        Ending::Ran(counted(1, 1, 0, 0)),
+        Ending::Ran(counted(1, 1, 1, 0)),
+        Ending::Ran(counted(1, 1, 0, 1)),
+        Ending::Usage,
+        Ending::NoBuffers,
+        Ending::Faulted(BatchFault::Read),
+        Ending::Faulted(BatchFault::Write),
+        Ending::Faulted(BatchFault::Memory),
+        Ending::Faulted(BatchFault::CertificateRead),
+        Ending::Faulted(BatchFault::CertificateMemory),
+        Ending::Faulted(BatchFault::CertificateWrite),
+    ] {
+        let status = ending.status();
+        let message = ending.message();
+        println!(rt; "{ending:?}: {status} {message:?}")?;
+    }
+    Ok(())
+}
+
+fn counted(optimal: u64, unsolvable: u64, bounded: u64, refused: u64) -> Summary {
+    Summary {
+        optimal,
+        unsolvable,
+        bounded,
+        refused,
+    }
+}

@@ -1,0 +1,120 @@
+use batch_cli::{BatchFault, EntryFault, SolveFault};
+use board::{BoardFault, Move};
+use byte_streams::{ReadFailed, WriteFailed};
+use certificate::{ReadFault, WriteFault};
+use certificate_check::Refusal;
+use pattern_index::GroupFault;
+use std::fmt::Display;
+use std::io;
+
+/// Prints each fault by its code and its text.
+pub fn print(rt: &impl Print) -> io::Result<()> {
+    print_boards(rt)?;
+    print_lines(rt)?;
+    print_groups(rt)?;
+    print_certificates(rt)?;
+    print_refusals(rt)?;
+    print_runs(rt)?;
+    print_streams(rt)
+}
+
+fn print_boards(rt: &impl Print) -> io::Result<()> {
+    rt.println("\n# Faults of boards")?;
+    for fault in [
+        BoardFault::SideOutOfRange,
+        BoardFault::WrongCount,
+        BoardFault::TileOutOfRange(7),
+        BoardFault::TileRepeated(0),
+    ] {
+        print_fault(rt, fault.code(), fault)?;
+    }
+    Ok(())
+}
+
+fn print_lines(rt: &impl Print) -> io::Result<()> {
+    rt.println("\n# Faults of lines")?;
+    for fault in [
+        EntryFault::NoBoard(BoardFault::WrongCount),
+        EntryFault::NoBoard(BoardFault::TileOutOfRange(24)),
+        EntryFault::NoBoard(BoardFault::TileRepeated(1)),
+        EntryFault::NoText,
+    ] {
+        print_fault(rt, fault.code(), fault)?;
+    }
+    Ok(())
+}
+
+fn print_groups(rt: &impl Print) -> io::Result<()> {
+    rt.println("\n# Faults of groups, partitions and tables")?;
+    for fault in [
+        GroupFault::Empty,
+        GroupFault::NotATile,
+        GroupFault::Repeated,
+        GroupFault::TooManyViews,
+        GroupFault::SharedTile,
+        GroupFault::TooManyGroups,
+        GroupFault::WrongCount,
+    ] {
+        print_fault(rt, fault.code(), fault)?;
+    }
+    Ok(())
+}
+
+fn print_certificates(rt: &impl Print) -> io::Result<()> {
+    rt.println("\n# Faults of certificates that are read or written")?;
+    for fault in [
+        ReadFault::OtherMagic,
+        ReadFault::Truncated,
+        ReadFault::OutOfRange,
+        ReadFault::NotRising,
+        ReadFault::BytesAfterEnd,
+        ReadFault::Failed,
+        ReadFault::NoMemory,
+    ] {
+        print_fault(rt, fault.code(), fault)?;
+    }
+    let fault = WriteFault::Failed;
+    print_fault(rt, fault.code(), fault)
+}
+
+fn print_refusals(rt: &impl Print) -> io::Result<()> {
+    rt.println("\n# Refusals of the checker")?;
+    for refusal in [
+        Refusal::IllegalMove(3),
+        Refusal::OtherEnd,
+        Refusal::OtherCost,
+        Refusal::StartUnproved,
+        Refusal::GoalRow(0),
+        Refusal::OpenSuccessor(2, Move::U),
+    ] {
+        print_fault(rt, refusal.code(), refusal)?;
+    }
+    Ok(())
+}
+
+fn print_runs(rt: &impl Print) -> io::Result<()> {
+    rt.println("\n# Faults of searches and runs")?;
+    let fault = SolveFault::Memory;
+    print_fault(rt, fault.code(), fault)?;
+    for fault in [
+        BatchFault::Read,
+        BatchFault::Write,
+        BatchFault::Memory,
+        BatchFault::CertificateRead,
+        BatchFault::CertificateMemory,
+        BatchFault::CertificateWrite,
+    ] {
+        print_fault(rt, fault.code(), fault)?;
+    }
+    Ok(())
+}
+
+fn print_streams(rt: &impl Print) -> io::Result<()> {
+    rt.println("\n# Failures of streams, which have no code")?;
+    rt.println(ReadFailed)?;
+    rt.println(WriteFailed)
+}
+
+fn print_fault(rt: &impl Print, code: &str, fault: impl Display + Drop) -> io::Result<()> {
+    println!(rt; "{code} {fault}")
+}

@@ -1,0 +1,97 @@
+use batch_cli::{
+    Cause, Outcome, Why, accepted_report, outcome_report, refused_certificate_report,
+    refused_report,
+};
+use board::Move;
+use std::alloc::{AllocError, Global};
+use std::io;
+
+/// Prints each form of report.
+pub fn print(rt: &(impl Print + AllocGlobal)) -> io::Result<()> {
+    print_outcomes(rt)?;
+    print_refused_lines(rt)?;
+    print_certificates(rt)
+}
+
+// An outcome whose plans are slices, so that it can stand in a table.
+#[derive(Clone, Copy)]
+enum Answer {
+    Optimal(u32, &'static [Move]),
+    Unsolvable(Why),
+    Bounded(u32, Option<(u32, &'static [Move])>, Cause),
+}
+
+impl Answer {
+    fn outcome(self, alloc: Global) -> Result<Outcome, AllocError> {
+        match self {
+            Answer::Optimal(cost, moves) => Ok(Outcome::Optimal {
+                cost,
+                plan: Vec::from_slice(alloc, moves)?,
+                rows: Vec::new(alloc),
+            }),
+            Answer::Unsolvable(why) => Ok(Outcome::Unsolvable { why }),
+            Answer::Bounded(bound, None, cause) => Ok(Outcome::Bounded {
+                bound,
+                best: None,
+                cause,
+            }),
+            Answer::Bounded(bound, Some((cost, moves)), cause) => Ok(Outcome::Bounded {
+                bound,
+                best: Some((cost, Vec::from_slice(alloc, moves)?)),
+                cause,
+            }),
+        }
+    }
+}
+
+fn print_outcomes(rt: &(impl Print + AllocGlobal)) -> io::Result<()> {
+    rt.println("# Reports of outcomes")?;
+    for (id, answer) in [
+        ("1", Answer::Optimal(2, &[Move::L, Move::L])),
+        ("", Answer::Optimal(0, &[])),
+        ("2", Answer::Unsolvable(Why::Parity)),
+        ("2", Answer::Unsolvable(Why::Exhausted)),
+        ("3", Answer::Bounded(21, None, Cause::Limit)),
+        ("3", Answer::Bounded(21, None, Cause::Memory)),
+        ("3", Answer::Bounded(21, None, Cause::Start)),
+        ("3", Answer::Bounded(21, None, Cause::Cost)),
+        ("3", Answer::Bounded(21, None, Cause::Cut)),
+        (
+            "4",
+            Answer::Bounded(
+                1048574,
+                Some((1048575, &[Move::U, Move::L, Move::R, Move::D])),
+                Cause::Limit,
+            ),
+        ),
+        ("a\"b\\/\u{1}\t\né", Answer::Unsolvable(Why::Parity)),
+    ] {
+        let outcome = answer.outcome(rt.alloc())?;
+        print_report(rt, outcome_report(rt.alloc(), id, &outcome))?;
+    }
+    Ok(())
+}
+
+fn print_refused_lines(rt: &(impl Print + AllocGlobal)) -> io::Result<()> {
+    rt.println("\n# Reports of refused lines")?;
+    for (code, line) in [("E2", 4), ("V3", 1), ("E12", u64::MAX)] {
+        print_report(rt, refused_report(rt.alloc(), code, line))?;
+    }
+    Ok(())
+}
+
+fn print_certificates(rt: &(impl Print + AllocGlobal)) -> io::Result<()> {
+    rt.println("\n# Reports of certificates")?;
+    for cost in [1, 0, 1048575] {
+        print_report(rt, accepted_report(rt.alloc(), cost))?;
+    }
+    for code in ["C5", "F2"] {
+        print_report(rt, refused_certificate_report(rt.alloc(), code))?;
+    }
+    Ok(())
+}
+
+// Prints a report, which ends its own line.
+fn print_report(rt: &impl Print, report: Result<String, AllocError>) -> io::Result<()> {
+    rt.print(report?)
+}
