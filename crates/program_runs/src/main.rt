@@ -1,0 +1,64 @@
+//! Runs the program `tilesolve` once for each row of a table, and prints for each row what it answered.
+//!
+//! The table is standard input. Each of its lines is a row, but for those that begin with `#`: the words, with a
+//! space between two, then a tab, then the input in escapes. Of the escapes `\n`, `\r`, `\t` and `\\` are one byte,
+//! and so is `\x` with two hexadecimal digits. A line that is none of this ends the program by an error.
+//!
+//! What is printed is the row itself, the status, the lines of the output behind `> `, those of standard error
+//! behind `! `, and an empty line. Output is in the same escapes, so that each of its bytes can be told.
+#![tactic(auto)]
+
+mod escapes;
+
+use batch_cli::run_program;
+use byte_streams::{ByteSink, ByteSource};
+use escapes::{push_lines, unescape};
+use std::alloc::{AllocError, Global};
+use std::io::{self, BufRead, BufReader, ErrorKind};
+
+fn main(rt: HostRuntime) -> io::Result<()> {
+    let table = BufReader::new(rt.alloc(), rt.stdin())?;
+    for line in table.lines(rt.alloc()) {
+        let line = line?;
+        if !line.starts_with('#') {
+            print_run(&rt, line.as_str())?;
+        }
+    }
+    Ok(())
+}
+
+// Prints a row, and what the program answers to it.
+fn print_run(rt: &(impl Print + AllocGlobal), row: &str) -> io::Result<()> {
+    let alloc = rt.alloc();
+    let Some((words, input)) = row.split_once('\t') else {
+        return Err(ErrorKind::InvalidData.into());
+    };
+    let Some(input) = unescape(alloc, input)? else {
+        return Err(ErrorKind::InvalidData.into());
+    };
+    let words = words_of(alloc, words)?;
+    let answer = answer_to(alloc, words.as_slice(), input.as_slice())?;
+    println!(rt; "{row}\n{answer}")
+}
+
+// The words of a text with a space between two, or none where it is empty.
+fn words_of(alloc: Global, text: &str) -> Result<Vec<String>, AllocError> {
+    if text.is_empty() {
+        return Ok(Vec::new(alloc));
+    }
+    text.split(' ')
+        .map(|word| word.to_string(alloc))
+        .try_collect(alloc)
+}
+
+// The status of a run and what it writes.
+fn answer_to(alloc: Global, words: &[String], input: &[u8]) -> Result<String, AllocError> {
+    let mut source = ByteSource::new(input);
+    let mut sink = ByteSink::new(Vec::new(alloc));
+    let mut errors = ByteSink::new(Vec::new(alloc));
+    let status = run_program(alloc, words, &mut source, &mut sink, &mut errors);
+    let mut text = format!(in alloc; "status {status}\n")?;
+    push_lines(&mut text, "> ", sink.into_inner().as_slice())?;
+    push_lines(&mut text, "! ", errors.into_inner().as_slice())?;
+    Ok(text)
+}
