@@ -1,98 +1,82 @@
-ghost use Rattle.std.specs.Prelude.{◌≡◌, false, None};
-
-use byte_streams::{ReadFailed, Sink, Source, WriteFailed};
 use std::alloc::Global;
+use std::io;
+use std::io::{ErrorKind, Read, Write};
 
-// Gives the bytes one by one, and fails at a call, counted from 0, and from then on.
+// More calls than any run of these tests makes.
+pub(crate) const NEVER: usize = 9999;
+
+// Gives its bytes, and fails at the read after so many others.
 #[derive(Drop)]
-pub(crate) struct SourceFails<'a> {
-    bytes: &'a [u8],
-    pub(crate) calls: usize,
-    at: usize,
-    failed: bool,
+pub(crate) struct FailingReader<'a> {
+    pub(crate) bytes: &'a [u8],
+    pub(crate) reads_before: usize,
+    pub(crate) kind: ErrorKind,
 }
 
-impl<'a> SourceFails<'a> {
-    pub(crate) fn new(bytes: &'a [u8], at: usize) -> Self {
-        SourceFails {
-            bytes,
-            calls: 0,
-            at,
-            failed: false,
+impl Read for FailingReader<'_> {
+    fn read(&mut self, buffer: &mut [u8]) -> io::Result<usize> {
+        if self.reads_before == 0 {
+            // A later read would give bytes again: only a source remembers the failure.
+            self.reads_before = NEVER;
+            return Err(io::Error::from(self.kind));
         }
+        self.reads_before -= 1;
+        self.bytes.read(buffer)
     }
 }
 
-impl Source for SourceFails<'_> {
-    ghost left = { λ _. None };
-
-    ghost has_failed = { λ s. s.failed };
-
-    fn next_byte(&mut self) -> Result<Option<u8>, ReadFailed> {
-        if self.failed || self.calls == self.at {
-            self.failed = true;
-            return Err(ReadFailed);
-        }
-        let byte = self.bytes.get(self.calls).copied();
-        self.calls = self.calls.saturating_add(1);
-        Ok(byte)
-    }
-}
-
-// Takes whole texts, and fails at a call, counted from 0, and from then on; a text at which it fails loses
-// all but its first byte. What is written for a line that is passed over is an empty text, and a flush is a call too.
+// Takes one byte a write, and fails at the write or flush after so many others.
 #[derive(Drop)]
-pub(crate) struct SinkFails {
-    pub(crate) written: Vec<u8>,
-    pub(crate) calls: usize,
-    at: usize,
-    failed: bool,
+pub(crate) struct FailingWriter {
+    pub(crate) taken: Vec<u8>,
+    pub(crate) flushes: usize,
+    calls_before: usize,
+    // None: the write takes no byte.
+    kind: Option<ErrorKind>,
 }
 
-impl SinkFails {
-    pub(crate) fn new(alloc: Global, at: usize) -> Self
-        ensures { result.failed ≡ false }
-    {
-        SinkFails {
-            written: Vec::new(alloc),
-            calls: 0,
-            at,
-            failed: false,
+impl FailingWriter {
+    pub(crate) fn new(alloc: Global, calls_before: usize, kind: Option<ErrorKind>) -> Self {
+        FailingWriter {
+            taken: Vec::new(alloc),
+            flushes: 0,
+            calls_before,
+            kind,
         }
+    }
+
+    // One call more: whether it is the one that fails.
+    fn fails(&mut self) -> bool {
+        if self.calls_before == 0 {
+            // A later call would succeed again: only a sink remembers the failure.
+            self.calls_before = NEVER;
+            return true;
+        }
+        self.calls_before -= 1;
+        false
     }
 }
 
-impl Sink for SinkFails {
-    ghost contents = { λ _. None };
-
-    ghost has_failed = { λ s. s.failed };
-
-    ghost is_flushed = { λ _. Unit {0} };
-
-    fn put(&mut self, bytes: &[u8]) -> Result<(), WriteFailed> {
-        if self.failed {
-            return Err(WriteFailed);
-        }
-        let fails = self.calls == self.at;
-        let taken = if fails {
-            bytes.len().min(1)
-        } else {
-            bytes.len()
+impl Write for FailingWriter {
+    fn write(&mut self, bytes: &[u8]) -> io::Result<usize> {
+        let [first, ..] = bytes else {
+            return Ok(0);
         };
-        self.calls = self.calls.saturating_add(1);
-        if self.written.extend_from_slice(&bytes[..taken]).is_err() || fails {
-            self.failed = true;
-            return Err(WriteFailed);
+        if self.fails() {
+            return match self.kind {
+                Some(kind) => Err(io::Error::from(kind)),
+                None => Ok(0),
+            };
         }
-        Ok(())
+        self.taken.push(*first)?;
+        Ok(1)
     }
 
-    fn flush(&mut self) -> Result<(), WriteFailed> {
-        if self.failed || self.calls == self.at {
-            self.failed = true;
-            return Err(WriteFailed);
+    fn flush(&mut self) -> io::Result<()> {
+        if self.fails() {
+            return Err(io::Error::from(self.kind.unwrap_or(ErrorKind::Other)));
         }
-        self.calls = self.calls.saturating_add(1);
+        self.flushes = self.flushes.saturating_add(1);
         Ok(())
     }
 }

@@ -1,11 +1,17 @@
-use crate::cases::{counted, long};
-use crate::fakes::{SinkFails, SourceFails};
-use batch_cli::{Answerer, BatchFault, Cause, Outcome, Setup, SolveFault, Summary, Why, run_lines};
+ghost use Rattle.std.specs.Prelude.{◌≡◌, false};
+ghost use Rattle.byte_streams.specs.ByteSink.{sink_has_failed};
+ghost use Rattle.certificate.specs.Certificates.{AreNamedCosts};
+
+use crate::certificates::{ONE_MOVE, SOLVED};
+use crate::fakes::{FailingReader, FailingWriter, NEVER};
+use batch_cli::{
+    Answerer, BatchFault, Cause, Ending, Outcome, Setup, Summary, Why, run_batch, run_cert,
+    run_check, run_lines, run_program,
+};
 use board::{Board, Move, Shape, Weights};
 use byte_streams::{ByteSink, ByteSource};
 use std::alloc::{AllocError, Global};
-use std::process::Abort;
-use std::test::Fail;
+use std::io::ErrorKind;
 
 // Answers by the blank's cell alone.
 #[derive(Clone, Copy)]
@@ -19,185 +25,367 @@ impl Answerer for ByBlank {
     ghost allows = { λ _ _ _. Unit {0} };
 
     fn answer(&self, alloc: Global, start: &Board) -> Result<Outcome, AllocError> {
-        let plan = Vec::from_array(alloc, [Move::L, Move::U])?;
         match start.blank() {
             0 => Ok(Outcome::Optimal {
-                cost: 0,
-                plan: Vec::new(alloc),
-                rows: Vec::new(alloc),
-            }),
-            1 => Ok(Outcome::Optimal {
                 cost: 2,
-                plan,
+                plan: Vec::from_array(alloc, [Move::L, Move::U])?,
                 rows: Vec::new(alloc),
             }),
-            2 => Ok(Outcome::Unsolvable { why: Why::Parity }),
-            3 => Ok(Outcome::Bounded {
+            1 => Ok(Outcome::Unsolvable { why: Why::Parity }),
+            2 => Ok(Outcome::Bounded {
                 bound: 21,
                 best: None,
                 cause: Cause::Limit,
-            }),
-            4 => Ok(Outcome::Bounded {
-                bound: 21,
-                best: Some((30, plan)),
-                cause: Cause::Memory,
             }),
             _ => Err(AllocError),
         }
     }
 }
 
-// Runs over an input, and checks what is written and counted.
-fn writes(
-    rt: &(impl Abort + AllocGlobal),
-    sides: (u8, u8),
-    input: &[u8],
-    output: &str,
-    counts: Summary,
-) -> Result<(), Fail> {
-    let alloc = rt.alloc();
-    let shape = Shape::new(sides.0, sides.1)?;
-    let mut source = ByteSource::new(input);
-    let mut sink = ByteSink::new(Vec::new(alloc));
-    let summary = run_lines(alloc, &mut source, &mut sink, shape, &ByBlank { shape })?;
-    let written = sink.into_inner();
-    assert_eq!(rt; std::str::from_utf8(written.as_slice())?, output);
-    assert_eq!(rt; summary, counts);
-    Ok(())
+#[derive(Clone, Copy, Debug, PartialEq, Eq)]
+enum Run {
+    // `run_lines` over boards of 2 by 2, answered by `ByBlank`.
+    Lines,
+    // `run_batch` over boards of 2 by 3, with a goal that is not Korf's and face costs.
+    Batch,
+    // `run_program` without words.
+    Program,
+    // `run_cert` over boards of 2 by 2, with Korf's goal and unit costs.
+    Certify,
+    // `run_check`.
+    Check,
 }
 
-#[test]
-fn forms_of_reports(rt: HostRuntime) -> Result<(), Fail> {
-    writes(
-        &rt,
-        (2, 3),
-        b"a 0 1 2 3 4 5\nb 1 0 2 3 4 5\nc 1 2 0 3 4 5\nd 1 2 3 0 4 5\ne 1 2 3 4 0 5\nf 1 2 3 4 5 0\na 0 1 2 3 4 5",
-        "{\"cost\":0,\"id\":\"a\",\"plan\":\"\",\"status\":\"optimal\"}\n\
-         {\"cost\":2,\"id\":\"b\",\"plan\":\"LU\",\"status\":\"optimal\"}\n\
-         {\"id\":\"c\",\"status\":\"unsolvable\",\"why\":\"parity\"}\n\
-         {\"best\":null,\"bound\":21,\"cause\":\"limit\",\"id\":\"d\",\"status\":\"bounded\"}\n\
-         {\"best\":{\"cost\":30,\"plan\":\"LU\"},\"bound\":21,\"cause\":\"memory\",\"id\":\"e\",\"status\":\"bounded\"}\n\
-         {\"fault\":\"V3\",\"line\":6,\"status\":\"refused\"}\n\
-         {\"cost\":0,\"id\":\"a\",\"plan\":\"\",\"status\":\"optimal\"}\n",
-        counted(3, 1, 2, 1),
-    )
+// A line for each answer of `ByBlank`, one that is refused before it is asked, and one that is passed over.
+const LINES: &[u8] = b"a 0 1 2 3\nb 1 0 2 3\nc 1 2 0 3\nd 1 2 3 0\ne 1\n#\n";
+
+// A run over an input, and how it ends where no stream fails.
+#[derive(Clone, Copy)]
+struct Case {
+    run: Run,
+    input: &'static [u8],
+    // How many reads it makes: one for each byte, and one for the end where it comes there.
+    reads: usize,
+    output: &'static [u8],
+    status: u8,
+    // What is told where the output cannot be written.
+    unwritten: &'static str,
 }
 
-#[test]
-fn refused_lines(rt: HostRuntime) -> Result<(), Fail> {
-    writes(
-        &rt,
-        (3, 3),
-        b"x 1 2 3\n# y\ny 1 2 0 3 4 5 6 7 9\n\nz 1 1 0 3 4 5 6 7 8\n",
-        "{\"fault\":\"E2\",\"line\":1,\"status\":\"refused\"}\n\
-         {\"fault\":\"E3\",\"line\":3,\"status\":\"refused\"}\n\
-         {\"fault\":\"E4\",\"line\":5,\"status\":\"refused\"}\n",
-        counted(0, 0, 0, 3),
-    )?;
-    // A carriage return too many, a sign, a number that no machine word holds, no tiles, an id that is no text,
-    // and a repeated tile before one out of range, and after it.
-    writes(
-        &rt,
-        (2, 2),
-        b"x 1 0 2 3\r\r\nx 1 0 2 +3\nx 1 0 2 99999999999999999999999\nx\n\xff 0 1 2 3\nx 0 0 9 3\nx 0 9 0 3\nx 0 1 2 3 3\n",
-        "{\"fault\":\"E3\",\"line\":1,\"status\":\"refused\"}\n\
-         {\"fault\":\"E3\",\"line\":2,\"status\":\"refused\"}\n\
-         {\"fault\":\"E3\",\"line\":3,\"status\":\"refused\"}\n\
-         {\"fault\":\"E2\",\"line\":4,\"status\":\"refused\"}\n\
-         {\"fault\":\"E12\",\"line\":5,\"status\":\"refused\"}\n\
-         {\"fault\":\"E4\",\"line\":6,\"status\":\"refused\"}\n\
-         {\"fault\":\"E3\",\"line\":7,\"status\":\"refused\"}\n\
-         {\"fault\":\"E2\",\"line\":8,\"status\":\"refused\"}\n",
-        counted(0, 0, 0, 8),
-    )
+fn cases() -> [Case; 11] {
+    [
+        Case {
+            run: Run::Lines,
+            input: LINES,
+            reads: 47,
+            output: b"{\"cost\":2,\"id\":\"a\",\"plan\":\"LU\",\"status\":\"optimal\"}\n\
+                {\"id\":\"b\",\"status\":\"unsolvable\",\"why\":\"parity\"}\n\
+                {\"best\":null,\"bound\":21,\"cause\":\"limit\",\"id\":\"c\",\"status\":\"bounded\"}\n\
+                {\"fault\":\"V3\",\"line\":4,\"status\":\"refused\"}\n\
+                {\"fault\":\"E2\",\"line\":5,\"status\":\"refused\"}\n",
+            status: 1,
+            unwritten: "tilesolve: B2\n",
+        },
+        Case {
+            run: Run::Batch,
+            input: b"b 1 2 3 0 4 5\nc 1 2 0 4 5 3\n",
+            reads: 29,
+            output: b"{\"cost\":9,\"id\":\"b\",\"plan\":\"RR\",\"status\":\"optimal\"}\n\
+                {\"cost\":3,\"id\":\"c\",\"plan\":\"D\",\"status\":\"optimal\"}\n",
+            status: 0,
+            unwritten: "tilesolve: B2\n",
+        },
+        Case {
+            run: Run::Program,
+            input: b"1 1 2 0 3 4 5 6 7 8\nb 1\n#\n",
+            reads: 27,
+            output: b"{\"cost\":2,\"id\":\"1\",\"plan\":\"LL\",\"status\":\"optimal\"}\n\
+                {\"fault\":\"E2\",\"line\":2,\"status\":\"refused\"}\n",
+            status: 1,
+            unwritten: "tilesolve: B2\n",
+        },
+        // What stands behind the line is not read.
+        Case {
+            run: Run::Certify,
+            input: b"\nr 1 0 2 3\n a 0 1 2 3",
+            reads: 11,
+            output: &ONE_MOVE,
+            status: 0,
+            unwritten: "tilesolve: F8\n",
+        },
+        Case {
+            run: Run::Certify,
+            input: b"a 0 1 2 3",
+            reads: 10,
+            output: &SOLVED,
+            status: 0,
+            unwritten: "tilesolve: F8\n",
+        },
+        Case {
+            run: Run::Certify,
+            input: b"\nx 0 1 2\na 0 1 2 3\n",
+            reads: 9,
+            output: b"{\"fault\":\"E2\",\"line\":2,\"status\":\"refused\"}\n",
+            status: 1,
+            unwritten: "tilesolve: B2\n",
+        },
+        Case {
+            run: Run::Certify,
+            input: b"a 0 2 1 3\n",
+            reads: 10,
+            output: b"{\"id\":\"a\",\"status\":\"unsolvable\",\"why\":\"parity\"}\n",
+            status: 0,
+            unwritten: "tilesolve: B2\n",
+        },
+        Case {
+            run: Run::Certify,
+            input: b"# none\n",
+            reads: 8,
+            output: b"",
+            status: 0,
+            unwritten: "",
+        },
+        Case {
+            run: Run::Check,
+            input: &ONE_MOVE,
+            reads: 46,
+            output: b"{\"cost\":1,\"status\":\"accepted\"}\n",
+            status: 0,
+            unwritten: "tilesolve: B2\n",
+        },
+        Case {
+            run: Run::Check,
+            input: &SOLVED,
+            reads: 37,
+            output: b"{\"cost\":0,\"status\":\"accepted\"}\n",
+            status: 0,
+            unwritten: "tilesolve: B2\n",
+        },
+        Case {
+            run: Run::Check,
+            input: b"TILECRT2",
+            reads: 8,
+            output: b"{\"fault\":\"F1\",\"status\":\"refused\"}\n",
+            status: 5,
+            unwritten: "tilesolve: B2\n",
+        },
+    ]
 }
 
-#[test]
-fn words_of_lines(rt: HostRuntime) -> Result<(), Fail> {
-    // Leading zeros, tabs and runs of blanks; the id is any text, and may be a number.
-    writes(
-        &rt,
-        (2, 2),
-        b"x 0 1 2 00003\n\t7\t 0  1 2\t3 \t\na\"b\\/\x01\xc3\xa9 0 1 2 3\r\n",
-        "{\"cost\":0,\"id\":\"x\",\"plan\":\"\",\"status\":\"optimal\"}\n\
-         {\"cost\":0,\"id\":\"7\",\"plan\":\"\",\"status\":\"optimal\"}\n\
-         {\"cost\":0,\"id\":\"a\\\"b\\\\/\\u0001\u{e9}\",\"plan\":\"\",\"status\":\"optimal\"}\n",
-        counted(3, 0, 0, 0),
-    )?;
-    let alloc = rt.alloc();
-    let line = long(alloc, b'x', 1025, b"\n#")?;
-    writes(
-        &rt,
-        (2, 2),
-        line.as_slice(),
-        "{\"fault\":\"E12\",\"line\":1,\"status\":\"refused\"}\n",
-        counted(0, 0, 0, 1),
-    )
-}
-
-const INPUT: &[u8] = b"a 0 1 2 3\n#\nb 1\n";
-
-const FIRST: &str = "{\"cost\":0,\"id\":\"a\",\"plan\":\"\",\"status\":\"optimal\"}\n";
-
-const BOTH: &str =
-    "{\"cost\":0,\"id\":\"a\",\"plan\":\"\",\"status\":\"optimal\"}\n{\"fault\":\"E2\",\"line\":3,\"status\":\"refused\"}\n";
-
-// Whatever byte can't be read, the reports of the lines before it are written, and no other.
-#[test]
-fn failing_sources(rt: HostRuntime) -> Result<(), Fail> {
-    let alloc = rt.alloc();
-    let shape = Shape::new(2, 2)?;
-    for at in 0..17 {
-        let mut source = SourceFails::new(INPUT, at);
-        let mut sink = ByteSink::new(Vec::new(alloc));
-        let result = run_lines(alloc, &mut source, &mut sink, shape, &ByBlank { shape });
-        assert_eq!(rt; result, Err(BatchFault::Read), "at {at}");
-        let due = if at < 10 {
-            ""
-        } else if at < 16 {
-            FIRST
+impl Case {
+    // What is told where the input cannot be read.
+    fn unread(&self) -> &'static str {
+        if self.run == Run::Check {
+            "tilesolve: F6\n"
         } else {
-            BOTH
-        };
-        let written = sink.into_inner();
-        assert_eq!(rt; std::str::from_utf8(written.as_slice())?, due, "at {at}");
+            "tilesolve: B1\n"
+        }
     }
-    Ok(())
+
+    // What is due where the read after so many others fails: of a batch the reports of the lines that are whole, and
+    // else nothing.
+    fn due_before(&self, read: usize) -> &'static [u8] {
+        if matches!(self.run, Run::Certify | Run::Check) {
+            return b"";
+        }
+        let mut lines: usize = 0;
+        for byte in self.input.iter().take(read) {
+            if *byte == b'\n' {
+                lines = lines.saturating_add(1);
+            }
+        }
+        first_lines(self.output, lines)
+    }
+
+    // How many writes and flushes it makes: one for each byte of the output, and the flush of the program.
+    fn calls(&self) -> usize {
+        if self.run == Run::Program {
+            self.output.len().saturating_add(1)
+        } else {
+            self.output.len()
+        }
+    }
+}
+
+// So many lines of a text, or all.
+fn first_lines(text: &[u8], lines: usize) -> &[u8] {
+    let mut left = lines;
+    for (place, byte) in text.iter().enumerate() {
+        if left == 0 {
+            return &text[..place];
+        }
+        if *byte == b'\n' {
+            left -= 1;
+        }
+    }
+    text
+}
+
+// So many bytes of a text, or all.
+fn beginning(text: &[u8], count: usize) -> &[u8] {
+    &text[..count.min(text.len())]
+}
+
+// How a run ended, and what it left.
+#[derive(Drop)]
+struct Ended {
+    status: u8,
+    told: Vec<u8>,
+    written: Vec<u8>,
+    flushes: usize,
+    unread: usize,
+}
+
+// Runs a case over an input, an output and a standard error that fail at the call after so many others.
+fn end(alloc: Global, case: &Case, read: usize, write: usize, tell: usize) -> Ended {
+    let mut source = ByteSource::new(FailingReader {
+        bytes: case.input,
+        reads_before: read,
+        kind: ErrorKind::Interrupted,
+    });
+    let mut sink = ByteSink::new(FailingWriter::new(alloc, write, None));
+    let mut errors = ByteSink::new(FailingWriter::new(alloc, tell, None));
+    let status = start(alloc, case.run, &mut source, &mut sink, &mut errors);
+    let writer = sink.into_inner();
+    Ended {
+        status,
+        told: errors.into_inner().taken,
+        written: writer.taken,
+        flushes: writer.flushes,
+        unread: source.into_inner().bytes.len(),
+    }
+}
+
+// Starts a run, and tells how it ended. The answer is its status.
+fn start(
+    alloc: Global,
+    run: Run,
+    source: &mut ByteSource<FailingReader>,
+    sink: &mut ByteSink<FailingWriter>,
+    errors: &mut ByteSink<FailingWriter>,
+) -> u8
+    requires { sink_has_failed sink.old ≡ false }
+{
+    match run {
+        Run::Lines => {
+            let shape = square();
+            let counts = run_lines(alloc, source, sink, shape, &ByBlank { shape });
+            tell_counts(counts, errors)
+        }
+        Run::Batch => match setup_of_faces() {
+            Some(setup) => tell_counts(run_batch(alloc, source, sink, &setup), errors),
+            // No run ends so.
+            None => 255,
+        },
+        Run::Program => run_program(alloc, &[], source, sink, errors),
+        Run::Certify => tell_status(run_cert(alloc, source, sink, &setup_of_square()), errors),
+        Run::Check => tell_status(run_check(alloc, source, sink), errors),
+    }
+}
+
+fn tell_counts(counts: Result<Summary, BatchFault>, errors: &mut ByteSink<FailingWriter>) -> u8 {
+    match counts {
+        Ok(counts) => Ending::Ran(counts).tell(errors),
+        Err(fault) => Ending::Faulted(fault).tell(errors),
+    }
+}
+
+fn tell_status(status: Result<u8, BatchFault>, errors: &mut ByteSink<FailingWriter>) -> u8 {
+    match status {
+        Ok(status) => status,
+        Err(fault) => Ending::Faulted(fault).tell(errors),
+    }
+}
+
+// 2 by 2.
+fn square() -> Shape {
+    Shape::new(2, 2).unwrap()
+}
+
+// Korf's goal, at unit cost.
+fn setup_of_square() -> Setup
+    ensures { AreNamedCosts result.goal.grid result.rule }
+{
+    let shape = square();
+    Setup::new(Board::goal(shape), Weights::unit(shape))
+}
+
+// A goal of 2 by 3 with the blank in the last cell, at face cost.
+fn setup_of_faces() -> Option<Setup> {
+    let shape = Shape::new(2, 3).ok()?;
+    let goal = Board::from_tiles(shape, &[1, 2, 3, 4, 5, 0]).ok()?;
+    Some(Setup::new(goal, Weights::face(shape)))
+}
+
+// Whether a run fails so, and not otherwise where that cannot be told.
+fn fails_so(alloc: Global, case: &Case, read: usize, write: usize, told: &str, due: &[u8]) -> bool {
+    for tell in [0, 1, NEVER] {
+        let ended = end(alloc, case, read, write, tell);
+        if ended.status != 3
+            || ended.told.as_slice() != beginning(told.as_bytes(), tell)
+            || ended.written.as_slice() != due
+        {
+            return false;
+        }
+    }
+    true
+}
+
+// Whether a run ends as is due where no call fails, and leaves what stands behind the bytes that it is to read.
+fn succeeds(alloc: Global, case: &Case) -> bool {
+    let ended = end(alloc, case, NEVER, NEVER, NEVER);
+    ended.status == case.status
+        && ended.told.is_empty()
+        && ended.written.as_slice() == case.output
+        && ended.flushes == (case.run == Run::Program) as usize
+        && ended.unread == case.input.len().saturating_sub(case.reads)
+}
+
+// The read and the write, counted from 0, that first end a run otherwise than is due where they fail.
+fn first_wrong_end(alloc: Global, case: &Case) -> Option<(usize, usize)> {
+    if !succeeds(alloc, case) {
+        return Some((NEVER, NEVER));
+    }
+    for read in 0..case.reads {
+        let due = case.due_before(read);
+        // The first fault decides: the program's flush fails in vain behind it.
+        for write in [NEVER, due.len()] {
+            if !fails_so(alloc, case, read, write, case.unread(), due) {
+                return Some((read, write));
+            }
+        }
+    }
+    for write in 0..case.calls() {
+        let due = beginning(case.output, write);
+        if !fails_so(alloc, case, NEVER, write, case.unwritten, due) {
+            return Some((NEVER, write));
+        }
+    }
+    None
 }
 
 #[test]
-fn failing_sinks(rt: HostRuntime) -> Result<(), Fail> {
-    let alloc = rt.alloc();
-    let shape = Shape::new(2, 2)?;
-    for (at, due) in [(0, 1), (1, FIRST.len()), (2, FIRST.len() + 1)] {
-        let mut source = ByteSource::new(INPUT);
-        let mut sink = SinkFails::new(alloc, at);
-        let result = run_lines(alloc, &mut source, &mut sink, shape, &ByBlank { shape });
-        assert_eq!(rt; result, Err(BatchFault::Write));
-        assert_eq!(rt; sink.written.len(), due);
-        assert!(rt; BOTH.as_bytes().starts_with(sink.written.as_slice()));
+fn each_call_of_a_run_fails_in_turn(rt: HostRuntime) {
+    for case in cases() {
+        assert_eq!(rt; first_wrong_end(rt.alloc(), &case), None, "{:?}", case.run);
     }
-    Ok(())
+}
+
+// The counts of the answers to `LINES`.
+fn counts_of_lines(alloc: Global) -> Result<Summary, BatchFault> {
+    let shape = square();
+    let mut source = ByteSource::new(LINES);
+    let mut sink = ByteSink::new(Vec::new(alloc));
+    run_lines(alloc, &mut source, &mut sink, shape, &ByBlank { shape })
 }
 
 #[test]
-fn codes_and_setup(rt: HostRuntime) -> Result<(), Fail> {
-    let faults = [
-        (BatchFault::Read, "B1"),
-        (BatchFault::Write, "B2"),
-        (BatchFault::Memory, "B3"),
-        (BatchFault::CertificateRead, "F6"),
-        (BatchFault::CertificateMemory, "F7"),
-        (BatchFault::CertificateWrite, "F8"),
-    ];
-    for (fault, code) in faults {
-        assert!(rt; fault.code() == code);
-    }
-    assert!(rt; SolveFault::Memory.code() == "V3");
-    let shape = Shape::new(3, 2)?;
-    let setup = Setup::new(Board::goal(shape), Weights::face(shape));
-    assert_eq!(rt; setup.shape(), shape);
-    assert_eq!(rt; setup.goal(), Board::goal(shape));
-    assert_eq!(rt; setup.weights(), Weights::face(shape));
-    Ok(())
+fn answers_are_counted(rt: HostRuntime) {
+    let counts = Summary {
+        optimal: 1,
+        unsolvable: 1,
+        bounded: 1,
+        refused: 2,
+    };
+    assert_eq!(rt; counts_of_lines(rt.alloc()), Ok(counts));
 }
