@@ -1,4 +1,4 @@
-//! Tests of the crate `board`: worked rows, each fault, each key, and the texts of faults.
+//! Tests of the crate `board`: plans, keys and classes that were worked by hand, and each public call once.
 #![tactic(auto)]
 
 #[cfg(test)]
