@@ -1,5 +1,5 @@
 //! Tests of the crate `plain_search`: each board of two small shapes beside a plain table of least costs,
-//! worked boards, and the hardest board of 3 by 3.
+//! boards whose answers are known, and the rows of a worked example.
 #![tactic(auto)]
 
 #[cfg(test)]
