@@ -1,7 +1,12 @@
-//! Tests of the crate `certificate`: its bytes against vectors, damaged bytes, streams that fail.
+//! Tests of the crates `certificate` and `certificate_check`: certificates by their fields and by their
+//! bytes, streams that fail, and what the checker answers.
 #![tactic(auto)]
 
 #[cfg(test)]
+mod checker;
+#[cfg(test)]
+mod format;
+#[cfg(test)]
 mod streams;
 #[cfg(test)]
-mod tests;
+mod vectors;

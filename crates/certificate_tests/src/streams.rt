@@ -1,6 +1,6 @@
-use super::tests::{GOAL, ONE_MOVE};
+use super::vectors::ONE_MOVE;
 use byte_streams::{ByteSink, ByteSource};
-use certificate::{ReadFault, WriteFault, read, write};
+use certificate::{Certificate, ReadFault, WriteFault, read, write};
 use std::alloc::Global;
 use std::io;
 use std::io::{ErrorKind, Read, Write};
@@ -11,7 +11,6 @@ use std::test::Fail;
 struct FailingReader<'a> {
     text: &'a [u8],
     reads_before: usize,
-    kind: ErrorKind,
 }
 
 impl Read for FailingReader<'_> {
@@ -19,7 +18,7 @@ impl Read for FailingReader<'_> {
         if self.reads_before == 0 {
             // A later read would give bytes again: only the source remembers the failure.
             self.reads_before = 99;
-            return Err(io::Error::from(self.kind));
+            return Err(io::Error::from(ErrorKind::Other));
         }
         self.reads_before -= 1;
         let most = buffer.len().min(1);
@@ -32,17 +31,6 @@ impl Read for FailingReader<'_> {
 struct FailingWriter {
     taken: Vec<u8>,
     writes_before: usize,
-    kind: Option<ErrorKind>,
-}
-
-impl FailingWriter {
-    fn new(alloc: Global, writes_before: usize, kind: Option<ErrorKind>) -> Self {
-        FailingWriter {
-            taken: Vec::new(alloc),
-            writes_before,
-            kind,
-        }
-    }
 }
 
 impl Write for FailingWriter {
@@ -53,10 +41,7 @@ impl Write for FailingWriter {
         if self.writes_before == 0 {
             // A later write would take bytes again: only the sink remembers the failure.
             self.writes_before = 99;
-            return match self.kind {
-                Some(kind) => Err(io::Error::from(kind)),
-                None => Ok(0),
-            };
+            return Err(io::Error::from(ErrorKind::Other));
         }
         self.writes_before -= 1;
         self.taken.push(*first)?;
@@ -69,75 +54,49 @@ impl Write for FailingWriter {
 }
 
 #[test]
-fn each_read_fails_in_turn(rt: HostRuntime) -> Result<(), Fail> {
-    for kind in [ErrorKind::Other, ErrorKind::Interrupted] {
-        // Each byte is a read, and so is the end.
-        for reads_before in 0..47 {
-            let mut source = ByteSource::new(FailingReader {
-                text: &ONE_MOVE,
-                reads_before,
-                kind,
-            });
+fn each_read_fails_in_turn(rt: HostRuntime) {
+    let mut with_groups = ONE_MOVE;
+    with_groups[11] = 1;
+    // Each byte is a read, and so is the end. Nothing behind a fault is read.
+    for (text, reads, answer) in [
+        (&ONE_MOVE, 46, None),
+        (&with_groups, 12, Some(ReadFault::OutOfRange)),
+    ] {
+        for reads_before in 0..=reads {
+            let mut source = ByteSource::new(FailingReader { text, reads_before });
             let fault = read(rt.alloc(), &mut source).err();
-            let want = if reads_before < 46 {
+            let want = if reads_before < reads {
                 Some(ReadFault::Failed)
             } else {
-                None
+                answer
             };
-            assert_eq!(rt; fault, want, "{kind:?}, {reads_before}");
-            let left = ONE_MOVE.len() - reads_before.min(45);
-            assert_eq!(rt;
-                source.into_inner().text.len(),
-                left,
-                "{kind:?}, {reads_before}"
-            );
+            assert_eq!(rt; fault, want, "{reads_before} of {reads}");
         }
     }
-    Ok(())
 }
 
-#[test]
-fn nothing_behind_the_fault_is_read(rt: HostRuntime) -> Result<(), Fail> {
-    // The number of groups is at fault, and the read after it would fail.
-    let mut text = ONE_MOVE;
-    text[11] = 1;
-    let mut source = ByteSource::new(FailingReader {
-        text: &text,
-        reads_before: 12,
-        kind: ErrorKind::Other,
+// What is answered where so many writes succeed, and the bytes that were taken.
+fn written(
+    alloc: Global,
+    certificate: &Certificate,
+    writes_before: usize,
+) -> (Result<(), WriteFault>, Vec<u8>) {
+    let mut sink = ByteSink::new(FailingWriter {
+        taken: Vec::new(alloc),
+        writes_before,
     });
-    let fault = read(rt.alloc(), &mut source).err();
-    assert_eq!(rt; fault, Some(ReadFault::OutOfRange));
-    assert_eq!(rt; source.into_inner().text.len(), 33);
-    Ok(())
+    let answer = write(&mut sink, certificate);
+    (answer, sink.into_inner().taken)
 }
 
 #[test]
 fn each_write_fails_in_turn(rt: HostRuntime) -> Result<(), Fail> {
-    let alloc = rt.alloc();
-    for vector in [&GOAL[..], &ONE_MOVE[..]] {
-        let mut source = ByteSource::new(vector);
-        let certificate = read(alloc, &mut source).ok().ok_or("it is a certificate")?;
-        for kind in [Some(ErrorKind::Other), Some(ErrorKind::Interrupted), None] {
-            for writes_before in 0..vector.len() + 1 {
-                let mut sink = ByteSink::new(FailingWriter::new(alloc, writes_before, kind));
-                let want = if writes_before < vector.len() {
-                    Err(WriteFault::Failed)
-                } else {
-                    Ok(())
-                };
-                assert_eq!(rt; write(&mut sink, &certificate), want, "{writes_before}");
-                if writes_before < vector.len() {
-                    assert_eq!(rt; write(&mut sink, &certificate), want, "{writes_before}");
-                }
-                let taken = sink.into_inner().taken;
-                assert_eq!(rt;
-                    taken.as_slice(),
-                    &vector[..writes_before],
-                    "{writes_before}"
-                );
-            }
-        }
+    let certificate = read(rt.alloc(), &mut ByteSource::new(&ONE_MOVE[..]))?;
+    // Each byte is a write.
+    for writes_before in 0..=ONE_MOVE.len() {
+        let (answer, taken) = written(rt.alloc(), &certificate, writes_before);
+        assert_eq!(rt; answer.is_ok(), writes_before == ONE_MOVE.len());
+        assert_eq!(rt; taken.as_slice(), &ONE_MOVE[..writes_before]);
     }
     Ok(())
 }

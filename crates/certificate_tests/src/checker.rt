@@ -1,0 +1,92 @@
+use super::vectors::{GOAL, ONE_MOVE, THREE_MOVES};
+use board::Move;
+use byte_streams::ByteSource;
+use certificate::{ReadFault, read};
+use certificate_check::{Refusal, check};
+use std::alloc::Global;
+
+// Where the kind of costs stands.
+const KIND: usize = 10;
+
+// What is answered for the certificate that bytes spell.
+fn answer(alloc: Global, bytes: &[u8]) -> Result<Result<(), Refusal>, ReadFault> {
+    let certificate = read(alloc, &mut ByteSource::new(bytes))?;
+    Ok(check(&certificate))
+}
+
+// The bytes of three moves, with other bytes from a place on.
+fn changed(place: usize, bytes: &[u8]) -> [u8; 79] {
+    let mut text = THREE_MOVES;
+    for (old, new) in text.iter_mut().skip(place).zip(bytes) {
+        *old = *new;
+    }
+    text
+}
+
+#[test]
+fn known_answers(rt: HostRuntime) {
+    let answers: [(&[u8], Result<Result<(), Refusal>, ReadFault>); 5] = [
+        (&GOAL, Ok(Ok(()))),
+        (&ONE_MOVE, Ok(Ok(()))),
+        (&THREE_MOVES, Ok(Ok(()))),
+        // Fields that are cut off are not judged.
+        (b"\xff", Err(ReadFault::Truncated)),
+        (
+            b"TILECRT1\x02\x02\x00\x00\x01\xff\x02",
+            Err(ReadFault::Truncated),
+        ),
+    ];
+    for (bytes, want) in answers {
+        assert_eq!(rt; answer(rt.alloc(), bytes), want, "{bytes:?}");
+    }
+}
+
+#[test]
+fn each_fault_and_refusal(rt: HostRuntime) {
+    let changes: [(usize, &[u8], Result<Result<(), Refusal>, ReadFault>); 12] = [
+        // Another text in front.
+        (7, b"2", Err(ReadFault::OtherMagic)),
+        // More rows announced than any memory holds.
+        (31, &[0xff; 8], Err(ReadFault::Truncated)),
+        // A cost of 1,048,576.
+        (20, &[0, 0, 16], Err(ReadFault::OutOfRange)),
+        // The second row's board in the first row.
+        (39, &[1, 0, 2, 3], Err(ReadFault::NotRising)),
+        // The same board at 1,048,576: a row's order is judged last.
+        (39, &[1, 0, 2, 3, 0, 0, 16], Err(ReadFault::OutOfRange)),
+        // One row less announced than stands there.
+        (31, &[4], Err(ReadFault::BytesAfterEnd)),
+        // The plans R, R, L and R, U, D.
+        (29, b"R", Ok(Err(Refusal::IllegalMove(1)))),
+        (30, b"D", Ok(Err(Refusal::OtherEnd))),
+        // A cost of 4.
+        (20, &[4], Ok(Err(Refusal::OtherCost))),
+        // The start's row at 1.
+        (59, &[1], Ok(Err(Refusal::StartUnproved))),
+        // The goal in the first row.
+        (40, &[1, 2, 3], Ok(Err(Refusal::GoalRow(0)))),
+        // The second row at 3.
+        (51, &[3], Ok(Err(Refusal::OpenSuccessor(3, Move::U)))),
+    ];
+    for (place, bytes, want) in changes {
+        let text = changed(place, bytes);
+        assert_eq!(rt; answer(rt.alloc(), &text), want, "{bytes:?} at {place}");
+    }
+}
+
+#[test]
+fn each_byte_changed(rt: HostRuntime) {
+    let mut accepted: usize = 0;
+    for place in 0..ONE_MOVE.len() {
+        for step in 1..=255 {
+            let mut bytes = ONE_MOVE;
+            bytes[place] = bytes[place].wrapping_add(step);
+            if answer(rt.alloc(), &bytes) == Ok(Ok(())) {
+                // Tile 1 moves, so face cost is 1 too.
+                assert_eq!(rt; (place, bytes[place]), (KIND, 1));
+                accepted = accepted.saturating_add(1);
+            }
+        }
+    }
+    assert_eq!(rt; accepted, 1);
+}
