@@ -150,7 +150,7 @@ fn first_faults(rt: HostRuntime) -> Result<(), Fail> {
     Ok(())
 }
 
-// The calls that the tables above leave out, once each, and two of a plan that leaves the board.
+// The calls that the tables above leave out, and a plan whose second move leaves the board, at place 1.
 #[test]
 fn each_call_once(rt: HostRuntime) -> Result<(), Fail> {
     let shape = Shape::new(2, 3)?;

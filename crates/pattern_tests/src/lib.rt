@@ -1,0 +1,10 @@
+//! Tests of the crates `pattern_index`, `database_build` and `lower_bound`: ranks and sizes of groups, tables and sums
+//! that were worked by hand, and sums beside the costs of a search.
+#![tactic(auto)]
+
+#[cfg(test)]
+mod groups;
+#[cfg(test)]
+mod sums;
+#[cfg(test)]
+mod tables;
