@@ -1,4 +1,4 @@
-//! The ranks of the program `rank_walk` in plain safe Rust, to time a rank beside it.
+//! The ranks of `walks rank` in plain safe Rust, to time a rank beside it.
 
 use std::env;
 use std::process::ExitCode;

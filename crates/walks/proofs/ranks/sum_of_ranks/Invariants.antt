@@ -1,5 +1,5 @@
 use Rattle.std.proofs.Common.{◌≤◌, ◌*◌}
-use Rattle.rank_walk.proofs.walks.sum_of_ranks.Given as goal
+use Rattle.walks.proofs.ranks.sum_of_ranks.Given as goal
 
 -- each rank adds less than the greatest size of a group
 abbrev pub invariant-ranks : goal.invariant-ranks

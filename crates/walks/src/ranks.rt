@@ -2,6 +2,7 @@ ghost use Rattle.std.specs.Prelude.{◌≡◌, ◌≤◌, ◌*◌, length, All};
 ghost use Rattle.pattern_index.specs.Views.{IsView};
 ghost use Rattle.pattern_index.specs.Selections.{IsSelection};
 
+use crate::states::next_state;
 use pattern_index::{Group, View};
 
 /// What the ranks of so many views of a group add up to. The views are drawn from 1,024 of them.
@@ -32,11 +33,4 @@ fn draw_views(group: &Group) -> [View; 1024]
         views[place] = group.unrank((state % size) as usize);
     }
     views
-}
-
-// The next state of a linear congruential generator modulo 2^64 (Knuth's MMIX).
-fn next_state(state: u64) -> u64 {
-    state
-        .wrapping_mul(6364136223846793005)
-        .wrapping_add(1442695040888963407)
 }

@@ -1,5 +1,6 @@
 ghost use Rattle.std.specs.Prelude.{◌≡◌, ◌≤◌, ◌*◌};
 
+use crate::states::next_state;
 use board::{Board, Move, Shape, Weights};
 
 /// Where a walk is, how many of its moves stayed on the board, and what these cost.
@@ -32,13 +33,6 @@ pub fn walk_from_goal(shape: Shape, steps: u32) -> Walk
         }
     }
     walk
-}
-
-// The next state of a linear congruential generator modulo 2^64 (Knuth's MMIX).
-fn next_state(state: u64) -> u64 {
-    state
-        .wrapping_mul(6364136223846793005)
-        .wrapping_add(1442695040888963407)
 }
 
 // The move that the two highest bits of a state stand for. The lower bits of such states repeat sooner.

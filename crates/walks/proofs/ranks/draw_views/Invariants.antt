@@ -1,7 +1,7 @@
 use Rattle.std.proofs.Common.{◌≡◌, length}
 use Rattle.std.specs.Prelude.{All}
 use Rattle.pattern_index.specs.Views.{IsView}
-use Rattle.rank_walk.proofs.walks.draw_views.Given as goal
+use Rattle.walks.proofs.ranks.draw_views.Given as goal
 
 -- each is a view of the group
 abbrev pub invariant-views : goal.invariant-views

@@ -1,5 +1,5 @@
 use Rattle.std.proofs.Common.{◌≡◌, ◌≤◌, ◌*◌}
-use Rattle.step_walk.proofs.walks.walk_from_goal.Given as goal
+use Rattle.walks.proofs.steps.walk_from_goal.Given as goal
 
 -- the weights fit the board, no more moves are counted than were tried, and each costs at most 255
 abbrev pub invariant-steps : goal.invariant-steps
