@@ -1,0 +1,131 @@
+//! Makes small calls that take memory, and prints for each what it answered: the whole right answer, or no more
+//! than it may answer where memory is refused. `checks/refusals` refuses each allocation of each call in turn.
+//!
+//!     refusals                  makes each call once
+//!     refusals CALL             makes that call alone
+//!     refusals CALL REQUESTS    makes so many small requests for memory before the call
+//!
+//! The program takes no other memory before a call. The exit status is 1 where an answer is wrong, as one for
+//! want of memory is where nothing was refused.
+#![tactic(auto)]
+
+mod answer;
+mod certificates;
+mod databases;
+mod runs;
+mod searches;
+
+use answer::Answer;
+use certificates::read_certificate;
+use databases::{build_table, copy_partition};
+use runs::{check_certificate, run_two_lines, write_certificate};
+use searches::{Costs, search};
+use std::alloc::Global;
+use std::env::FillError;
+use std::io::{Eprint, Print};
+use std::process::ExitCode;
+use std::rt::Env;
+
+// The names of all calls.
+const CALLS: [&str; 11] = [
+    "partition",
+    "table",
+    "unit-2x2",
+    "face-2x2",
+    "unit-2x3",
+    "face-2x3",
+    "no-plan",
+    "read",
+    "batch",
+    "write",
+    "check",
+];
+
+// Makes the call of this name, or answers None where there is none.
+fn call(alloc: Global, name: &str) -> Option<Answer> {
+    match name {
+        "partition" => Some(copy_partition(alloc)),
+        "table" => Some(build_table(alloc)),
+        "unit-2x2" => Some(search(alloc, 2, &[3, 2, 1, 0], Costs::Unit, Some(6))),
+        "face-2x2" => Some(search(alloc, 2, &[3, 2, 1, 0], Costs::Face, Some(12))),
+        "unit-2x3" => Some(search(alloc, 3, &[2, 3, 5, 0, 1, 4], Costs::Unit, Some(9))),
+        "face-2x3" => Some(search(alloc, 3, &[2, 3, 5, 0, 1, 4], Costs::Face, Some(22))),
+        "no-plan" => Some(search(alloc, 2, &[0, 2, 1, 3], Costs::Unit, None)),
+        "read" => Some(read_certificate(alloc)),
+        "batch" => Some(run_two_lines(alloc)),
+        "write" => Some(write_certificate(alloc)),
+        "check" => Some(check_certificate(alloc)),
+        _ => None,
+    }
+}
+
+// Whether memory is refused in a row of small requests.
+fn is_refused(alloc: Global, requests: u32) -> bool {
+    for _ in 0..requests {
+        if Vec::<u8>::with_capacity(alloc, 1).is_err() {
+            return true;
+        }
+    }
+    false
+}
+
+// What is printed of an answer, or why it is wrong. Where memory is refused only after the call, the call met no
+// refusal, so that its answer has to be whole.
+fn judge(answer: Answer, is_refused_later: bool) -> Result<&'static str, &'static str> {
+    match answer {
+        Answer::Whole if is_refused_later => Ok("whole, refused later"),
+        Answer::Whole => Ok("whole"),
+        Answer::Refused if is_refused_later => Err("no memory, though none was refused"),
+        Answer::Refused => Ok("refused"),
+        Answer::Wrong(why) => Err(why),
+    }
+}
+
+// Makes a call, and prints what it answered. The exit status tells whether that is right.
+fn tell(rt: &(impl Print + Eprint + AllocGlobal), name: &str) -> u8 {
+    let Some(answer) = call(rt.alloc(), name) else {
+        let _ = rt.eprintln(
+            "usage: refusals [CALL [REQUESTS]], where CALL is one that it names without words",
+        );
+        return 2;
+    };
+    match judge(answer, is_refused(rt.alloc(), 1000)) {
+        Ok(text) => {
+            let _ = println!(rt; "{name} {text}");
+            0
+        }
+        Err(text) => {
+            let _ = eprintln!(rt; "refusals: {name}: {text}");
+            1
+        }
+    }
+}
+
+// The word at a place, or None where there is none. It is copied to a buffer, so that it takes no memory; one that
+// is too long, or no text, is read as an empty word.
+fn read_word<'a>(rt: &impl Env, place: usize, buffer: &'a mut [u8]) -> Option<&'a str> {
+    match rt.arg(place, buffer) {
+        Ok(length) => Some(std::str::from_utf8(&buffer[..length]).unwrap_or("")),
+        Err(FillError::NotPresent) => None,
+        Err(FillError::TooLong) => Some(""),
+    }
+}
+
+fn main(rt: HostRuntime) -> ExitCode {
+    let mut name = [0; 16];
+    let mut requests = [0; 16];
+    let Some(name) = read_word(&rt, 1, &mut name) else {
+        let mut status = 0;
+        for name in CALLS {
+            status = status.max(tell(&rt, name));
+        }
+        return ExitCode::from(status);
+    };
+    if let Some(word) = read_word(&rt, 2, &mut requests) {
+        let Ok(requests) = word.parse() else {
+            return ExitCode::from(2);
+        };
+        let _ = is_refused(rt.alloc(), requests);
+    }
+    ExitCode::from(tell(&rt, name))
+}
