@@ -6,25 +6,25 @@ use outcomes::{Cause, Outcome, Why};
 use plain_search::solve;
 use std::alloc::Global;
 
-/// What the moves of a search cost.
-#[derive(Clone, Copy)]
-pub enum Costs {
-    Unit,
-    Face,
-}
-
-/// Solves a board of two rows for Korf's goal. Its least plan is known to cost so much, or it is known to
-/// have none.
-pub fn search(alloc: Global, cols: u8, tiles: &[u8], costs: Costs, least: Option<u32>) -> Answer {
+/// Solves a board of two rows for Korf's goal, at face cost or else at unit cost. Its least plan is known to cost
+/// so much, or it is known to have none.
+pub fn search(
+    alloc: Global,
+    cols: u8,
+    tiles: &[u8],
+    at_face_cost: bool,
+    least: Option<u32>,
+) -> Answer {
     let Ok(shape) = Shape::new(2, cols) else {
         return Answer::Wrong("no shape");
     };
     let Ok(start) = Board::from_tiles(shape, tiles) else {
         return Answer::Wrong("no board");
     };
-    let weights = match costs {
-        Costs::Unit => Weights::unit(shape),
-        Costs::Face => Weights::face(shape),
+    let weights = if at_face_cost {
+        Weights::face(shape)
+    } else {
+        Weights::unit(shape)
     };
     match solve(alloc, &start, &Board::goal(shape), &weights) {
         Ok(outcome) => judge(&outcome, &start, &weights, least),
