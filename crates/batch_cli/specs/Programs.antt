@@ -27,9 +27,9 @@ status_of NoBuffers = 4
 status_of (Ran counts) = status_of_counts counts
 status_of (Faulted Read) = 3
 status_of (Faulted Write) = 3
-status_of (Faulted Memory) = 4
+status_of (Faulted (Memory lacking)) = 4
 status_of (Faulted CertificateRead) = 3
-status_of (Faulted CertificateMemory) = 4
+status_of (Faulted (CertificateMemory refused)) = 4
 status_of (Faulted CertificateWrite) = 3
 
 -- a line for standard error
@@ -42,9 +42,9 @@ message_of NoBuffers = line_of (codes "tilesolve: memory")
 message_of (Ran counts) = []
 message_of (Faulted Read) = line_of (codes "tilesolve: B1")
 message_of (Faulted Write) = line_of (codes "tilesolve: B2")
-message_of (Faulted Memory) = line_of (codes "tilesolve: B3")
+message_of (Faulted (Memory lacking)) = line_of (codes "tilesolve: B3")
 message_of (Faulted CertificateRead) = line_of (codes "tilesolve: F6")
-message_of (Faulted CertificateMemory) = line_of (codes "tilesolve: F7")
+message_of (Faulted (CertificateMemory refused)) = line_of (codes "tilesolve: F7")
 message_of (Faulted CertificateWrite) = line_of (codes "tilesolve: F8")
 
 -- a beginning of the text was written, and all of it where the stream has not failed
@@ -63,7 +63,7 @@ EndsRun input left written written' unread unwritten (Faulted Read) =
     WritesWhole small_grid (MayAnswer default_setup) input left written written' × ((unread ≡ true) ⊎ IsTooLong input)
 EndsRun input left written written' unread unwritten (Faulted Write) =
     WritesSome small_grid (MayAnswer default_setup) input written written' × (unwritten ≡ true)
-EndsRun input left written written' unread unwritten (Faulted Memory) = WritesSome small_grid (MayAnswer default_setup) input written written'
+EndsRun input left written written' unread unwritten (Faulted (Memory lacking)) = WritesSome small_grid (MayAnswer default_setup) input written written'
 EndsRun input left written written' unread unwritten (Faulted CertificateRead) = ⊥
-EndsRun input left written written' unread unwritten (Faulted CertificateMemory) = ⊥
+EndsRun input left written written' unread unwritten (Faulted (CertificateMemory refused)) = ⊥
 EndsRun input left written written' unread unwritten (Faulted CertificateWrite) = ⊥

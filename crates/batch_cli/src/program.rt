@@ -32,7 +32,7 @@ impl Ending {
             Ending::NoBuffers => 4,
             Ending::Ran(counts) if counts.bounded == 0 && counts.refused == 0 => 0,
             Ending::Ran(_) => 1,
-            Ending::Faulted(BatchFault::Memory | BatchFault::CertificateMemory) => 4,
+            Ending::Faulted(BatchFault::Memory(_) | BatchFault::CertificateMemory(_)) => 4,
             Ending::Faulted(_) => 3,
         }
     }
@@ -49,9 +49,9 @@ impl Ending {
             Ending::Ran(_) => "",
             Ending::Faulted(BatchFault::Read) => "tilesolve: B1\n",
             Ending::Faulted(BatchFault::Write) => "tilesolve: B2\n",
-            Ending::Faulted(BatchFault::Memory) => "tilesolve: B3\n",
+            Ending::Faulted(BatchFault::Memory(_)) => "tilesolve: B3\n",
             Ending::Faulted(BatchFault::CertificateRead) => "tilesolve: F6\n",
-            Ending::Faulted(BatchFault::CertificateMemory) => "tilesolve: F7\n",
+            Ending::Faulted(BatchFault::CertificateMemory(_)) => "tilesolve: F7\n",
             Ending::Faulted(BatchFault::CertificateWrite) => "tilesolve: F8\n",
         }
     }

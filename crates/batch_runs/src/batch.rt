@@ -9,9 +9,10 @@ use crate::faults::BatchFault;
 use batch_lines::{EntryFault, Line, LineKind, LineReader, read_entry};
 use board::{Board, Shape};
 use byte_streams::{Sink, Source};
+use memory::OutOfMemory;
 use outcomes::{Outcome, SolveFault};
-use reports::{outcome_report, refused_report};
-use std::alloc::{AllocError, Global};
+use reports::{NoReport, outcome_report, refused_report};
+use std::alloc::Global;
 
 /// What answers boards.
 pub trait Answerer {
@@ -22,7 +23,7 @@ pub trait Answerer {
     ghost allows: { Self → Position → Option Outcome → Type 0 };
 
     /// Answers a board. The error tells a want of memory before the first step.
-    fn answer(&self, alloc: Global, start: &Board) -> Result<Outcome, AllocError>
+    fn answer(&self, alloc: Global, start: &Board) -> Result<Outcome, OutOfMemory>
         requires { start.now.grid ≡ grid self.now }
         ensures answered { IfOk result (λ outcome. allows self.now start.now (Some outcome)) }
         ensures lacking { OnErr result (allows self.now start.now None) };
@@ -102,7 +103,7 @@ pub fn run_lines<S: Source, K: Sink, A: Answerer>(
         };
         let report = match report_line(alloc, shape, answerer, line, reader.bytes(), summary) {
             Ok(report) => report,
-            Err(_) => return Err(BatchFault::Memory),
+            Err(lacking) => return Err(BatchFault::Memory(lacking)),
         };
         let Ok(()) = sink.put(report.0.as_str().as_bytes()) else {
             return Err(BatchFault::Write);
@@ -119,7 +120,7 @@ fn report_line<A: Answerer>(
     line: Line,
     bytes: &[u8],
     summary: Summary,
-) -> Result<(String, Summary), AllocError>
+) -> Result<(String, Summary), NoReport>
     requires grid { A.grid answerer.now ≡ shape }
     requires room { HasRoom summary }
     ensures { IfOk result (λ report. IsReportOf shape (A.allows answerer.now)
@@ -143,7 +144,7 @@ fn answer_line<A: Answerer>(
     number: u64,
     bytes: &[u8],
     summary: Summary,
-) -> Result<(String, Summary), AllocError>
+) -> Result<(String, Summary), NoReport>
     requires grid { A.grid answerer.now ≡ shape }
     requires room { HasRoom summary }
     ensures { IfOk result (λ report. IsAnswer shape (A.allows answerer.now)
@@ -161,8 +162,8 @@ fn answer_line<A: Answerer>(
             let text = outcome_report(alloc, entry.id, &outcome)?;
             Ok((text, summary.with_outcome(&outcome)))
         }
-        Err(_) => {
-            let text = refused_report(alloc, SolveFault::Memory.code(), number)?;
+        Err(refused) => {
+            let text = refused_report(alloc, SolveFault::Memory(refused).code(), number)?;
             Ok((text, summary.with_refused()))
         }
     }

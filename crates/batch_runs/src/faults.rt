@@ -1,6 +1,8 @@
 ghost use Rattle.std.specs.Prelude.{◌≡◌};
 ghost use Rattle.batch_runs.specs.Faults.{batch_code_of};
 
+use memory::OutOfMemory;
+use reports::NoReport;
 use thiserror::Error;
 
 /// Why a run ended early.
@@ -14,13 +16,13 @@ pub enum BatchFault {
     Write,
     /// B3
     #[error("no memory for a report")]
-    Memory,
+    Memory(NoReport),
     /// F6
     #[error("the certificate cannot be read")]
     CertificateRead,
     /// F7
     #[error("no memory for the certificate")]
-    CertificateMemory,
+    CertificateMemory(OutOfMemory),
     /// F8
     #[error("the certificate cannot be written")]
     CertificateWrite,
@@ -34,9 +36,9 @@ impl BatchFault {
         match self {
             BatchFault::Read => "B1",
             BatchFault::Write => "B2",
-            BatchFault::Memory => "B3",
+            BatchFault::Memory(_) => "B3",
             BatchFault::CertificateRead => "F6",
-            BatchFault::CertificateMemory => "F7",
+            BatchFault::CertificateMemory(_) => "F7",
             BatchFault::CertificateWrite => "F8",
         }
     }

@@ -9,9 +9,10 @@ use crate::setup::Setup;
 use board::laws::plans_keep_the_class;
 use board::{Board, same_class};
 use byte_streams::{Sink, Source};
+use memory::OutOfMemory;
 use outcomes::{Outcome, Why};
 use plain_search::solve;
-use std::alloc::{AllocError, Global};
+use std::alloc::Global;
 
 impl Answerer for Setup {
     ghost use Rattle.batch_runs.specs.Solving.{MayAnswer};
@@ -20,7 +21,7 @@ impl Answerer for Setup {
 
     ghost allows = { MayAnswer };
 
-    fn answer(&self, alloc: Global, start: &Board) -> Result<Outcome, AllocError> {
+    fn answer(&self, alloc: Global, start: &Board) -> Result<Outcome, OutOfMemory> {
         let goal = self.goal();
         // By this law no plan leads from a board, which `shape` says that the start is, to another class.
         plans_keep_the_class();

@@ -67,7 +67,7 @@ of_bytes_or_lacks OutOfRange answer h = inl (h tt)
 of_bytes_or_lacks NotRising answer h = inl (h tt)
 of_bytes_or_lacks BytesAfterEnd answer h = inl (h tt)
 of_bytes_or_lacks Failed answer h = inr (inl refl)
-of_bytes_or_lacks NoMemory answer h = inr (inr refl)
+of_bytes_or_lacks (NoMemory refused) answer h = inr (inr (refused, refl))
 
 decided : (result : Result Statement ReadFault) (input : List ℕ) → Tells result input → IsAnswerTo result input
 decided (Ok d) input tells = record {

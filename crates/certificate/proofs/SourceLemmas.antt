@@ -11,6 +11,7 @@ use Rattle.board.specs.Grids.{Grid}
 use Rattle.board.specs.Positions.{Position}
 use Rattle.board.specs.CostRules.{CostRule}
 use Rattle.certificate.specs.declared.faults.ReadFault.{ReadFault}
+use Rattle.memory.specs.declared.OutOfMemory.{OutOfMemory}
 use Rattle.certificate.specs.declared.faults.ReadFault.TheVariants.{NoMemory}
 use Rattle.certificate.specs.Certificates.{IsRow, RiseAfter}
 use Rattle.certificate.specs.Spellings.{letter_of, opening_text, row_text}
@@ -110,8 +111,8 @@ last_is_board grid before (r ∷ rs) is all = last_is_board grid (Some r.0) rs a
 
 -- ---- want of memory, and answers that are passed on
 
-pub lacks_memory : {X : Type 0} {r : Reader X} (old new : Option (List ℕ)) (text : List ℕ) → Consumes old new text → Refuses r old new NoMemory
-lacks_memory old new text taken = record { taken = (text, taken); first = λ of. absurd of }
+pub lacks_memory : {X : Type 0} {r : Reader X} (old new : Option (List ℕ)) (text : List ℕ) → Consumes old new text → (refused : OutOfMemory) → Refuses r old new (NoMemory refused)
+lacks_memory old new text taken refused = record { taken = (text, taken); first = λ of. absurd of }
 
 pub if_err : {X : Type 0} (r : Result X ReadFault) (P Q : ReadFault → Type 0) → ((f : ReadFault) → P f → Q f) → IfErr r P → IfErr r Q
 if_err (Ok x) P Q h p = tt

@@ -13,7 +13,7 @@ read_code_of reading.OutOfRange = codes "F3"
 read_code_of reading.NotRising = codes "F4"
 read_code_of reading.BytesAfterEnd = codes "F5"
 read_code_of reading.Failed = codes "F6"
-read_code_of reading.NoMemory = codes "F7"
+read_code_of (reading.NoMemory refused) = codes "F7"
 
 -- the code that a fault of writing is reported by
 abbrev pub write_code_of : WriteFault → List ℕ

@@ -4,6 +4,7 @@ use Rattle.std.specs.Io.KnownBytes.{Consumes, Appends, IsAtEnd, Keeps}
 use Rattle.byte_streams.specs.Sink.{AppendsBeginning}
 use Rattle.certificate.specs.declared.faults.ReadFault.{ReadFault}
 use Rattle.certificate.specs.declared.faults.ReadFault.TheVariants.{OtherMagic, Truncated, OutOfRange, NotRising, BytesAfterEnd, Failed, NoMemory}
+use Rattle.memory.specs.declared.OutOfMemory.{OutOfMemory}
 use Rattle.certificate.specs.Certificates.{Statement}
 use Rattle.certificate.specs.Spellings.{Spells}
 use Rattle.certificate.specs.Readings.{Reader, IsFirstFault}
@@ -16,7 +17,7 @@ IsOfBytes OutOfRange = ⊤
 IsOfBytes NotRising = ⊤
 IsOfBytes BytesAfterEnd = ⊤
 IsOfBytes Failed = ⊥
-IsOfBytes NoMemory = ⊥
+IsOfBytes (NoMemory refused) = ⊥
 
 -- whether the fault is a failure of the source
 abbrev pub is_failure : ReadFault → Bool
@@ -26,7 +27,7 @@ is_failure OutOfRange = false
 is_failure NotRising = false
 is_failure BytesAfterEnd = false
 is_failure Failed = true
-is_failure NoMemory = false
+is_failure (NoMemory refused) = false
 
 -- whether the answer is a failure of the source
 abbrev pub tells_failure : {X : Type 0} → Result X ReadFault → Bool
@@ -55,7 +56,7 @@ Tells (Err fault) input = IsOfBytes fault → IsFirstFault input fault
 
 -- this is answered, but for a failure of the source or a want of memory
 abbrev pub AnswersOrLacks : Result Statement ReadFault → Result Statement ReadFault → Type 0
-AnswersOrLacks result answer = (result ≡ answer) ⊎ (result ≡ Err Failed) ⊎ (result ≡ Err NoMemory)
+AnswersOrLacks result answer = (result ≡ answer) ⊎ (result ≡ Err Failed) ⊎ ((refused : OutOfMemory) × (result ≡ Err (NoMemory refused)))
 
 -- an input that spells a certificate is answered by it, and one with a first fault by that
 pub record IsAnswerTo (result : Result Statement ReadFault) (input : List ℕ) : Type 0 where

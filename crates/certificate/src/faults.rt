@@ -1,6 +1,7 @@
 ghost use Rattle.std.specs.Prelude.{◌≡◌};
 ghost use Rattle.certificate.specs.Codes.{read_code_of, write_code_of};
 
+use memory::OutOfMemory;
 use thiserror::Error;
 
 /// Why no certificate was read.
@@ -26,7 +27,7 @@ pub enum ReadFault {
     Failed,
     /// F7
     #[error("no memory for the plan or the rows")]
-    NoMemory,
+    NoMemory(OutOfMemory),
 }
 
 impl ReadFault {
@@ -41,7 +42,7 @@ impl ReadFault {
             ReadFault::NotRising => "F4",
             ReadFault::BytesAfterEnd => "F5",
             ReadFault::Failed => "F6",
-            ReadFault::NoMemory => "F7",
+            ReadFault::NoMemory(_) => "F7",
         }
     }
 }

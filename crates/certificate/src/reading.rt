@@ -14,6 +14,7 @@ use crate::fields::{
 };
 use board::{Board, Move, Shape, Weights};
 use byte_streams::Source;
+use memory::push;
 use std::alloc::Global;
 
 // What the input is, the sides of the boards, the kind of costs, and no groups.
@@ -71,8 +72,8 @@ fn read_letters<S: Source>(
     let mut moves = Vec::new(alloc);
     'letters: for _ in 0..count {
         let direction = read_letter(source)?;
-        if moves.push(direction).is_err() {
-            return Err(ReadFault::NoMemory);
+        if let Err(refused) = push(&mut moves, direction) {
+            return Err(ReadFault::NoMemory(refused));
         }
     }
     Ok(moves)
@@ -100,8 +101,8 @@ fn read_rows<S: Source>(
     'rows: for _ in 0..count {
         let row = read_row(source, shape, before)?;
         before = Some(row.0);
-        if read.push(row).is_err() {
-            return Err(ReadFault::NoMemory);
+        if let Err(refused) = push(&mut read, row) {
+            return Err(ReadFault::NoMemory(refused));
         }
     }
     Ok(read)

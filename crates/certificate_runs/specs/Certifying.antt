@@ -114,8 +114,8 @@ abbrev pub EndsFirst : SetupState → Option (List ℕ) → Option (List ℕ) �
 EndsFirst setup input left written written' Read = LosesLine input left × (written' ≡ written)
 EndsFirst setup input left written written' Write =
     (passed : List (List ℕ)) × (line : List ℕ) × (text : List ℕ) × (status : ℕ) × ReadsTo input left passed line × ReportsOf setup (length passed + 1) (kind_of line) (without_return line) text status × AppendsBeginning written written' text
-EndsFirst setup input left written written' Memory = (passed : List (List ℕ)) × (line : List ℕ) × ReadsTo input left passed line × (written' ≡ written)
+EndsFirst setup input left written written' (Memory lacking) = (passed : List (List ℕ)) × (line : List ℕ) × ReadsTo input left passed line × (written' ≡ written)
 EndsFirst setup input left written written' CertificateRead = ⊥
-EndsFirst setup input left written written' CertificateMemory = ⊥
+EndsFirst setup input left written written' (CertificateMemory refused) = ⊥
 EndsFirst setup input left written written' CertificateWrite =
     (passed : List (List ℕ)) × (line : List ℕ) × (text : List ℕ) × ReadsTo input left passed line × (kind_of line ≡ Within) × Certifies setup (without_return line) text × AppendsBeginning written written' text

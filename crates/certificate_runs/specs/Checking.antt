@@ -39,16 +39,16 @@ IsVerdict text status input =
 abbrev pub IsOfReading : BatchFault → Type 0
 IsOfReading Read = ⊥
 IsOfReading Write = ⊥
-IsOfReading Memory = ⊤
+IsOfReading (Memory lacking) = ⊤
 IsOfReading CertificateRead = ⊤
-IsOfReading CertificateMemory = ⊤
+IsOfReading (CertificateMemory refused) = ⊤
 IsOfReading CertificateWrite = ⊥
 
 -- What is written where the run ends early: a beginning of the verdict where writing fails, and else nothing.
 abbrev pub EndsCheck : Option (List ℕ) → Option (List ℕ) → Option (List ℕ) → BatchFault → Type 0
 EndsCheck input written written' Read = ⊥
 EndsCheck input written written' Write = (text : List ℕ) × (status : ℕ) × IfSome input (IsVerdict text status) × AppendsBeginning written written' text
-EndsCheck input written written' Memory = written' ≡ written
+EndsCheck input written written' (Memory lacking) = written' ≡ written
 EndsCheck input written written' CertificateRead = written' ≡ written
-EndsCheck input written written' CertificateMemory = written' ≡ written
+EndsCheck input written written' (CertificateMemory refused) = written' ≡ written
 EndsCheck input written written' CertificateWrite = ⊥

@@ -16,8 +16,8 @@ use board::{Board, Move};
 use byte_streams::{ReadFailed, Sink, Source};
 use certificate::{Certificate, Parts, write};
 use outcomes::{Outcome, SolveFault};
-use reports::{outcome_report, refused_report};
-use std::alloc::{AllocError, Global};
+use reports::{NoReport, outcome_report, refused_report};
+use std::alloc::Global;
 
 /// Answers the first line of the source that isn't passed over, and takes nothing behind it: where a plan of
 /// least cost is found, its certificate is written, else the line's report.
@@ -47,7 +47,7 @@ pub fn run_cert<S: Source, K: Sink>(
     match find_line(source, &mut reader) {
         Ok(Some(line)) => match reply_to_line(alloc, setup, line, reader.bytes()) {
             Ok(reply) => put_reply(sink, &reply),
-            Err(_) => Err(BatchFault::Memory),
+            Err(lacking) => Err(BatchFault::Memory(lacking)),
         },
         Ok(None) => Ok(0),
         Err(_) => Err(BatchFault::Read),
@@ -85,12 +85,7 @@ fn find_line<S: Source>(source: &mut S, reader: &mut LineReader) -> Result<Optio
 }
 
 // The reply to a line that isn't passed over, whose bytes are given where it is to be read.
-fn reply_to_line(
-    alloc: Global,
-    setup: &Setup,
-    line: Line,
-    bytes: &[u8],
-) -> Result<Reply, AllocError>
+fn reply_to_line(alloc: Global, setup: &Setup, line: Line, bytes: &[u8]) -> Result<Reply, NoReport>
     requires named { AreNamedCosts setup.now.goal.grid setup.now.rule }
     requires kind { line.kind ≢ PassedOver }
     ensures { IfOk result (IsReply setup.now line.number line.kind bytes.now) }
@@ -107,7 +102,7 @@ fn reply_to_entry(
     setup: &Setup,
     number: u64,
     bytes: &[u8],
-) -> Result<Reply, AllocError>
+) -> Result<Reply, NoReport>
     requires { AreNamedCosts setup.now.goal.grid setup.now.rule }
     ensures { IfOk result (IsReply setup.now number Within bytes.now) }
 {
@@ -124,12 +119,12 @@ fn reply_to_entry(
             let text = outcome_report(alloc, entry.id, &outcome)?;
             Ok(Reply::Reported(text, status_of(&outcome)))
         }
-        Err(_) => refuse(alloc, SolveFault::Memory.code(), number),
+        Err(refused) => refuse(alloc, SolveFault::Memory(refused).code(), number),
     }
 }
 
 // The report of a line that is refused.
-fn refuse(alloc: Global, code: &str, number: u64) -> Result<Reply, AllocError>
+fn refuse(alloc: Global, code: &str, number: u64) -> Result<Reply, NoReport>
     ensures { IfOk result (IsRefusal code.now number) }
 {
     Ok(Reply::Reported(refused_report(alloc, code, number)?, 1))

@@ -6,8 +6,8 @@ use batch_runs::BatchFault;
 use byte_streams::{Sink, Source};
 use certificate::{Certificate, ReadFault, read};
 use certificate_check::check;
-use reports::{accepted_report, refused_certificate_report};
-use std::alloc::{AllocError, Global};
+use reports::{NoReport, accepted_report, refused_certificate_report};
+use std::alloc::Global;
 
 /// Checks the certificate that the source spells, and writes one line: the least cost, or the code of the
 /// first fault. Answers the status: 0 where it is accepted, 5 where it is refused.
@@ -50,19 +50,19 @@ fn read_verdict<S: Source>(alloc: Global, source: &mut S) -> Result<(String, u8)
     match read(alloc, source) {
         Ok(certificate) => match judge(alloc, &certificate) {
             Ok(verdict) => Ok(verdict),
-            Err(_) => Err(BatchFault::Memory),
+            Err(lacking) => Err(BatchFault::Memory(lacking)),
         },
         Err(ReadFault::Failed) => Err(BatchFault::CertificateRead),
-        Err(ReadFault::NoMemory) => Err(BatchFault::CertificateMemory),
+        Err(ReadFault::NoMemory(refused)) => Err(BatchFault::CertificateMemory(refused)),
         Err(fault) => match refuse(alloc, fault.code()) {
             Ok(verdict) => Ok(verdict),
-            Err(_) => Err(BatchFault::Memory),
+            Err(lacking) => Err(BatchFault::Memory(lacking)),
         },
     }
 }
 
 // The line that is written of a certificate, and its status.
-fn judge(alloc: Global, certificate: &Certificate) -> Result<(String, u8), AllocError>
+fn judge(alloc: Global, certificate: &Certificate) -> Result<(String, u8), NoReport>
     ensures { IfOk result (λ verdict. IsJudgement certificate.now (string_bytes verdict.0) verdict.1) }
 {
     match check(certificate) {
@@ -72,7 +72,7 @@ fn judge(alloc: Global, certificate: &Certificate) -> Result<(String, u8), Alloc
 }
 
 // The line that is written of a fault, and its status.
-fn refuse(alloc: Global, code: &str) -> Result<(String, u8), AllocError>
+fn refuse(alloc: Global, code: &str) -> Result<(String, u8), NoReport>
     ensures { IfOk result (λ verdict. IsRefused code.now (string_bytes verdict.0) verdict.1) }
 {
     Ok((refused_certificate_report(alloc, code)?, 5))

@@ -3,27 +3,28 @@
 ghost use Rattle.std.specs.Prelude.{ℕ, ◌≡◌, ◌+◌, ◌^◌, ◌<◌, ◌≤◌, length, OnOk, MatchOption};
 ghost use Rattle.database_build.specs.Buckets.{IsGrown, IsPut, IsTaken, IsLowered, waiting};
 
-use std::alloc::{AllocError, Global};
+use memory::{OutOfMemory, push};
+use std::alloc::Global;
 
 // Makes the buckets up to that of a cost.
-fn grow(alloc: Global, buckets: &mut Vec<Vec<u32>>, cost: usize) -> Result<(), AllocError>
+fn grow(alloc: Global, buckets: &mut Vec<Vec<u32>>, cost: usize) -> Result<(), OutOfMemory>
     requires { cost < 65535 }
     ensures grown { OnOk result (IsGrown buckets.old.items buckets.new.items) }
     ensures there { OnOk result (cost < length buckets.new.items) }
     ensures few { OnOk result (length buckets.old.items ≤ 65535 → length buckets.new.items ≤ 65535) }
 {
     'costs: while buckets.len() <= cost {
-        buckets.push(Vec::new(alloc))?;
+        push(buckets, Vec::new(alloc))?;
     }
     Ok(())
 }
 
 // Lets a rank wait in the bucket of a cost.
-fn put(buckets: &mut Vec<Vec<u32>>, cost: usize, rank: u32) -> Result<(), AllocError>
+fn put(buckets: &mut Vec<Vec<u32>>, cost: usize, rank: u32) -> Result<(), OutOfMemory>
     requires { cost < length buckets.old.items }
     ensures { OnOk result (IsPut cost rank buckets.old.items buckets.new.items) }
 {
-    buckets[cost].push(rank)?;
+    push(&mut buckets[cost], rank)?;
     Ok(())
 }
 
@@ -35,7 +36,7 @@ pub(crate) fn lower(
     buckets: &mut Vec<Vec<u32>>,
     rank: usize,
     cost: usize,
-) -> Result<(), AllocError>
+) -> Result<(), OutOfMemory>
     requires inside { rank < length values.old }
     requires small { rank < 2 ^ 32 }
     ensures { OnOk result (IsLowered rank cost values.old values.new buckets.old.items buckets.new.items) }

@@ -9,8 +9,9 @@ ghost use Rattle.database_build.specs.Searches.{IsTried, IsVisited};
 use super::buckets::{lower, release, take};
 use super::table::{NO_VALUE, Table};
 use board::{Board, Move, Weights};
+use memory::{OutOfMemory, filled};
 use pattern_index::{Group, View};
-use std::alloc::{AllocError, Global};
+use std::alloc::Global;
 
 /// The table that holds the value of each view of the group for this goal: the smaller of 65,535 and the
 /// least cost of a view plan to the goal's view.
@@ -19,13 +20,13 @@ pub fn build(
     group: &Group,
     goal: &Board,
     weights: &Weights,
-) -> Result<Table, AllocError>
+) -> Result<Table, OutOfMemory>
     requires grid { goal.now.grid ≡ group.now.grid }
     requires weights { weights.now.grid ≡ group.now.grid }
     ensures group { IfOk result (λ t. t.selection ≡ group.now) }
     ensures values { IfOk result (λ t. HoldsValues t weights.now goal.now) }
 {
-    let mut values = vec![in alloc; NO_VALUE; group.size()]?;
+    let mut values = filled(alloc, NO_VALUE, group.size())?;
     search(alloc, group, goal, weights, &mut values)?;
     Ok(Table::of_group(group, values))
 }
@@ -38,7 +39,7 @@ fn search(
     goal: &Board,
     weights: &Weights,
     values: &mut [u16],
-) -> Result<(), AllocError>
+) -> Result<(), OutOfMemory>
     requires grid { goal.now.grid ≡ group.now.grid }
     requires weights { weights.now.grid ≡ group.now.grid }
     requires none { values.old ≡ replicate (size_of group.now) 65535 }
@@ -78,7 +79,7 @@ fn visit(
     cost: usize,
     values: &mut [u16],
     buckets: &mut Vec<Vec<u32>>,
-) -> Result<(), AllocError>
+) -> Result<(), OutOfMemory>
     requires weights { weights.now.grid ≡ group.now.grid }
     requires inside { rank < size_of group.now }
     requires size { length values.old ≡ size_of group.now }
@@ -105,7 +106,7 @@ fn reach(
     cost: usize,
     values: &mut [u16],
     buckets: &mut Vec<Vec<u32>>,
-) -> Result<(), AllocError>
+) -> Result<(), OutOfMemory>
     requires weights { weights.now.grid ≡ group.now.grid }
     requires view { IsView group.now.grid group.now.tiles view.now }
     requires size { length values.old ≡ size_of group.now }

@@ -42,7 +42,7 @@ AllowsWhy task Exhausted = ⊤
 -- the cost is named only where each plan costs more than a run may reach
 abbrev pub AllowsCause : ℕ → Cause → Type 0
 AllowsCause bound Limit = ⊤
-AllowsCause bound Memory = ⊤
+AllowsCause bound (Memory want) = ⊤
 AllowsCause bound Start = ⊤
 AllowsCause bound Cost = 1048320 < bound
 AllowsCause bound Cut = ⊤

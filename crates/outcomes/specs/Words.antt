@@ -14,11 +14,11 @@ why_word Exhausted = codes "exhausted"
 
 abbrev pub cause_word : Cause → List ℕ
 cause_word Limit = codes "limit"
-cause_word Memory = codes "memory"
+cause_word (Memory want) = codes "memory"
 cause_word Start = codes "start"
 cause_word Cost = codes "cost"
 cause_word Cut = codes "cut"
 
 -- the code of a want of memory before the first step
 abbrev pub solve_code_of : SolveFault → List ℕ
-solve_code_of NoMemory = codes "V3"
+solve_code_of (NoMemory refused) = codes "V3"

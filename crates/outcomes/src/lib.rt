@@ -3,4 +3,4 @@
 
 pub mod outcome;
 
-pub use outcome::{Cause, Outcome, SolveFault, Why};
+pub use outcome::{Cause, Outcome, SolveFault, Want, Why};

@@ -2,6 +2,7 @@ ghost use Rattle.std.specs.Prelude.{◌≡◌};
 ghost use Rattle.outcomes.specs.Words.{why_word, cause_word, solve_code_of};
 
 use board::{Board, Move};
+use memory::OutOfMemory;
 use thiserror::Error;
 
 /// Why there is no plan.
@@ -25,13 +26,22 @@ impl Why {
     }
 }
 
+/// How memory came to be wanting.
+#[derive(Clone, Copy, Debug, PartialEq, Eq)]
+pub enum Want {
+    /// A list of steps says so.
+    Stated,
+    /// Memory was refused.
+    Refused(OutOfMemory),
+}
+
 /// Why a run names only a bound.
 #[derive(Clone, Copy, Debug, PartialEq, Eq)]
 pub enum Cause {
     /// The limit on expansions was reached.
     Limit,
-    /// Memory was refused.
-    Memory,
+    /// Memory was wanting.
+    Memory(Want),
     /// A thread could not be started.
     Start,
     /// Each plan costs more than a run may reach.
@@ -47,7 +57,7 @@ impl Cause {
     {
         match self {
             Cause::Limit => "limit",
-            Cause::Memory => "memory",
+            Cause::Memory(_) => "memory",
             Cause::Start => "start",
             Cause::Cost => "cost",
             Cause::Cut => "cut",
@@ -81,7 +91,7 @@ pub enum Outcome {
 pub enum SolveFault {
     /// V3
     #[error("no memory before the first step")]
-    Memory,
+    Memory(OutOfMemory),
 }
 
 impl SolveFault {
@@ -90,7 +100,7 @@ impl SolveFault {
         ensures { result.now ≡ solve_code_of self }
     {
         match self {
-            SolveFault::Memory => "V3",
+            SolveFault::Memory(_) => "V3",
         }
     }
 }

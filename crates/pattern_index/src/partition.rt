@@ -8,7 +8,8 @@ ghost use Rattle.pattern_index.specs.declared.fault.GroupFault.{GroupFault};
 use super::fault::GroupFault;
 use super::group::Group;
 use board::Shape;
-use std::alloc::{AllocError, Global};
+use memory::{OutOfMemory, copy_of};
+use std::alloc::Global;
 use std::marker::Model;
 
 /// At most 24 groups of one shape, of which no two share a tile. There may be none.
@@ -62,10 +63,10 @@ impl Partition {
     }
 
     /// An equal partition.
-    pub fn copy(&self, alloc: Global) -> Result<Self, AllocError>
+    pub fn copy(&self, alloc: Global) -> Result<Self, OutOfMemory>
         ensures { IfOk result (λ p. p ≡ self.now) }
     {
-        let groups = Vec::from_slice(alloc, self.groups.as_slice())?;
+        let groups = copy_of(alloc, self.groups.as_slice())?;
         Ok(Partition {
             shape: self.shape,
             groups,

@@ -119,6 +119,6 @@ module _ (task : Task) (is : IsTask task) where
   pub stopped_low : (stop : Stop) (known : Knowledge) → IsStoppedBy task stop known → AreCostsLow known
   stopped_low Done known stopped = run_low stopped.0 known stopped.1
   stopped_low Limit known stopped = run_low stopped.0 known stopped.1
-  stopped_low Memory known (run, before, b, k, count, ran, next, after) =
+  stopped_low (Memory refused) known (run, before, b, k, count, ran, next, after) =
       let knows = next.opens.knows in
       subst AreCostsLow (sym after) (all_low task.rule is.rule b knows.board (is.costs ∙ sym knows.sides) k.cost (next_within before b k next) (take count all_moves) before (run_low run before ran))

@@ -12,7 +12,9 @@ use Rattle.board.specs.Moves.{Moves}
 use Rattle.board.specs.Keys.{key_of, HasKey}
 use Rattle.board.proofs.KeyLemmas.{same_board}
 use Rattle.board.proofs.MoveLemmas.{taken_back}
+use Rattle.memory.specs.declared.OutOfMemory.{OutOfMemory}
 use Rattle.outcomes.specs.declared.outcome.Cause.TheVariants.{Memory}
+use Rattle.outcomes.specs.declared.outcome.Want.TheVariants.{Refused}
 use Rattle.outcomes.specs.declared.outcome.Outcome.{Outcome}
 use Rattle.outcomes.specs.declared.outcome.Outcome.TheVariants.{Bounded}
 use Rattle.outcomes.specs.Outcomes.{Task}
@@ -90,5 +92,5 @@ module _ (task : Task) (is : IsTask task) (known : Knowledge) where
   }
 
   -- where the goal is known, the bound may be given alone for want of memory
-  pub given_alone : (lowest : Option ℕ) (goal bound : ℕ) (stop : Stop) (outcome : Outcome) → lesser lowest (Some goal) ≡ Some bound → outcome ≡ Bounded bound None Memory → IsGivenAt task known lowest (Some goal) stop outcome
-  given_alone lowest goal bound stop outcome least is = subst (IsGivenAt task known lowest (Some goal) stop) (sym is) (least, inr ((λ e. cc), refl))
+  pub given_alone : (lowest : Option ℕ) (goal bound : ℕ) (stop : Stop) (outcome : Outcome) (refused : OutOfMemory) → lesser lowest (Some goal) ≡ Some bound → outcome ≡ Bounded bound None (Memory (Refused refused)) → IsGivenAt task known lowest (Some goal) stop outcome
+  given_alone lowest goal bound stop outcome refused least is = subst (IsGivenAt task known lowest (Some goal) stop) (sym is) (least, inr ((λ e. cc), (refused, refl)))

@@ -163,13 +163,13 @@ high_with task known (Some l) goal bound is_lowest is_reached done least below =
 allowed : (task : Task) (known : Knowledge) (stop : Stop) (bound : ℕ) (cause : Cause) → cause ≡ cause_of stop → IsStoppedBy task stop known → (HasNothingBelow task known → 1048320 < bound) → AllowsCause bound cause
 allowed task known Done bound cause is stopped high = subst (AllowsCause bound) (sym is) (high stopped.2)
 allowed task known Limit bound cause is stopped high = subst (AllowsCause bound) (sym is) tt
-allowed task known Memory bound cause is stopped high = subst (AllowsCause bound) (sym is) tt
+allowed task known (Memory refused) bound cause is stopped high = subst (AllowsCause bound) (sym is) tt
 
 -- and excuses it
 excused : (task : Task) (known : Knowledge) (stop : Stop) (bound : ℕ) (best : Option (ℕ × Vec Move Global)) (cause : Cause) → cause ≡ cause_of stop → IsStoppedBy task stop known → (HasNothingBelow task known → 1048320 < bound) → IsExcused task (Bounded bound best cause)
 excused task known Done bound best cause is stopped high = subst (λ (c : Cause). IsExcused task (Bounded bound best c)) (sym is) (high stopped.2)
 excused task known Limit bound best cause is stopped high = subst (λ (c : Cause). IsExcused task (Bounded bound best c)) (sym is) (known, stopped)
-excused task known Memory bound best cause is stopped high = subst (λ (c : Cause). IsExcused task (Bounded bound best c)) (sym is) tt
+excused task known (Memory refused) bound best cause is stopped high = subst (λ (c : Cause). IsExcused task (Bounded bound best c)) (sym is) tt
 
 module _ (task : Task) (is_task : IsTask task) (known : Knowledge) (sound : IsSound task known) (lowest reached : Option ℕ) (is_lowest : IsLowest task known lowest) (is_reached : IsReached task known reached) where
   -- no plan costs less than the smaller of the lowest cost and the goal's
@@ -251,7 +251,7 @@ module _ (task : Task) (is_task : IsTask task) (known : Knowledge) (sound : IsSo
     answers_at none (Bounded bound None cause) (least, inl given) =
         (bounds bound least, omega arith, tt, allowed task known stop bound cause given.1 stopped (high_alone bound least given.0))
     answers_at none (Bounded bound None cause) (least, inr given) =
-        (bounds bound least, omega arith, tt, subst (AllowsCause bound) (sym given.1) tt)
+        (bounds bound least, omega arith, tt, subst (AllowsCause bound) (sym given.1.1) tt)
     answers_at none (Bounded bound (Some best) cause) (least, followed, other, is) = (
       bounds bound least,
       omega arith,
@@ -265,7 +265,7 @@ module _ (task : Task) (is_task : IsTask task) (known : Knowledge) (sound : IsSo
     excused_at (Unsolvable why) given = given.1
     excused_at (Bounded bound None cause) (least, inl given) =
         excused task known stop bound None cause given.1 stopped (high_alone bound least given.0)
-    excused_at (Bounded bound None cause) (least, inr given) = subst (λ (c : Cause). IsExcused task (Bounded bound None c)) (sym given.1) tt
+    excused_at (Bounded bound None cause) (least, inr given) = subst (λ (c : Cause). IsExcused task (Bounded bound None c)) (sym given.1.1) tt
     excused_at (Bounded bound (Some best) cause) (least, followed, other, is) =
         excused task known stop bound (Some best) cause is stopped (high_beside bound best.0 best.1.items least followed other)
 

@@ -343,5 +343,5 @@ run_sound task is (b ∷ earlier) known ran =
 pub stopped_sound : (task : Task) → IsTask task → (stop : Stop) (known : Knowledge) → IsStoppedBy task stop known → IsSound task known
 stopped_sound task is Done known stopped = run_sound task is stopped.0 known stopped.1
 stopped_sound task is Limit known stopped = run_sound task is stopped.0 known stopped.1
-stopped_sound task is Memory known (run, before, b, k, count, ran, next, e) =
+stopped_sound task is (Memory refused) known (run, before, b, k, count, ran, next, e) =
     subst (IsSound task) (sym e) (partly_sound task is before (run_sound task is run before ran) b k next.opens (take count all_moves))

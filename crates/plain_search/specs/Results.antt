@@ -5,10 +5,12 @@ use Rattle.board.specs.Plans.{Leads}
 use Rattle.outcomes.specs.declared.outcome.Why.TheVariants.{Exhausted}
 use Rattle.outcomes.specs.declared.outcome.Cause.{Cause}
 use Rattle.outcomes.specs.declared.outcome.Cause.TheVariants.{Limit as ForLimit, Memory as ForMemory, Start as ForStart, Cost as ForCost, Cut as ForCut}
+use Rattle.outcomes.specs.declared.outcome.Want.TheVariants.{Stated, Refused}
 use Rattle.outcomes.specs.declared.outcome.Outcome.{Outcome}
 use Rattle.outcomes.specs.declared.outcome.Outcome.TheVariants.{Optimal, Unsolvable, Bounded}
 use Rattle.outcomes.specs.Outcomes.{Task}
 use Rattle.plain_search.specs.declared.run.Stop.{Stop}
+use Rattle.memory.specs.declared.OutOfMemory.{OutOfMemory}
 use Rattle.plain_search.specs.declared.run.Stop.TheVariants.{Done, Limit, Memory}
 use Rattle.plain_search.specs.Knowledge.{Knowledge, IsLowest, IsReached}
 use Rattle.plain_search.specs.Runs.{IsStoppedBy}
@@ -24,7 +26,7 @@ lesser (Some x) (Some y) = Some (min x y)
 abbrev pub cause_of : Stop → Cause
 cause_of Done = ForCost
 cause_of Limit = ForLimit
-cause_of Memory = ForMemory
+cause_of (Memory refused) = ForMemory (Refused refused)
 
 -- a plan that leads from the start to the goal at the cost named, which is no more than the cost at which the goal is known
 pub record IsFollowedBack (task : Task) (reached : Option ℕ) (cost : ℕ) (plan : List Move) : Type 0 where
@@ -41,7 +43,7 @@ IsGivenAt task known lowest reached stop (Optimal cost plan rows) =
     (lesser lowest reached ≡ Some cost) × IsFollowedBack task reached cost plan.items × AreRowsBelow task known cost rows.items
 IsGivenAt task known lowest reached stop (Unsolvable why) = (lesser lowest reached ≡ None) × (why ≡ Exhausted)
 IsGivenAt task known lowest reached stop (Bounded bound None cause) =
-    (lesser lowest reached ≡ Some bound) × (((reached ≡ None) × (cause ≡ cause_of stop)) ⊎ ((reached ≢ None) × (cause ≡ ForMemory)))
+    (lesser lowest reached ≡ Some bound) × (((reached ≡ None) × (cause ≡ cause_of stop)) ⊎ ((reached ≢ None) × ((refused : OutOfMemory) × (cause ≡ ForMemory (Refused refused)))))
 IsGivenAt task known lowest reached stop (Bounded bound (Some best) cause) =
     (lesser lowest reached ≡ Some bound) × IsFollowedBack task reached best.0 best.1.items × (best.0 ≢ bound) × (cause ≡ cause_of stop)
 
@@ -53,12 +55,13 @@ IsGiven task known stop outcome =
 abbrev pub IsFound : Task → Outcome → Type 0
 IsFound task outcome = (stop : Stop) × (known : Knowledge) × IsStoppedBy task stop known × IsGiven task known stop outcome
 
--- A bound is given only for want of memory, where each plan costs more than 1,048,320, or after the default limit of
+-- A bound is given only where memory was refused, where each plan costs more than 1,048,320, or after the default limit of
 -- expansions; and no plan only where the search met every board.
 abbrev pub IsExcused : Task → Outcome → Type 0
 IsExcused task (Optimal cost plan rows) = ⊤
 IsExcused task (Unsolvable why) = why ≡ Exhausted
-IsExcused task (Bounded bound best ForMemory) = ⊤
+IsExcused task (Bounded bound best (ForMemory Stated)) = ⊥
+IsExcused task (Bounded bound best (ForMemory (Refused refused))) = ⊤
 IsExcused task (Bounded bound best ForCost) = 1048320 < bound
 IsExcused task (Bounded bound best ForLimit) = (known : Knowledge) × IsStoppedBy task Limit known
 IsExcused task (Bounded bound best ForStart) = ⊥

@@ -41,5 +41,5 @@ abbrev pub IsStoppedBy : Task → Stop → Knowledge → Type 0
 IsStoppedBy task Done known =
     (run : List Position) × IsRun task run known × ((b : Position) (k : Known) → IsOpen task known b k → limit_of task known ≤ k.cost)
 IsStoppedBy task Limit known = (run : List Position) × IsRun task run known × (length run ≡ 18446744073709551615)
-IsStoppedBy task Memory known =
+IsStoppedBy task (Memory refused) known =
     (run : List Position) × (before : Knowledge) × (b : Position) × (k : Known) × (count : ℕ) × IsRun task run before × IsNext task before b k × (known ≡ with_successors task.rule b k.cost (take count all_moves) before)

@@ -6,7 +6,7 @@ ghost use Rattle.plain_search.specs.Queues.{OthersWait, EachWaits};
 
 use crate::known::{Known, KnownBoards};
 use board::{Board, Move, Weights};
-use std::alloc::AllocError;
+use memory::{OutOfMemory, insert_key};
 use std::collections::BTreeSet;
 
 // Costs and keys of boards that are not expanded, the lowest cost first. An entry is out of date where its
@@ -20,7 +20,7 @@ pub(crate) fn expand(
     board: &Board,
     cost: u32,
     weights: &Weights,
-) -> Result<(), AllocError>
+) -> Result<(), OutOfMemory>
     requires sides { weights.now.grid ≡ board.now.grid }
     requires low { cost ≤ 1048320 }
     ensures ok { OnOk result (known.new ≡ after_expansion weights.now board.now cost known.old) }
@@ -43,7 +43,7 @@ fn lower_next(
     cost: u32,
     direction: Move,
     weights: &Weights,
-) -> Result<(), AllocError>
+) -> Result<(), OutOfMemory>
     requires sides { weights.now.grid ≡ board.now.grid }
     requires low { cost ≤ 1048320 }
     ensures ok { OnOk result
@@ -66,7 +66,7 @@ pub(crate) fn lower(
     key: u128,
     cost: u32,
     via: Move,
-) -> Result<(), AllocError>
+) -> Result<(), OutOfMemory>
     ensures ok { OnOk result (known.new ≡ lowered_at known.old key cost via) }
     ensures waits { OnOk result ((but : ℕ) → OthersWait known.old queue.old but → OthersWait known.new queue.new but) }
     ensures err { OnErr result (known.new ≡ known.old) }
@@ -76,7 +76,7 @@ pub(crate) fn lower(
             return Ok(());
         }
     }
-    queue.insert((cost, key))?;
+    insert_key(queue, (cost, key))?;
     known.set(
         key,
         Known {

@@ -8,7 +8,8 @@ ghost use Rattle.plain_search.specs.Expansions.{marked_at};
 ghost use Rattle.plain_search.specs.Lowest.{lowest_with};
 
 use board::{Board, Move, Shape};
-use std::alloc::{AllocError, Global};
+use memory::{OutOfMemory, insert, push};
+use std::alloc::Global;
 use std::collections::BTreeMap;
 use std::marker::Model;
 
@@ -59,11 +60,11 @@ impl KnownBoards {
     }
 
     // Takes what is known of the board with this key from now on.
-    pub(crate) fn set(&mut self, key: u128, known: Known) -> Result<(), AllocError>
+    pub(crate) fn set(&mut self, key: u128, known: Known) -> Result<(), OutOfMemory>
         ensures ok { OnOk result (self.new ≡ map.insert self.old key known) }
         ensures err { OnErr result (self.new ≡ self.old) }
     {
-        self.boards.insert(key, known)?;
+        insert(&mut self.boards, key, known)?;
         Ok(())
     }
 
@@ -96,7 +97,7 @@ impl KnownBoards {
         alloc: Global,
         shape: Shape,
         cost: u32,
-    ) -> Result<Vec<(Board, u32)>, AllocError>
+    ) -> Result<Vec<(Board, u32)>, OutOfMemory>
         requires { (key : ℕ) (k : Known) → map.get self.now key ≡ Some k
             → (b : Position) × HasKey shape key b }
         ensures rising { IfOk result (λ rows.
@@ -120,7 +121,7 @@ fn add_row(
     key: u128,
     cost: u32,
     limit: u32,
-) -> Result<(), AllocError>
+) -> Result<(), OutOfMemory>
     requires { (b : Position) × HasKey shape key b }
     ensures added { OnOk result (cost < limit → (b : Position) × HasKey shape key b
         × (rows.new.items ≡ rows.old.items ++ (b, cost) ∷ [])) }
@@ -128,7 +129,7 @@ fn add_row(
 {
     if cost < limit {
         let board = Board::from_key(shape, key).unwrap();
-        rows.push((board, cost))?;
+        push(rows, (board, cost))?;
     }
     Ok(())
 }

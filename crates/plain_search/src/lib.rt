@@ -13,10 +13,11 @@ ghost use Rattle.plain_search.specs.Soundness.{unguided};
 ghost use Rattle.plain_search.specs.Results.{IsFound, IsExcused};
 
 use board::{Board, Weights};
+use memory::OutOfMemory;
 use outcomes::Outcome;
 use result::finish;
 use run::search;
-use std::alloc::{AllocError, Global};
+use std::alloc::Global;
 
 /// Searches for a plan of least cost from a board to a goal, by uniform cost: a board of least cost is
 /// expanded until no open board is below the best plan's cost and 1,048,321.
@@ -29,7 +30,7 @@ pub fn solve(
     start: &Board,
     goal: &Board,
     weights: &Weights,
-) -> Result<Outcome, AllocError>
+) -> Result<Outcome, OutOfMemory>
     requires sides { start.now.grid ≡ goal.now.grid }
     requires costs { weights.now.grid ≡ goal.now.grid }
     ensures answers { IfOk result (Answers (unguided start.now goal.now weights.now)) }

@@ -5,6 +5,7 @@ ghost use Rattle.board.specs.Moves.{Moves};
 ghost use Rattle.board.specs.Plans.{Leads};
 ghost use Rattle.board.specs.Keys.{key_of};
 ghost use Rattle.outcomes.specs.declared.outcome.Cause.TheVariants.{Memory};
+ghost use Rattle.outcomes.specs.declared.outcome.Want.TheVariants.{Refused};
 ghost use Rattle.outcomes.specs.declared.outcome.Outcome.TheVariants.{Bounded};
 ghost use Rattle.plain_search.specs.declared.known.Known.{Known};
 ghost use Rattle.plain_search.specs.Soundness.{IsTask, IsSound, unguided};
@@ -13,8 +14,9 @@ ghost use Rattle.plain_search.specs.Results.{IsGiven, lesser};
 use crate::known::{Known, KnownBoards};
 use crate::run::Stop;
 use board::{Board, Move, Weights};
-use outcomes::{Cause, Outcome, Why};
-use std::alloc::{AllocError, Global};
+use memory::{OutOfMemory, push};
+use outcomes::{Cause, Outcome, Want, Why};
+use std::alloc::Global;
 
 // The outcome of a search, by what is known and why it stopped.
 pub(crate) fn finish(
@@ -45,8 +47,9 @@ pub(crate) fn finish(
         };
     };
     let bound = lower(lowest, reached.cost);
-    let Ok(found) = plan_back(alloc, known, start, goal, weights, reached) else {
-        return bound_for_memory(bound);
+    let found = match plan_back(alloc, known, start, goal, weights, reached) {
+        Ok(found) => found,
+        Err(refused) => return bound_for_memory(bound, refused),
     };
     if found.0 != bound {
         return Outcome::Bounded {
@@ -55,8 +58,9 @@ pub(crate) fn finish(
             cause: stop.cause(),
         };
     }
-    let Ok(rows) = known.rows_below(alloc, goal.shape(), found.0) else {
-        return bound_for_memory(bound);
+    let rows = match known.rows_below(alloc, goal.shape(), found.0) {
+        Ok(rows) => rows,
+        Err(refused) => return bound_for_memory(bound, refused),
     };
     Outcome::Optimal {
         cost: found.0,
@@ -66,13 +70,13 @@ pub(crate) fn finish(
 }
 
 // The bound alone, where the plan or its rows found no memory.
-fn bound_for_memory(bound: u32) -> Outcome
-    ensures { result ≡ Bounded bound None Memory }
+fn bound_for_memory(bound: u32, refused: OutOfMemory) -> Outcome
+    ensures { result ≡ Bounded bound None (Memory (Refused refused)) }
 {
     Outcome::Bounded {
         bound,
         best: None,
-        cause: Cause::Memory,
+        cause: Cause::Memory(Want::Refused(refused)),
     }
 }
 
@@ -94,7 +98,7 @@ fn plan_back(
     goal: &Board,
     weights: &Weights,
     reached: Known,
-) -> Result<(u32, Vec<Move>), AllocError>
+) -> Result<(u32, Vec<Move>), OutOfMemory>
     requires task { IsTask (unguided start.now goal.now weights.now) }
     requires sound { IsSound (unguided start.now goal.now weights.now) known.now }
     requires found { map.get known.now (key_of goal.now) ≡ Some reached }
@@ -107,7 +111,7 @@ fn plan_back(
     let mut here = reached;
     'boards: while board != *start {
         let before = step_back(known, &board, here, weights);
-        backwards.push(here.via)?;
+        push(&mut backwards, here.via)?;
         cost += before.1;
         board = before.0;
         here = before.2;

@@ -9,8 +9,9 @@ ghost use Rattle.plain_search.specs.Results.{cause_of};
 use crate::expansion::{Queue, expand, lower};
 use crate::known::{Known, KnownBoards};
 use board::{Board, Move, Weights};
-use outcomes::Cause;
-use std::alloc::{AllocError, Global};
+use memory::OutOfMemory;
+use outcomes::{Cause, Want};
+use std::alloc::Global;
 use std::collections::BTreeSet;
 
 // No board that costs this much is expanded.
@@ -24,7 +25,7 @@ pub enum Stop {
     /// The limit on expansions was reached.
     Limit,
     /// Memory was refused.
-    Memory,
+    Memory(OutOfMemory),
 }
 
 impl Stop {
@@ -35,7 +36,7 @@ impl Stop {
         match self {
             Stop::Done => Cause::Cost,
             Stop::Limit => Cause::Limit,
-            Stop::Memory => Cause::Memory,
+            Stop::Memory(refused) => Cause::Memory(Want::Refused(refused)),
         }
     }
 }
@@ -47,7 +48,7 @@ pub(crate) fn search(
     start: &Board,
     goal: &Board,
     weights: &Weights,
-) -> Result<(KnownBoards, Stop), AllocError>
+) -> Result<(KnownBoards, Stop), OutOfMemory>
     requires sides { start.now.grid ≡ goal.now.grid }
     requires costs { weights.now.grid ≡ goal.now.grid }
     ensures task { IsTask (unguided start.now goal.now weights.now) }
@@ -69,9 +70,9 @@ pub(crate) fn search(
             return Ok((known, Stop::Limit));
         }
         let board = Board::from_key(shape, next.1).unwrap();
-        let Ok(()) = expand(&mut known, &mut queue, &board, next.0, weights) else {
-            return Ok((known, Stop::Memory));
-        };
+        if let Err(refused) = expand(&mut known, &mut queue, &board, next.0, weights) {
+            return Ok((known, Stop::Memory(refused)));
+        }
         left -= 1;
     }
 }

@@ -3,4 +3,6 @@
 
 pub mod report;
 
-pub use report::{accepted_report, outcome_report, refused_certificate_report, refused_report};
+pub use report::{
+    NoReport, accepted_report, outcome_report, refused_certificate_report, refused_report,
+};

@@ -9,40 +9,63 @@ ghost use Rattle.outcomes.specs.declared.outcome.Outcome.TheVariants.{Optimal, U
 ghost use Rattle.reports.specs.Reports.{letter_of, letters_of, best_data, outcome_data, refused_data, accepted_data, refused_certificate_data, report_text};
 
 use board::Move;
+use memory::{OutOfMemory, json_text, push_char, put, text_value};
 use outcomes::{Cause, Outcome, Why};
-use serde_json::{Value, json};
-use std::alloc::{AllocError, Global};
+use serde_json::{Map, Value};
+use std::alloc::Global;
+
+/// No report was made, since memory was refused. Only the makers of reports make one.
+#[derive(Clone, Copy, Debug, PartialEq, Eq)]
+pub struct NoReport {
+    refused: OutOfMemory,
+}
 
 /// The report of an outcome for a line with this id: one JSON object and a line feed.
-pub fn outcome_report(alloc: Global, id: &str, outcome: &Outcome) -> Result<String, AllocError>
+pub fn outcome_report(alloc: Global, id: &str, outcome: &Outcome) -> Result<String, NoReport>
     ensures { IfOk result (λ text. string_bytes text ≡ report_text (outcome_data id.now outcome.now)) }
 {
-    json_line(alloc, &outcome_value(alloc, id, outcome)?)
+    let value = match outcome_value(alloc, id, outcome) {
+        Ok(value) => value,
+        Err(refused) => return Err(NoReport { refused }),
+    };
+    json_line(alloc, &value)
 }
 
 /// The report of a line that is refused by a fault with this code: one JSON object and a line feed.
-pub fn refused_report(alloc: Global, code: &str, line: u64) -> Result<String, AllocError>
+pub fn refused_report(alloc: Global, code: &str, line: u64) -> Result<String, NoReport>
     ensures { IfOk result (λ text. string_bytes text ≡ report_text (refused_data code.now line)) }
 {
-    json_line(alloc, &refused_value(alloc, code, line)?)
+    let value = match refused_value(alloc, code, line) {
+        Ok(value) => value,
+        Err(refused) => return Err(NoReport { refused }),
+    };
+    json_line(alloc, &value)
 }
 
 /// The report of a certificate that is accepted: one JSON object and a line feed. The cost is the least.
-pub fn accepted_report(alloc: Global, cost: u32) -> Result<String, AllocError>
+pub fn accepted_report(alloc: Global, cost: u32) -> Result<String, NoReport>
     ensures { IfOk result (λ text. string_bytes text ≡ report_text (accepted_data cost)) }
 {
-    json_line(alloc, &accepted_value(alloc, cost)?)
+    let value = match accepted_value(alloc, cost) {
+        Ok(value) => value,
+        Err(refused) => return Err(NoReport { refused }),
+    };
+    json_line(alloc, &value)
 }
 
 /// The report of a certificate that is refused by a fault with this code: one JSON object and a line feed.
-pub fn refused_certificate_report(alloc: Global, code: &str) -> Result<String, AllocError>
+pub fn refused_certificate_report(alloc: Global, code: &str) -> Result<String, NoReport>
     ensures { IfOk result (λ text. string_bytes text ≡ report_text (refused_certificate_data code.now)) }
 {
-    json_line(alloc, &refused_certificate_value(alloc, code)?)
+    let value = match refused_certificate_value(alloc, code) {
+        Ok(value) => value,
+        Err(refused) => return Err(NoReport { refused }),
+    };
+    json_line(alloc, &value)
 }
 
 // The object of an outcome.
-fn outcome_value(alloc: Global, id: &str, outcome: &Outcome) -> Result<Value, AllocError>
+fn outcome_value(alloc: Global, id: &str, outcome: &Outcome) -> Result<Value, OutOfMemory>
     ensures value { IfOk result (λ built. view built ≡ outcome_data id.now outcome.now) }
     ensures no_float { IfOk result (λ built. has_float (view built) ≡ false) }
 {
@@ -54,20 +77,34 @@ fn outcome_value(alloc: Global, id: &str, outcome: &Outcome) -> Result<Value, Al
 }
 
 // The object of a plan of least cost, whatever the rows that prove it.
-fn optimal_value(alloc: Global, id: &str, cost: u32, plan: &[Move]) -> Result<Value, AllocError>
+fn optimal_value(alloc: Global, id: &str, cost: u32, plan: &[Move]) -> Result<Value, OutOfMemory>
     ensures value { (kept : Vec Move Global) (rows : Vec (Board × ℕ) Global) → kept.items ≡ plan.now →
         IfOk result (λ built. view built ≡ outcome_data id.now (Optimal cost kept rows)) }
     ensures no_float { IfOk result (λ built. has_float (view built) ≡ false) }
 {
     let letters = plan_letters(alloc, plan)?;
-    json!(in alloc; {"cost": cost, "id": id, "plan": letters, "status": "optimal"})
+    let mut members = Map::new(alloc);
+    put(&mut members, alloc, "cost", cost.into())?;
+    put(&mut members, alloc, "id", text_value(alloc, id)?)?;
+    put(&mut members, alloc, "plan", Value::String(letters))?;
+    put(&mut members, alloc, "status", text_value(alloc, "optimal")?)?;
+    Ok(Value::Object(members))
 }
 
 // The object of a search that found no plan.
-fn unsolvable_value(alloc: Global, id: &str, why: Why) -> Result<Value, AllocError>
+fn unsolvable_value(alloc: Global, id: &str, why: Why) -> Result<Value, OutOfMemory>
     ensures { IfOk result (λ built. view built ≡ outcome_data id.now (Unsolvable why)) }
 {
-    json!(in alloc; {"id": id, "status": "unsolvable", "why": why.word()})
+    let mut members = Map::new(alloc);
+    put(&mut members, alloc, "id", text_value(alloc, id)?)?;
+    put(
+        &mut members,
+        alloc,
+        "status",
+        text_value(alloc, "unsolvable")?,
+    )?;
+    put(&mut members, alloc, "why", text_value(alloc, why.word())?)?;
+    Ok(Value::Object(members))
 }
 
 // The object of a bound and the best plan found.
@@ -77,16 +114,27 @@ fn bounded_value(
     bound: u32,
     best: &Option<(u32, Vec<Move>)>,
     cause: Cause,
-) -> Result<Value, AllocError>
+) -> Result<Value, OutOfMemory>
     ensures value { IfOk result (λ built. view built ≡ outcome_data id.now (Bounded bound best.now cause)) }
     ensures no_float { IfOk result (λ built. has_float (view built) ≡ false) }
 {
     let plan = best_value(alloc, best)?;
-    json!(in alloc; {"best": plan, "bound": bound, "cause": cause.word(), "id": id, "status": "bounded"})
+    let mut members = Map::new(alloc);
+    put(&mut members, alloc, "best", plan)?;
+    put(&mut members, alloc, "bound", bound.into())?;
+    put(
+        &mut members,
+        alloc,
+        "cause",
+        text_value(alloc, cause.word())?,
+    )?;
+    put(&mut members, alloc, "id", text_value(alloc, id)?)?;
+    put(&mut members, alloc, "status", text_value(alloc, "bounded")?)?;
+    Ok(Value::Object(members))
 }
 
 // The best plan and its cost, or null.
-fn best_value(alloc: Global, best: &Option<(u32, Vec<Move>)>) -> Result<Value, AllocError>
+fn best_value(alloc: Global, best: &Option<(u32, Vec<Move>)>) -> Result<Value, OutOfMemory>
     ensures value { IfOk result (λ built. view built ≡ best_data (best_of best.now)) }
     ensures no_float { IfOk result (λ built. has_float (view built) ≡ false) }
 {
@@ -97,41 +145,59 @@ fn best_value(alloc: Global, best: &Option<(u32, Vec<Move>)>) -> Result<Value, A
 }
 
 // The object of a plan and its cost.
-fn plan_value(alloc: Global, cost: u32, plan: &[Move]) -> Result<Value, AllocError>
+fn plan_value(alloc: Global, cost: u32, plan: &[Move]) -> Result<Value, OutOfMemory>
     ensures { IfOk result (λ built. view built ≡ best_data (Some (cost, plan.now))) }
 {
     let letters = plan_letters(alloc, plan)?;
-    json!(in alloc; {"cost": cost, "plan": letters})
+    let mut members = Map::new(alloc);
+    put(&mut members, alloc, "cost", cost.into())?;
+    put(&mut members, alloc, "plan", Value::String(letters))?;
+    Ok(Value::Object(members))
 }
 
 // The object of a line that is refused.
-fn refused_value(alloc: Global, code: &str, line: u64) -> Result<Value, AllocError>
+fn refused_value(alloc: Global, code: &str, line: u64) -> Result<Value, OutOfMemory>
     ensures { IfOk result (λ built. view built ≡ refused_data code.now line) }
 {
-    json!(in alloc; {"fault": code, "line": line, "status": "refused"})
+    let mut members = Map::new(alloc);
+    put(&mut members, alloc, "fault", text_value(alloc, code)?)?;
+    put(&mut members, alloc, "line", line.into())?;
+    put(&mut members, alloc, "status", text_value(alloc, "refused")?)?;
+    Ok(Value::Object(members))
 }
 
 // The object of a certificate that is accepted.
-fn accepted_value(alloc: Global, cost: u32) -> Result<Value, AllocError>
+fn accepted_value(alloc: Global, cost: u32) -> Result<Value, OutOfMemory>
     ensures { IfOk result (λ built. view built ≡ accepted_data cost) }
 {
-    json!(in alloc; {"cost": cost, "status": "accepted"})
+    let mut members = Map::new(alloc);
+    put(&mut members, alloc, "cost", cost.into())?;
+    put(
+        &mut members,
+        alloc,
+        "status",
+        text_value(alloc, "accepted")?,
+    )?;
+    Ok(Value::Object(members))
 }
 
 // The object of a certificate that is refused.
-fn refused_certificate_value(alloc: Global, code: &str) -> Result<Value, AllocError>
+fn refused_certificate_value(alloc: Global, code: &str) -> Result<Value, OutOfMemory>
     ensures { IfOk result (λ built. view built ≡ refused_certificate_data code.now) }
 {
-    json!(in alloc; {"fault": code, "status": "refused"})
+    let mut members = Map::new(alloc);
+    put(&mut members, alloc, "fault", text_value(alloc, code)?)?;
+    put(&mut members, alloc, "status", text_value(alloc, "refused")?)?;
+    Ok(Value::Object(members))
 }
 
 // The letters of the moves of a plan.
-fn plan_letters(alloc: Global, plan: &[Move]) -> Result<String, AllocError>
+fn plan_letters(alloc: Global, plan: &[Move]) -> Result<String, OutOfMemory>
     ensures { IfOk result (λ text. string_bytes text ≡ letters_of plan.now) }
 {
     let mut text = String::new(alloc);
     for direction in plan {
-        text.push(letter(*direction))?;
+        push_char(&mut text, letter(*direction))?;
     }
     Ok(text)
 }
@@ -149,11 +215,16 @@ fn letter(direction: Move) -> char
 }
 
 // A value without floats as compact JSON on a line of its own.
-fn json_line(alloc: Global, value: &Value) -> Result<String, AllocError>
+fn json_line(alloc: Global, value: &Value) -> Result<String, NoReport>
     requires { has_float (view value.now) ≡ false }
     ensures { IfOk result (λ text. string_bytes text ≡ report_text (view value.now)) }
 {
-    let mut text = value.to_string(alloc)?;
-    text.push('\n')?;
-    Ok(text)
+    let mut text = match json_text(alloc, value) {
+        Ok(text) => text,
+        Err(refused) => return Err(NoReport { refused }),
+    };
+    match push_char(&mut text, '\n') {
+        Ok(()) => Ok(text),
+        Err(refused) => Err(NoReport { refused }),
+    }
 }

@@ -25,10 +25,10 @@ returns-in_err-row-clause-refused g c =
     passed c.from_residual.result c.in_err-row.field-0.0 (Refuses (rows c.args.shape None c.args.count) (left c.args.source.now) (left c.read_row.new.source)) c.from_residual.ensures.1
     (rows_refuse c.args.shape c.rows.read.items c.args.count (left c.args.source.now) (left c.rows.source) (left c.read_row.new.source) c.in_err-row.field-0.0 (omega (arith, c.rows.invariant.size, c.rows-test.true)) c.rows.invariant.rows c.rows.invariant.rising c.rows.invariant.taken r)
 
-pub returns-then-is_err-clause-refused : goal.returns-then-is_err-clause-refused
-returns-then-is_err-clause-refused g c =
+pub returns-in-Err-clause-refused : goal.returns-in-Err-clause-refused
+returns-in-Err-clause-refused g c =
     let left = g.S.Source.left in
-    lacks_memory (left c.args.source.now) (left c.read_row.new.source) _ (Consumes-trans (left c.args.source.now) (left c.rows.source) (left c.read_row.new.source) (flat_map row_text c.rows.read.items) _ c.rows.invariant.taken c.in_ok-row.ensures.taken)
+    lacks_memory (left c.args.source.now) (left c.read_row.new.source) _ (Consumes-trans (left c.args.source.now) (left c.rows.source) (left c.read_row.new.source) (flat_map row_text c.rows.read.items) _ c.rows.invariant.taken c.in_ok-row.ensures.taken) _
 
 pub rows-preserved : goal.rows-preserved
 rows-preserved g c =
@@ -37,7 +37,7 @@ rows-preserved g c =
     let done = c.rows.read.items in
     let r : Position × ℕ = c.in_ok-row.row in
     let old = c.rows.invariant in
-    let pushed : c.push.new.self.items ≡ done ++ r ∷ [] = rw c.if-is_err.ensures.negation at c.push.ensures.items in
+    let pushed : c.push.new.items.items ≡ done ++ r ∷ [] = c.in_default.ensures.items in
     let follows : Follows (last_of None done) r.0 = subst (λ (b : Option Position). Follows b r.0) old.last c.in_ok-row.ensures.follows in
     record {
       taken = subst (λ (text : List ℕ). Consumes (left c.args.source.now) (left c.read_row.new.source) text) (sym (ap (flat_map row_text) pushed ∙ text_pushed done r))

@@ -22,12 +22,12 @@ returns-in_default c =
     (Some c.in-Some-lowest.bound, None, subst (IsLowest task c.args.known.now) c.in-Some-lowest.is lowest, reached, (refl, inl (refl, c.cause.ensures)))
 
 -- src/result.rt:49:9
-pub returns-in_default-plan_back : goal.returns-in_default-plan_back
-returns-in_default-plan_back c =
+pub returns-in-Err : goal.returns-in-Err
+returns-in-Err c =
     let task = unguided c.args.start.now c.args.goal.now c.args.weights.now in
     let lowest = lowest_known_is task c.requires.task c.args.known.now c.requires.sound c.key-goal_key.result c.lowest_but-lowest.result c.key-goal_key.ensures.value c.lowest_but-lowest.ensures in
     let reached = reached_known_is task c.requires.task c.args.known.now c.key-goal_key.result c.get-reached.result (Some c.in-Some.reached) c.key-goal_key.ensures.value c.get-reached.ensures c.in-Some.is in
-    (c.lowest_but-lowest.result, Some c.in-Some.reached.cost, lowest, reached, given_alone task c.requires.task c.args.known.now c.lowest_but-lowest.result c.in-Some.reached.cost c.lower-bound.result c.args.stop c.bound_for_memory.result c.lower-bound.ensures c.bound_for_memory.ensures)
+    (c.lowest_but-lowest.result, Some c.in-Some.reached.cost, lowest, reached, given_alone task c.requires.task c.args.known.now c.lowest_but-lowest.result c.in-Some.reached.cost c.lower-bound.result c.args.stop c.bound_for_memory.result _ c.lower-bound.ensures c.bound_for_memory.ensures)
 
 -- src/result.rt:56:9
 pub returns-then-found-bound : goal.returns-then-found-bound
@@ -48,12 +48,12 @@ returns-then-found-bound c =
     )
 
 -- src/result.rt:49:9
-pub returns-in_default-rows_below : goal.returns-in_default-rows_below
-returns-in_default-rows_below c =
+pub returns-in-Err-rows_below : goal.returns-in-Err-rows_below
+returns-in-Err-rows_below c =
     let task = unguided c.args.start.now c.args.goal.now c.args.weights.now in
     let lowest = lowest_known_is task c.requires.task c.args.known.now c.requires.sound c.key-goal_key.result c.lowest_but-lowest.result c.key-goal_key.ensures.value c.lowest_but-lowest.ensures in
     let reached = reached_known_is task c.requires.task c.args.known.now c.key-goal_key.result c.get-reached.result (Some c.in-Some.reached) c.key-goal_key.ensures.value c.get-reached.ensures c.in-Some.is in
-    (c.lowest_but-lowest.result, Some c.in-Some.reached.cost, lowest, reached, given_alone task c.requires.task c.args.known.now c.lowest_but-lowest.result c.in-Some.reached.cost c.lower-bound.result c.args.stop c.bound_for_memory-in_default-rows_below.result c.lower-bound.ensures c.bound_for_memory-in_default-rows_below.ensures)
+    (c.lowest_but-lowest.result, Some c.in-Some.reached.cost, lowest, reached, given_alone task c.requires.task c.args.known.now c.lowest_but-lowest.result c.in-Some.reached.cost c.lower-bound.result c.args.stop c.bound_for_memory-in-Err-rows_below.result _ c.lower-bound.ensures c.bound_for_memory-in-Err-rows_below.ensures)
 
 -- src/result.rt:19:1
 pub returns : goal.returns

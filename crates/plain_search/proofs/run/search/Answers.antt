@@ -35,14 +35,14 @@ unwrap-board-requires c =
     c.from_key.ensures.found.1 (board.0, subst (λ (grid : Grid). HasKey grid c.in-Some.next.1 board.0) (sym (c.shape-shape.ensures.value ∙ c.requires.costs)) board.1)
 
 -- src/run.rt:72:13
-pub returns-in_default-expand-clause-stopped : goal.returns-in_default-expand-clause-stopped
-returns-in_default-expand-clause-stopped c =
+pub returns-in-Err-clause-stopped : goal.returns-in-Err-clause-stopped
+returns-in-Err-clause-stopped c =
     let task = unguided c.args.start.now c.args.goal.now c.args.weights.now in
     let limited = c.limit-limit.ensures ∙ ap limit_from (c.get.ensures ∙ ap (map.get c.expansions.known) c.key-goal_key.ensures.value) in
     let live = c.in-Some.ensures.live in
     let has : HasKey c.shape-shape.result c.in-Some.next.1 c.unwrap-board.result = rw c.unwrap-board.ensures at c.from_key.ensures.value in
     let next = next_board task (record { start = c.key.ensures.board; goal = c.key-goal_key.ensures.board; sides = c.requires.sides; rule = c.shape-shape.ensures.rule; costs = c.requires.costs }) c.expansions.known c.in-Some.next.1 c.in-Some.next.0 c.limit-limit.result live.0 c.unwrap-board.result live.1 live.2 c.in-Some.ensures.low limited c.in-Some.ensures.least (subst (λ (grid : Grid). HasKey grid c.in-Some.next.1 c.unwrap-board.result) (c.shape-shape.ensures.value ∙ c.requires.costs) has) in
-    let within = c.in_default-expand.ensures.err in (
+    let within = c.in-Err.ensures.err in (
       c.expansions.invariant.run,
       c.expansions.known,
       c.unwrap-board.result,
@@ -62,5 +62,5 @@ expansions-preserved c =
     let has : HasKey c.shape-shape.result c.in-Some.next.1 c.unwrap-board.result = rw c.unwrap-board.ensures at c.from_key.ensures.value in
     let next = next_board task (record { start = c.key.ensures.board; goal = c.key-goal_key.ensures.board; sides = c.requires.sides; rule = c.shape-shape.ensures.rule; costs = c.requires.costs }) c.expansions.known c.in-Some.next.1 c.in-Some.next.0 c.limit-limit.result live.0 c.unwrap-board.result live.1 live.2 c.in-Some.ensures.low limited c.in-Some.ensures.least (subst (λ (grid : Grid). HasKey grid c.in-Some.next.1 c.unwrap-board.result) (c.shape-shape.ensures.value ∙ c.requires.costs) has) in
     one_expansion task c.expansions.known c.expansions.queue c.expansions.left c.unwrap-board.result live.0 c.expand.new.known c.expand.new.queue c.expansions.invariant (omega (arith, c.if-left-eq0.false)) next
-    (c.in-Ok.ensures.ok ∙ ap (λ (cost : ℕ). after_expansion c.args.weights.now c.unwrap-board.result cost c.expansions.known) (sym live.2))
-    (c.in-Ok.ensures.waits (subst (λ (key : ℕ). OthersWait c.expansions.known c.take_next.new.queue key) (sym has.packed) c.in-Some.ensures.waits))
+    (c.in_default-expand.ensures.ok ∙ ap (λ (cost : ℕ). after_expansion c.args.weights.now c.unwrap-board.result cost c.expansions.known) (sym live.2))
+    (c.in_default-expand.ensures.waits (subst (λ (key : ℕ). OthersWait c.expansions.known c.take_next.new.queue key) (sym has.packed) c.in-Some.ensures.waits))
