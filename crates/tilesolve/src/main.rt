@@ -3,7 +3,7 @@
 
 use batch_cli::{Ending, run_program};
 use byte_streams::{ByteSink, ByteSource};
-use std::alloc::{AllocError, Global};
+use std::alloc::Global;
 use std::env;
 use std::io::{BufReader, BufWriter};
 use std::process::ExitCode;
