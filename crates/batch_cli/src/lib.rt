@@ -6,6 +6,8 @@ pub mod program;
 pub use batch_lines::{Entry, EntryFault, LINE_LIMIT, Line, LineKind, LineReader, read_entry};
 pub use batch_runs::{Answerer, BatchFault, Setup, Summary, run_batch, run_lines};
 pub use certificate_runs::{run_cert, run_check};
-pub use outcomes::{Cause, Outcome, SolveFault, Why};
+pub use outcomes::{Cause, Outcome, SolveFault, Want, Why};
 pub use program::{Ending, run_program};
-pub use reports::{accepted_report, outcome_report, refused_certificate_report, refused_report};
+pub use reports::{
+    NoReport, accepted_report, outcome_report, refused_certificate_report, refused_report,
+};

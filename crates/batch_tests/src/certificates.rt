@@ -1,7 +1,7 @@
 use batch_cli::{Setup, run_cert, run_check};
 use board::{Board, Shape, Weights};
 use byte_streams::{ByteSink, ByteSource};
-use std::alloc::{AllocError, Global};
+use std::alloc::Global;
 
 // The goal of 2 by 2 itself: no move, and no row is due.
 pub(crate) const SOLVED: [u8; 36] = [
@@ -69,19 +69,17 @@ fn is_judged(alloc: Global, bytes: &[u8], report: &[u8], status: u8) -> bool {
 }
 
 // Whether a changed `ONE_MOVE` is refused by this code.
-fn is_refused(
-    alloc: Global,
-    from: usize,
-    to: usize,
-    by: &[u8],
-    code: &str,
-) -> Result<bool, AllocError> {
+fn is_refused(alloc: Global, from: usize, to: usize, by: &[u8], code: &str) -> Option<bool> {
     let mut bytes = Vec::new(alloc);
-    bytes.extend_from_slice(ONE_MOVE.get(..from).unwrap_or(&[]))?;
-    bytes.extend_from_slice(by)?;
-    bytes.extend_from_slice(ONE_MOVE.get(to..).unwrap_or(&[]))?;
-    let report = format!(in alloc; "{{\"fault\":\"{code}\",\"status\":\"refused\"}}\n")?;
-    Ok(is_judged(alloc, bytes.as_slice(), report.as_bytes(), 5))
+    bytes
+        .extend_from_slice(ONE_MOVE.get(..from).unwrap_or(&[]))
+        .ok()?;
+    bytes.extend_from_slice(by).ok()?;
+    bytes
+        .extend_from_slice(ONE_MOVE.get(to..).unwrap_or(&[]))
+        .ok()?;
+    let report = format!(in alloc; "{{\"fault\":\"{code}\",\"status\":\"refused\"}}\n").ok()?;
+    Some(is_judged(alloc, bytes.as_slice(), report.as_bytes(), 5))
 }
 
 // Whether what the search finds of the hardest board of 3 by 3 is accepted by the checker.
@@ -101,7 +99,7 @@ fn certificates_are_judged(rt: HostRuntime) {
     for (from, to, by, code) in CHANGES {
         assert_eq!(rt;
             is_refused(rt.alloc(), from, to, by, code),
-            Ok(true),
+            Some(true),
             "{code}"
         );
     }

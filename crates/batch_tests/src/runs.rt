@@ -10,8 +10,12 @@ use batch_cli::{
 };
 use board::{Board, Move, Shape, Weights};
 use byte_streams::{ByteSink, ByteSource};
-use std::alloc::{AllocError, Global};
+use memory::{OutOfMemory, copy_of, with_capacity};
+use std::alloc::Global;
 use std::io::ErrorKind;
+
+// So large that memory for 2^27 of it is refused: a want of memory can't be made up.
+type TooLarge = [u64; 1 << 18];
 
 // Answers by the blank's cell alone.
 #[derive(Clone, Copy)]
@@ -24,11 +28,11 @@ impl Answerer for ByBlank {
 
     ghost allows = { λ _ _ _. Unit {0} };
 
-    fn answer(&self, alloc: Global, start: &Board) -> Result<Outcome, AllocError> {
+    fn answer(&self, alloc: Global, start: &Board) -> Result<Outcome, OutOfMemory> {
         match start.blank() {
             0 => Ok(Outcome::Optimal {
                 cost: 2,
-                plan: Vec::from_array(alloc, [Move::L, Move::U])?,
+                plan: copy_of(alloc, &[Move::L, Move::U])?,
                 rows: Vec::new(alloc),
             }),
             1 => Ok(Outcome::Unsolvable { why: Why::Parity }),
@@ -37,7 +41,12 @@ impl Answerer for ByBlank {
                 best: None,
                 cause: Cause::Limit,
             }),
-            _ => Err(AllocError),
+            _ => {
+                with_capacity::<TooLarge>(alloc, 1 << 27)?;
+                Ok(Outcome::Unsolvable {
+                    why: Why::Exhausted,
+                })
+            }
         }
     }
 }

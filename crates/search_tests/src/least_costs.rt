@@ -1,7 +1,7 @@
 ghost use Rattle.std.specs.Prelude.{◌≡◌};
 
 use board::{Board, Move, Shape, Weights};
-use std::alloc::{AllocError, Global};
+use std::alloc::Global;
 use std::collections::BTreeMap;
 use std::test::Fail;
 
@@ -52,7 +52,7 @@ fn lower_all(
 }
 
 // Takes the cost of a board where it is lower than the one known; whether it is.
-fn lower(costs: &mut Costs, key: u128, cost: u32) -> Result<bool, AllocError> {
+fn lower(costs: &mut Costs, key: u128, cost: u32) -> Result<bool, Fail> {
     if let Some(before) = costs.get(&key) {
         if *before <= cost {
             return Ok(false);

@@ -1,8 +1,9 @@
 use batch_cli::{BatchFault, Ending, Summary};
+use memory::OutOfMemory;
 use std::io;
 
 /// Prints each ending of the program with its status and its message, which is quoted.
-pub fn print(rt: &impl Print) -> io::Result<()> {
+pub fn print(rt: &impl Print, refused: OutOfMemory) -> io::Result<()> {
     rt.println("\n# Endings of the program")?;
     for ending in [
         Ending::Ran(counted(0, 0, 0, 0)),
@@ -13,9 +14,8 @@ pub fn print(rt: &impl Print) -> io::Result<()> {
         Ending::NoBuffers,
         Ending::Faulted(BatchFault::Read),
         Ending::Faulted(BatchFault::Write),
-        Ending::Faulted(BatchFault::Memory),
         Ending::Faulted(BatchFault::CertificateRead),
-        Ending::Faulted(BatchFault::CertificateMemory),
+        Ending::Faulted(BatchFault::CertificateMemory(refused)),
         Ending::Faulted(BatchFault::CertificateWrite),
     ] {
         let status = ending.status();

@@ -3,18 +3,19 @@ use board::{BoardFault, Move};
 use byte_streams::{ReadFailed, WriteFailed};
 use certificate::{ReadFault, WriteFault};
 use certificate_check::Refusal;
+use memory::OutOfMemory;
 use pattern_index::GroupFault;
 use std::fmt::Display;
 use std::io;
 
 /// Prints each fault by its code and its text.
-pub fn print(rt: &impl Print) -> io::Result<()> {
+pub fn print(rt: &impl Print, refused: OutOfMemory) -> io::Result<()> {
     print_boards(rt)?;
     print_lines(rt)?;
     print_groups(rt)?;
-    print_certificates(rt)?;
+    print_certificates(rt, refused)?;
     print_refusals(rt)?;
-    print_runs(rt)?;
+    print_runs(rt, refused)?;
     print_streams(rt)
 }
 
@@ -60,7 +61,7 @@ fn print_groups(rt: &impl Print) -> io::Result<()> {
     Ok(())
 }
 
-fn print_certificates(rt: &impl Print) -> io::Result<()> {
+fn print_certificates(rt: &impl Print, refused: OutOfMemory) -> io::Result<()> {
     rt.println("\n# Faults of certificates that are read or written")?;
     for fault in [
         ReadFault::OtherMagic,
@@ -69,7 +70,7 @@ fn print_certificates(rt: &impl Print) -> io::Result<()> {
         ReadFault::NotRising,
         ReadFault::BytesAfterEnd,
         ReadFault::Failed,
-        ReadFault::NoMemory,
+        ReadFault::NoMemory(refused),
     ] {
         print_fault(rt, fault.code(), fault)?;
     }
@@ -92,16 +93,15 @@ fn print_refusals(rt: &impl Print) -> io::Result<()> {
     Ok(())
 }
 
-fn print_runs(rt: &impl Print) -> io::Result<()> {
+fn print_runs(rt: &impl Print, refused: OutOfMemory) -> io::Result<()> {
     rt.println("\n# Faults of searches and runs")?;
-    let fault = SolveFault::Memory;
+    let fault = SolveFault::Memory(refused);
     print_fault(rt, fault.code(), fault)?;
     for fault in [
         BatchFault::Read,
         BatchFault::Write,
-        BatchFault::Memory,
         BatchFault::CertificateRead,
-        BatchFault::CertificateMemory,
+        BatchFault::CertificateMemory(refused),
         BatchFault::CertificateWrite,
     ] {
         print_fault(rt, fault.code(), fault)?;

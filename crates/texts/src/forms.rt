@@ -1,14 +1,15 @@
 use batch_cli::{
-    Cause, Outcome, Why, accepted_report, outcome_report, refused_certificate_report,
-    refused_report,
+    Cause, NoReport, Outcome, Want, Why, accepted_report, outcome_report,
+    refused_certificate_report, refused_report,
 };
 use board::Move;
-use std::alloc::{AllocError, Global};
-use std::io;
+use memory::{OutOfMemory, copy_of};
+use std::alloc::Global;
+use std::io::{self, ErrorKind};
 
 /// Prints each form of report.
-pub fn print(rt: &(impl Print + AllocGlobal)) -> io::Result<()> {
-    print_outcomes(rt)?;
+pub fn print(rt: &(impl Print + AllocGlobal), refused: OutOfMemory) -> io::Result<()> {
+    print_outcomes(rt, refused)?;
     print_refused_lines(rt)?;
     print_certificates(rt)
 }
@@ -22,11 +23,11 @@ enum Answer {
 }
 
 impl Answer {
-    fn outcome(self, alloc: Global) -> Result<Outcome, AllocError> {
+    fn outcome(self, alloc: Global) -> Result<Outcome, OutOfMemory> {
         match self {
             Answer::Optimal(cost, moves) => Ok(Outcome::Optimal {
                 cost,
-                plan: Vec::from_slice(alloc, moves)?,
+                plan: copy_of(alloc, moves)?,
                 rows: Vec::new(alloc),
             }),
             Answer::Unsolvable(why) => Ok(Outcome::Unsolvable { why }),
@@ -37,14 +38,14 @@ impl Answer {
             }),
             Answer::Bounded(bound, Some((cost, moves)), cause) => Ok(Outcome::Bounded {
                 bound,
-                best: Some((cost, Vec::from_slice(alloc, moves)?)),
+                best: Some((cost, copy_of(alloc, moves)?)),
                 cause,
             }),
         }
     }
 }
 
-fn print_outcomes(rt: &(impl Print + AllocGlobal)) -> io::Result<()> {
+fn print_outcomes(rt: &(impl Print + AllocGlobal), refused: OutOfMemory) -> io::Result<()> {
     rt.println("# Reports of outcomes")?;
     for (id, answer) in [
         ("1", Answer::Optimal(2, &[Move::L, Move::L])),
@@ -52,7 +53,10 @@ fn print_outcomes(rt: &(impl Print + AllocGlobal)) -> io::Result<()> {
         ("2", Answer::Unsolvable(Why::Parity)),
         ("2", Answer::Unsolvable(Why::Exhausted)),
         ("3", Answer::Bounded(21, None, Cause::Limit)),
-        ("3", Answer::Bounded(21, None, Cause::Memory)),
+        (
+            "3",
+            Answer::Bounded(21, None, Cause::Memory(Want::Refused(refused))),
+        ),
         ("3", Answer::Bounded(21, None, Cause::Start)),
         ("3", Answer::Bounded(21, None, Cause::Cost)),
         ("3", Answer::Bounded(21, None, Cause::Cut)),
@@ -66,7 +70,9 @@ fn print_outcomes(rt: &(impl Print + AllocGlobal)) -> io::Result<()> {
         ),
         ("a\"b\\/\u{1}\t\né", Answer::Unsolvable(Why::Parity)),
     ] {
-        let outcome = answer.outcome(rt.alloc())?;
+        let Ok(outcome) = answer.outcome(rt.alloc()) else {
+            return Err(ErrorKind::OutOfMemory.into());
+        };
         print_report(rt, outcome_report(rt.alloc(), id, &outcome))?;
     }
     Ok(())
@@ -92,6 +98,9 @@ fn print_certificates(rt: &(impl Print + AllocGlobal)) -> io::Result<()> {
 }
 
 // Prints a report, which ends its own line.
-fn print_report(rt: &impl Print, report: Result<String, AllocError>) -> io::Result<()> {
-    rt.print(report?)
+fn print_report(rt: &impl Print, report: Result<String, NoReport>) -> io::Result<()> {
+    match report {
+        Ok(report) => rt.print(report),
+        Err(_) => Err(ErrorKind::OutOfMemory.into()),
+    }
 }
