@@ -21,6 +21,6 @@ pub fn read_certificate(alloc: Global) -> Answer {
             certificate.plan().len() == 9 && certificate.rows().len() == 5,
             "another certificate",
         ),
-        Err(fault) => refused_if(fault == ReadFault::NoMemory, "no certificate"),
+        Err(fault) => refused_if(matches!(fault, ReadFault::NoMemory(_)), "no certificate"),
     }
 }

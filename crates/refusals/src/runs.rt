@@ -4,7 +4,8 @@ use crate::answer::{Answer, refused_if, whole_if};
 use batch_cli::{BatchFault, Setup, run_batch, run_cert, run_check};
 use board::{Board, Shape, Weights};
 use byte_streams::{ByteSink, ByteSource};
-use std::alloc::{AllocError, Global};
+use memory::{OutOfMemory, with_capacity};
+use std::alloc::Global;
 
 // 1 0 over 2 3, which one move to the left solves.
 const ONE_MOVE: [u8; 45] = [
@@ -24,8 +25,8 @@ fn plain() -> Setup
 }
 
 // A sink with room for all that is written here, so that no write takes memory.
-fn page(alloc: Global) -> Result<ByteSink<Vec<u8>>, AllocError> {
-    Ok(ByteSink::new(Vec::with_capacity(alloc, 200)?))
+fn page(alloc: Global) -> Result<ByteSink<Vec<u8>>, OutOfMemory> {
+    Ok(ByteSink::new(with_capacity(alloc, 200)?))
 }
 
 /// Reports two lines that need no search.
@@ -41,7 +42,7 @@ pub fn run_two_lines(alloc: Global) -> Answer {
     match ended {
         Ok(_) => whole_if(written.as_slice() == due.as_slice(), "other reports"),
         Err(fault) => refused_if(
-            fault == BatchFault::Memory && due.starts_with(&written),
+            matches!(fault, BatchFault::Memory(_)) && due.starts_with(&written),
             "no beginning of the reports",
         ),
     }
@@ -65,7 +66,7 @@ pub fn write_certificate(alloc: Global) -> Answer {
             "another report",
         ),
         Err(fault) => refused_if(
-            fault == BatchFault::Memory && written.is_empty(),
+            matches!(fault, BatchFault::Memory(_)) && written.is_empty(),
             "another fault",
         ),
     }
@@ -92,7 +93,10 @@ pub fn check_certificate(alloc: Global) -> Answer {
             "another verdict",
         ),
         Err(fault) => {
-            let is_memory = fault == BatchFault::CertificateMemory || fault == BatchFault::Memory;
+            let is_memory = matches!(
+                fault,
+                BatchFault::CertificateMemory(_) | BatchFault::Memory(_)
+            );
             refused_if(is_memory && written.is_empty(), "another fault")
         }
     }

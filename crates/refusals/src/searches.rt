@@ -2,7 +2,7 @@ ghost use Rattle.std.specs.Prelude.{◌≡◌};
 
 use crate::answer::{Answer, refused_if, whole_if};
 use board::{Board, Move, Shape, Weights, follow};
-use outcomes::{Cause, Outcome, Why};
+use outcomes::{Cause, Outcome, Want, Why};
 use plain_search::solve;
 use std::alloc::Global;
 
@@ -55,7 +55,7 @@ fn judge(outcome: &Outcome, start: &Board, weights: &Weights, least: Option<u32>
                 None => true,
             };
             refused_if(
-                is_bound && is_best && *cause == Cause::Memory,
+                is_bound && is_best && matches!(cause, Cause::Memory(Want::Refused(_))),
                 "a wrong bound",
             )
         }

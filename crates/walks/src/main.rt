@@ -18,7 +18,7 @@ use board::Shape;
 use database_build::Table;
 use pattern_index::Group;
 use ranks::sum_of_ranks;
-use std::io::Print;
+use std::io::{ErrorKind, Print};
 use std::process::ExitCode;
 use std::rt::Env;
 use std::{env, io};
@@ -69,7 +69,9 @@ fn tell_ranks(rt: &impl Print, group: &Group, ranks: u32) -> io::Result<()> {
 fn tell_tables(rt: &(impl Print + AllocGlobal), groups: &[Group]) -> io::Result<()> {
     let mut tables: Vec<Table> = Vec::new(rt.alloc());
     for group in groups {
-        let table = table_of(rt.alloc(), group)?;
+        let Ok(table) = table_of(rt.alloc(), group) else {
+            return Err(ErrorKind::OutOfMemory.into());
+        };
         let summary = summary_of(table.values());
         let views = summary.views;
         let highest = summary.highest;

@@ -2,8 +2,9 @@ ghost use Rattle.std.specs.Prelude.{◌≡◌, length};
 
 use board::{Board, Weights};
 use database_build::{NO_VALUE, Table, build};
+use memory::OutOfMemory;
 use pattern_index::Group;
-use std::alloc::{AllocError, Global};
+use std::alloc::Global;
 
 /// What a table's values come to.
 #[derive(Clone, Copy)]
@@ -15,7 +16,7 @@ pub struct Summary {
 }
 
 /// The table of a group, for the goal of its shape at unit cost.
-pub fn table_of(alloc: Global, group: &Group) -> Result<Table, AllocError> {
+pub fn table_of(alloc: Global, group: &Group) -> Result<Table, OutOfMemory> {
     let shape = group.shape();
     build(alloc, group, &Board::goal(shape), &Weights::unit(shape))
 }
