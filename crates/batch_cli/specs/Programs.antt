@@ -1,13 +1,17 @@
 -- The program: how it ends, what it writes of that, and its status.
-use Rattle.std.specs.Prelude.{ℕ, ◌≡◌, ◌⊎◌, Bool, true, false, List, [], ◌∷◌, ◌++◌, Option, codes}
+use Rattle.std.specs.Prelude.{ℕ, ◌≡◌, ◌⊎◌, Bool, true, false, List, [], ◌∷◌, ◌++◌, Option, Result, Ok, Err, codes}
 use Rattle.std.specs.Io.KnownBytes.{Appends}
 use Rattle.byte_streams.specs.Sink.{AppendsBeginning}
 use Rattle.board.specs.Grids.{Grid}
 use Rattle.board.specs.Positions.{goal_of}
 use Rattle.board.specs.CostRules.{unit_rule}
-use Rattle.batch_runs.specs.declared.faults.BatchFault.TheVariants.{Read, Write, Memory, CertificateRead, CertificateMemory, CertificateWrite}
+use Rattle.batch_runs.specs.declared.batch.Summary.{Summary}
+use Rattle.batch_runs.specs.declared.faults.LinesFault.{LinesFault}
+use Rattle.batch_runs.specs.declared.faults.LinesFault.TheVariants as lines
+use Rattle.batch_cli.specs.declared.faults.BatchFault.TheVariants.{Read, Write, Memory, CertificateRead, CertificateMemory, CertificateWrite}
 use Rattle.batch_cli.specs.declared.program.Ending.{Ending}
 use Rattle.batch_cli.specs.declared.program.Ending.TheVariants.{Usage, NoBuffers, Ran, Faulted}
+use Rattle.batch_cli.specs.Faults.{of_lines}
 use Rattle.batch_runs.specs.Batches.{status_of_counts, WritesAll, WritesWhole, WritesSome, IsTooLong}
 use Rattle.batch_runs.specs.Setups.{SetupState}
 use Rattle.batch_runs.specs.Solving.{MayAnswer}
@@ -51,19 +55,19 @@ message_of (Faulted CertificateWrite) = line_of (codes "tilesolve: F8")
 abbrev pub IsTold : Option (List ℕ) → Option (List ℕ) → Bool → List ℕ → Type 0
 IsTold written written' failed text = AppendsBeginning written written' text × (failed ≡ false → Appends written written' text)
 
+-- how the program ends after a run over lines
+abbrev pub ending_of : Result Summary LinesFault → Ending
+ending_of (Ok counts) = Ran counts
+ending_of (Err fault) = Faulted (of_lines fault)
+
 -- How a run ends, by the input, what is left of it, what was written before and after, and whether the streams have failed: all
 -- lines are reported; or reading failed, and the lines read whole are reported; or writing or memory failed, and a
 -- beginning of the reports is written.
-abbrev pub EndsRun : Option (List ℕ) → Option (List ℕ) → Option (List ℕ) → Option (List ℕ) → Bool → Bool → Ending → Type 0
-EndsRun input left written written' unread unwritten Usage = ⊥
-EndsRun input left written written' unread unwritten NoBuffers = ⊥
-EndsRun input left written written' unread unwritten (Ran counts) =
+abbrev pub EndsRun : Option (List ℕ) → Option (List ℕ) → Option (List ℕ) → Option (List ℕ) → Bool → Bool → Result Summary LinesFault → Type 0
+EndsRun input left written written' unread unwritten (Ok counts) =
     WritesAll small_grid (MayAnswer default_setup) input written written' counts × (unwritten ≡ false)
-EndsRun input left written written' unread unwritten (Faulted Read) =
+EndsRun input left written written' unread unwritten (Err lines.Read) =
     WritesWhole small_grid (MayAnswer default_setup) input left written written' × ((unread ≡ true) ⊎ IsTooLong input)
-EndsRun input left written written' unread unwritten (Faulted Write) =
+EndsRun input left written written' unread unwritten (Err lines.Write) =
     WritesSome small_grid (MayAnswer default_setup) input written written' × (unwritten ≡ true)
-EndsRun input left written written' unread unwritten (Faulted (Memory lacking)) = WritesSome small_grid (MayAnswer default_setup) input written written'
-EndsRun input left written written' unread unwritten (Faulted CertificateRead) = ⊥
-EndsRun input left written written' unread unwritten (Faulted (CertificateMemory refused)) = ⊥
-EndsRun input left written written' unread unwritten (Faulted CertificateWrite) = ⊥
+EndsRun input left written written' unread unwritten (Err (lines.Memory lacking)) = WritesSome small_grid (MayAnswer default_setup) input written written'

@@ -1,9 +1,12 @@
-ghost use Rattle.std.specs.Prelude.{◌≡◌, ◌≢◌, ◌⊎◌, true, false, []};
+ghost use Rattle.std.specs.Prelude.{◌≡◌, ◌≢◌, ◌⊎◌, true, false, [], Result};
+ghost use Rattle.batch_runs.specs.declared.batch.Summary.{Summary};
+ghost use Rattle.batch_runs.specs.declared.faults.LinesFault.{LinesFault};
 ghost use Rattle.batch_cli.specs.declared.program.Ending.{Ending};
 ghost use Rattle.batch_cli.specs.declared.program.Ending.TheVariants.{Usage};
-ghost use Rattle.batch_cli.specs.Programs.{default_setup, status_of, message_of, IsTold, EndsRun};
+ghost use Rattle.batch_cli.specs.Programs.{default_setup, status_of, message_of, ending_of, IsTold, EndsRun};
 
-use batch_runs::{BatchFault, Setup, Summary, run_batch};
+use crate::faults::BatchFault;
+use batch_runs::{LinesFault, Setup, Summary, run_batch};
 use board::{Board, Shape, Weights};
 use byte_streams::{Sink, Source};
 use std::alloc::Global;
@@ -81,19 +84,27 @@ pub fn run_program<S: Source, K: Sink, E: Sink>(
     requires { K.has_failed sink.old ≡ false }
     ensures ended { (ending : Ending) × (result ≡ status_of ending)
         × IsTold (E.contents errors.old) (E.contents errors.new) (E.has_failed errors.new) (message_of ending)
-        × ((words.now ≡ [] × EndsRun (S.left source.old) (S.left source.new) (K.contents sink.old) (K.contents sink.new)
-        (S.has_failed source.new) (K.has_failed sink.new) ending)
+        × ((words.now ≡ [] × ((run : Result Summary LinesFault) × (ending ≡ ending_of run)
+        × EndsRun (S.left source.old) (S.left source.new) (K.contents sink.old) (K.contents sink.new)
+        (S.has_failed source.new) (K.has_failed sink.new) run))
         ⊎ (words.now ≢ [] × (ending ≡ Usage) × (source.new ≡ source.old) × (sink.new ≡ sink.old))) }
     ensures flushed { words.now ≡ [] → K.is_flushed sink.new ⊎ (K.has_failed sink.new ≡ true) }
 {
     if !words.is_empty() {
         return Ending::Usage.tell(errors);
     }
-    run(alloc, source, sink).tell(errors)
+    match run(alloc, source, sink) {
+        Ok(counts) => Ending::Ran(counts).tell(errors),
+        Err(fault) => Ending::Faulted(BatchFault::from(fault)).tell(errors),
+    }
 }
 
 // Reports the lines of the source, and flushes the sink. The first fault decides how it ends.
-fn run<S: Source, K: Sink>(alloc: Global, source: &mut S, sink: &mut K) -> Ending
+fn run<S: Source, K: Sink>(
+    alloc: Global,
+    source: &mut S,
+    sink: &mut K,
+) -> Result<Summary, LinesFault>
     requires { K.has_failed sink.old ≡ false }
     ensures ended { EndsRun (S.left source.old) (S.left source.new) (K.contents sink.old) (K.contents sink.new)
         (S.has_failed source.new) (K.has_failed sink.new) result }
@@ -104,13 +115,13 @@ fn run<S: Source, K: Sink>(alloc: Global, source: &mut S, sink: &mut K) -> Endin
         Ok(counts) => counts,
         Err(fault) => {
             let _ = sink.flush();
-            return Ending::Faulted(fault);
+            return Err(fault);
         }
     };
     if sink.flush().is_err() {
-        return Ending::Faulted(BatchFault::Write);
+        return Err(LinesFault::Write);
     }
-    Ending::Ran(counts)
+    Ok(counts)
 }
 
 // 3 by 3, Korf's goal, unit cost.

@@ -1,11 +1,10 @@
-ghost use Rattle.std.specs.Prelude.{◌≡◌, ◌⊎◌, ◌+◌, ◌↔◌, true, false, IfOk, IfErr, OnErr, Err, Option, Some, None, string_bytes};
+ghost use Rattle.std.specs.Prelude.{◌≡◌, ◌⊎◌, ◌+◌, ◌↔◌, true, false, IfOk, OnErr, Err, Option, Some, None, string_bytes};
 ghost use Rattle.board.specs.Grids.{Grid};
 ghost use Rattle.board.specs.Positions.{Position};
 ghost use Rattle.batch_runs.specs.Batches.{IsReportOf, IsAnswer, HasRoom, with_outcome, with_refused, WritesAll, WritesWhole, WritesSome, IsTooLong};
-ghost use Rattle.batch_runs.specs.Faults.{IsOfLines};
 ghost use Rattle.outcomes.specs.declared.outcome.Outcome.{Outcome};
 
-use crate::faults::BatchFault;
+use crate::faults::LinesFault;
 use batch_lines::{EntryFault, Line, LineKind, LineReader, read_entry};
 use board::{Board, Shape};
 use byte_streams::{Sink, Source};
@@ -71,18 +70,17 @@ pub fn run_lines<S: Source, K: Sink, A: Answerer>(
     sink: &mut K,
     shape: Shape,
     answerer: &A,
-) -> Result<Summary, BatchFault>
+) -> Result<Summary, LinesFault>
     requires { A.grid answerer.now ≡ shape }
     ensures all { IfOk result (WritesAll shape (A.allows answerer.now)
         (S.left source.old) (K.contents sink.old) (K.contents sink.new)) }
-    ensures whole { result ≡ Err BatchFault.Read → WritesWhole shape (A.allows answerer.now)
+    ensures whole { result ≡ Err LinesFault.Read → WritesWhole shape (A.allows answerer.now)
         (S.left source.old) (S.left source.new) (K.contents sink.old) (K.contents sink.new) }
-    ensures cannot_read { result ≡ Err BatchFault.Read
+    ensures cannot_read { result ≡ Err LinesFault.Read
         → (S.has_failed source.new ≡ true) ⊎ IsTooLong (S.left source.old) }
-    ensures read_failed { S.has_failed source.new ≡ true → result ≡ Err BatchFault.Read }
+    ensures read_failed { S.has_failed source.new ≡ true → result ≡ Err LinesFault.Read }
     ensures cannot_write { K.has_failed sink.old ≡ false
-        → (result ≡ Err BatchFault.Write) ↔ (K.has_failed sink.new ≡ true) }
-    ensures of_lines { IfErr result IsOfLines }
+        → (result ≡ Err LinesFault.Write) ↔ (K.has_failed sink.new ≡ true) }
     ensures begun { OnErr result (WritesSome shape (A.allows answerer.now)
         (S.left source.old) (K.contents sink.old) (K.contents sink.new)) }
 {
@@ -96,17 +94,17 @@ pub fn run_lines<S: Source, K: Sink, A: Answerer>(
     'lines: loop {
         let next = match reader.next_line(source) {
             Ok(next) => next,
-            Err(_) => return Err(BatchFault::Read),
+            Err(_) => return Err(LinesFault::Read),
         };
         let Some(line) = next else {
             return Ok(summary);
         };
         let report = match report_line(alloc, shape, answerer, line, reader.bytes(), summary) {
             Ok(report) => report,
-            Err(lacking) => return Err(BatchFault::Memory(lacking)),
+            Err(lacking) => return Err(LinesFault::Memory(lacking)),
         };
         let Ok(()) = sink.put(report.0.as_str().as_bytes()) else {
-            return Err(BatchFault::Write);
+            return Err(LinesFault::Write);
         };
         summary = report.1;
     }

@@ -1,13 +1,12 @@
 ghost use Rattle.std.specs.Prelude.{◌≡◌};
-ghost use Rattle.batch_runs.specs.Faults.{batch_code_of};
+ghost use Rattle.batch_runs.specs.Faults.{lines_code_of};
 
-use memory::OutOfMemory;
 use reports::NoReport;
 use thiserror::Error;
 
-/// Why a run ended early.
+/// Why a run over lines ended early.
 #[derive(Clone, Copy, Debug, PartialEq, Eq, Error)]
-pub enum BatchFault {
+pub enum LinesFault {
     /// B1
     #[error("the input cannot be read")]
     Read,
@@ -17,29 +16,17 @@ pub enum BatchFault {
     /// B3
     #[error("no memory for a report")]
     Memory(NoReport),
-    /// F6
-    #[error("the certificate cannot be read")]
-    CertificateRead,
-    /// F7
-    #[error("no memory for the certificate")]
-    CertificateMemory(OutOfMemory),
-    /// F8
-    #[error("the certificate cannot be written")]
-    CertificateWrite,
 }
 
-impl BatchFault {
-    /// The code that the fault is reported by: `B1` to `B3`, `F6` to `F8`.
+impl LinesFault {
+    /// The code that the fault is reported by: `B1` to `B3`.
     pub fn code(self) -> &'static str
-        ensures { result.now ≡ batch_code_of self }
+        ensures { result.now ≡ lines_code_of self }
     {
         match self {
-            BatchFault::Read => "B1",
-            BatchFault::Write => "B2",
-            BatchFault::Memory(_) => "B3",
-            BatchFault::CertificateRead => "F6",
-            BatchFault::CertificateMemory(_) => "F7",
-            BatchFault::CertificateWrite => "F8",
+            LinesFault::Read => "B1",
+            LinesFault::Write => "B2",
+            LinesFault::Memory(_) => "B3",
         }
     }
 }

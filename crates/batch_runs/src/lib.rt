@@ -7,6 +7,6 @@ pub mod setup;
 pub mod solving;
 
 pub use batch::{Answerer, Summary, run_lines};
-pub use faults::BatchFault;
+pub use faults::LinesFault;
 pub use setup::Setup;
 pub use solving::run_batch;

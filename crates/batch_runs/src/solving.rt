@@ -1,10 +1,9 @@
-ghost use Rattle.std.specs.Prelude.{◌≡◌, ◌⊎◌, ◌↔◌, true, false, IfOk, IfErr, OnErr, Err};
+ghost use Rattle.std.specs.Prelude.{◌≡◌, ◌⊎◌, ◌↔◌, true, false, IfOk, OnErr, Err};
 ghost use Rattle.batch_runs.specs.Batches.{WritesAll, WritesWhole, WritesSome, IsTooLong};
-ghost use Rattle.batch_runs.specs.Faults.{IsOfLines};
 ghost use Rattle.batch_runs.specs.Solving.{MayAnswer};
 
 use crate::batch::{Answerer, Summary, run_lines};
-use crate::faults::BatchFault;
+use crate::faults::LinesFault;
 use crate::setup::Setup;
 use board::laws::plans_keep_the_class;
 use board::{Board, same_class};
@@ -43,17 +42,16 @@ pub fn run_batch<S: Source, K: Sink>(
     source: &mut S,
     sink: &mut K,
     setup: &Setup,
-) -> Result<Summary, BatchFault>
+) -> Result<Summary, LinesFault>
     ensures all { IfOk result (WritesAll setup.now.goal.grid (MayAnswer setup.now)
         (S.left source.old) (K.contents sink.old) (K.contents sink.new)) }
-    ensures whole { result ≡ Err BatchFault.Read → WritesWhole setup.now.goal.grid (MayAnswer setup.now)
+    ensures whole { result ≡ Err LinesFault.Read → WritesWhole setup.now.goal.grid (MayAnswer setup.now)
         (S.left source.old) (S.left source.new) (K.contents sink.old) (K.contents sink.new) }
-    ensures cannot_read { result ≡ Err BatchFault.Read
+    ensures cannot_read { result ≡ Err LinesFault.Read
         → (S.has_failed source.new ≡ true) ⊎ IsTooLong (S.left source.old) }
-    ensures read_failed { S.has_failed source.new ≡ true → result ≡ Err BatchFault.Read }
+    ensures read_failed { S.has_failed source.new ≡ true → result ≡ Err LinesFault.Read }
     ensures cannot_write { K.has_failed sink.old ≡ false
-        → (result ≡ Err BatchFault.Write) ↔ (K.has_failed sink.new ≡ true) }
-    ensures of_lines { IfErr result IsOfLines }
+        → (result ≡ Err LinesFault.Write) ↔ (K.has_failed sink.new ≡ true) }
     ensures begun { OnErr result (WritesSome setup.now.goal.grid (MayAnswer setup.now)
         (S.left source.old) (K.contents sink.old) (K.contents sink.new)) }
 {

@@ -5,8 +5,8 @@ ghost use Rattle.certificate.specs.Certificates.{AreNamedCosts};
 use crate::certificates::{ONE_MOVE, SOLVED};
 use crate::fakes::{FailingReader, FailingWriter, NEVER};
 use batch_cli::{
-    Answerer, BatchFault, Cause, Ending, Outcome, Setup, Summary, Why, run_batch, run_cert,
-    run_check, run_lines, run_program,
+    Answerer, BatchFault, Cause, Ending, LinesFault, Outcome, Setup, Summary, Why, run_batch,
+    run_cert, run_check, run_lines, run_program,
 };
 use board::{Board, Move, Shape, Weights};
 use byte_streams::{ByteSink, ByteSource};
@@ -292,17 +292,20 @@ fn start(
     }
 }
 
-fn tell_counts(counts: Result<Summary, BatchFault>, errors: &mut ByteSink<FailingWriter>) -> u8 {
+fn tell_counts(counts: Result<Summary, LinesFault>, errors: &mut ByteSink<FailingWriter>) -> u8 {
     match counts {
         Ok(counts) => Ending::Ran(counts).tell(errors),
-        Err(fault) => Ending::Faulted(fault).tell(errors),
+        Err(fault) => Ending::Faulted(BatchFault::from(fault)).tell(errors),
     }
 }
 
-fn tell_status(status: Result<u8, BatchFault>, errors: &mut ByteSink<FailingWriter>) -> u8 {
+fn tell_status<F: Into<BatchFault>>(
+    status: Result<u8, F>,
+    errors: &mut ByteSink<FailingWriter>,
+) -> u8 {
     match status {
         Ok(status) => status,
-        Err(fault) => Ending::Faulted(fault).tell(errors),
+        Err(fault) => Ending::Faulted(fault.into()).tell(errors),
     }
 }
 
@@ -381,7 +384,7 @@ fn each_call_of_a_run_fails_in_turn(rt: HostRuntime) {
 }
 
 // The counts of the answers to `LINES`.
-fn counts_of_lines(alloc: Global) -> Result<Summary, BatchFault> {
+fn counts_of_lines(alloc: Global) -> Result<Summary, LinesFault> {
     let shape = square();
     let mut source = ByteSource::new(LINES);
     let mut sink = ByteSink::new(Vec::new(alloc));

@@ -23,7 +23,7 @@ use Rattle.certificate.specs.Spellings.{spelling}
 use Rattle.batch_runs.specs.Batches.{no_lines, with_refused}
 use Rattle.batch_runs.specs.Setups.{SetupState}
 use Rattle.batch_runs.specs.Solving.{MayAnswer, task_of}
-use Rattle.batch_runs.specs.declared.faults.BatchFault.{BatchFault}
+use Rattle.certificate_runs.specs.declared.faults.CertifyFault.{CertifyFault}
 use Rattle.batch_runs.proofs.BatchLemmas.{report_is}
 use Rattle.certificate_runs.specs.declared.certifying.Reply.{Reply}
 use Rattle.certificate_runs.specs.declared.certifying.Reply.TheVariants.{Certified, Reported}
@@ -72,13 +72,13 @@ reply_is setup n bytes kind kept (Certified c) judged (within, named) = (sym jud
 reply_is setup n bytes kind kept (Reported text status) judged (counts, report, none, told) = (counts, report_is setup.goal.grid (MayAnswer setup) n bytes kind kept no_lines (string_bytes text) counts judged report, none, told)
 
 -- a beginning of the reply was written
-pub ends_writing : (setup : SetupState) (input left written written' : Option (List ℕ)) (line : Line) (kept : List ℕ) (reply : Reply) (fault : BatchFault) → FindsLine input left kept (Some line) → IsReply setup line.number line.kind kept reply → fault ≡ write_fault_of reply → AppendsBeginning written written' (text_of reply) → EndsFirst setup input left written written' fault
+pub ends_writing : (setup : SetupState) (input left written written' : Option (List ℕ)) (line : Line) (kept : List ℕ) (reply : Reply) (fault : CertifyFault) → FindsLine input left kept (Some line) → IsReply setup line.number line.kind kept reply → fault ≡ write_fault_of reply → AppendsBeginning written written' (text_of reply) → EndsFirst setup input left written written' fault
 ends_writing setup input left written written' line kept (Certified c) fault (passed, bytes, read, judged, at) reply is begun =
     let named = subst (λ (n : ℕ). IsReply setup n (kind_of bytes) (without_return bytes) (Certified c)) at (reply_is setup line.number bytes line.kind kept (Certified c) judged reply) in
-    subst (λ (f : BatchFault). EndsFirst setup input left written written' f) (sym is) (passed, bytes, spelling c, read, named.0, (c, named.1, refl), begun)
+    subst (λ (f : CertifyFault). EndsFirst setup input left written written' f) (sym is) (passed, bytes, spelling c, read, named.0, (c, named.1, refl), begun)
 ends_writing setup input left written written' line kept (Reported text status) fault (passed, bytes, read, judged, at) reply is begun =
     let reported = subst (λ (n : ℕ). IsReply setup n (kind_of bytes) (without_return bytes) (Reported text status)) at (reply_is setup line.number bytes line.kind kept (Reported text status) judged reply) in
-    subst (λ (f : BatchFault). EndsFirst setup input left written written' f) (sym is) (passed, bytes, string_bytes text, status, read, reported, begun)
+    subst (λ (f : CertifyFault). EndsFirst setup input left written written' f) (sym is) (passed, bytes, string_bytes text, status, read, reported, begun)
 
 -- an outcome that names a plan of least cost has a certificate
 pub certificate_is : (order : KeysAreInOrder) (setup : SetupState) (b : Position) (cost : ℕ) (plan : Vec Move Global) (rows : Vec (Position × ℕ) Global) → IsBoard setup.goal → IsBoardOf setup.goal.grid b → AreNamedCosts setup.goal.grid setup.rule → length rows.items < 2 ^ 64 → Answers (task_of setup b) (Optimal cost plan rows) → IsCertificate (record { grid = setup.goal.grid; costs = setup.rule; start = b; goal = setup.goal; cost = cost; plan = plan.items; rows = rows.items })

@@ -16,8 +16,8 @@ use Rattle.reports.specs.Reports.{refused_data, report_text}
 use Rattle.certificate_runs.specs.declared.certifying.Reply.{Reply}
 use Rattle.certificate_runs.specs.declared.certifying.Reply.TheVariants.{Certified, Reported}
 use Rattle.batch_runs.specs.declared.batch.Summary.{Summary}
-use Rattle.batch_runs.specs.declared.faults.BatchFault.{BatchFault}
-use Rattle.batch_runs.specs.declared.faults.BatchFault.TheVariants.{Read, Write, Memory, CertificateRead, CertificateMemory, CertificateWrite}
+use Rattle.certificate_runs.specs.declared.faults.CertifyFault.{CertifyFault}
+use Rattle.certificate_runs.specs.declared.faults.CertifyFault.TheVariants.{Read, Write, Memory, CertificateWrite}
 use Rattle.batch_runs.specs.Batches.{IsReportOf, AreRead, AreAll, no_lines, status_of_counts}
 use Rattle.batch_runs.specs.Setups.{SetupState}
 use Rattle.batch_runs.specs.Solving.{MayAnswer}
@@ -64,7 +64,7 @@ reply_status (Certified c) = 0
 reply_status (Reported text status) = status
 
 -- a fault of writing a reply
-abbrev pub write_fault_of : Reply → BatchFault
+abbrev pub write_fault_of : Reply → CertifyFault
 write_fault_of (Certified c) = CertificateWrite
 write_fault_of (Reported text status) = Write
 
@@ -110,12 +110,10 @@ AnswersFirst setup input left written written' status =
 
 -- What was read and written where the run ended early: the line was lost and nothing was written; or it was read, and a
 -- beginning of its report or of its certificate was written, or nothing where memory was wanting.
-abbrev pub EndsFirst : SetupState → Option (List ℕ) → Option (List ℕ) → Option (List ℕ) → Option (List ℕ) → BatchFault → Type 0
+abbrev pub EndsFirst : SetupState → Option (List ℕ) → Option (List ℕ) → Option (List ℕ) → Option (List ℕ) → CertifyFault → Type 0
 EndsFirst setup input left written written' Read = LosesLine input left × (written' ≡ written)
 EndsFirst setup input left written written' Write =
     (passed : List (List ℕ)) × (line : List ℕ) × (text : List ℕ) × (status : ℕ) × ReadsTo input left passed line × ReportsOf setup (length passed + 1) (kind_of line) (without_return line) text status × AppendsBeginning written written' text
 EndsFirst setup input left written written' (Memory lacking) = (passed : List (List ℕ)) × (line : List ℕ) × ReadsTo input left passed line × (written' ≡ written)
-EndsFirst setup input left written written' CertificateRead = ⊥
-EndsFirst setup input left written written' (CertificateMemory refused) = ⊥
 EndsFirst setup input left written written' CertificateWrite =
     (passed : List (List ℕ)) × (line : List ℕ) × (text : List ℕ) × ReadsTo input left passed line × (kind_of line ≡ Within) × Certifies setup (without_return line) text × AppendsBeginning written written' text

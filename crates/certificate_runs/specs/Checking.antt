@@ -1,5 +1,5 @@
 -- What is written of a certificate that is checked, and the status of that.
-use Rattle.std.specs.Prelude.{ℕ, ◌≡◌, ◌⊎◌, List, Option, IfSome, ⊤}
+use Rattle.std.specs.Prelude.{ℕ, ◌≡◌, ◌⊎◌, List, Option, IfSome}
 use Rattle.byte_streams.specs.Sink.{AppendsBeginning}
 use Rattle.board.specs.Plans.{IsLeast}
 use Rattle.reports.specs.Reports.{accepted_data, refused_certificate_data, report_text}
@@ -10,8 +10,8 @@ use Rattle.certificate.specs.Readings.{IsFirstFault}
 use Rattle.certificate.specs.Codes.{read_code_of}
 use Rattle.certificate_check.specs.declared.refusals.Refusal.{Refusal}
 use Rattle.certificate_check.specs.Refusals.{IsProved, IsFirstRefusal, code_of}
-use Rattle.batch_runs.specs.declared.faults.BatchFault.{BatchFault}
-use Rattle.batch_runs.specs.declared.faults.BatchFault.TheVariants.{Read, Write, Memory, CertificateRead, CertificateMemory, CertificateWrite}
+use Rattle.certificate_runs.specs.declared.faults.CheckFault.{CheckFault}
+use Rattle.certificate_runs.specs.declared.faults.CheckFault.TheVariants.{CertificateRead, CertificateMemory, Write, Memory}
 
 -- the plan leads at its cost and the rows prove it, so the cost is the least: it is reported with the status 0
 pub record IsAccepted (c : Statement) (text : List ℕ) (status : ℕ) : Type 0 where
@@ -35,20 +35,9 @@ IsVerdict text status input =
     ((c : Statement) × Spells c input × IsJudgement c text status)
     ⊎ ((fault : ReadFault) × IsFirstFault input fault × IsRefused (read_code_of fault) text status)
 
--- no certificate was read, or there was no memory for it or for the line
-abbrev pub IsOfReading : BatchFault → Type 0
-IsOfReading Read = ⊥
-IsOfReading Write = ⊥
-IsOfReading (Memory lacking) = ⊤
-IsOfReading CertificateRead = ⊤
-IsOfReading (CertificateMemory refused) = ⊤
-IsOfReading CertificateWrite = ⊥
-
 -- What is written where the run ends early: a beginning of the verdict where writing fails, and else nothing.
-abbrev pub EndsCheck : Option (List ℕ) → Option (List ℕ) → Option (List ℕ) → BatchFault → Type 0
-EndsCheck input written written' Read = ⊥
-EndsCheck input written written' Write = (text : List ℕ) × (status : ℕ) × IfSome input (IsVerdict text status) × AppendsBeginning written written' text
-EndsCheck input written written' (Memory lacking) = written' ≡ written
+abbrev pub EndsCheck : Option (List ℕ) → Option (List ℕ) → Option (List ℕ) → CheckFault → Type 0
 EndsCheck input written written' CertificateRead = written' ≡ written
 EndsCheck input written written' (CertificateMemory refused) = written' ≡ written
-EndsCheck input written written' CertificateWrite = ⊥
+EndsCheck input written written' Write = (text : List ℕ) × (status : ℕ) × IfSome input (IsVerdict text status) × AppendsBeginning written written' text
+EndsCheck input written written' (Memory lacking) = written' ≡ written

@@ -9,8 +9,9 @@ ghost use Rattle.batch_runs.specs.Batches.{IsTooLong, no_lines, with_outcome, st
 ghost use Rattle.batch_runs.specs.Solving.{task_of};
 ghost use Rattle.certificate_runs.specs.Certifying.{FindsLine, LosesLine, AnswersFirst, EndsFirst, IsCertificateOf, IsReply, IsRefusal, text_of, reply_status, write_fault_of};
 
+use crate::faults::CertifyFault;
 use batch_lines::{EntryFault, Line, LineKind, LineReader, read_entry};
-use batch_runs::{Answerer, BatchFault, Setup};
+use batch_runs::{Answerer, Setup};
 use board::laws::keys_are_in_order;
 use board::{Board, Move};
 use byte_streams::{ReadFailed, Sink, Source};
@@ -30,27 +31,27 @@ pub fn run_cert<S: Source, K: Sink>(
     source: &mut S,
     sink: &mut K,
     setup: &Setup,
-) -> Result<u8, BatchFault>
+) -> Result<u8, CertifyFault>
     requires named { AreNamedCosts setup.now.goal.grid setup.now.rule }
     ensures answered { IfOk result (AnswersFirst setup.now (S.left source.old) (S.left source.new)
         (K.contents sink.old) (K.contents sink.new)) }
     ensures ended { IfErr result (EndsFirst setup.now (S.left source.old) (S.left source.new)
         (K.contents sink.old) (K.contents sink.new)) }
-    ensures cannot_read { result ≡ Err BatchFault.Read
+    ensures cannot_read { result ≡ Err CertifyFault.Read
         → (S.has_failed source.new ≡ true) ⊎ IsTooLong (S.left source.old) }
-    ensures read_failed { S.has_failed source.new ≡ true → result ≡ Err BatchFault.Read }
+    ensures read_failed { S.has_failed source.new ≡ true → result ≡ Err CertifyFault.Read }
     ensures cannot_write { K.has_failed sink.old ≡ false
-        → ((result ≡ Err BatchFault.Write) ⊎ (result ≡ Err BatchFault.CertificateWrite))
+        → ((result ≡ Err CertifyFault.Write) ⊎ (result ≡ Err CertifyFault.CertificateWrite))
         ↔ (K.has_failed sink.new ≡ true) }
 {
     let mut reader = LineReader::new();
     match find_line(source, &mut reader) {
         Ok(Some(line)) => match reply_to_line(alloc, setup, line, reader.bytes()) {
             Ok(reply) => put_reply(sink, &reply),
-            Err(lacking) => Err(BatchFault::Memory(lacking)),
+            Err(lacking) => Err(CertifyFault::Memory(lacking)),
         },
         Ok(None) => Ok(0),
-        Err(_) => Err(BatchFault::Read),
+        Err(_) => Err(CertifyFault::Read),
     }
 }
 
@@ -169,7 +170,7 @@ fn certify(
 }
 
 // Writes a reply, and answers its status.
-fn put_reply<K: Sink>(sink: &mut K, reply: &Reply) -> Result<u8, BatchFault>
+fn put_reply<K: Sink>(sink: &mut K, reply: &Reply) -> Result<u8, CertifyFault>
     ensures put { IfOk result (λ status. (status ≡ reply_status reply.now)
         × Appends (K.contents sink.old) (K.contents sink.new) (text_of reply.now)) }
     ensures begun { IfErr result (λ fault. (fault ≡ write_fault_of reply.now)
@@ -179,11 +180,11 @@ fn put_reply<K: Sink>(sink: &mut K, reply: &Reply) -> Result<u8, BatchFault>
     match reply {
         Reply::Certified(certificate) => match write(sink, certificate) {
             Ok(()) => Ok(0),
-            Err(_) => Err(BatchFault::CertificateWrite),
+            Err(_) => Err(CertifyFault::CertificateWrite),
         },
         Reply::Reported(text, status) => match sink.put(text.as_str().as_bytes()) {
             Ok(()) => Ok(*status),
-            Err(_) => Err(BatchFault::Write),
+            Err(_) => Err(CertifyFault::Write),
         },
     }
 }

@@ -1,8 +1,9 @@
-ghost use Rattle.std.specs.Prelude.{◌≡◌, ◌↔◌, ℕ, List, true, false, Err, IfOk, IfErr, IfSome, string_bytes};
+ghost use Rattle.std.specs.Prelude.{◌≡◌, ◌↔◌, ℕ, List, true, false, Err, IfOk, IfErr, IfSome, is_err, string_bytes};
 ghost use Rattle.std.specs.Io.KnownBytes.{Appends, Consumes};
-ghost use Rattle.certificate_runs.specs.Checking.{IsJudgement, IsRefused, IsVerdict, IsOfReading, EndsCheck};
+ghost use Rattle.byte_streams.specs.Sink.{AppendsBeginning};
+ghost use Rattle.certificate_runs.specs.Checking.{IsJudgement, IsRefused, IsVerdict, EndsCheck};
 
-use batch_runs::BatchFault;
+use crate::faults::CheckFault;
 use byte_streams::{Sink, Source};
 use certificate::{Certificate, ReadFault, read};
 use certificate_check::check;
@@ -18,45 +19,27 @@ pub fn run_check<S: Source, K: Sink>(
     alloc: Global,
     source: &mut S,
     sink: &mut K,
-) -> Result<u8, BatchFault>
+) -> Result<u8, CheckFault>
     ensures checked { IfOk result (λ status. (text : List ℕ)
         × IfSome (S.left source.old) (IsVerdict text status)
         × Appends (K.contents sink.old) (K.contents sink.new) text) }
     ensures ended { IfErr result
         (EndsCheck (S.left source.old) (K.contents sink.old) (K.contents sink.new)) }
-    ensures cannot_read { (result ≡ Err BatchFault.CertificateRead) ↔ (S.has_failed source.new ≡ true) }
+    ensures cannot_read { (result ≡ Err CheckFault.CertificateRead) ↔ (S.has_failed source.new ≡ true) }
     ensures cannot_write { K.has_failed sink.old ≡ false
-        → (result ≡ Err BatchFault.Write) ↔ (K.has_failed sink.new ≡ true) }
-    ensures given { (seen : List ℕ) × Consumes (S.left source.old) (S.left source.new) seen }
-{
-    let (text, status) = match read_verdict(alloc, source) {
-        Ok(verdict) => verdict,
-        Err(fault) => return Err(fault),
-    };
-    let Ok(()) = sink.put(text.as_str().as_bytes()) else {
-        return Err(BatchFault::Write);
-    };
-    Ok(status)
-}
-
-// Reads a certificate: the line that is written of it, and the status.
-fn read_verdict<S: Source>(alloc: Global, source: &mut S) -> Result<(String, u8), BatchFault>
-    ensures verdict { IfOk result
-        (λ verdict. IfSome (S.left source.old) (IsVerdict (string_bytes verdict.0) verdict.1)) }
-    ensures fault { IfErr result IsOfReading }
-    ensures failed { (result ≡ Err BatchFault.CertificateRead) ↔ (S.has_failed source.new ≡ true) }
+        → (result ≡ Err CheckFault.Write) ↔ (K.has_failed sink.new ≡ true) }
     ensures given { (seen : List ℕ) × Consumes (S.left source.old) (S.left source.new) seen }
 {
     match read(alloc, source) {
         Ok(certificate) => match judge(alloc, &certificate) {
-            Ok(verdict) => Ok(verdict),
-            Err(lacking) => Err(BatchFault::Memory(lacking)),
+            Ok((text, status)) => put_verdict(sink, text.as_str(), status),
+            Err(lacking) => Err(CheckFault::Memory(lacking)),
         },
-        Err(ReadFault::Failed) => Err(BatchFault::CertificateRead),
-        Err(ReadFault::NoMemory(refused)) => Err(BatchFault::CertificateMemory(refused)),
+        Err(ReadFault::Failed) => Err(CheckFault::CertificateRead),
+        Err(ReadFault::NoMemory(refused)) => Err(CheckFault::CertificateMemory(refused)),
         Err(fault) => match refuse(alloc, fault.code()) {
-            Ok(verdict) => Ok(verdict),
-            Err(lacking) => Err(BatchFault::Memory(lacking)),
+            Ok((text, status)) => put_verdict(sink, text.as_str(), status),
+            Err(lacking) => Err(CheckFault::Memory(lacking)),
         },
     }
 }
@@ -76,4 +59,18 @@ fn refuse(alloc: Global, code: &str) -> Result<(String, u8), NoReport>
     ensures { IfOk result (λ verdict. IsRefused code.now (string_bytes verdict.0) verdict.1) }
 {
     Ok((refused_certificate_report(alloc, code)?, 5))
+}
+
+// Writes the line of a verdict, and answers its status.
+fn put_verdict<K: Sink>(sink: &mut K, text: &str, status: u8) -> Result<u8, CheckFault>
+    ensures put { IfOk result (λ told. (told ≡ status)
+        × Appends (K.contents sink.old) (K.contents sink.new) text.now) }
+    ensures begun { IfErr result (λ fault. (fault ≡ CheckFault.Write)
+        × AppendsBeginning (K.contents sink.old) (K.contents sink.new) text.now) }
+    ensures failed { K.has_failed sink.new ≡ is_err result }
+{
+    match sink.put(text.as_bytes()) {
+        Ok(()) => Ok(status),
+        Err(_) => Err(CheckFault::Write),
+    }
 }

@@ -3,6 +3,8 @@
 
 pub mod certifying;
 pub mod checking;
+pub mod faults;
 
 pub use certifying::run_cert;
 pub use checking::run_check;
+pub use faults::{CertifyFault, CheckFault};

@@ -1,7 +1,7 @@
 ghost use Rattle.certificate.specs.Certificates.{AreNamedCosts};
 
 use crate::answer::{Answer, refused_if, whole_if};
-use batch_cli::{BatchFault, Setup, run_batch, run_cert, run_check};
+use batch_cli::{CertifyFault, CheckFault, LinesFault, Setup, run_batch, run_cert, run_check};
 use board::{Board, Shape, Weights};
 use byte_streams::{ByteSink, ByteSource};
 use memory::{OutOfMemory, with_capacity};
@@ -42,7 +42,7 @@ pub fn run_two_lines(alloc: Global) -> Answer {
     match ended {
         Ok(_) => whole_if(written.as_slice() == due.as_slice(), "other reports"),
         Err(fault) => refused_if(
-            matches!(fault, BatchFault::Memory(_)) && due.starts_with(&written),
+            matches!(fault, LinesFault::Memory(_)) && due.starts_with(&written),
             "no beginning of the reports",
         ),
     }
@@ -66,7 +66,7 @@ pub fn write_certificate(alloc: Global) -> Answer {
             "another report",
         ),
         Err(fault) => refused_if(
-            matches!(fault, BatchFault::Memory(_)) && written.is_empty(),
+            matches!(fault, CertifyFault::Memory(_)) && written.is_empty(),
             "another fault",
         ),
     }
@@ -95,7 +95,7 @@ pub fn check_certificate(alloc: Global) -> Answer {
         Err(fault) => {
             let is_memory = matches!(
                 fault,
-                BatchFault::CertificateMemory(_) | BatchFault::Memory(_)
+                CheckFault::CertificateMemory(_) | CheckFault::Memory(_)
             );
             refused_if(is_memory && written.is_empty(), "another fault")
         }

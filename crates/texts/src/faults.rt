@@ -1,4 +1,4 @@
-use batch_cli::{BatchFault, EntryFault, SolveFault};
+use batch_cli::{BatchFault, CertifyFault, CheckFault, EntryFault, LinesFault, SolveFault};
 use board::{BoardFault, Move};
 use byte_streams::{ReadFailed, WriteFailed};
 use certificate::{ReadFault, WriteFault};
@@ -103,6 +103,24 @@ fn print_runs(rt: &impl Print, refused: OutOfMemory) -> io::Result<()> {
         BatchFault::CertificateRead,
         BatchFault::CertificateMemory(refused),
         BatchFault::CertificateWrite,
+    ] {
+        print_fault(rt, fault.code(), fault)?;
+    }
+    rt.println("\n# Faults of each kind of run: over lines, writing a certificate, checking one")?;
+    for fault in [LinesFault::Read, LinesFault::Write] {
+        print_fault(rt, fault.code(), fault)?;
+    }
+    for fault in [
+        CertifyFault::Read,
+        CertifyFault::Write,
+        CertifyFault::CertificateWrite,
+    ] {
+        print_fault(rt, fault.code(), fault)?;
+    }
+    for fault in [
+        CheckFault::CertificateRead,
+        CheckFault::CertificateMemory(refused),
+        CheckFault::Write,
     ] {
         print_fault(rt, fault.code(), fault)?;
     }

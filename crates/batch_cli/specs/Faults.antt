@@ -1,0 +1,39 @@
+-- Why a run of any kind ends early.
+use Rattle.std.specs.Prelude.{ℕ, List, codes}
+use Rattle.batch_runs.specs.declared.faults.LinesFault.{LinesFault}
+use Rattle.batch_runs.specs.declared.faults.LinesFault.TheVariants as lines
+use Rattle.certificate_runs.specs.declared.faults.CertifyFault.{CertifyFault}
+use Rattle.certificate_runs.specs.declared.faults.CertifyFault.TheVariants as certify
+use Rattle.certificate_runs.specs.declared.faults.CheckFault.{CheckFault}
+use Rattle.certificate_runs.specs.declared.faults.CheckFault.TheVariants as check
+use Rattle.batch_cli.specs.declared.faults.BatchFault.{BatchFault}
+use Rattle.batch_cli.specs.declared.faults.BatchFault.TheVariants.{Read, Write, Memory, CertificateRead, CertificateMemory, CertificateWrite}
+
+-- the code that a fault is reported by
+abbrev pub batch_code_of : BatchFault → List ℕ
+batch_code_of Read = codes "B1"
+batch_code_of Write = codes "B2"
+batch_code_of (Memory lacking) = codes "B3"
+batch_code_of CertificateRead = codes "F6"
+batch_code_of (CertificateMemory refused) = codes "F7"
+batch_code_of CertificateWrite = codes "F8"
+
+-- the same fault, of a run over lines
+abbrev pub of_lines : LinesFault → BatchFault
+of_lines lines.Read = Read
+of_lines lines.Write = Write
+of_lines (lines.Memory lacking) = Memory lacking
+
+-- of a run that writes a certificate
+abbrev pub of_certify : CertifyFault → BatchFault
+of_certify certify.Read = Read
+of_certify certify.Write = Write
+of_certify (certify.Memory lacking) = Memory lacking
+of_certify certify.CertificateWrite = CertificateWrite
+
+-- of a run that checks one
+abbrev pub of_check : CheckFault → BatchFault
+of_check check.CertificateRead = CertificateRead
+of_check (check.CertificateMemory refused) = CertificateMemory refused
+of_check check.Write = Write
+of_check (check.Memory lacking) = Memory lacking

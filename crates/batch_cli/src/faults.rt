@@ -1,0 +1,106 @@
+ghost use Rattle.std.specs.Prelude.{◌≡◌};
+ghost use Rattle.batch_cli.specs.Faults.{batch_code_of};
+
+use batch_runs::LinesFault;
+use certificate_runs::{CertifyFault, CheckFault};
+use memory::OutOfMemory;
+use reports::NoReport;
+use thiserror::Error;
+
+/// Why a run of any kind ended early.
+#[derive(Clone, Copy, Debug, PartialEq, Eq, Error)]
+pub enum BatchFault {
+    /// B1
+    #[error("the input cannot be read")]
+    Read,
+    /// B2
+    #[error("the output cannot be written")]
+    Write,
+    /// B3
+    #[error("no memory for a report")]
+    Memory(NoReport),
+    /// F6
+    #[error("the certificate cannot be read")]
+    CertificateRead,
+    /// F7
+    #[error("no memory for the certificate")]
+    CertificateMemory(OutOfMemory),
+    /// F8
+    #[error("the certificate cannot be written")]
+    CertificateWrite,
+}
+
+impl BatchFault {
+    /// The code that the fault is reported by: `B1` to `B3`, `F6` to `F8`.
+    pub fn code(self) -> &'static str
+        ensures { result.now ≡ batch_code_of self }
+    {
+        match self {
+            BatchFault::Read => "B1",
+            BatchFault::Write => "B2",
+            BatchFault::Memory(_) => "B3",
+            BatchFault::CertificateRead => "F6",
+            BatchFault::CertificateMemory(_) => "F7",
+            BatchFault::CertificateWrite => "F8",
+        }
+    }
+}
+
+impl From<LinesFault> for BatchFault {
+    ghost use Rattle.std.specs.Prelude.{◌≡◌};
+    ghost use Rattle.batch_runs.specs.Faults.{lines_code_of};
+    ghost use Rattle.batch_cli.specs.Faults.{batch_code_of, of_lines};
+
+    ghost from_gives = { λ fault sum. sum ≡ of_lines fault };
+
+    fn from(fault: LinesFault) -> BatchFault
+        ensures given { result ≡ of_lines fault }
+        ensures code { batch_code_of result ≡ lines_code_of fault }
+    {
+        match fault {
+            LinesFault::Read => BatchFault::Read,
+            LinesFault::Write => BatchFault::Write,
+            LinesFault::Memory(lacking) => BatchFault::Memory(lacking),
+        }
+    }
+}
+
+impl From<CertifyFault> for BatchFault {
+    ghost use Rattle.std.specs.Prelude.{◌≡◌};
+    ghost use Rattle.certificate_runs.specs.Faults.{certify_code_of};
+    ghost use Rattle.batch_cli.specs.Faults.{batch_code_of, of_certify};
+
+    ghost from_gives = { λ fault sum. sum ≡ of_certify fault };
+
+    fn from(fault: CertifyFault) -> BatchFault
+        ensures given { result ≡ of_certify fault }
+        ensures code { batch_code_of result ≡ certify_code_of fault }
+    {
+        match fault {
+            CertifyFault::Read => BatchFault::Read,
+            CertifyFault::Write => BatchFault::Write,
+            CertifyFault::Memory(lacking) => BatchFault::Memory(lacking),
+            CertifyFault::CertificateWrite => BatchFault::CertificateWrite,
+        }
+    }
+}
+
+impl From<CheckFault> for BatchFault {
+    ghost use Rattle.std.specs.Prelude.{◌≡◌};
+    ghost use Rattle.certificate_runs.specs.Faults.{check_code_of};
+    ghost use Rattle.batch_cli.specs.Faults.{batch_code_of, of_check};
+
+    ghost from_gives = { λ fault sum. sum ≡ of_check fault };
+
+    fn from(fault: CheckFault) -> BatchFault
+        ensures given { result ≡ of_check fault }
+        ensures code { batch_code_of result ≡ check_code_of fault }
+    {
+        match fault {
+            CheckFault::CertificateRead => BatchFault::CertificateRead,
+            CheckFault::CertificateMemory(refused) => BatchFault::CertificateMemory(refused),
+            CheckFault::Write => BatchFault::Write,
+            CheckFault::Memory(lacking) => BatchFault::Memory(lacking),
+        }
+    }
+}

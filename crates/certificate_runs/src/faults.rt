@@ -1,0 +1,68 @@
+ghost use Rattle.std.specs.Prelude.{◌≡◌};
+ghost use Rattle.certificate_runs.specs.Faults.{certify_code_of, check_code_of};
+
+use memory::OutOfMemory;
+use reports::NoReport;
+use thiserror::Error;
+
+/// Why a run that writes a certificate ended early.
+#[derive(Clone, Copy, Debug, PartialEq, Eq, Error)]
+pub enum CertifyFault {
+    /// B1
+    #[error("the input cannot be read")]
+    Read,
+    /// B2
+    #[error("the output cannot be written")]
+    Write,
+    /// B3
+    #[error("no memory for a report")]
+    Memory(NoReport),
+    /// F8
+    #[error("the certificate cannot be written")]
+    CertificateWrite,
+}
+
+impl CertifyFault {
+    /// The code that the fault is reported by: `B1` to `B3`, `F8`.
+    pub fn code(self) -> &'static str
+        ensures { result.now ≡ certify_code_of self }
+    {
+        match self {
+            CertifyFault::Read => "B1",
+            CertifyFault::Write => "B2",
+            CertifyFault::Memory(_) => "B3",
+            CertifyFault::CertificateWrite => "F8",
+        }
+    }
+}
+
+/// Why a run that checks a certificate ended early.
+#[derive(Clone, Copy, Debug, PartialEq, Eq, Error)]
+pub enum CheckFault {
+    /// F6
+    #[error("the certificate cannot be read")]
+    CertificateRead,
+    /// F7
+    #[error("no memory for the certificate")]
+    CertificateMemory(OutOfMemory),
+    /// B2
+    #[error("the output cannot be written")]
+    Write,
+    /// B3
+    #[error("no memory for a report")]
+    Memory(NoReport),
+}
+
+impl CheckFault {
+    /// The code that the fault is reported by: `F6`, `F7`, `B2`, `B3`.
+    pub fn code(self) -> &'static str
+        ensures { result.now ≡ check_code_of self }
+    {
+        match self {
+            CheckFault::CertificateRead => "F6",
+            CheckFault::CertificateMemory(_) => "F7",
+            CheckFault::Write => "B2",
+            CheckFault::Memory(_) => "B3",
+        }
+    }
+}
