@@ -1,5 +1,6 @@
 pub mod Values
 pub mod Tables
+pub mod Faults
 pub mod Falls
 pub mod Buckets
 pub mod Searches

@@ -7,10 +7,12 @@
 
 mod buckets;
 pub mod building;
+pub mod fault;
 pub mod laws;
 pub mod potential;
 pub mod table;
 
 pub use building::build;
+pub use fault::TableFault;
 pub use potential::is_potential;
 pub use table::{NO_VALUE, Table};

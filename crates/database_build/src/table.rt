@@ -3,10 +3,11 @@
 ghost use Rattle.std.specs.Prelude.{ℕ, ◌≡◌, ◌≢◌, ◌↔◌, length, IsOk, IsErrOf, IfOk};
 ghost use Rattle.pattern_index.specs.Views.{IsView};
 ghost use Rattle.pattern_index.specs.Selections.{IsSelection, size_of};
-ghost use Rattle.pattern_index.specs.declared.fault.GroupFault.{GroupFault};
 ghost use Rattle.database_build.specs.Tables.{value_in};
+ghost use Rattle.database_build.specs.declared.fault.TableFault.{TableFault};
 
-use pattern_index::{Group, GroupFault, View};
+use super::fault::TableFault;
+use pattern_index::{Group, View};
 use std::marker::Model;
 
 /// The value of a view from which the goal's isn't reached below this cost.
@@ -45,13 +46,13 @@ impl Table {
 
     /// The table of these values, which it keeps by rank; or E11 where there aren't as many as the group has
     /// views.
-    pub fn from_values(group: &Group, values: Vec<u16>) -> Result<Self, GroupFault>
+    pub fn from_values(group: &Group, values: Vec<u16>) -> Result<Self, TableFault>
         ensures accepted { IsOk result ↔ (length values.items ≡ size_of group.now) }
         ensures value { IfOk result (λ t. t ≡ record { selection = group.now; values = values.items }) }
-        ensures fault { (fault : GroupFault) → IsErrOf result fault ↔ ((fault ≡ GroupFault.WrongCount) × (length values.items ≢ size_of group.now)) }
+        ensures fault { (fault : TableFault) → IsErrOf result fault ↔ ((fault ≡ TableFault.WrongCount) × (length values.items ≢ size_of group.now)) }
     {
         if values.len() != group.size() {
-            return Err(GroupFault::WrongCount);
+            return Err(TableFault::WrongCount);
         }
         Ok(Table::of_group(group, values))
     }

@@ -1,3 +1,4 @@
 pub mod Bounds
 pub mod Tables
+pub mod Faults
 pub mod Laws

@@ -5,14 +5,14 @@ ghost use Rattle.board.specs.Positions.{Position};
 ghost use Rattle.board.specs.CostRules.{CostRule};
 ghost use Rattle.board.specs.Plans.{NothingBelow};
 ghost use Rattle.pattern_index.specs.Views.{view_of};
-ghost use Rattle.pattern_index.specs.declared.fault.GroupFault.{GroupFault};
 ghost use Rattle.database_build.specs.Tables.{value_in};
+ghost use Rattle.database_build.specs.declared.fault.TableFault.{TableFault};
 ghost use Rattle.lower_bound.specs.Bounds.{sum_of};
 ghost use Rattle.lower_bound.specs.Tables.{IsTables, AreTablesOf, ArePotentials, parts_of};
 
 use board::Board;
-use database_build::Table;
-use pattern_index::{Group, GroupFault, Partition};
+use database_build::{Table, TableFault};
+use pattern_index::{Group, Partition};
 use std::marker::Model;
 
 /// A partition, and a table for each of its groups.
@@ -35,13 +35,13 @@ impl Model for Bound {
 impl Bound {
     /// The bound of a partition by these tables, the first for the first group and so on; or E11 where there
     /// are more tables or fewer, or one is of another group.
-    pub fn new(partition: Partition, tables: Vec<Table>) -> Result<Self, GroupFault>
+    pub fn new(partition: Partition, tables: Vec<Table>) -> Result<Self, TableFault>
         ensures accepted { IsOk result ↔ AreTablesOf partition.groups tables.items }
         ensures value { IfOk result (λ b. b ≡ record { split = partition; lookups = tables.items }) }
-        ensures fault { (fault : GroupFault) → IsErrOf result fault ↔ ((fault ≡ GroupFault.WrongCount) × (¬ AreTablesOf partition.groups tables.items)) }
+        ensures fault { (fault : TableFault) → IsErrOf result fault ↔ ((fault ≡ TableFault.WrongCount) × (¬ AreTablesOf partition.groups tables.items)) }
     {
         if !are_tables_of(partition.groups(), &tables) {
-            return Err(GroupFault::WrongCount);
+            return Err(TableFault::WrongCount);
         }
         Ok(Bound { partition, tables })
     }

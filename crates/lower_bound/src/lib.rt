@@ -3,7 +3,9 @@
 #![tactic(auto)]
 
 pub mod bound;
+pub mod fault;
 pub mod laws;
 
 pub use bound::Bound;
-pub use database_build::is_potential;
+pub use database_build::{TableFault, is_potential};
+pub use fault::PatternFault;

@@ -8,7 +8,9 @@ use Rattle.pattern_index.specs.Selections.{Selection, IsTile, IsGroup, size_of, 
 use Rattle.pattern_index.specs.Splits.{AreApart, IsSplitFault}
 use Rattle.pattern_index.specs.Faults.{IsFirstPlace, IsFirstFault}
 use Rattle.pattern_index.specs.declared.fault.GroupFault.{GroupFault}
-use Rattle.pattern_index.specs.declared.fault.GroupFault.TheVariants.{Empty, NotATile, Repeated, TooManyViews, SharedTile, TooManyGroups, WrongCount}
+use Rattle.pattern_index.specs.declared.fault.GroupFault.TheVariants.{Empty, NotATile, Repeated, TooManyViews}
+use Rattle.pattern_index.specs.declared.fault.PartitionFault.{PartitionFault}
+use Rattle.pattern_index.specs.declared.fault.PartitionFault.TheVariants.{SharedTile, TooManyGroups}
 
 -- a group has no number that is no tile
 all_tiles : (grid : Grid) (xs : List ℕ) (place : ℕ) → IsGroup grid xs → place < length xs → ¬ IsTile grid (get_or xs place 0) → ⊥
@@ -54,9 +56,6 @@ no_fault grid numbers some group small Empty first = let e = ap length first in 
 no_fault grid numbers some group small NotATile first = all_tiles grid numbers first.0 group first.1.within first.2
 no_fault grid numbers some group small Repeated first = none_repeated grid numbers first.0 group first.1.within first.3
 no_fault grid numbers some group small TooManyViews first = omega (arith, first.2)
-no_fault grid numbers some group small SharedTile first = first
-no_fault grid numbers some group small TooManyGroups first = first
-no_fault grid numbers some group small WrongCount first = first
 
 empty_place : (grid : Grid) (numbers : List ℕ) (place : ℕ) → numbers ≡ [] → IsFirstPlace grid numbers place → ⊥
 empty_place grid numbers place none first = let e = ap length none in omega (arith, first.within)
@@ -79,36 +78,15 @@ one_fault grid numbers TooManyViews Empty first second = absurd (first.0 second)
 one_fault grid numbers TooManyViews NotATile first second = absurd (all_tiles grid numbers second.0 first.1 second.1.within second.2)
 one_fault grid numbers TooManyViews Repeated first second = absurd (none_repeated grid numbers second.0 first.1 second.1.within second.3)
 one_fault grid numbers TooManyViews TooManyViews first second = refl
-one_fault grid numbers SharedTile fault' first second = absurd first
-one_fault grid numbers TooManyGroups fault' first second = absurd first
-one_fault grid numbers WrongCount fault' first second = absurd first
-one_fault grid numbers fault SharedTile first second = absurd second
-one_fault grid numbers fault TooManyGroups first second = absurd second
-one_fault grid numbers fault WrongCount first second = absurd second
 
 -- groups that make a partition have no fault
-pub no_split_fault : (groups : List Selection) → length groups ≤ 24 → AreApart groups → (fault : GroupFault) → IsSplitFault groups fault → ⊥
-no_split_fault groups few apart Empty first = first
-no_split_fault groups few apart NotATile first = first
-no_split_fault groups few apart Repeated first = first
-no_split_fault groups few apart TooManyViews first = first
+pub no_split_fault : (groups : List Selection) → length groups ≤ 24 → AreApart groups → (fault : PartitionFault) → IsSplitFault groups fault → ⊥
 no_split_fault groups few apart SharedTile first = first.1 apart
 no_split_fault groups few apart TooManyGroups first = omega (arith, first)
-no_split_fault groups few apart WrongCount first = first
 
 -- groups have one first fault
-pub one_split_fault : (groups : List Selection) (fault fault' : GroupFault) → IsSplitFault groups fault → IsSplitFault groups fault' → fault' ≡ fault
+pub one_split_fault : (groups : List Selection) (fault fault' : PartitionFault) → IsSplitFault groups fault → IsSplitFault groups fault' → fault' ≡ fault
 one_split_fault groups SharedTile SharedTile first second = refl
 one_split_fault groups SharedTile TooManyGroups first second = absurd (omega (arith, first.0, second))
 one_split_fault groups TooManyGroups SharedTile first second = absurd (omega (arith, first, second.0))
 one_split_fault groups TooManyGroups TooManyGroups first second = refl
-one_split_fault groups Empty fault' first second = absurd first
-one_split_fault groups NotATile fault' first second = absurd first
-one_split_fault groups Repeated fault' first second = absurd first
-one_split_fault groups TooManyViews fault' first second = absurd first
-one_split_fault groups WrongCount fault' first second = absurd first
-one_split_fault groups fault Empty first second = absurd second
-one_split_fault groups fault NotATile first second = absurd second
-one_split_fault groups fault Repeated first second = absurd second
-one_split_fault groups fault TooManyViews first second = absurd second
-one_split_fault groups fault WrongCount first second = absurd second

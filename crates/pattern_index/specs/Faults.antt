@@ -1,9 +1,11 @@
--- Why numbers make no group, and the code of each reason.
+-- Why numbers make no group, and the codes of the faults of groups and of partitions.
 use Rattle.std.specs.Prelude.{ℕ, ◌≡◌, ◌≢◌, ◌<◌, List, [], length, take, Contains, slice_index, codes}
 use Rattle.board.specs.Grids.{Grid}
 use Rattle.pattern_index.specs.Selections.{IsTile, IsGroup, size_of, max_size}
 use Rattle.pattern_index.specs.declared.fault.GroupFault.{GroupFault}
-use Rattle.pattern_index.specs.declared.fault.GroupFault.TheVariants.{Empty, NotATile, Repeated, TooManyViews, SharedTile, TooManyGroups, WrongCount}
+use Rattle.pattern_index.specs.declared.fault.GroupFault.TheVariants.{Empty, NotATile, Repeated, TooManyViews}
+use Rattle.pattern_index.specs.declared.fault.PartitionFault.{PartitionFault}
+use Rattle.pattern_index.specs.declared.fault.PartitionFault.TheVariants.{SharedTile, TooManyGroups}
 
 -- there is a number at this place, and none before it is at fault
 pub record IsFirstPlace (grid : Grid) (numbers : List ℕ) (place : ℕ) : Type 0 where
@@ -18,16 +20,15 @@ IsFirstFault grid numbers NotATile = (place : ℕ) × IsFirstPlace grid numbers 
 IsFirstFault grid numbers Repeated =
     (place : ℕ) × IsFirstPlace grid numbers place × IsTile grid (slice_index numbers place) × Contains (take place numbers) (slice_index numbers place)
 IsFirstFault grid numbers TooManyViews = (numbers ≢ []) × IsGroup grid numbers × (max_size < size_of (record { grid = grid; tiles = numbers }))
-IsFirstFault grid numbers SharedTile = ⊥
-IsFirstFault grid numbers TooManyGroups = ⊥
-IsFirstFault grid numbers WrongCount = ⊥
 
--- the code that a fault is reported by
-abbrev pub code_of : GroupFault → List ℕ
-code_of Empty = codes "E5"
-code_of NotATile = codes "E6"
-code_of Repeated = codes "E7"
-code_of TooManyViews = codes "E8"
-code_of SharedTile = codes "E9"
-code_of TooManyGroups = codes "E10"
-code_of WrongCount = codes "E11"
+-- the code that a fault of a group is reported by
+abbrev pub group_code_of : GroupFault → List ℕ
+group_code_of Empty = codes "E5"
+group_code_of NotATile = codes "E6"
+group_code_of Repeated = codes "E7"
+group_code_of TooManyViews = codes "E8"
+
+-- of a partition
+abbrev pub partition_code_of : PartitionFault → List ℕ
+partition_code_of SharedTile = codes "E9"
+partition_code_of TooManyGroups = codes "E10"

@@ -2,8 +2,8 @@
 use Rattle.std.specs.Prelude.{ℕ, ◌≡◌, ◌<◌, ◌≤◌, List, length, All, AllPairs, Contains}
 use Rattle.board.specs.Grids.{Grid}
 use Rattle.pattern_index.specs.Selections.{Selection, IsSelection}
-use Rattle.pattern_index.specs.declared.fault.GroupFault.{GroupFault}
-use Rattle.pattern_index.specs.declared.fault.GroupFault.TheVariants.{Empty, NotATile, Repeated, TooManyViews, SharedTile, TooManyGroups, WrongCount}
+use Rattle.pattern_index.specs.declared.fault.PartitionFault.{PartitionFault}
+use Rattle.pattern_index.specs.declared.fault.PartitionFault.TheVariants.{SharedTile, TooManyGroups}
 
 -- Groups of tiles of the boards of a grid.
 pub record Split : Type 0 where
@@ -26,11 +26,6 @@ pub record IsSplit (split : Split) : Type 0 where
   pub apart : AreApart split.groups
 
 -- the first fault of groups that should make a partition: their count, else that two share a tile
-abbrev pub IsSplitFault : List Selection → GroupFault → Type 0
+abbrev pub IsSplitFault : List Selection → PartitionFault → Type 0
 IsSplitFault groups TooManyGroups = 24 < length groups
 IsSplitFault groups SharedTile = (length groups ≤ 24) × (¬ AreApart groups)
-IsSplitFault groups Empty = ⊥
-IsSplitFault groups NotATile = ⊥
-IsSplitFault groups Repeated = ⊥
-IsSplitFault groups TooManyViews = ⊥
-IsSplitFault groups WrongCount = ⊥

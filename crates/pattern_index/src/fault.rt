@@ -1,9 +1,9 @@
 ghost use Rattle.std.specs.Prelude.{◌≡◌};
-ghost use Rattle.pattern_index.specs.Faults.{code_of};
+ghost use Rattle.pattern_index.specs.Faults.{group_code_of, partition_code_of};
 
 use thiserror::Error;
 
-/// Why numbers are no group, groups no partition, or values and tables not those of groups.
+/// Why numbers are no group.
 #[derive(Clone, Copy, Debug, PartialEq, Eq, Error)]
 pub enum GroupFault {
     /// E5
@@ -18,30 +18,41 @@ pub enum GroupFault {
     /// E8
     #[error("there are more views than a group may have")]
     TooManyViews,
-    /// E9
-    #[error("two groups share a tile")]
-    SharedTile,
-    /// E10
-    #[error("there are more groups than a partition may have")]
-    TooManyGroups,
-    /// E11
-    #[error("the count of values or tables is another, or a table is of another group")]
-    WrongCount,
 }
 
 impl GroupFault {
-    /// The code that the fault is reported by: `E5` to `E11`.
+    /// The code that the fault is reported by: `E5` to `E8`.
     pub fn code(self) -> &'static str
-        ensures { result.now ≡ code_of self }
+        ensures { result.now ≡ group_code_of self }
     {
         match self {
             GroupFault::Empty => "E5",
             GroupFault::NotATile => "E6",
             GroupFault::Repeated => "E7",
             GroupFault::TooManyViews => "E8",
-            GroupFault::SharedTile => "E9",
-            GroupFault::TooManyGroups => "E10",
-            GroupFault::WrongCount => "E11",
+        }
+    }
+}
+
+/// Why groups are no partition.
+#[derive(Clone, Copy, Debug, PartialEq, Eq, Error)]
+pub enum PartitionFault {
+    /// E9
+    #[error("two groups share a tile")]
+    SharedTile,
+    /// E10
+    #[error("there are more groups than a partition may have")]
+    TooManyGroups,
+}
+
+impl PartitionFault {
+    /// The code that the fault is reported by: `E9` or `E10`.
+    pub fn code(self) -> &'static str
+        ensures { result.now ≡ partition_code_of self }
+    {
+        match self {
+            PartitionFault::SharedTile => "E9",
+            PartitionFault::TooManyGroups => "E10",
         }
     }
 }

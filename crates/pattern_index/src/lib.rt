@@ -12,7 +12,7 @@ pub mod laws;
 pub mod partition;
 pub mod view;
 
-pub use fault::GroupFault;
+pub use fault::{GroupFault, PartitionFault};
 pub use group::{Group, MAX_SIZE};
 pub use partition::Partition;
 pub use view::View;

@@ -3,8 +3,10 @@ use board::{BoardFault, Move};
 use byte_streams::{ReadFailed, WriteFailed};
 use certificate::{ReadFault, WriteFault};
 use certificate_check::Refusal;
+use database_build::TableFault;
+use lower_bound::PatternFault;
 use memory::OutOfMemory;
-use pattern_index::GroupFault;
+use pattern_index::{GroupFault, PartitionFault};
 use std::fmt::Display;
 use std::io;
 
@@ -48,17 +50,30 @@ fn print_lines(rt: &impl Print) -> io::Result<()> {
 fn print_groups(rt: &impl Print) -> io::Result<()> {
     rt.println("\n# Faults of groups, partitions and tables")?;
     for fault in [
+        PatternFault::Empty,
+        PatternFault::NotATile,
+        PatternFault::Repeated,
+        PatternFault::TooManyViews,
+        PatternFault::SharedTile,
+        PatternFault::TooManyGroups,
+        PatternFault::WrongCount,
+    ] {
+        print_fault(rt, fault.code(), fault)?;
+    }
+    rt.println("\n# Faults of each kind of call: making a group, a partition, a table or bound")?;
+    for fault in [
         GroupFault::Empty,
         GroupFault::NotATile,
         GroupFault::Repeated,
         GroupFault::TooManyViews,
-        GroupFault::SharedTile,
-        GroupFault::TooManyGroups,
-        GroupFault::WrongCount,
     ] {
         print_fault(rt, fault.code(), fault)?;
     }
-    Ok(())
+    for fault in [PartitionFault::SharedTile, PartitionFault::TooManyGroups] {
+        print_fault(rt, fault.code(), fault)?;
+    }
+    let fault = TableFault::WrongCount;
+    print_fault(rt, fault.code(), fault)
 }
 
 fn print_certificates(rt: &impl Print, refused: OutOfMemory) -> io::Result<()> {

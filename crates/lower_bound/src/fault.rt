@@ -1,0 +1,104 @@
+ghost use Rattle.std.specs.Prelude.{◌≡◌};
+ghost use Rattle.lower_bound.specs.Faults.{pattern_code_of};
+
+use database_build::TableFault;
+use pattern_index::{GroupFault, PartitionFault};
+use thiserror::Error;
+
+/// Why numbers are no group, groups no partition, or values and tables not those of groups.
+#[derive(Clone, Copy, Debug, PartialEq, Eq, Error)]
+pub enum PatternFault {
+    /// E5
+    #[error("there is no number")]
+    Empty,
+    /// E6
+    #[error("a number is no tile")]
+    NotATile,
+    /// E7
+    #[error("a tile stood before")]
+    Repeated,
+    /// E8
+    #[error("there are more views than a group may have")]
+    TooManyViews,
+    /// E9
+    #[error("two groups share a tile")]
+    SharedTile,
+    /// E10
+    #[error("there are more groups than a partition may have")]
+    TooManyGroups,
+    /// E11
+    #[error("the count of values or tables is another, or a table is of another group")]
+    WrongCount,
+}
+
+impl PatternFault {
+    /// The code that the fault is reported by: `E5` to `E11`.
+    pub fn code(self) -> &'static str
+        ensures { result.now ≡ pattern_code_of self }
+    {
+        match self {
+            PatternFault::Empty => "E5",
+            PatternFault::NotATile => "E6",
+            PatternFault::Repeated => "E7",
+            PatternFault::TooManyViews => "E8",
+            PatternFault::SharedTile => "E9",
+            PatternFault::TooManyGroups => "E10",
+            PatternFault::WrongCount => "E11",
+        }
+    }
+}
+
+impl From<GroupFault> for PatternFault {
+    ghost use Rattle.std.specs.Prelude.{◌≡◌};
+    ghost use Rattle.pattern_index.specs.Faults.{group_code_of};
+    ghost use Rattle.lower_bound.specs.Faults.{pattern_code_of, of_group};
+
+    ghost from_gives = { λ fault sum. sum ≡ of_group fault };
+
+    fn from(fault: GroupFault) -> PatternFault
+        ensures given { result ≡ of_group fault }
+        ensures code { pattern_code_of result ≡ group_code_of fault }
+    {
+        match fault {
+            GroupFault::Empty => PatternFault::Empty,
+            GroupFault::NotATile => PatternFault::NotATile,
+            GroupFault::Repeated => PatternFault::Repeated,
+            GroupFault::TooManyViews => PatternFault::TooManyViews,
+        }
+    }
+}
+
+impl From<PartitionFault> for PatternFault {
+    ghost use Rattle.std.specs.Prelude.{◌≡◌};
+    ghost use Rattle.pattern_index.specs.Faults.{partition_code_of};
+    ghost use Rattle.lower_bound.specs.Faults.{pattern_code_of, of_partition};
+
+    ghost from_gives = { λ fault sum. sum ≡ of_partition fault };
+
+    fn from(fault: PartitionFault) -> PatternFault
+        ensures given { result ≡ of_partition fault }
+        ensures code { pattern_code_of result ≡ partition_code_of fault }
+    {
+        match fault {
+            PartitionFault::SharedTile => PatternFault::SharedTile,
+            PartitionFault::TooManyGroups => PatternFault::TooManyGroups,
+        }
+    }
+}
+
+impl From<TableFault> for PatternFault {
+    ghost use Rattle.std.specs.Prelude.{◌≡◌};
+    ghost use Rattle.database_build.specs.Faults.{table_code_of};
+    ghost use Rattle.lower_bound.specs.Faults.{pattern_code_of, of_table};
+
+    ghost from_gives = { λ fault sum. sum ≡ of_table fault };
+
+    fn from(fault: TableFault) -> PatternFault
+        ensures given { result ≡ of_table fault }
+        ensures code { pattern_code_of result ≡ table_code_of fault }
+    {
+        match fault {
+            TableFault::WrongCount => PatternFault::WrongCount,
+        }
+    }
+}
