@@ -5,8 +5,8 @@ use Rattle.board.specs.declared.moves.Move.{Move}
 use Rattle.board.specs.Grids.{Grid, IsShape}
 use Rattle.board.specs.Positions.{Position}
 use Rattle.board.specs.CostRules.{CostRule}
-use Rattle.certificate.specs.declared.faults.ReadFault.{ReadFault}
-use Rattle.certificate.specs.declared.faults.ReadFault.TheVariants.{OutOfRange, BytesAfterEnd}
+use Rattle.certificate.specs.declared.faults.FormatFault.{FormatFault}
+use Rattle.certificate.specs.declared.faults.FormatFault.TheVariants.{OutOfRange, BytesAfterEnd}
 use Rattle.certificate.specs.Certificates.{Statement, AreNamedCosts, IsBoardOf, IsRow, RiseAfter, IsCertificate}
 use Rattle.certificate.specs.Spellings.{opening_text, number_text, count_text, plan_text, row_text, front_text, announcing, spelling, Spells}
 use Rattle.certificate.specs.Readings.{◌>>=◌, continued, give, number, count, count_in, board, opening, plan, rows, all_rows, end, front, certificate, IsFaultAt}
@@ -171,14 +171,14 @@ end_takes [] u rest e =
     (refl, ap (λ (z : Unit {0} × List ℕ). z.1) (sym same))
 end_takes (b ∷ bytes) u rest e = absurd cc
 
-end_from : (bytes : List ℕ) (fault : ReadFault) (from : List ℕ) → end bytes ≡ faulty (Unit {0}) fault from → bytes ≡ from
+end_from : (bytes : List ℕ) (fault : FormatFault) (from : List ℕ) → end bytes ≡ faulty (Unit {0}) fault from → bytes ≡ from
 unfolding end
 end_from [] fault from e = absurd cc
 end_from (b ∷ bytes) fault from e =
-    let p : ReadFault × List ℕ = (BytesAfterEnd, b ∷ bytes) in
-    let q : ReadFault × List ℕ = (fault, from) in
+    let p : FormatFault × List ℕ = (BytesAfterEnd, b ∷ bytes) in
+    let q : FormatFault × List ℕ = (fault, from) in
     let same : p ≡ q = cc in
-    ap (λ (z : ReadFault × List ℕ). z.1) same
+    ap (λ (z : FormatFault × List ℕ). z.1) same
 
 pub read_takes : (bytes : List ℕ) → AreBytes bytes → (c : Statement) (rest : List ℕ) → certificate bytes ≡ fine c rest → Spells c bytes × (rest ≡ [])
 unfolding certificate ◌>>=◌ give
@@ -216,7 +216,7 @@ pub record Precedent (bytes from : List ℕ) : Type 0 where
   pub begins : Begins (spelling c) before ⊎ ((count : ℕ) × (length c.rows < count) × (count < 2 ^ 64) × (before ≡ announcing count c))
 
 -- within all before the rows
-before_front : (bytes : List ℕ) → AreBytes bytes → (fault : ReadFault) (from : List ℕ) → front bytes ≡ Err (fault, from) → Precedent bytes from
+before_front : (bytes : List ℕ) → AreBytes bytes → (fault : FormatFault) (from : List ℕ) → front bytes ≡ Err (fault, from) → Precedent bytes from
 before_front bytes all fault from e =
     let p = front_opens.before bytes all fault from e in
     let d = p.2 in
@@ -229,7 +229,7 @@ before_front bytes all fault from e =
     }
 
 -- within the rows
-before_rows : (d : Statement) → IsCertificate d → d.rows ≡ [] → (bytes : List ℕ) → AreBytes bytes → (fault : ReadFault) (from : List ℕ) → all_rows d.grid bytes ≡ Err (fault, from) → Precedent (front_text d ++ bytes) from
+before_rows : (d : Statement) → IsCertificate d → d.rows ≡ [] → (bytes : List ℕ) → AreBytes bytes → (fault : FormatFault) (from : List ℕ) → all_rows d.grid bytes ≡ Err (fault, from) → Precedent (front_text d ++ bytes) from
 unfolding all_rows ◌>>=◌
 before_rows d fits none bytes all fault from e =
     ⊎_elim
@@ -251,7 +251,7 @@ before_rows d fits none bytes all fault from e =
     })
     (one_fails (count bytes) (λ n. rows d.grid None n) (fault, from) e)
 
-pub before_fault : (bytes : List ℕ) → AreBytes bytes → (fault : ReadFault) (from : List ℕ) → IsFaultAt bytes fault from → Precedent bytes from
+pub before_fault : (bytes : List ℕ) → AreBytes bytes → (fault : FormatFault) (from : List ℕ) → IsFaultAt bytes fault from → Precedent bytes from
 unfolding certificate ◌>>=◌ give
 before_fault bytes all fault from e =
     ⊎_elim (λ failed. before_front bytes all fault from failed)

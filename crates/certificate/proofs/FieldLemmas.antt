@@ -7,7 +7,9 @@ use Rattle.std.proofs.lemmas.Bool.{lt-ltb, le-ltb, lt-leb, eqb-true}
 use Rattle.std.proofs.Math.Bool.{and-false}
 use Rattle.std.proofs.lemmas.List.{take_at, length-append}
 use Rattle.certificate.specs.declared.faults.ReadFault.{ReadFault}
-use Rattle.certificate.specs.declared.faults.ReadFault.TheVariants.{Truncated, Failed}
+use Rattle.certificate.specs.declared.faults.ReadFault.TheVariants.{Format, Failed, NoMemory}
+use Rattle.certificate.specs.declared.faults.FormatFault.{FormatFault}
+use Rattle.certificate.specs.declared.faults.FormatFault.TheVariants.{Truncated}
 use Rattle.std.specs.Int.{w32, w64, from_le_bytes}
 use Rattle.std.proofs.lemmas.Nat.{le_bytes_4, le_bytes_8}
 use Rattle.board.specs.declared.moves.Move.{Move}
@@ -15,7 +17,13 @@ use Rattle.board.specs.declared.moves.Move.TheVariants.{U, L, R, D}
 use Rattle.certificate.specs.Spellings.{letter_of, number_text, count_text}
 use Rattle.certificate.specs.Readings.{field, number_in, byte_in, letter_in, magic_in}
 use Rattle.std.specs.Str.{bytes_eq}
-use Rattle.certificate.specs.Sources.{Refuses, EndsEarly}
+use Rattle.certificate.specs.Sources.{IfFormat, Refuses, EndsEarly}
+
+-- what a fault of the bytes says, said otherwise
+pub if_format : (fault : ReadFault) (P Q : FormatFault → Type 0) → ((f : FormatFault) → P f → Q f) → IfFormat fault P → IfFormat fault Q
+if_format (Format f) P Q h p = h f p
+if_format Failed P Q h p = tt
+if_format (NoMemory refused) P Q h p = tt
 
 -- the exit of a `?` passes the fault on
 pub passed : {T E : Type 0} (r : Result T E) (e : E) (P : E → Type 0) → IsErrAnd r (λ y. y ≡ e) → P e → IfErr r P
@@ -35,23 +43,24 @@ whole_is : (old : Option (List ℕ)) (seen input : List ℕ) → old ≡ Some in
 whole_is old seen input is all = subst (λ (o : Option (List ℕ)). IfSome o (λ all. all ≡ seen)) is all
 
 -- fewer bytes are left than the field has
-pub cut_short : {X : Type 0} (fault : ReadFault) (n : ℕ) (value : List ℕ → Option X) (old new : Option (List ℕ)) (f : ReadFault) → EndsEarly old new n f → Refuses (field fault n value) old new f
+pub cut_short : {X : Type 0} (fault : FormatFault) (n : ℕ) (value : List ℕ → Option X) (old new : Option (List ℕ)) (f : ReadFault) → EndsEarly old new n f → Refuses (field fault n value) old new f
 unfolding field
 cut_short fault n value old new f early = record {
   taken = (early.seen, early.taken);
-  first = λ of input is.
-      let end = early.end of in
+  first =
+      if_format f (λ g. (g ≡ Truncated) × IfSome old (λ input. input ≡ early.seen) × (length early.seen < n)) (λ g. (input : List ℕ) → old ≡ Some input → (from : List ℕ) × (field fault n value input ≡ Err (g, from)))
+      (λ g end input is.
       let whole = whole_is old early.seen input is end.1 in
       let few : ltb (length input) n ≡ true = lt-ltb _ _ (subst (λ (bytes : List ℕ). length bytes < n) (sym whole) end.2) in
-      (input, rw (few, end.0) refl);
+      (input, rw (few, end.0) refl)) early.end;
 }
 
 -- the field is there, and its bytes have no value
-pub refused : {X : Type 0} (fault : ReadFault) (n : ℕ) (value : List ℕ → Option X) (old new : Option (List ℕ)) (text : List ℕ) → Consumes old new text → length text ≡ n → value text ≡ None → Refuses (field fault n value) old new fault
+pub refused : {X : Type 0} (fault : FormatFault) (n : ℕ) (value : List ℕ → Option X) (old new : Option (List ℕ)) (text : List ℕ) → Consumes old new text → length text ≡ n → value text ≡ None → Refuses (field fault n value) old new (Format fault)
 unfolding field
 refused fault n value old new text taken len none = record {
   taken = (text, taken);
-  first = λ of input is.
+  first = λ input is.
       let k = known old new text input is taken in
       let long : ltb (length (text ++ k.0)) n ≡ false = le-ltb _ _ (omega (arith, length-append text k.0)) in
       (input, rw k.2 (rw (long, take_at text k.0 n len, none) refl));
@@ -68,18 +77,19 @@ pub ends_later : (a b c : Option (List ℕ)) (text : List ℕ) (n k : ℕ) (f : 
 ends_later a b c text n k f few taken early = record {
   seen = text ++ early.seen;
   taken = Consumes-trans a b c text early.seen taken early.taken;
-  end = λ of. let end = early.end of in (end.0, all_after a b text early.seen taken end.1, omega (arith, length-append text early.seen, end.2));
+  end = if_format f (λ g. (g ≡ Truncated) × IfSome b (λ input. input ≡ early.seen) × (length early.seen < n)) (λ g. (g ≡ Truncated) × IfSome a (λ input. input ≡ text ++ early.seen) × (length (text ++ early.seen) < k))
+      (λ g end. (end.0, all_after a b text early.seen taken end.1, omega (arith, few, length-append text early.seen, end.2))) early.end;
 }
 
 -- nothing is left, where a byte is due
-pub ended : (old new : Option (List ℕ)) → IsAtEnd old → Keeps old new → EndsEarly old new 1 Truncated
-ended None new end kept = record { seen = []; taken = tt; end = λ of. (refl, tt, omega arith) }
+pub ended : (old new : Option (List ℕ)) → IsAtEnd old → Keeps old new → EndsEarly old new 1 (Format Truncated)
+ended None new end kept = record { seen = []; taken = tt; end = (refl, tt, omega arith) }
 ended (Some xs) None end kept = absurd kept
-ended (Some xs) (Some ys) end kept = record { seen = []; taken = sym kept; end = λ of. (refl, end, omega arith) }
+ended (Some xs) (Some ys) end kept = record { seen = []; taken = sym kept; end = (refl, end, omega arith) }
 
 -- the source failed
 pub failed : (old new : Option (List ℕ)) → Keeps old new → EndsEarly old new 1 Failed
-failed old new kept = record { seen = []; taken = Consumes-kept old old new [] (Consumes-nil old) kept; end = λ of. absurd of }
+failed old new kept = record { seen = []; taken = Consumes-kept old old new [] (Consumes-nil old) kept; end = tt }
 
 -- the number that four bytes give has those bytes
 pub number_back : (text : List ℕ) (n : ℕ) → length text ≡ 4 → ((i : ℕ) → get_or text i 0 < 256) → n ≡ from_le_bytes w32 text → number_text n ≡ text

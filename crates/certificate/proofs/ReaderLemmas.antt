@@ -2,8 +2,8 @@
 use Rattle.std.proofs.Common.{◌≡◌, ◌⊎◌, inl, inr, ⊎_elim, ℕ, ◌≤◌, Bool, true, false, cond, ltb, List, [], ◌∷◌, ◌++◌, length, take, drop, Option, Some, None, Result, Ok, Err, refl, sym, ap, subst, ◌∙◌, append_assoc, arith}
 use Rattle.std.proofs.lemmas.Bool.{le-ltb, ltb-false}
 use Rattle.std.proofs.lemmas.List.{take_at, drop_at, take-append-drop, length-append, length-take}
-use Rattle.certificate.specs.declared.faults.ReadFault.{ReadFault}
-use Rattle.certificate.specs.declared.faults.ReadFault.TheVariants.{Truncated}
+use Rattle.certificate.specs.declared.faults.FormatFault.{FormatFault}
+use Rattle.certificate.specs.declared.faults.FormatFault.TheVariants.{Truncated}
 use Rattle.certificate.specs.Readings.{Reader, ◌>>=◌, continued, give, field, judged, as_one, blamed}
 use Rattle.certificate.specs.Laws.{AreBytes}
 
@@ -23,7 +23,7 @@ pub record Law {X : Type 0} (reader : Reader X) (Text : X → List ℕ → Type 
 -- some value has a text, and what stands before a fault begins such a text
 pub record Opens {X : Type 0} (reader : Reader X) (Text : X → List ℕ → Type 0) : Type 0 where
   pub some : (x : X) × (text : List ℕ) × Text x text
-  pub before : (bytes : List ℕ) → AreBytes bytes → (fault : ReadFault) (from : List ℕ) → reader bytes ≡ Err (fault, from)
+  pub before : (bytes : List ℕ) → AreBytes bytes → (fault : FormatFault) (from : List ℕ) → reader bytes ≡ Err (fault, from)
       → (front after : List ℕ) × (x : X) × (bytes ≡ front ++ from) × Text x (front ++ after)
 
 -- ---- the same texts, said otherwise
@@ -46,11 +46,11 @@ abbrev pub Both : {X Y : Type 0} → (X → List ℕ → Type 0) → (X → Y �
 Both {X} {Y} A B y text = (x : X) × (s t : List ℕ) × A x s × B x y t × (text ≡ s ++ t)
 
 -- the first reader's value, where both succeed
-pub both_ok : {X Y : Type 0} (r : Result (X × List ℕ) (ReadFault × List ℕ)) (k : X → Reader Y) (y : Y × List ℕ) → continued k r ≡ Ok y → (p : X × List ℕ) × (r ≡ Ok p) × (k p.0 p.1 ≡ Ok y)
+pub both_ok : {X Y : Type 0} (r : Result (X × List ℕ) (FormatFault × List ℕ)) (k : X → Reader Y) (y : Y × List ℕ) → continued k r ≡ Ok y → (p : X × List ℕ) × (r ≡ Ok p) × (k p.0 p.1 ≡ Ok y)
 both_ok (Ok p) k y e = (p, refl, e)
 both_ok (Err f) k y e = absurd cc
 
-pub one_fails : {X Y : Type 0} (r : Result (X × List ℕ) (ReadFault × List ℕ)) (k : X → Reader Y) (f : ReadFault × List ℕ) → continued k r ≡ Err f
+pub one_fails : {X Y : Type 0} (r : Result (X × List ℕ) (FormatFault × List ℕ)) (k : X → Reader Y) (f : FormatFault × List ℕ) → continued k r ≡ Err f
     → (r ≡ Err f) ⊎ ((p : X × List ℕ) × (r ≡ Ok p) × (k p.0 p.1 ≡ Err f))
 one_fails (Ok p) k f e = inr (p, refl, e)
 one_fails (Err g) k f e = inl cc
@@ -95,10 +95,10 @@ Opens-seq a k A B law first next = record {
 abbrev pub Known : {X : Type 0} → X → X → List ℕ → Type 0
 Known x y text = (y ≡ x) × (text ≡ [])
 
-abbrev pub fine : {X : Type 0} → X → List ℕ → Result (X × List ℕ) (ReadFault × List ℕ)
+abbrev pub fine : {X : Type 0} → X → List ℕ → Result (X × List ℕ) (FormatFault × List ℕ)
 fine x s = Ok (x, s)
 
-abbrev pub faulty : (X : Type 0) → ReadFault → List ℕ → Result (X × List ℕ) (ReadFault × List ℕ)
+abbrev pub faulty : (X : Type 0) → FormatFault → List ℕ → Result (X × List ℕ) (FormatFault × List ℕ)
 faulty X f s = Err (f, s)
 
 ok_is : {X : Type 0} (x y : X) (s t : List ℕ) → fine x s ≡ fine y t → (x ≡ y) × (s ≡ t)
@@ -121,7 +121,7 @@ Opens-give x = record { some = (x, [], (refl, refl)); before = λ bytes all faul
 
 -- ---- a field
 
-pub Law-field : {X : Type 0} (fault : ReadFault) (n : ℕ) (value : List ℕ → Option X) (S : X → List ℕ → Type 0)
+pub Law-field : {X : Type 0} (fault : FormatFault) (n : ℕ) (value : List ℕ → Option X) (S : X → List ℕ → Type 0)
     → ((x : X) (text : List ℕ) → S x text → (length text ≡ n) × (value text ≡ Some x))
     → ((x : X) (text : List ℕ) → AreBytes text → length text ≡ n → value text ≡ Some x → S x text)
     → Law (field fault n value) S
@@ -144,15 +144,15 @@ Law-field {X = X} fault n value S there back = record {
         let front : AreBytes (take n bytes) = AreBytes-front (take n bytes) (drop n bytes) (subst (λ (l : List ℕ). AreBytes l) (sym (take-append-drop n bytes)) all) in
         (take n bytes, back x (take n bytes) front (omega (arith, length-take n bytes)) (v-is ∙ ap (λ (z : X). Some z) p.0), sym (take-append-drop n bytes) ∙ ap (λ (l : List ℕ). take n bytes ++ l) p.1)
 
-err_is : (X : Type 0) (f g : ReadFault) (s t : List ℕ) → faulty X f s ≡ faulty X g t → s ≡ t
+err_is : (X : Type 0) (f g : FormatFault) (s t : List ℕ) → faulty X f s ≡ faulty X g t → s ≡ t
 err_is X f g s t e =
-    let p : ReadFault × List ℕ = (f, s) in
-    let q : ReadFault × List ℕ = (g, t) in
+    let p : FormatFault × List ℕ = (f, s) in
+    let q : FormatFault × List ℕ = (g, t) in
     let same : p ≡ q = cc in
-    ap (λ (z : ReadFault × List ℕ). z.1) same
+    ap (λ (z : FormatFault × List ℕ). z.1) same
 
 -- a field is at fault where it begins
-pub field_from : {X : Type 0} (fault : ReadFault) (n : ℕ) (value : List ℕ → Option X) (bytes : List ℕ) (f : ReadFault) (from : List ℕ) → field fault n value bytes ≡ Err (f, from) → bytes ≡ from
+pub field_from : {X : Type 0} (fault : FormatFault) (n : ℕ) (value : List ℕ → Option X) (bytes : List ℕ) (f : FormatFault) (from : List ℕ) → field fault n value bytes ≡ Err (f, from) → bytes ≡ from
 unfolding field
 field_from {X = X} fault n value bytes f from e = by_cases (ltb (length bytes) n) (value (take n bytes)) e
   where
@@ -161,7 +161,7 @@ field_from {X = X} fault n value bytes f from e = by_cases (ltb (length bytes) n
     by_cases false None e = err_is X fault f bytes from e
     by_cases false (Some x) e = absurd cc
 
-pub Opens-field : {X : Type 0} (fault : ReadFault) (n : ℕ) (value : List ℕ → Option X) (S : X → List ℕ → Type 0) (x : X) (text : List ℕ) → S x text → Opens (field fault n value) S
+pub Opens-field : {X : Type 0} (fault : FormatFault) (n : ℕ) (value : List ℕ → Option X) (S : X → List ℕ → Type 0) (x : X) (text : List ℕ) → S x text → Opens (field fault n value) S
 Opens-field fault n value S x text p = record {
   some = (x, text, p);
   before = λ bytes all f from e. ([], text, x, field_from fault n value bytes f from e, p);
@@ -176,14 +176,14 @@ Law-as_one {X = X} reader S law = record {
   takes = λ bytes all x rest e. law.takes bytes all x rest (unblamed bytes (reader bytes) x rest e);
 }
   where
-    unblamed : (bytes : List ℕ) (r : Result (X × List ℕ) (ReadFault × List ℕ)) (x : X) (rest : List ℕ) → blamed bytes r ≡ Ok (x, rest) → r ≡ Ok (x, rest)
+    unblamed : (bytes : List ℕ) (r : Result (X × List ℕ) (FormatFault × List ℕ)) (x : X) (rest : List ℕ) → blamed bytes r ≡ Ok (x, rest) → r ≡ Ok (x, rest)
     unblamed bytes (Ok p) x rest e = e
     unblamed bytes (Err f) x rest e = absurd cc
 
-pub as_one_from : {X : Type 0} (reader : Reader X) (bytes : List ℕ) (f : ReadFault) (from : List ℕ) → as_one reader bytes ≡ Err (f, from) → bytes ≡ from
+pub as_one_from : {X : Type 0} (reader : Reader X) (bytes : List ℕ) (f : FormatFault) (from : List ℕ) → as_one reader bytes ≡ Err (f, from) → bytes ≡ from
 unfolding as_one
 as_one_from {X = X} reader bytes f from e = at_front (reader bytes) e
   where
-    at_front : (r : Result (X × List ℕ) (ReadFault × List ℕ)) → blamed bytes r ≡ Err (f, from) → bytes ≡ from
+    at_front : (r : Result (X × List ℕ) (FormatFault × List ℕ)) → blamed bytes r ≡ Err (f, from) → bytes ≡ from
     at_front (Ok p) e = absurd cc
     at_front (Err g) e = err_is X g.0 f bytes from e

@@ -9,8 +9,9 @@ use Rattle.board.specs.Grids.{Grid, IsShape, cell_count}
 use Rattle.board.specs.Positions.{Position}
 use Rattle.board.specs.Keys.{key_of, Precedes}
 use Rattle.board.proofs.KeyLemmas.{packed_in_order, tiles_small}
-use Rattle.certificate.specs.declared.faults.ReadFault.{ReadFault}
-use Rattle.certificate.specs.declared.faults.ReadFault.TheVariants.{NotRising}
+use Rattle.certificate.specs.declared.faults.FormatFault.{FormatFault}
+use Rattle.certificate.specs.declared.faults.FormatFault.TheVariants.{NotRising}
+use Rattle.certificate.specs.declared.faults.ReadFault.TheVariants.{Format}
 use Rattle.certificate.specs.Certificates.{IsBoardOf, IsRow, RiseAfter}
 use Rattle.certificate.specs.Spellings.{number_text, row_text}
 use Rattle.certificate.specs.Readings.{◌>>=◌, give, number, board, may_follow, rising, row, rows}
@@ -89,7 +90,7 @@ unfolding row
 row_law grid before sides is = Law-as_one _ (RowText grid before)
     (Law-iff _ (RowParts grid before) (RowText grid before) (row_there grid before is) (row_back grid before is) (Law-seq (board grid) _ (BoardText grid) _ (board_law grid sides) (λ b _ _. Law-seq number _ NumberText _ number_law (λ g _ _. rising_law before (b, g)))))
 
-pub row_from : (grid : Grid) (before : Option Position) (bytes : List ℕ) (fault : ReadFault) (from : List ℕ) → row grid before bytes ≡ Err (fault, from) → bytes ≡ from
+pub row_from : (grid : Grid) (before : Option Position) (bytes : List ℕ) (fault : FormatFault) (from : List ℕ) → row grid before bytes ≡ Err (fault, from) → bytes ≡ from
 unfolding row
 row_from grid before bytes fault from e = as_one_from _ bytes fault from e
 
@@ -145,7 +146,7 @@ pub record RowsBefore (grid : Grid) (before : Option Position) (n : ℕ) (bytes 
   pub rising : RiseAfter before done
   pub is : bytes ≡ flat_map row_text done ++ from
 
-pub rows_before : (grid : Grid) (before : Option Position) (n : ℕ) → IsShape grid → IsBefore grid before → (bytes : List ℕ) → AreBytes bytes → (fault : ReadFault) (from : List ℕ) → rows grid before n bytes ≡ Err (fault, from)
+pub rows_before : (grid : Grid) (before : Option Position) (n : ℕ) → IsShape grid → IsBefore grid before → (bytes : List ℕ) → AreBytes bytes → (fault : FormatFault) (from : List ℕ) → rows grid before n bytes ≡ Err (fault, from)
     → RowsBefore grid before n bytes from
 unfolding rows ◌>>=◌ give
 rows_before grid before zero sides is bytes all fault from e = absurd cc
@@ -171,9 +172,9 @@ rows_before grid before (suc n) sides is bytes all fault from e =
     never : (x : List (Position × ℕ)) (l : List ℕ) → fine x l ≡ faulty (List (Position × ℕ)) fault from → ⊥
     never x l e = absurd cc
 
-pub not_risen : (before : Option Position) (r : Position × ℕ) (old : Option (List ℕ)) → may_follow before r.0 ≡ false → Refuses (rising before r) old old NotRising
+pub not_risen : (before : Option Position) (r : Position × ℕ) (old : Option (List ℕ)) → may_follow before r.0 ≡ false → Refuses (rising before r) old old (Format NotRising)
 unfolding rising
 not_risen before r old fails = record {
   taken = ([], Consumes-nil old);
-  first = λ of input is. (input, ap (λ (b : Bool). cond b (fine r input) (faulty (Position × ℕ) NotRising input)) fails);
+  first = λ input is. (input, ap (λ (b : Bool). cond b (fine r input) (faulty (Position × ℕ) NotRising input)) fails);
 }

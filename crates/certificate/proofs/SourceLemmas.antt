@@ -10,6 +10,7 @@ use Rattle.board.specs.declared.moves.Move.{Move}
 use Rattle.board.specs.Grids.{Grid}
 use Rattle.board.specs.Positions.{Position}
 use Rattle.board.specs.CostRules.{CostRule}
+use Rattle.certificate.specs.declared.faults.FormatFault.{FormatFault}
 use Rattle.certificate.specs.declared.faults.ReadFault.{ReadFault}
 use Rattle.memory.specs.declared.OutOfMemory.{OutOfMemory}
 use Rattle.certificate.specs.declared.faults.ReadFault.TheVariants.{NoMemory}
@@ -17,33 +18,34 @@ use Rattle.certificate.specs.Certificates.{IsRow, RiseAfter}
 use Rattle.certificate.specs.Spellings.{letter_of, opening_text, row_text}
 use Rattle.certificate.specs.Readings.{Reader, ◌>>=◌, continued, give, as_one, blamed, letter, letters, row, rows, grid_of, costs_of}
 use Rattle.certificate.specs.Sources.{Refuses}
-use Rattle.certificate.proofs.FieldLemmas.{known}
+use Rattle.certificate.proofs.FieldLemmas.{known, if_format}
 use Rattle.certificate.proofs.ReaderLemmas.{Law}
 use Rattle.certificate.proofs.TextLemmas.{letter_law, ByteText, OpeningParts, opening_there}
 use Rattle.certificate.proofs.RowLemmas.{RowText, row_law, sides_of, Follows, IsBefore}
 
 pub first_refuses : {X Y : Type 0} {a : Reader X} (k : X → Reader Y) {old new : Option (List ℕ)} {f : ReadFault} → Refuses a old new f → Refuses (a >>= k) old new f
 unfolding ◌>>=◌
-first_refuses k r = record { taken = r.taken; first = λ of input is. let p = r.first of input is in (p.0, ap (continued k) p.1) }
+first_refuses {a = a} k {old = old} {f = f} r = record { taken = r.taken; first = if_format f (λ g. (input : List ℕ) → old ≡ Some input → (from : List ℕ) × (a input ≡ Err (g, from))) (λ g. (input : List ℕ) → old ≡ Some input → (from : List ℕ) × ((a >>= k) input ≡ Err (g, from))) (λ g first input is. let p = first input is in (p.0, ap (continued k) p.1)) r.first }
 
 pub then_refuses : {X Y : Type 0} {a : Reader X} (k : X → Reader Y) {A : X → List ℕ → Type 0} {old mid new : Option (List ℕ)} {f : ReadFault} → Law a A → (x : X) (text : List ℕ) → A x text → Consumes old mid text → Refuses (k x) mid new f
     → Refuses (a >>= k) old new f
 unfolding ◌>>=◌
-then_refuses {a = a} k {old = old} {mid = mid} {new = new} law x text t taken r = record {
+then_refuses {a = a} k {old = old} {mid = mid} {new = new} {f = f} law x text t taken r = record {
   taken = (text ++ r.taken.0, Consumes-trans old mid new text r.taken.0 taken r.taken.1);
-  first = λ of input is.
+  first = if_format f (λ g. (input : List ℕ) → mid ≡ Some input → (from : List ℕ) × (k x input ≡ Err (g, from))) (λ g. (input : List ℕ) → old ≡ Some input → (from : List ℕ) × ((a >>= k) input ≡ Err (g, from)))
+      (λ g first input is.
       let q = known old mid text input is taken in
-      let p = r.first of q.0 q.1 in
-      (p.0, ap (λ (l : List ℕ). continued k (a l)) q.2 ∙ ap (continued k) (law.again x text q.0 t) ∙ p.1);
+      let p = first q.0 q.1 in
+      (p.0, ap (λ (l : List ℕ). continued k (a l)) q.2 ∙ ap (continued k) (law.again x text q.0 t) ∙ p.1)) r.first;
 }
 
 pub as_one_refuses : {X : Type 0} {r : Reader X} {old new : Option (List ℕ)} {f : ReadFault} → Refuses r old new f → Refuses (as_one r) old new f
 unfolding as_one
-as_one_refuses r = record { taken = r.taken; first = λ of input is. let p = r.first of input is in (input, ap (blamed input) p.1) }
+as_one_refuses {r = reader} {old = old} {f = f} r = record { taken = r.taken; first = if_format f (λ g. (input : List ℕ) → old ≡ Some input → (from : List ℕ) × (reader input ≡ Err (g, from))) (λ g. (input : List ℕ) → old ≡ Some input → (from : List ℕ) × (as_one reader input ≡ Err (g, from))) (λ g first input is. let p = first input is in (input, ap (blamed input) p.1)) r.first }
 
 -- ---- several letters
 
-letters_at : (done : List Move) (n : ℕ) (rest : List ℕ) (f : ReadFault × List ℕ) → length done < n → letter rest ≡ Err f → letters n (map letter_of done ++ rest) ≡ Err f
+letters_at : (done : List Move) (n : ℕ) (rest : List ℕ) (f : FormatFault × List ℕ) → length done < n → letter rest ≡ Err f → letters n (map letter_of done ++ rest) ≡ Err f
 unfolding letters ◌>>=◌
 letters_at done zero rest f fewer fails = absurd (omega (arith, fewer))
 letters_at [] (suc n) rest f fewer fails = ap (continued (λ m. letters n >>= λ ms. give (m ∷ ms))) fails
@@ -54,10 +56,11 @@ letters_at (m ∷ done) (suc n) rest f fewer fails =
 pub letters_refuse : (done : List Move) (n : ℕ) (old mid new : Option (List ℕ)) (f : ReadFault) → length done < n → Consumes old mid (map letter_of done) → Refuses letter mid new f → Refuses (letters n) old new f
 letters_refuse done n old mid new f fewer taken r = record {
   taken = (map letter_of done ++ r.taken.0, Consumes-trans old mid new (map letter_of done) r.taken.0 taken r.taken.1);
-  first = λ of input is.
+  first = if_format f (λ g. (input : List ℕ) → mid ≡ Some input → (from : List ℕ) × (letter input ≡ Err (g, from))) (λ g. (input : List ℕ) → old ≡ Some input → (from : List ℕ) × (letters n input ≡ Err (g, from)))
+      (λ g first input is.
       let q = known old mid (map letter_of done) input is taken in
-      let p = r.first of q.0 q.1 in
-      (p.0, ap (letters n) q.2 ∙ letters_at done n q.0 (f, p.0) fewer p.1);
+      let p = first q.0 q.1 in
+      (p.0, ap (letters n) q.2 ∙ letters_at done n q.0 (g, p.0) fewer p.1)) r.first;
 }
 
 -- ---- several rows
@@ -83,7 +86,7 @@ pub text_pushed : (rs : List (Position × ℕ)) (r : Position × ℕ) → flat_m
 text_pushed [] r = flat_map-cons row_text r [] ∙ append-nil (row_text r)
 text_pushed (s ∷ rs) r = flat_map-cons row_text s (rs ++ r ∷ []) ∙ ap (λ (l : List ℕ). row_text s ++ l) (text_pushed rs r) ∙ sym (append_assoc (row_text s) (flat_map row_text rs) (row_text r)) ∙ ap (λ (l : List ℕ). l ++ row_text r) (sym (flat_map-cons row_text s rs))
 
-rows_at : (grid : Grid) (before : Option Position) → IsBefore grid before → (done : List (Position × ℕ)) (n : ℕ) (rest : List ℕ) (f : ReadFault × List ℕ) → length done < n → AllByRecursion (IsRow grid) done → RiseAfter before done
+rows_at : (grid : Grid) (before : Option Position) → IsBefore grid before → (done : List (Position × ℕ)) (n : ℕ) (rest : List ℕ) (f : FormatFault × List ℕ) → length done < n → AllByRecursion (IsRow grid) done → RiseAfter before done
     → row grid (last_of before done) rest ≡ Err f → rows grid before n (flat_map row_text done ++ rest) ≡ Err f
 unfolding rows ◌>>=◌
 rows_at grid before is done zero rest f fewer all rise fails = absurd (omega (arith, fewer))
@@ -99,10 +102,11 @@ pub rows_refuse : (grid : Grid) (done : List (Position × ℕ)) (n : ℕ) (old m
     → Consumes old mid (flat_map row_text done) → Refuses (row grid (last_of None done)) mid new f → Refuses (rows grid None n) old new f
 rows_refuse grid done n old mid new f fewer all rise taken r = record {
   taken = (flat_map row_text done ++ r.taken.0, Consumes-trans old mid new (flat_map row_text done) r.taken.0 taken r.taken.1);
-  first = λ of input is.
+  first = if_format f (λ g. (input : List ℕ) → mid ≡ Some input → (from : List ℕ) × (row grid (last_of None done) input ≡ Err (g, from))) (λ g. (input : List ℕ) → old ≡ Some input → (from : List ℕ) × (rows grid None n input ≡ Err (g, from)))
+      (λ g first input is.
       let q = known old mid (flat_map row_text done) input is taken in
-      let p = r.first of q.0 q.1 in
-      (p.0, ap (rows grid None n) q.2 ∙ rows_at grid None tt done n q.0 (f, p.0) fewer all rise p.1);
+      let p = first q.0 q.1 in
+      (p.0, ap (rows grid None n) q.2 ∙ rows_at grid None tt done n q.0 (g, p.0) fewer all rise p.1)) r.first;
 }
 
 pub last_is_board : (grid : Grid) (before : Option Position) (rs : List (Position × ℕ)) → IsBefore grid before → AllByRecursion (IsRow grid) rs → IsBefore grid (last_of before rs)
@@ -112,7 +116,7 @@ last_is_board grid before (r ∷ rs) is all = last_is_board grid (Some r.0) rs a
 -- ---- want of memory, and answers that are passed on
 
 pub lacks_memory : {X : Type 0} {r : Reader X} (old new : Option (List ℕ)) (text : List ℕ) → Consumes old new text → (refused : OutOfMemory) → Refuses r old new (NoMemory refused)
-lacks_memory old new text taken refused = record { taken = (text, taken); first = λ of. absurd of }
+lacks_memory old new text taken refused = record { taken = (text, taken); first = tt }
 
 pub if_err : {X : Type 0} (r : Result X ReadFault) (P Q : ReadFault → Type 0) → ((f : ReadFault) → P f → Q f) → IfErr r P → IfErr r Q
 if_err (Ok x) P Q h p = tt

@@ -15,7 +15,7 @@ use Rattle.board.specs.Grids.{Grid, IsShape, cell_count}
 use Rattle.board.specs.Positions.{Position, goal_of}
 use Rattle.board.specs.CostRules.{CostRule, unit_rule, face_rule}
 use Rattle.board.proofs.GoalLemmas.{goal_board}
-use Rattle.certificate.specs.declared.faults.ReadFault.TheVariants.{OtherMagic, OutOfRange}
+use Rattle.certificate.specs.declared.faults.FormatFault.TheVariants.{OtherMagic, OutOfRange}
 use Rattle.certificate.specs.Certificates.{AreNamedCosts, IsBoardOf, IsWithinLimit}
 use Rattle.certificate.specs.Spellings.{kind_of, opening_text, letter_of, number_text, count_text, plan_text}
 use Rattle.certificate.specs.Readings.{give, magic, magic_in, byte_within, byte_in, number, number_in, count, count_in, board, board_in, letter, letter_in, grid_of, costs_of, opening, letters, plan, rows}

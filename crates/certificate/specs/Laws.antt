@@ -4,7 +4,7 @@ use Rattle.std.specs.List.{AllByRecursion}
 use Rattle.certificate.specs.Certificates.{Statement, IsCertificate}
 use Rattle.certificate.specs.Spellings.{Spells, spelling, announcing}
 use Rattle.certificate.specs.Readings.{certificate, IsFaultAt, IsFirstFault}
-use Rattle.certificate.specs.declared.faults.ReadFault.{ReadFault}
+use Rattle.certificate.specs.declared.faults.FormatFault.{FormatFault}
 
 -- the numbers are bytes
 abbrev pub AreBytes : List ℕ → Type 0
@@ -16,15 +16,15 @@ ReadingIsSpelling = (bytes : List ℕ) → AreBytes bytes → (c : Statement) �
 
 -- bytes spell a certificate or have a first fault
 abbrev pub SpelledOrFaulty : Type 0
-SpelledOrFaulty = (bytes : List ℕ) → AreBytes bytes → ((c : Statement) × Spells c bytes) ⊎ ((fault : ReadFault) × IsFirstFault bytes fault)
+SpelledOrFaulty = (bytes : List ℕ) → AreBytes bytes → ((c : Statement) × Spells c bytes) ⊎ ((fault : FormatFault) × IsFirstFault bytes fault)
 
 -- and not both
 abbrev pub NotBoth : Type 0
-NotBoth = (bytes : List ℕ) (c : Statement) (fault : ReadFault) → Spells c bytes → ¬ IsFirstFault bytes fault
+NotBoth = (bytes : List ℕ) (c : Statement) (fault : FormatFault) → Spells c bytes → ¬ IsFirstFault bytes fault
 
 -- bytes have one first fault
 abbrev pub OneFirstFault : Type 0
-OneFirstFault = (bytes : List ℕ) (fault fault' : ReadFault) → IsFirstFault bytes fault → IsFirstFault bytes fault' → fault' ≡ fault
+OneFirstFault = (bytes : List ℕ) (fault fault' : FormatFault) → IsFirstFault bytes fault → IsFirstFault bytes fault' → fault' ≡ fault
 
 -- one text begins with the other
 abbrev pub Begins : List ℕ → List ℕ → Type 0
@@ -33,7 +33,7 @@ Begins text before = (after : List ℕ) × (text ≡ before ++ after)
 -- What stands before the faulty field is the beginning of some spelling. Before a faulty row stands a spelling but for the number of rows, of which more are announced than stand there.
 abbrev pub FaultsComeFirst : Type 0
 FaultsComeFirst =
-    (bytes : List ℕ) (fault : ReadFault) (from : List ℕ) → AreBytes bytes → IsFaultAt bytes fault from
+    (bytes : List ℕ) (fault : FormatFault) (from : List ℕ) → AreBytes bytes → IsFaultAt bytes fault from
     → (before : List ℕ) × (c : Statement) × (bytes ≡ before ++ from) × IsCertificate c × (Begins (spelling c) before ⊎ ((count : ℕ) × (length c.rows < count) × (count < 2 ^ 64) × (before ≡ announcing count c)))
 
 -- no spelling begins another one

@@ -10,15 +10,15 @@ use Rattle.board.specs.Positions.{Position}
 use Rattle.board.specs.CostRules.{CostRule, unit_rule, face_rule}
 use Rattle.board.specs.Keys.{key_of}
 use Rattle.certificate.specs.Certificates.{Statement}
-use Rattle.certificate.specs.declared.faults.ReadFault.{ReadFault}
-use Rattle.certificate.specs.declared.faults.ReadFault.TheVariants.{OtherMagic, Truncated, OutOfRange, NotRising, BytesAfterEnd}
+use Rattle.certificate.specs.declared.faults.FormatFault.{FormatFault}
+use Rattle.certificate.specs.declared.faults.FormatFault.TheVariants.{OtherMagic, Truncated, OutOfRange, NotRising, BytesAfterEnd}
 
 -- What is read from the front: a value and the bytes behind it, or a fault and the bytes from the faulty field on.
 abbrev pub Reader : Type 0 → Type 0
-Reader X = List ℕ → Result (X × List ℕ) (ReadFault × List ℕ)
+Reader X = List ℕ → Result (X × List ℕ) (FormatFault × List ℕ)
 
 -- what is done with the outcome of a field: the next field is read behind it
-abbrev pub continued : {X Y : Type 0} → (X → Reader Y) → Result (X × List ℕ) (ReadFault × List ℕ) → Result (Y × List ℕ) (ReadFault × List ℕ)
+abbrev pub continued : {X Y : Type 0} → (X → Reader Y) → Result (X × List ℕ) (FormatFault × List ℕ) → Result (Y × List ℕ) (FormatFault × List ℕ)
 continued next (Ok found) = next found.0 found.1
 continued next (Err fault) = Err fault
 
@@ -32,16 +32,16 @@ unfoldable pub give : {X : Type 0} → X → Reader X
 give x bytes = Ok (x, bytes)
 
 -- the value of a field that was found, or a fault where it has none
-abbrev pub judged : {X : Type 0} → ReadFault → List ℕ → List ℕ → Option X → Result (X × List ℕ) (ReadFault × List ℕ)
+abbrev pub judged : {X : Type 0} → FormatFault → List ℕ → List ℕ → Option X → Result (X × List ℕ) (FormatFault × List ℕ)
 judged fault bytes rest None = Err (fault, bytes)
 judged fault bytes rest (Some x) = Ok (x, rest)
 
 -- a field of n bytes
-unfoldable pub field : {X : Type 0} → ReadFault → ℕ → (List ℕ → Option X) → Reader X
+unfoldable pub field : {X : Type 0} → FormatFault → ℕ → (List ℕ → Option X) → Reader X
 field fault n value bytes = if nat_lt (length bytes) n then Err (Truncated, bytes) else judged fault bytes (drop n bytes) (value (take n bytes))
 
 -- a fault within counts from here
-abbrev pub blamed : {X : Type 0} → List ℕ → Result (X × List ℕ) (ReadFault × List ℕ) → Result (X × List ℕ) (ReadFault × List ℕ)
+abbrev pub blamed : {X : Type 0} → List ℕ → Result (X × List ℕ) (FormatFault × List ℕ) → Result (X × List ℕ) (FormatFault × List ℕ)
 blamed bytes (Ok found) = Ok found
 blamed bytes (Err fault) = Err (fault.0, bytes)
 
@@ -177,9 +177,9 @@ certificate = do
   give (record c { rows = proof })
 
 -- this is the first fault of the bytes, in a field or a row with which these of them begin
-abbrev pub IsFaultAt : List ℕ → ReadFault → List ℕ → Type 0
+abbrev pub IsFaultAt : List ℕ → FormatFault → List ℕ → Type 0
 IsFaultAt bytes fault from = certificate bytes ≡ Err (fault, from)
 
 -- this is the first fault of the bytes
-abbrev pub IsFirstFault : List ℕ → ReadFault → Type 0
+abbrev pub IsFirstFault : List ℕ → FormatFault → Type 0
 IsFirstFault bytes fault = (from : List ℕ) × IsFaultAt bytes fault from

@@ -1,12 +1,12 @@
 ghost use Rattle.std.specs.Prelude.{◌≡◌};
-ghost use Rattle.certificate.specs.Codes.{read_code_of, write_code_of};
+ghost use Rattle.certificate.specs.Codes.{format_code_of, read_code_of, write_code_of};
 
 use memory::OutOfMemory;
 use thiserror::Error;
 
-/// Why no certificate was read.
+/// What is wrong with bytes that spell no certificate.
 #[derive(Clone, Copy, Debug, PartialEq, Eq, Error)]
-pub enum ReadFault {
+pub enum FormatFault {
     /// F1
     #[error("the bytes begin as no certificate does")]
     OtherMagic,
@@ -22,6 +22,29 @@ pub enum ReadFault {
     /// F5
     #[error("bytes stand after the last row")]
     BytesAfterEnd,
+}
+
+impl FormatFault {
+    /// The code that the fault is reported by: `F1` to `F5`.
+    pub fn code(self) -> &'static str
+        ensures { result.now ≡ format_code_of self }
+    {
+        match self {
+            FormatFault::OtherMagic => "F1",
+            FormatFault::Truncated => "F2",
+            FormatFault::OutOfRange => "F3",
+            FormatFault::NotRising => "F4",
+            FormatFault::BytesAfterEnd => "F5",
+        }
+    }
+}
+
+/// Why no certificate was read.
+#[derive(Clone, Copy, Debug, PartialEq, Eq, Error)]
+pub enum ReadFault {
+    /// F1 to F5
+    #[error("{0}")]
+    Format(FormatFault),
     /// F6
     #[error("the input cannot be read")]
     Failed,
@@ -36,11 +59,7 @@ impl ReadFault {
         ensures { result.now ≡ read_code_of self }
     {
         match self {
-            ReadFault::OtherMagic => "F1",
-            ReadFault::Truncated => "F2",
-            ReadFault::OutOfRange => "F3",
-            ReadFault::NotRising => "F4",
-            ReadFault::BytesAfterEnd => "F5",
+            ReadFault::Format(fault) => fault.code(),
             ReadFault::Failed => "F6",
             ReadFault::NoMemory(_) => "F7",
         }

@@ -9,7 +9,7 @@ ghost use Rattle.certificate.specs.Readings.{magic, byte_within, number, count, 
 ghost use Rattle.certificate.specs.Sources.{EndsEarly, Refuses, EndsThere, tells_failure};
 
 use crate::certificate::{LIMIT, comes_after};
-use crate::faults::ReadFault;
+use crate::faults::{FormatFault, ReadFault};
 use board::{Board, Move, Shape};
 use byte_streams::Source;
 
@@ -21,7 +21,7 @@ fn next_due<S: Source>(source: &mut S) -> Result<u8, ReadFault>
 {
     match source.next_byte() {
         Ok(Some(byte)) => Ok(byte),
-        Ok(None) => Err(ReadFault::Truncated),
+        Ok(None) => Err(ReadFault::Format(FormatFault::Truncated)),
         Err(_) => Err(ReadFault::Failed),
     }
 }
@@ -48,7 +48,7 @@ pub(crate) fn read_magic<S: Source>(source: &mut S) -> Result<(), ReadFault>
     let mut text = [0; 8];
     fill(source, &mut text)?;
     if text != *b"TILECRT1" {
-        return Err(ReadFault::OtherMagic);
+        return Err(ReadFault::Format(FormatFault::OtherMagic));
     }
     Ok(())
 }
@@ -63,7 +63,7 @@ pub(crate) fn read_byte<S: Source>(source: &mut S, low: u8, high: u8) -> Result<
 {
     let byte = next_due(source)?;
     if byte < low || high < byte {
-        return Err(ReadFault::OutOfRange);
+        return Err(ReadFault::Format(FormatFault::OutOfRange));
     }
     Ok(byte)
 }
@@ -79,7 +79,7 @@ pub(crate) fn read_number<S: Source>(source: &mut S) -> Result<u32, ReadFault>
     fill(source, &mut text)?;
     let number = number_from(text);
     if number > LIMIT {
-        return Err(ReadFault::OutOfRange);
+        return Err(ReadFault::Format(FormatFault::OutOfRange));
     }
     Ok(number)
 }
@@ -124,7 +124,7 @@ pub(crate) fn read_board<S: Source>(source: &mut S, shape: Shape) -> Result<Boar
     fill(source, tiles)?;
     match Board::from_tiles(shape, tiles) {
         Ok(board) => Ok(board),
-        Err(_) => Err(ReadFault::OutOfRange),
+        Err(_) => Err(ReadFault::Format(FormatFault::OutOfRange)),
     }
 }
 
@@ -137,7 +137,7 @@ pub(crate) fn read_letter<S: Source>(source: &mut S) -> Result<Move, ReadFault>
     let byte = next_due(source)?;
     match letter_move(byte) {
         Some(direction) => Ok(direction),
-        None => Err(ReadFault::OutOfRange),
+        None => Err(ReadFault::Format(FormatFault::OutOfRange)),
     }
 }
 
@@ -171,7 +171,7 @@ pub(crate) fn read_row<S: Source>(
     let board = read_board(source, shape)?;
     let cost = read_number(source)?;
     if !comes_after(before, &board) {
-        return Err(ReadFault::NotRising);
+        return Err(ReadFault::Format(FormatFault::NotRising));
     }
     Ok((board, cost))
 }
@@ -184,7 +184,7 @@ pub(crate) fn read_end<S: Source>(source: &mut S) -> Result<(), ReadFault>
 {
     match source.next_byte() {
         Ok(None) => Ok(()),
-        Ok(Some(_)) => Err(ReadFault::BytesAfterEnd),
+        Ok(Some(_)) => Err(ReadFault::Format(FormatFault::BytesAfterEnd)),
         Err(_) => Err(ReadFault::Failed),
     }
 }

@@ -9,6 +9,6 @@ mod reading;
 mod writing;
 
 pub use certificate::{Certificate, LIMIT, Parts};
-pub use faults::{ReadFault, WriteFault};
+pub use faults::{FormatFault, ReadFault, WriteFault};
 pub use reading::read;
 pub use writing::write;

@@ -3,11 +3,11 @@ use Rattle.std.specs.Prelude.{ℕ, ◌≡◌, ◌⊎◌, List, Option, IfSome}
 use Rattle.byte_streams.specs.Sink.{AppendsBeginning}
 use Rattle.board.specs.Plans.{IsLeast}
 use Rattle.reports.specs.Reports.{accepted_data, refused_certificate_data, report_text}
-use Rattle.certificate.specs.declared.faults.ReadFault.{ReadFault}
+use Rattle.certificate.specs.declared.faults.FormatFault.{FormatFault}
 use Rattle.certificate.specs.Certificates.{Statement}
 use Rattle.certificate.specs.Spellings.{Spells}
 use Rattle.certificate.specs.Readings.{IsFirstFault}
-use Rattle.certificate.specs.Codes.{read_code_of}
+use Rattle.certificate.specs.Codes.{format_code_of}
 use Rattle.certificate_check.specs.declared.refusals.Refusal.{Refusal}
 use Rattle.certificate_check.specs.Refusals.{IsProved, IsFirstRefusal, code_of}
 use Rattle.certificate_runs.specs.declared.faults.CheckFault.{CheckFault}
@@ -33,7 +33,7 @@ IsJudgement c text status = IsAccepted c text status ⊎ ((refusal : Refusal) ×
 abbrev pub IsVerdict : List ℕ → ℕ → List ℕ → Type 0
 IsVerdict text status input =
     ((c : Statement) × Spells c input × IsJudgement c text status)
-    ⊎ ((fault : ReadFault) × IsFirstFault input fault × IsRefused (read_code_of fault) text status)
+    ⊎ ((fault : FormatFault) × IsFirstFault input fault × IsRefused (format_code_of fault) text status)
 
 -- What is written where the run ends early: a beginning of the verdict where writing fails, and else nothing.
 abbrev pub EndsCheck : Option (List ℕ) → Option (List ℕ) → Option (List ℕ) → CheckFault → Type 0

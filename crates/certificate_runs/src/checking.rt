@@ -35,12 +35,12 @@ pub fn run_check<S: Source, K: Sink>(
             Ok((text, status)) => put_verdict(sink, text.as_str(), status),
             Err(lacking) => Err(CheckFault::Memory(lacking)),
         },
-        Err(ReadFault::Failed) => Err(CheckFault::CertificateRead),
-        Err(ReadFault::NoMemory(refused)) => Err(CheckFault::CertificateMemory(refused)),
-        Err(fault) => match refuse(alloc, fault.code()) {
+        Err(ReadFault::Format(fault)) => match refuse(alloc, fault.code()) {
             Ok((text, status)) => put_verdict(sink, text.as_str(), status),
             Err(lacking) => Err(CheckFault::Memory(lacking)),
         },
+        Err(ReadFault::Failed) => Err(CheckFault::CertificateRead),
+        Err(ReadFault::NoMemory(refused)) => Err(CheckFault::CertificateMemory(refused)),
     }
 }
 

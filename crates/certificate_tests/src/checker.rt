@@ -1,7 +1,7 @@
 use super::vectors::{GOAL, ONE_MOVE, THREE_MOVES};
 use board::Move;
 use byte_streams::ByteSource;
-use certificate::{ReadFault, read};
+use certificate::{FormatFault, ReadFault, read};
 use certificate_check::{Refusal, check};
 use std::alloc::Global;
 
@@ -30,10 +30,10 @@ fn known_answers(rt: HostRuntime) {
         (&ONE_MOVE, Ok(Ok(()))),
         (&THREE_MOVES, Ok(Ok(()))),
         // Fields that are cut off are not judged.
-        (b"\xff", Err(ReadFault::Truncated)),
+        (b"\xff", Err(ReadFault::Format(FormatFault::Truncated))),
         (
             b"TILECRT1\x02\x02\x00\x00\x01\xff\x02",
-            Err(ReadFault::Truncated),
+            Err(ReadFault::Format(FormatFault::Truncated)),
         ),
     ];
     for (bytes, want) in answers {
@@ -45,17 +45,17 @@ fn known_answers(rt: HostRuntime) {
 fn each_fault_and_refusal(rt: HostRuntime) {
     let changes: [(usize, &[u8], Result<Result<(), Refusal>, ReadFault>); 12] = [
         // Another text in front.
-        (7, b"2", Err(ReadFault::OtherMagic)),
+        (7, b"2", Err(ReadFault::Format(FormatFault::OtherMagic))),
         // More rows announced than any memory holds.
-        (31, &[0xff; 8], Err(ReadFault::Truncated)),
+        (31, &[0xff; 8], Err(ReadFault::Format(FormatFault::Truncated))),
         // A cost of 1,048,576.
-        (20, &[0, 0, 16], Err(ReadFault::OutOfRange)),
+        (20, &[0, 0, 16], Err(ReadFault::Format(FormatFault::OutOfRange))),
         // The second row's board in the first row.
-        (39, &[1, 0, 2, 3], Err(ReadFault::NotRising)),
+        (39, &[1, 0, 2, 3], Err(ReadFault::Format(FormatFault::NotRising))),
         // The same board at 1,048,576: a row's order is judged last.
-        (39, &[1, 0, 2, 3, 0, 0, 16], Err(ReadFault::OutOfRange)),
+        (39, &[1, 0, 2, 3, 0, 0, 16], Err(ReadFault::Format(FormatFault::OutOfRange))),
         // One row less announced than stands there.
-        (31, &[4], Err(ReadFault::BytesAfterEnd)),
+        (31, &[4], Err(ReadFault::Format(FormatFault::BytesAfterEnd))),
         // The plans R, R, L and R, U, D.
         (29, b"R", Ok(Err(Refusal::IllegalMove(1)))),
         (30, b"D", Ok(Err(Refusal::OtherEnd))),

@@ -1,6 +1,6 @@
 use super::vectors::ONE_MOVE;
 use byte_streams::{ByteSink, ByteSource};
-use certificate::{Certificate, ReadFault, WriteFault, read, write};
+use certificate::{Certificate, FormatFault, ReadFault, WriteFault, read, write};
 use std::alloc::Global;
 use std::io;
 use std::io::{ErrorKind, Read, Write};
@@ -60,7 +60,7 @@ fn each_read_fails_in_turn(rt: HostRuntime) {
     // Each byte is a read, and so is the end. Nothing behind a fault is read.
     for (text, reads, answer) in [
         (&ONE_MOVE, 46, None),
-        (&with_groups, 12, Some(ReadFault::OutOfRange)),
+        (&with_groups, 12, Some(ReadFault::Format(FormatFault::OutOfRange))),
     ] {
         for reads_before in 0..=reads {
             let mut source = ByteSource::new(FailingReader { text, reads_before });

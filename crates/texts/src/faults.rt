@@ -1,7 +1,7 @@
 use batch_cli::{BatchFault, CertifyFault, CheckFault, EntryFault, LinesFault, SolveFault};
 use board::{BoardFault, Move};
 use byte_streams::{ReadFailed, WriteFailed};
-use certificate::{ReadFault, WriteFault};
+use certificate::{FormatFault, ReadFault, WriteFault};
 use certificate_check::Refusal;
 use database_build::TableFault;
 use lower_bound::PatternFault;
@@ -79,11 +79,11 @@ fn print_groups(rt: &impl Print) -> io::Result<()> {
 fn print_certificates(rt: &impl Print, refused: OutOfMemory) -> io::Result<()> {
     rt.println("\n# Faults of certificates that are read or written")?;
     for fault in [
-        ReadFault::OtherMagic,
-        ReadFault::Truncated,
-        ReadFault::OutOfRange,
-        ReadFault::NotRising,
-        ReadFault::BytesAfterEnd,
+        ReadFault::Format(FormatFault::OtherMagic),
+        ReadFault::Format(FormatFault::Truncated),
+        ReadFault::Format(FormatFault::OutOfRange),
+        ReadFault::Format(FormatFault::NotRising),
+        ReadFault::Format(FormatFault::BytesAfterEnd),
         ReadFault::Failed,
         ReadFault::NoMemory(refused),
     ] {

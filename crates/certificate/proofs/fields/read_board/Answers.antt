@@ -4,7 +4,7 @@ use Rattle.certificate.specs.Sources.{Refuses, EndsEarly}
 use Rattle.certificate.specs.Readings.{board, board_in}
 use Rattle.std.proofs.lemmas.Bool.{false≢true}
 use Rattle.board.specs.Grids.{cell_count}
-use Rattle.certificate.specs.declared.faults.ReadFault.TheVariants.{OutOfRange}
+use Rattle.certificate.specs.declared.faults.FormatFault.TheVariants.{OutOfRange}
 use Rattle.certificate.proofs.FieldLemmas.{passed, cut_short, refused}
 use Rattle.certificate.proofs.BoardLemmas.{no_board, room}
 use Rattle.certificate.proofs.fields.read_board.Goals as goal

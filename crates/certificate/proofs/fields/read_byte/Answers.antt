@@ -1,7 +1,7 @@
 use Rattle.std.proofs.Common.{refl, [], ◌∷◌}
 use Rattle.certificate.specs.Sources.{Refuses}
 use Rattle.certificate.specs.Readings.{byte_within, byte_in}
-use Rattle.certificate.specs.declared.faults.ReadFault.TheVariants.{OutOfRange}
+use Rattle.certificate.specs.declared.faults.FormatFault.TheVariants.{OutOfRange}
 use Rattle.certificate.proofs.FieldLemmas.{passed, cut_short, refused, below_range, above_range}
 use Rattle.certificate.proofs.fields.read_byte.Goals.{then-byte-low-via-then-byte-low, then-byte-low-via-else-byte-low+then-high-byte}
 use Rattle.certificate.proofs.fields.read_byte.Goals as goal

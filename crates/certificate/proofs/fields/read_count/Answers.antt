@@ -1,6 +1,6 @@
 use Rattle.certificate.specs.Sources.{Refuses}
 use Rattle.certificate.specs.Readings.{count, count_in}
-use Rattle.certificate.specs.declared.faults.ReadFault.TheVariants.{OutOfRange}
+use Rattle.certificate.specs.declared.faults.FormatFault.TheVariants.{OutOfRange}
 use Rattle.certificate.proofs.FieldLemmas.{passed, cut_short}
 use Rattle.certificate.proofs.fields.read_count.Goals as goal
 

@@ -3,7 +3,7 @@ use Rattle.std.specs.Prelude.{ℕ}
 use Rattle.std.specs.Io.KnownBytes.{Consumes}
 use Rattle.certificate.specs.Sources.{Refuses}
 use Rattle.certificate.specs.Readings.{letter, letter_in}
-use Rattle.certificate.specs.declared.faults.ReadFault.TheVariants.{OutOfRange}
+use Rattle.certificate.specs.declared.faults.FormatFault.TheVariants.{OutOfRange}
 use Rattle.certificate.proofs.FieldLemmas.{passed, cut_short, refused, letter_found}
 use Rattle.certificate.proofs.fields.read_letter.Goals as goal
 

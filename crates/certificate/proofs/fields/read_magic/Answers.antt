@@ -1,7 +1,7 @@
 use Rattle.std.proofs.Common.{rules, sym, ◌∙◌}
 use Rattle.certificate.specs.Sources.{Refuses}
 use Rattle.certificate.specs.Readings.{magic, magic_in}
-use Rattle.certificate.specs.declared.faults.ReadFault.TheVariants.{OtherMagic}
+use Rattle.certificate.specs.declared.faults.FormatFault.TheVariants.{OtherMagic}
 use Rattle.certificate.proofs.FieldLemmas.{passed, cut_short, refused, other_magic, not_flipped}
 use Rattle.certificate.proofs.fields.read_magic.Goals as goal
 

@@ -1,7 +1,7 @@
 use Rattle.std.proofs.Common.{rules}
 use Rattle.certificate.specs.Sources.{Refuses}
 use Rattle.certificate.specs.Readings.{number, number_in}
-use Rattle.certificate.specs.declared.faults.ReadFault.TheVariants.{OutOfRange}
+use Rattle.certificate.specs.declared.faults.FormatFault.TheVariants.{OutOfRange}
 use Rattle.certificate.proofs.FieldLemmas.{passed, cut_short, refused, number_too_high}
 use Rattle.certificate.proofs.fields.read_number.Goals as goal
 
