@@ -1,6 +1,6 @@
-ghost use Rattle.std.specs.Prelude.{◌≡◌, false, None, Some};
+ghost use Rattle.std.specs.Prelude.{◌≡◌, ◌<◌, ◌+◌, ◌^◌, ◌++◌, false, length, None, Some};
 ghost use Rattle.byte_streams.specs.ByteSource.{source_has_failed};
-ghost use Rattle.byte_streams.specs.ByteSink.{sink_has_failed};
+ghost use Rattle.byte_streams.specs.ByteSink.{inner_writer, sink_has_failed};
 
 use crate::fakes::{FailingReader, FailingWriter};
 use byte_streams::{ByteSink, ByteSource, ReadFailed, Reader, Sink, Source, WriteFailed, Writer};
@@ -117,6 +117,8 @@ struct Text<'a> {
 impl Reader for Text<'_> {
     ghost left = { λ t. Some t.bytes.now };
 
+    ghost read_gives = { λ old bytes new. old.bytes.now ≡ bytes ++ new.bytes.now };
+
     ghost read_fails = { λ _ _. ⊥ };
 
     fn read_once(&mut self, buffer: &mut [u8]) -> io::Result<usize> {
@@ -133,9 +135,12 @@ struct Counter {
 impl Writer for Counter {
     ghost contents = { λ _. None };
 
+    ghost write_takes = { λ old bytes new. old.count + length bytes < 2 ^ 64
+        → new.count ≡ old.count + length bytes };
+
     ghost write_fails = { λ _ _. ⊥ };
 
-    ghost flushes = { λ _ _. Unit {0} };
+    ghost flushes = { λ old new. new.count ≡ old.count };
 
     ghost flush_fails = { λ _ _. ⊥ };
 
@@ -156,8 +161,12 @@ fn next_of_text(source: &mut ByteSource<Text>) -> Option<u8>
     source.next_byte().unwrap()
 }
 
+// The count is proved too: each write adds to it, and `put` makes no write but those that took the bytes.
 fn count_of(sink: ByteSink<Counter>, bytes: &[u8]) -> usize
-    requires { sink_has_failed sink ≡ false }
+    requires fresh { sink_has_failed sink ≡ false }
+    requires empty { (inner_writer sink).count ≡ 0 }
+    requires short { length bytes.now < 2 ^ 64 }
+    ensures { result ≡ length bytes.now }
 {
     let mut sink = sink;
     sink.put(bytes).unwrap();

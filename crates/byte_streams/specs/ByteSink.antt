@@ -9,7 +9,3 @@ inner_writer s = s.writer
 -- a write or a flush has failed
 abbrev pub sink_has_failed : {W : Type 0} → ByteSink W → Bool
 sink_has_failed s = s.has_failed
-
--- the last call, which led to this state, is one of these
-abbrev pub EndsBy : {W : Type 0} → (W → W → Type 0) → W → Type 0
-EndsBy {W} calls new = (before : W) × calls before new

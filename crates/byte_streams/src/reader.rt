@@ -1,18 +1,22 @@
-ghost use Rattle.std.specs.Prelude.{ℕ, List, OnErr, Option};
+ghost use Rattle.std.specs.Prelude.{ℕ, ◌<◌, IfOk, List, OnErr, Option, length, take};
 ghost use Rattle.std.specs.Io.{ReadsAtMost};
 ghost use Rattle.std.specs.Io.KnownBytes.{ReadConsumes};
 
 use std::io;
 use std::io::Read;
 
-/// A reader of std, with a word for a read that failed.
+/// A reader of std, with words for what one read gave, and for a read that failed.
 ///
-/// Each `Read` is a `Reader`. std does not say when a read fails, so `read_fails` holds of any two
+/// Each `Read` is a `Reader`. std does not say when a read fails, so these words hold of any two
 /// states there. But what is proved of every `Reader` can speak of a failure only where a read has
-/// answered one. Implement it by hand for a reader of which more is known, as that it never fails.
+/// answered one, and of bytes given only where one read gave them. Implement it by hand for a
+/// reader of which more is known, as that it never fails.
 pub trait Reader {
     // The bytes that are left, where they are known.
     ghost left: { Self → Option (List ℕ) };
+
+    // One read gave these bytes, or none at the end, from the one state to the other.
+    ghost read_gives: { Self → List ℕ → Self → Type 0 };
 
     // A read failed, from the one state to the other.
     ghost read_fails: { Self → Self → Type 0 };
@@ -23,11 +27,15 @@ pub trait Reader {
     fn read_once(&mut self, buffer: &mut [u8]) -> io::Result<usize>
         ensures bound { ReadsAtMost result buffer.new }
         ensures bytes { ReadConsumes (left self.old) (left self.new) result buffer.new }
+        ensures gives { IfOk result
+            (λ n. 0 < length buffer.new → read_gives self.old (take n buffer.new) self.new) }
         ensures fails { OnErr result (read_fails self.old self.new) };
 }
 
 impl<R: Read> Reader for R {
     ghost left = { R.remaining };
+
+    ghost read_gives = { λ _ _ _. Unit {0} };
 
     ghost read_fails = { λ _ _. Unit {0} };
 

@@ -1,7 +1,7 @@
 ghost use Rattle.std.specs.Prelude.{◌≡◌, ◌<◌, ◌≤◌, ℕ, Bool, true, false, is_err, IfOk, IsErr, length, List, OnErr, OnOk, Option, take};
 ghost use Rattle.std.specs.Io.KnownBytes.{Appends, Keeps};
-ghost use Rattle.byte_streams.specs.Sink.{AppendsBeginning};
-ghost use Rattle.byte_streams.specs.ByteSink.{inner_writer, sink_has_failed, EndsBy};
+ghost use Rattle.byte_streams.specs.Sink.{AppendsBeginning, AreTaken, StopsAtFailure};
+ghost use Rattle.byte_streams.specs.ByteSink.{inner_writer, sink_has_failed};
 
 use crate::writer::Writer;
 use thiserror::Error;
@@ -90,10 +90,13 @@ impl<W: Writer> Sink for ByteSink<W> {
         ensures stays { sink_has_failed self.old ≡ true → IsErr result
             × Keeps (W.contents (inner_writer self.old)) (W.contents (inner_writer self.new)) }
 
-        // It fails only by a write that failed, or took no byte, in this call, or since it had
-        // failed before.
+        // It succeeds by writes of which each took bytes. It fails by such writes and one more,
+        // which failed or took no byte, or since it had failed before.
+        ensures writes { OnOk result (AreTaken W.write_takes (inner_writer self.old) bytes.now
+            (inner_writer self.new)) }
         ensures cause { sink_has_failed self.old ≡ false
-            → OnErr result (EndsBy W.write_fails (inner_writer self.new)) }
+            → OnErr result (StopsAtFailure W.write_takes W.write_fails (inner_writer self.old)
+            bytes.now (inner_writer self.new)) }
         ensures untouched { sink_has_failed self.old ≡ true
             → inner_writer self.new ≡ inner_writer self.old }
     {
@@ -144,6 +147,7 @@ fn write_some<W: Writer>(writer: &mut W, bytes: &[u8]) -> Result<usize, WriteFai
     ensures bound { IfOk result (λ n. (0 < n) × (n ≤ length bytes.now)) }
     ensures taken { IfOk result
         (λ n. Appends (W.contents writer.old) (W.contents writer.new) (take n bytes.now)) }
+    ensures takes { IfOk result (λ n. W.write_takes writer.old (take n bytes.now) writer.new) }
     ensures kept { OnErr result (Keeps (W.contents writer.old) (W.contents writer.new)) }
     ensures cause { OnErr result (W.write_fails writer.old writer.new) }
 {

@@ -1,6 +1,6 @@
 ghost use Rattle.std.specs.Prelude.{◌≡◌, ℕ, Bool, true, false, is_err, IfOk, IsErr, List, OnErr, Option};
 ghost use Rattle.std.specs.Io.KnownBytes.{Keeps};
-ghost use Rattle.byte_streams.specs.Source.{GivesByte};
+ghost use Rattle.byte_streams.specs.Source.{GivesByte, GivenByRead};
 ghost use Rattle.byte_streams.specs.ByteSource.{inner_reader, source_has_failed};
 
 use crate::reader::Reader;
@@ -72,7 +72,10 @@ impl<R: Reader> Source for ByteSource<R> {
         ensures fails { source_has_failed self.new ≡ is_err result }
         ensures stays { source_has_failed self.old ≡ true → IsErr result }
 
-        // It fails only by a read that failed in this call, or since it had failed before.
+        // It succeeds by one read, and fails only by one that failed in this call, or since it had
+        // failed before.
+        ensures reads { IfOk result
+            (GivenByRead R.read_gives (inner_reader self.old) (inner_reader self.new)) }
         ensures cause { source_has_failed self.old ≡ false
             → OnErr result (R.read_fails (inner_reader self.old) (inner_reader self.new)) }
         ensures untouched { source_has_failed self.old ≡ true

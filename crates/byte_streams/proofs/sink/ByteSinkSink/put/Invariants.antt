@@ -1,5 +1,6 @@
 use Rattle.std.proofs.Common.{length, ◌-◌, ◌≡◌, ◌≤◌, false, take}
 use Rattle.std.specs.Io.KnownBytes.{Appends}
+use Rattle.byte_streams.specs.Sink.{AreTaken}
 use Rattle.byte_streams.proofs.sink.ByteSinkSink.put.Given as goal
 
 abbrev pub invariant-writes : goal.invariant-writes
@@ -7,6 +8,7 @@ invariant-writes g l = record {
   within : l.sent ≤ length l.bytes;
   unfailed : l.self.has_failed ≡ false;
   appended : Appends (g.W.Writer.contents l.initial.self.writer) (g.W.Writer.contents l.self.writer) (take l.sent l.bytes);
+  taken : AreTaken g.W.Writer.write_takes l.initial.self.writer (take l.sent l.bytes) l.self.writer;
 }
 
 abbrev pub decreases-writes : goal.decreases-writes
