@@ -1,5 +1,5 @@
 -- A field of a source: what was taken of it, and what reading the bytes that were left gives.
-use Rattle.std.proofs.Common.{◌≡◌, ℕ, ◌+◌, ◌<◌, ◌≤◌, Bool, true, false, cond, eqb, ltb, leb, List, [], ◌∷◌, ◌++◌, length, get_or, Option, Some, None, Result, Ok, Err, refl, sym, ap, subst, ◌∙◌, arith}
+use Rattle.std.proofs.Common.{◌≡◌, ◌≢◌, ℕ, ◌+◌, ◌<◌, ◌≤◌, Bool, true, false, cond, eqb, ltb, leb, List, [], ◌∷◌, ◌++◌, length, get_or, Option, Some, None, Result, Ok, Err, refl, sym, ap, subst, ◌∙◌, append-nil, arith}
 use Rattle.std.specs.Prelude.{IfErr, IfSome, IsErrAnd, not, codes}
 use Rattle.std.specs.Io.KnownBytes.{Consumes, IsAtEnd, Keeps}
 use Rattle.std.proofs.KnownBytes.{Consumes-trans, Consumes-nil, Consumes-kept}
@@ -9,15 +9,15 @@ use Rattle.std.proofs.lemmas.List.{take_at, length-append}
 use Rattle.certificate.specs.declared.faults.ReadFault.{ReadFault}
 use Rattle.certificate.specs.declared.faults.ReadFault.TheVariants.{Format, Failed, NoMemory}
 use Rattle.certificate.specs.declared.faults.FormatFault.{FormatFault}
-use Rattle.certificate.specs.declared.faults.FormatFault.TheVariants.{Truncated}
+use Rattle.certificate.specs.declared.faults.FormatFault.TheVariants.{OtherMagic, Truncated, OutOfRange, NotRising, BytesAfterEnd}
 use Rattle.std.specs.Int.{w32, w64, from_le_bytes}
 use Rattle.std.proofs.lemmas.Nat.{le_bytes_4, le_bytes_8}
 use Rattle.board.specs.declared.moves.Move.{Move}
 use Rattle.board.specs.declared.moves.Move.TheVariants.{U, L, R, D}
 use Rattle.certificate.specs.Spellings.{letter_of, number_text, count_text}
-use Rattle.certificate.specs.Readings.{field, number_in, byte_in, letter_in, magic_in}
+use Rattle.certificate.specs.Readings.{IsFaultOf, IsCutOff, field, number_in, byte_in, letter_in, magic_in}
 use Rattle.std.specs.Str.{bytes_eq}
-use Rattle.certificate.specs.Sources.{IfFormat, Refuses, EndsEarly}
+use Rattle.certificate.specs.Sources.{IfFormat, Refuses, EndsEarly, Stops}
 
 -- what a fault of the bytes says, said otherwise
 pub if_format : (fault : ReadFault) (P Q : FormatFault → Type 0) → ((f : FormatFault) → P f → Q f) → IfFormat fault P → IfFormat fault Q
@@ -42,28 +42,66 @@ known old new text input is taken = rest_of new (subst (λ (o : Option (List ℕ
 whole_is : (old : Option (List ℕ)) (seen input : List ℕ) → old ≡ Some input → IfSome old (λ all. all ≡ seen) → input ≡ seen
 whole_is old seen input is all = subst (λ (o : Option (List ℕ)). IfSome o (λ all. all ≡ seen)) is all
 
+pub not_magic : OtherMagic ≢ Truncated
+not_magic e = absurd cc
+
+pub not_range : OutOfRange ≢ Truncated
+not_range e = absurd cc
+
+pub not_order : NotRising ≢ Truncated
+not_order e = absurd cc
+
+pub not_after : BytesAfterEnd ≢ Truncated
+not_after e = absurd cc
+
+-- the last byte of a text
+pub last_split : (text : List ℕ) → 0 < length text → (before : List ℕ) × (byte : ℕ) × (text ≡ before ++ byte ∷ []) × (length before < length text)
+last_split [] some = absurd (omega (arith, some))
+last_split (b ∷ []) some = ([], b, refl, omega arith)
+last_split (b ∷ c ∷ text) some = let p = last_split (c ∷ text) (omega arith) in (b ∷ p.0, p.1, ap (λ (l : List ℕ). b ∷ l) p.2, omega (arith, p.3))
+
+-- a field that is not whole
+pub field_short : {X : Type 0} (fault : FormatFault) (n : ℕ) (value : List ℕ → Option X) (bytes : List ℕ) → length bytes < n → field fault n value bytes ≡ Err (Truncated, bytes)
+unfolding field
+field_short fault n value bytes few = let short : ltb (length bytes) n ≡ true = lt-ltb _ _ few in rw short refl
+
+-- a whole field without a value
+field_wrong : {X : Type 0} (fault : FormatFault) (n : ℕ) (value : List ℕ → Option X) (text rest : List ℕ) → length text ≡ n → value text ≡ None → field fault n value (text ++ rest) ≡ Err (fault, text ++ rest)
+unfolding field
+field_wrong fault n value text rest len none = let long : ltb (length (text ++ rest)) n ≡ false = le-ltb _ _ (omega (arith, length-append text rest, len)) in rw (long, take_at text rest n len, none) refl
+
 -- fewer bytes are left than the field has
 pub cut_short : {X : Type 0} (fault : FormatFault) (n : ℕ) (value : List ℕ → Option X) (old new : Option (List ℕ)) (f : ReadFault) → EndsEarly old new n f → Refuses (field fault n value) old new f
-unfolding field
 cut_short fault n value old new f early = record {
-  taken = (early.seen, early.taken);
+  seen = early.seen;
+  taken = early.taken;
   first =
-      if_format f (λ g. (g ≡ Truncated) × IfSome old (λ input. input ≡ early.seen) × (length early.seen < n)) (λ g. (input : List ℕ) → old ≡ Some input → (from : List ℕ) × (field fault n value input ≡ Err (g, from)))
-      (λ g end input is.
-      let whole = whole_is old early.seen input is end.1 in
-      let few : ltb (length input) n ≡ true = lt-ltb _ _ (subst (λ (bytes : List ℕ). length bytes < n) (sym whole) end.2) in
-      (input, rw (few, end.0) refl)) early.end;
+      if_format f (λ g. (g ≡ Truncated) × IfSome old (λ input. input ≡ early.seen)) (λ g. (input : List ℕ) → old ≡ Some input → IsFaultOf (field fault n value) input g)
+      (λ g end input is. subst (λ (h : FormatFault). IsFaultOf (field fault n value) input h) (sym end.0) (subst (λ (l : List ℕ). IsCutOff (field fault n value) l) (sym (whole_is old early.seen input is end.1)) cut)) early.end;
+  stops = stopped f early.end;
 }
+  where
+    cut : IsCutOff (field fault n value) early.seen
+    cut = (early.seen, field_short fault n value early.seen early.short)
+
+    stopped : (g : ReadFault) → IfFormat g (λ h. (h ≡ Truncated) × IfSome old (λ input. input ≡ early.seen)) → Stops (field fault n value) (λ bytes. IsCutOff (field fault n value) bytes) old early.seen g
+    stopped (Format g) end = record { is = subst (λ (h : FormatFault). IsFaultOf (field fault n value) early.seen h) (sym end.0) cut; at_end = λ _. end.1; at_byte = λ other. absurd (other end.0) }
+    stopped Failed end = cut
+    stopped (NoMemory refused) end = tt
 
 -- the field is there, and its bytes have no value
-pub refused : {X : Type 0} (fault : FormatFault) (n : ℕ) (value : List ℕ → Option X) (old new : Option (List ℕ)) (text : List ℕ) → Consumes old new text → length text ≡ n → value text ≡ None → Refuses (field fault n value) old new (Format fault)
-unfolding field
-refused fault n value old new text taken len none = record {
-  taken = (text, taken);
+pub refused : {X : Type 0} (fault : FormatFault) → fault ≢ Truncated → (n : ℕ) → 0 < n → (value : List ℕ → Option X) (old new : Option (List ℕ)) (text : List ℕ) → Consumes old new text → length text ≡ n → value text ≡ None → Refuses (field fault n value) old new (Format fault)
+refused fault whole n some value old new text taken len none = record {
+  seen = text;
+  taken = taken;
   first = λ input is.
       let k = known old new text input is taken in
-      let long : ltb (length (text ++ k.0)) n ≡ false = le-ltb _ _ (omega (arith, length-append text k.0)) in
-      (input, rw k.2 (rw (long, take_at text k.0 n len, none) refl));
+      (text ++ k.0, ap (field fault n value) k.2 ∙ field_wrong fault n value text k.0 len none);
+  stops = record {
+    is = (text ++ [], ap (field fault n value) (sym (append-nil text)) ∙ field_wrong fault n value text [] len none);
+    at_end = λ e. absurd (whole e);
+    at_byte = λ _. let p = last_split text (omega (arith, some, len)) in (p.0, p.1, p.2, (p.0, field_short fault n value p.0 (omega (arith, p.3, len))));
+  };
 }
 
 -- where nothing is left after the text, the text was all that was left before it
@@ -77,19 +115,19 @@ pub ends_later : (a b c : Option (List ℕ)) (text : List ℕ) (n k : ℕ) (f : 
 ends_later a b c text n k f few taken early = record {
   seen = text ++ early.seen;
   taken = Consumes-trans a b c text early.seen taken early.taken;
-  end = if_format f (λ g. (g ≡ Truncated) × IfSome b (λ input. input ≡ early.seen) × (length early.seen < n)) (λ g. (g ≡ Truncated) × IfSome a (λ input. input ≡ text ++ early.seen) × (length (text ++ early.seen) < k))
-      (λ g end. (end.0, all_after a b text early.seen taken end.1, omega (arith, few, length-append text early.seen, end.2))) early.end;
+  short = omega (arith, few, length-append text early.seen, early.short);
+  end = if_format f (λ g. (g ≡ Truncated) × IfSome b (λ input. input ≡ early.seen)) (λ g. (g ≡ Truncated) × IfSome a (λ input. input ≡ text ++ early.seen)) (λ g end. (end.0, all_after a b text early.seen taken end.1)) early.end;
 }
 
 -- nothing is left, where a byte is due
 pub ended : (old new : Option (List ℕ)) → IsAtEnd old → Keeps old new → EndsEarly old new 1 (Format Truncated)
-ended None new end kept = record { seen = []; taken = tt; end = (refl, tt, omega arith) }
+ended None new end kept = record { seen = []; taken = tt; short = omega arith; end = (refl, tt) }
 ended (Some xs) None end kept = absurd kept
-ended (Some xs) (Some ys) end kept = record { seen = []; taken = sym kept; end = (refl, end, omega arith) }
+ended (Some xs) (Some ys) end kept = record { seen = []; taken = sym kept; short = omega arith; end = (refl, end) }
 
 -- the source failed
 pub failed : (old new : Option (List ℕ)) → Keeps old new → EndsEarly old new 1 Failed
-failed old new kept = record { seen = []; taken = Consumes-kept old old new [] (Consumes-nil old) kept; end = tt }
+failed old new kept = record { seen = []; taken = Consumes-kept old old new [] (Consumes-nil old) kept; short = omega arith; end = tt }
 
 -- the number that four bytes give has those bytes
 pub number_back : (text : List ℕ) (n : ℕ) → length text ≡ 4 → ((i : ℕ) → get_or text i 0 < 256) → n ≡ from_le_bytes w32 text → number_text n ≡ text

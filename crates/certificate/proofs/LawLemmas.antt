@@ -9,7 +9,7 @@ use Rattle.certificate.specs.declared.faults.ReadFault.TheVariants.{Format, Fail
 use Rattle.certificate.specs.Certificates.{Statement}
 use Rattle.certificate.specs.Spellings.{Spells, spelling}
 use Rattle.certificate.specs.Readings.{certificate, give, end, continued, IsFirstFault}
-use Rattle.certificate.specs.Sources.{Refuses, Tells, AnswersOrLacks, IsAnswerTo}
+use Rattle.certificate.specs.Sources.{RefusesAtEnd, StopsAtFault, Tells, IsAnswerTo}
 use Rattle.certificate.specs.Laws.{AreBytes}
 use Rattle.certificate.proofs.ReaderLemmas.{fine, faulty}
 use Rattle.certificate.proofs.FieldLemmas.{if_format}
@@ -80,12 +80,17 @@ all_decided result None tells = tt
 all_decided result (Some input) tells = decided result input tells
 
 -- what was read is what the input spells, and a fault is its first
-pub all_told : (result : Result Statement ReadFault) (old new : Option (List ℕ)) → IfOk result (λ c. IfSome old (Spells c)) → IfErr result (Refuses certificate old new) → IfSome old (Tells result)
+pub all_told : (result : Result Statement ReadFault) (old new : Option (List ℕ)) → IfOk result (λ c. IfSome old (Spells c)) → IfErr result (RefusesAtEnd certificate old new) → IfSome old (Tells result)
 all_told result None new whole refused = tt
 all_told (Ok c) (Some input) new whole refused = whole
 all_told (Err f) (Some input) new whole refused = if_format f (λ g. (bytes : List ℕ) → Some input ≡ Some bytes → (from : List ℕ) × (certificate bytes ≡ Err (g, from))) (λ g. IsFirstFault input g) (λ g first. first input refl) refused.first
 
 -- some of the bytes were taken, whatever the answer is
-pub some_taken : (result : Result Statement ReadFault) (old new : Option (List ℕ)) → IfOk result (λ c. Consumes old new (spelling c)) → IfErr result (Refuses certificate old new) → (seen : List ℕ) × Consumes old new seen
+pub some_taken : (result : Result Statement ReadFault) (old new : Option (List ℕ)) → IfOk result (λ c. Consumes old new (spelling c)) → IfErr result (RefusesAtEnd certificate old new) → (seen : List ℕ) × Consumes old new seen
 some_taken (Ok c) old new whole refused = (spelling c, whole)
-some_taken (Err f) old new whole refused = refused.taken
+some_taken (Err f) old new whole refused = (refused.seen, refused.taken)
+
+-- no more was taken than shows the fault
+pub all_stopped : (result : Result Statement ReadFault) (old new : Option (List ℕ)) → IfErr result (RefusesAtEnd certificate old new) → IfErr result (StopsAtFault old new)
+all_stopped (Ok c) old new refused = tt
+all_stopped (Err f) old new refused = (refused.seen, refused.taken, refused.stops)

@@ -11,12 +11,9 @@ use Rattle.board.specs.Keys.{key_of, Precedes}
 use Rattle.board.proofs.KeyLemmas.{packed_in_order, tiles_small}
 use Rattle.certificate.specs.declared.faults.FormatFault.{FormatFault}
 use Rattle.certificate.specs.declared.faults.FormatFault.TheVariants.{NotRising}
-use Rattle.certificate.specs.declared.faults.ReadFault.TheVariants.{Format}
 use Rattle.certificate.specs.Certificates.{IsBoardOf, IsRow, RiseAfter}
 use Rattle.certificate.specs.Spellings.{number_text, row_text}
 use Rattle.certificate.specs.Readings.{◌>>=◌, give, number, board, may_follow, rising, row, rows}
-use Rattle.std.proofs.KnownBytes.{Consumes-nil}
-use Rattle.certificate.specs.Sources.{Refuses}
 use Rattle.certificate.specs.Laws.{AreBytes}
 use Rattle.certificate.proofs.ReaderLemmas.{Law, Law-iff, Both, Law-seq, Known, Law-give, Law-as_one, as_one_from, fine, faulty, one_fails, AreBytes-rest}
 use Rattle.certificate.proofs.TextLemmas.{NumberText, number_law, BoardText, board_law}
@@ -171,10 +168,3 @@ rows_before grid before (suc n) sides is bytes all fault from e =
   where
     never : (x : List (Position × ℕ)) (l : List ℕ) → fine x l ≡ faulty (List (Position × ℕ)) fault from → ⊥
     never x l e = absurd cc
-
-pub not_risen : (before : Option Position) (r : Position × ℕ) (old : Option (List ℕ)) → may_follow before r.0 ≡ false → Refuses (rising before r) old old (Format NotRising)
-unfolding rising
-not_risen before r old fails = record {
-  taken = ([], Consumes-nil old);
-  first = λ input is. (input, ap (λ (b : Bool). cond b (fine r input) (faulty (Position × ℕ) NotRising input)) fails);
-}

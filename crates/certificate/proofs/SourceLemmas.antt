@@ -1,47 +1,149 @@
 -- Readers of a source that follow one another: the first refuses, or a later one does.
-use Rattle.std.proofs.Common.{◌≡◌, ℕ, zero, suc, ◌+◌, ◌<◌, List, [], ◌∷◌, ◌++◌, length, get_or, take, drop, map, Option, Some, None, Result, Ok, Err, refl, sym, ap, subst, ◌∙◌, append_assoc, append-nil, arith}
-use Rattle.std.specs.Prelude.{IfErr, codes}
+use Rattle.std.proofs.Common.{◌≡◌, ⊎_elim, Bool, false, cond, ℕ, zero, suc, ◌+◌, ◌<◌, List, [], ◌∷◌, ◌++◌, length, get_or, take, drop, map, Option, Some, None, Result, Ok, Err, refl, sym, ap, subst, ◌∙◌, append_assoc, append-nil, arith}
+use Rattle.std.specs.Prelude.{IfErr, IfSome, codes}
 use Rattle.std.specs.List.{flat_map, AllByRecursion}
 use Rattle.std.specs.Io.KnownBytes.{Consumes}
-use Rattle.std.proofs.KnownBytes.{Consumes-trans}
+use Rattle.std.proofs.KnownBytes.{Consumes-nil, Consumes-trans}
 use Rattle.std.proofs.lemmas.List.{drop_more, take-append-drop}
 use Rattle.std.proofs.lemmas.List.Concat.{flat_map-cons}
 use Rattle.board.specs.declared.moves.Move.{Move}
-use Rattle.board.specs.Grids.{Grid}
+use Rattle.board.specs.Grids.{Grid, IsShape}
 use Rattle.board.specs.Positions.{Position}
 use Rattle.board.specs.CostRules.{CostRule}
 use Rattle.certificate.specs.declared.faults.FormatFault.{FormatFault}
 use Rattle.certificate.specs.declared.faults.ReadFault.{ReadFault}
 use Rattle.memory.specs.declared.OutOfMemory.{OutOfMemory}
-use Rattle.certificate.specs.declared.faults.ReadFault.TheVariants.{NoMemory}
-use Rattle.certificate.specs.Certificates.{IsRow, RiseAfter}
-use Rattle.certificate.specs.Spellings.{letter_of, opening_text, row_text}
-use Rattle.certificate.specs.Readings.{Reader, ◌>>=◌, continued, give, as_one, blamed, letter, letters, row, rows, grid_of, costs_of}
-use Rattle.certificate.specs.Sources.{Refuses}
-use Rattle.certificate.proofs.FieldLemmas.{known, if_format}
-use Rattle.certificate.proofs.ReaderLemmas.{Law}
-use Rattle.certificate.proofs.TextLemmas.{letter_law, ByteText, OpeningParts, opening_there}
+use Rattle.certificate.specs.declared.faults.ReadFault.TheVariants.{Format, Failed, NoMemory}
+use Rattle.certificate.specs.declared.faults.FormatFault.TheVariants.{Truncated, OutOfRange, NotRising}
+use Rattle.certificate.specs.Certificates.{IsBoardOf, IsWithinLimit, IsRow, RiseAfter}
+use Rattle.certificate.specs.Spellings.{letter_of, number_text, opening_text, row_text}
+use Rattle.certificate.specs.Readings.{Reader, ◌>>=◌, continued, give, as_one, blamed, IsFaultOf, IsCutOff, HasNoFault, board, number, number_in, may_follow, rising, letter, letters, row, rows, end, grid_of, costs_of}
+use Rattle.certificate.specs.Sources.{Stops, RefusesAt, Refuses, RefusesAtEnd}
+use Rattle.certificate.proofs.FieldLemmas.{known, if_format, all_after, field_short, last_split, not_order}
+use Rattle.certificate.proofs.ReaderLemmas.{Law, fine, faulty, one_fails}
+use Rattle.certificate.proofs.TextLemmas.{letter_law, BoardText, NumberText, board_law, number_law, four_bytes, ByteText, OpeningParts, opening_there}
 use Rattle.certificate.proofs.RowLemmas.{RowText, row_law, sides_of, Follows, IsBefore}
 
-pub first_refuses : {X Y : Type 0} {a : Reader X} (k : X → Reader Y) {old new : Option (List ℕ)} {f : ReadFault} → Refuses a old new f → Refuses (a >>= k) old new f
+-- ---- what is passed on from a later reader to the whole
+
+stops_carried : {X Y : Type 0} (r : Reader X) (s : Reader Y) (B C : List ℕ → Type 0) (text : List ℕ) (old mid : Option (List ℕ)) → ((seen : List ℕ) → IfSome mid (λ input. input ≡ seen) → IfSome old (λ input. input ≡ text ++ seen))
+    → ((l : List ℕ) (g : FormatFault) → IsFaultOf r l g → IsFaultOf s (text ++ l) g) → ((l : List ℕ) → B l → C (text ++ l)) → (seen : List ℕ) (f : ReadFault) → Stops r B mid seen f → Stops s C old (text ++ seen) f
+stops_carried r s B C text old mid all fault sound seen (Format g) w = record {
+  is = fault seen g w.is;
+  at_end = λ e. all seen (w.at_end e);
+  at_byte = λ other. let p = w.at_byte other in (text ++ p.0, p.1, ap (λ (l : List ℕ). text ++ l) p.2 ∙ sym (append_assoc text p.0 (p.1 ∷ [])), sound p.0 p.3);
+}
+stops_carried r s B C text old mid all fault sound seen Failed w = sound seen w
+stops_carried r s B C text old mid all fault sound seen (NoMemory refused) w = tt
+
+carried : {X Y : Type 0} (r : Reader X) (s : Reader Y) (B C : List ℕ → Type 0) (text : List ℕ) (old mid new : Option (List ℕ)) (f : ReadFault) → Consumes old mid text → ((l : List ℕ) (g : FormatFault) → IsFaultOf r l g → IsFaultOf s (text ++ l) g)
+    → ((l : List ℕ) → B l → C (text ++ l)) → RefusesAt r B mid new f → RefusesAt s C old new f
+carried r s B C text old mid new f taken fault sound w = record {
+  seen = text ++ w.seen;
+  taken = Consumes-trans old mid new text w.seen taken w.taken;
+  first = if_format f (λ g. (input : List ℕ) → mid ≡ Some input → IsFaultOf r input g) (λ g. (input : List ℕ) → old ≡ Some input → IsFaultOf s input g)
+      (λ g first input is. let q = known old mid text input is taken in subst (λ (l : List ℕ). IsFaultOf s l g) (sym q.2) (fault q.0 g (first q.0 q.1))) w.first;
+  stops = stops_carried r s B C text old mid (λ seen all. all_after old mid text seen taken all) fault sound w.seen f w.stops;
+}
+
+-- where what a reader finds wrong is wrong in the whole
+carried_cut : {X Y : Type 0} (r : Reader X) (s : Reader Y) (text : List ℕ) (old mid new : Option (List ℕ)) (f : ReadFault) → Consumes old mid text → ((l : List ℕ) (g : FormatFault) → IsFaultOf r l g → IsFaultOf s (text ++ l) g) → Refuses r mid new f → Refuses s old new f
+carried_cut r s text old mid new f taken fault w = carried r s (λ bytes. IsCutOff r bytes) (λ bytes. IsCutOff s bytes) text old mid new f taken fault (λ l cut. fault l Truncated cut) w
+
+first_fault : {X Y : Type 0} (a : Reader X) (k : X → Reader Y) (l : List ℕ) (g : FormatFault) → IsFaultOf a l g → IsFaultOf (a >>= k) l g
 unfolding ◌>>=◌
-first_refuses {a = a} k {old = old} {f = f} r = record { taken = r.taken; first = if_format f (λ g. (input : List ℕ) → old ≡ Some input → (from : List ℕ) × (a input ≡ Err (g, from))) (λ g. (input : List ℕ) → old ≡ Some input → (from : List ℕ) × ((a >>= k) input ≡ Err (g, from))) (λ g first input is. let p = first input is in (p.0, ap (continued k) p.1)) r.first }
+first_fault a k l g p = (p.0, ap (continued k) p.1)
+
+pub first_refuses : {X Y : Type 0} {a : Reader X} (k : X → Reader Y) {old new : Option (List ℕ)} {f : ReadFault} → Refuses a old new f → Refuses (a >>= k) old new f
+first_refuses {a = a} k {old = old} {new = new} {f = f} r = carried_cut a (a >>= k) [] old old new f (Consumes-nil old) (λ l g p. first_fault a k l g p) r
+
+again_at : {X Y : Type 0} (a : Reader X) (k : X → Reader Y) (A : X → List ℕ → Type 0) → Law a A → (x : X) (text : List ℕ) → A x text → (l : List ℕ) → (a >>= k) (text ++ l) ≡ k x l
+unfolding ◌>>=◌
+again_at a k A law x text t l = ap (continued k) (law.again x text l t)
 
 pub then_refuses : {X Y : Type 0} {a : Reader X} (k : X → Reader Y) {A : X → List ℕ → Type 0} {old mid new : Option (List ℕ)} {f : ReadFault} → Law a A → (x : X) (text : List ℕ) → A x text → Consumes old mid text → Refuses (k x) mid new f
     → Refuses (a >>= k) old new f
-unfolding ◌>>=◌
-then_refuses {a = a} k {old = old} {mid = mid} {new = new} {f = f} law x text t taken r = record {
-  taken = (text ++ r.taken.0, Consumes-trans old mid new text r.taken.0 taken r.taken.1);
-  first = if_format f (λ g. (input : List ℕ) → mid ≡ Some input → (from : List ℕ) × (k x input ≡ Err (g, from))) (λ g. (input : List ℕ) → old ≡ Some input → (from : List ℕ) × ((a >>= k) input ≡ Err (g, from)))
-      (λ g first input is.
-      let q = known old mid text input is taken in
-      let p = first q.0 q.1 in
-      (p.0, ap (λ (l : List ℕ). continued k (a l)) q.2 ∙ ap (continued k) (law.again x text q.0 t) ∙ p.1)) r.first;
-}
+then_refuses {a = a} k {A = A} {old = old} {mid = mid} {new = new} {f = f} law x text t taken r = carried_cut (k x) (a >>= k) text old mid new f taken (λ l g p. (p.0, again_at a k A law x text t l ∙ p.1)) r
 
 pub as_one_refuses : {X : Type 0} {r : Reader X} {old new : Option (List ℕ)} {f : ReadFault} → Refuses r old new f → Refuses (as_one r) old new f
 unfolding as_one
-as_one_refuses {r = reader} {old = old} {f = f} r = record { taken = r.taken; first = if_format f (λ g. (input : List ℕ) → old ≡ Some input → (from : List ℕ) × (reader input ≡ Err (g, from))) (λ g. (input : List ℕ) → old ≡ Some input → (from : List ℕ) × (as_one reader input ≡ Err (g, from))) (λ g first input is. let p = first input is in (input, ap (blamed input) p.1)) r.first }
+as_one_refuses {r = reader} {old = old} {new = new} {f = f} r = carried_cut reader (as_one reader) [] old old new f (Consumes-nil old) (λ l g p. blamed_at l g p) r
+  where
+    blamed_at : (l : List ℕ) (g : FormatFault) → IsFaultOf reader l g → IsFaultOf (as_one reader) l g
+    blamed_at l g p = (l, ap (blamed l) p.1)
+
+-- ---- the end, and what is looked for there
+
+one_fault : {X : Type 0} (r : Reader X) (l : List ℕ) (f g : FormatFault) → IsFaultOf r l f → IsFaultOf r l g → g ≡ f
+one_fault {X = X} r l f g p q =
+    let x : FormatFault × List ℕ = (f, p.0) in
+    let y : FormatFault × List ℕ = (g, q.0) in
+    let both : faulty X f p.0 ≡ faulty X g q.0 = sym p.1 ∙ q.1 in
+    let same : x ≡ y = cc in
+    ap (λ (z : FormatFault × List ℕ). z.0) (sym same)
+
+pub before_end : {X : Type 0} {r : Reader X} {old new : Option (List ℕ)} {f : ReadFault} → Refuses r old new f → RefusesAtEnd r old new f
+before_end {r = reader} {old = old} {new = new} {f = f} r =
+    carried reader reader (λ bytes. IsCutOff reader bytes) (λ bytes. HasNoFault reader bytes) [] old old new f (Consumes-nil old) (λ l g p. p) (λ l cut g p. one_fault reader l Truncated g cut p) r
+
+pub then_at_end : {X Y : Type 0} {a : Reader X} (k : X → Reader Y) {A : X → List ℕ → Type 0} {old mid new : Option (List ℕ)} {f : ReadFault} → Law a A → (x : X) (text : List ℕ) → A x text → Consumes old mid text → RefusesAtEnd (k x) mid new f
+    → RefusesAtEnd (a >>= k) old new f
+then_at_end {a = a} k {A = A} {old = old} {mid = mid} {new = new} {f = f} law x text t taken r =
+    carried (k x) (a >>= k) (λ bytes. HasNoFault (k x) bytes) (λ bytes. HasNoFault (a >>= k) bytes) text old mid new f taken (λ l g p. (p.0, again_at a k A law x text t l ∙ p.1))
+    (λ l sound g p. sound g (p.0, sym (again_at a k A law x text t l) ∙ p.1)) r
+
+-- nothing is read after the end
+pub end_refuses : {Y : Type 0} (value : Unit {0} → Y) {old new : Option (List ℕ)} {f : ReadFault} → RefusesAtEnd end old new f → RefusesAtEnd (end >>= λ u. give (value u)) old new f
+unfolding ◌>>=◌ give
+end_refuses {Y = Y} value {old = old} {new = new} {f = f} r =
+    carried end (end >>= λ u. give (value u)) (λ bytes. HasNoFault end bytes) (λ bytes. HasNoFault (end >>= λ u. give (value u)) bytes) [] old old new f (Consumes-nil old) (λ l g p. first_fault end (λ u. give (value u)) l g p)
+    (λ l sound g p. by_end l sound g p) r
+  where
+    never : (y : Y) (l : List ℕ) (g : FormatFault) (from : List ℕ) → fine y l ≡ faulty Y g from → ⊥
+    never y l g from e = absurd cc
+
+    by_end : (l : List ℕ) → HasNoFault end l → HasNoFault (end >>= λ u. give (value u)) l
+    by_end l sound g p = ⊎_elim (λ failed. sound g (p.0, failed)) (λ q. absurd (never (value q.0.0) q.0.1 g p.0 q.2)) (one_fails (end l) (λ (u : Unit {0}). give (value u)) (g, p.0) p.1)
+
+-- ---- a row that does not come after the one before it
+
+row_falls : (grid : Grid) (before : Option Position) → IsShape grid → (b : Position) (n : ℕ) → IsBoardOf grid b → IsWithinLimit n → may_follow before b ≡ false → (rest : List ℕ) → IsFaultOf (row grid before) (b.tiles ++ (number_text n ++ rest)) NotRising
+unfolding row rising as_one
+row_falls grid before sides b n is within falls rest =
+    let bytes = b.tiles ++ (number_text n ++ rest) in
+    let judged : rising before (b, n) rest ≡ faulty (Position × ℕ) NotRising rest = ap (λ (up : Bool). cond up (fine (b, n) rest) (faulty (Position × ℕ) NotRising rest)) falls in (
+      bytes,
+      ap (blamed bytes)
+          (again_at (board grid) (λ b. number >>= λ n. rising before (b, n)) (BoardText grid) (board_law grid sides) b b.tiles (record { board = is; is = refl }) (number_text n ++ rest)
+          ∙ again_at number (λ n. rising before (b, n)) NumberText number_law n (number_text n) (record { within = within; is = refl }) rest ∙ judged),
+    )
+
+row_cut : (grid : Grid) (before : Option Position) → IsShape grid → (b : Position) → IsBoardOf grid b → (rest : List ℕ) → length rest < 4 → IsCutOff (row grid before) (b.tiles ++ rest)
+unfolding row as_one
+row_cut grid before sides b is rest few =
+    let bytes = b.tiles ++ rest in
+    let cut = first_fault number (λ n. rising before (b, n)) rest Truncated (rest, field_short OutOfRange 4 number_in rest few) in
+    (bytes, ap (blamed bytes) (again_at (board grid) (λ b. number >>= λ n. rising before (b, n)) (BoardText grid) (board_law grid sides) b b.tiles (record { board = is; is = refl }) rest ∙ cut.1))
+
+pub row_refuses : (grid : Grid) (before : Option Position) (b : Position) (n : ℕ) (old mid new : Option (List ℕ)) → IsBoardOf grid b → IsWithinLimit n → Consumes old mid b.tiles → Consumes mid new (number_text n) → may_follow before b ≡ false
+    → Refuses (row grid before) old new (Format NotRising)
+row_refuses grid before b n old mid new is within tiles cost falls =
+    let sides = sides_of grid b is in
+    let taken = Consumes-trans old mid new b.tiles (number_text n) tiles cost in
+    record {
+      seen = b.tiles ++ number_text n;
+      taken = taken;
+      first = λ input from.
+          let q = known old new (b.tiles ++ number_text n) input from taken in
+          subst (λ (l : List ℕ). IsFaultOf (row grid before) l NotRising) (sym (q.2 ∙ append_assoc b.tiles (number_text n) q.0)) (row_falls grid before sides b n is within falls q.0);
+      stops = record {
+        is = subst (λ (l : List ℕ). IsFaultOf (row grid before) (b.tiles ++ l) NotRising) (append-nil (number_text n)) (row_falls grid before sides b n is within falls []);
+        at_end = λ e. absurd (not_order e);
+        at_byte = λ _.
+            let p = last_split (number_text n) (omega (arith, four_bytes n)) in
+            (b.tiles ++ p.0, p.1, ap (λ (l : List ℕ). b.tiles ++ l) p.2 ∙ sym (append_assoc b.tiles p.0 (p.1 ∷ [])), row_cut grid before sides b is p.0 (omega (arith, p.3, four_bytes n)));
+      };
+    }
 
 -- ---- several letters
 
@@ -54,14 +156,7 @@ letters_at (m ∷ done) (suc n) rest f fewer fails =
     ∙ ap (continued (λ ms. give (m ∷ ms))) (letters_at done n rest f (omega (arith, fewer)) fails)
 
 pub letters_refuse : (done : List Move) (n : ℕ) (old mid new : Option (List ℕ)) (f : ReadFault) → length done < n → Consumes old mid (map letter_of done) → Refuses letter mid new f → Refuses (letters n) old new f
-letters_refuse done n old mid new f fewer taken r = record {
-  taken = (map letter_of done ++ r.taken.0, Consumes-trans old mid new (map letter_of done) r.taken.0 taken r.taken.1);
-  first = if_format f (λ g. (input : List ℕ) → mid ≡ Some input → (from : List ℕ) × (letter input ≡ Err (g, from))) (λ g. (input : List ℕ) → old ≡ Some input → (from : List ℕ) × (letters n input ≡ Err (g, from)))
-      (λ g first input is.
-      let q = known old mid (map letter_of done) input is taken in
-      let p = first q.0 q.1 in
-      (p.0, ap (letters n) q.2 ∙ letters_at done n q.0 (g, p.0) fewer p.1)) r.first;
-}
+letters_refuse done n old mid new f fewer taken r = carried_cut letter (letters n) (map letter_of done) old mid new f taken (λ l g p. (p.0, letters_at done n l (g, p.0) fewer p.1)) r
 
 -- ---- several rows
 
@@ -100,14 +195,7 @@ rows_at grid before is (r ∷ done) (suc n) rest f fewer all rise fails =
 
 pub rows_refuse : (grid : Grid) (done : List (Position × ℕ)) (n : ℕ) (old mid new : Option (List ℕ)) (f : ReadFault) → length done < n → AllByRecursion (IsRow grid) done → RiseAfter None done
     → Consumes old mid (flat_map row_text done) → Refuses (row grid (last_of None done)) mid new f → Refuses (rows grid None n) old new f
-rows_refuse grid done n old mid new f fewer all rise taken r = record {
-  taken = (flat_map row_text done ++ r.taken.0, Consumes-trans old mid new (flat_map row_text done) r.taken.0 taken r.taken.1);
-  first = if_format f (λ g. (input : List ℕ) → mid ≡ Some input → (from : List ℕ) × (row grid (last_of None done) input ≡ Err (g, from))) (λ g. (input : List ℕ) → old ≡ Some input → (from : List ℕ) × (rows grid None n input ≡ Err (g, from)))
-      (λ g first input is.
-      let q = known old mid (flat_map row_text done) input is taken in
-      let p = first q.0 q.1 in
-      (p.0, ap (rows grid None n) q.2 ∙ rows_at grid None tt done n q.0 (g, p.0) fewer all rise p.1)) r.first;
-}
+rows_refuse grid done n old mid new f fewer all rise taken r = carried_cut (row grid (last_of None done)) (rows grid None n) (flat_map row_text done) old mid new f taken (λ l g p. (p.0, rows_at grid None tt done n l (g, p.0) fewer all rise p.1)) r
 
 pub last_is_board : (grid : Grid) (before : Option Position) (rs : List (Position × ℕ)) → IsBefore grid before → AllByRecursion (IsRow grid) rs → IsBefore grid (last_of before rs)
 last_is_board grid before [] is all = is
@@ -116,7 +204,7 @@ last_is_board grid before (r ∷ rs) is all = last_is_board grid (Some r.0) rs a
 -- ---- want of memory, and answers that are passed on
 
 pub lacks_memory : {X : Type 0} {r : Reader X} (old new : Option (List ℕ)) (text : List ℕ) → Consumes old new text → (refused : OutOfMemory) → Refuses r old new (NoMemory refused)
-lacks_memory old new text taken refused = record { taken = (text, taken); first = tt }
+lacks_memory old new text taken refused = record { seen = text; taken = taken; first = tt; stops = tt }
 
 pub if_err : {X : Type 0} (r : Result X ReadFault) (P Q : ReadFault → Type 0) → ((f : ReadFault) → P f → Q f) → IfErr r P → IfErr r Q
 if_err (Ok x) P Q h p = tt

@@ -100,7 +100,7 @@ pub record NumberText (n : ℕ) (text : List ℕ) : Type 0 where
   pub within : IsWithinLimit n
   pub is : text ≡ number_text n
 
-four_bytes : (n : ℕ) → length (number_text n) ≡ 4
+pub four_bytes : (n : ℕ) → length (number_text n) ≡ 4
 unfolding number_text
 four_bytes n = refl
 

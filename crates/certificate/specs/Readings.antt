@@ -176,6 +176,18 @@ certificate = do
   _ ← end
   give (record c { rows = proof })
 
+-- this is the fault that the reader finds in the bytes
+abbrev pub IsFaultOf : {X : Type 0} → Reader X → List ℕ → FormatFault → Type 0
+IsFaultOf reader bytes fault = (from : List ℕ) × (reader bytes ≡ Err (fault, from))
+
+-- nothing is wrong with the bytes but that they are cut off within what is read
+abbrev pub IsCutOff : {X : Type 0} → Reader X → List ℕ → Type 0
+IsCutOff reader bytes = IsFaultOf reader bytes Truncated
+
+-- nothing is wrong with the bytes, unless they are cut off
+abbrev pub HasNoFault : {X : Type 0} → Reader X → List ℕ → Type 0
+HasNoFault reader bytes = (fault : FormatFault) → IsFaultOf reader bytes fault → fault ≡ Truncated
+
 -- this is the first fault of the bytes, in a field or a row with which these of them begin
 abbrev pub IsFaultAt : List ℕ → FormatFault → List ℕ → Type 0
 IsFaultAt bytes fault from = certificate bytes ≡ Err (fault, from)

@@ -6,7 +6,7 @@ ghost use Rattle.board.specs.Keys.{Precedes};
 ghost use Rattle.certificate.specs.Certificates.{IsBoardOf, IsWithinLimit, IsRow};
 ghost use Rattle.certificate.specs.Spellings.{letter_of, number_text, count_text, row_text};
 ghost use Rattle.certificate.specs.Readings.{magic, byte_within, number, count, board, letter, letter_in, row, end};
-ghost use Rattle.certificate.specs.Sources.{EndsEarly, Refuses, EndsThere, tells_failure};
+ghost use Rattle.certificate.specs.Sources.{EndsEarly, Refuses, RefusesAtEnd, EndsThere, tells_failure};
 
 use crate::certificate::{LIMIT, comes_after};
 use crate::faults::{FormatFault, ReadFault};
@@ -179,7 +179,7 @@ pub(crate) fn read_row<S: Source>(
 // Nothing is left.
 pub(crate) fn read_end<S: Source>(source: &mut S) -> Result<(), ReadFault>
     ensures ended { OnOk result (EndsThere (S.left source.old) (S.left source.new)) }
-    ensures refused { IfErr result (Refuses end (S.left source.old) (S.left source.new)) }
+    ensures refused { IfErr result (RefusesAtEnd end (S.left source.old) (S.left source.new)) }
     ensures fails { S.has_failed source.new ≡ tells_failure result }
 {
     match source.next_byte() {

@@ -4,7 +4,7 @@ ghost use Rattle.std.specs.Io.KnownBytes.{Consumes};
 ghost use Rattle.certificate.specs.Certificates.{Statement, statement_of, AreNamedCosts, IsWithinLimit, IsRow, RiseAfter, IsCertificate};
 ghost use Rattle.certificate.specs.Spellings.{letter_of, opening_text, plan_text, count_text, row_text, front_text, spelling, Spells};
 ghost use Rattle.certificate.specs.Readings.{costs_of, opening, letters, plan, rows, all_rows, front, certificate};
-ghost use Rattle.certificate.specs.Sources.{Refuses, Tells, IsAnswerTo, tells_failure};
+ghost use Rattle.certificate.specs.Sources.{Refuses, RefusesAtEnd, StopsAtFault, Tells, IsAnswerTo, tells_failure};
 ghost use Rattle.certificate.specs.declared.faults.ReadFault.TheVariants as ReadFault;
 
 use crate::certificate::{Certificate, Parts};
@@ -157,7 +157,8 @@ fn read_all<S: Source>(alloc: Global, source: &mut S) -> Result<Certificate, Rea
     ensures taken { IfOk result
         (λ c. Consumes (S.left source.old) (S.left source.new) (spelling c)) }
     ensures whole { IfOk result (λ c. IfSome (S.left source.old) (Spells c)) }
-    ensures refused { IfErr result (Refuses certificate (S.left source.old) (S.left source.new)) }
+    ensures refused { IfErr result
+        (RefusesAtEnd certificate (S.left source.old) (S.left source.new)) }
     ensures fails { S.has_failed source.new ≡ tells_failure result }
 {
     let mut parts = read_front(alloc, source)?;
@@ -168,13 +169,15 @@ fn read_all<S: Source>(alloc: Global, source: &mut S) -> Result<Certificate, Rea
 
 /// Reads a certificate, from front to back and up to its first fault: F1 to F5, F6 where the source
 /// fails, F7 for want of memory. Memory is taken for the moves and rows that are there, and not by their
-/// stated numbers. After a fault the source has given some beginning of its bytes.
+/// stated numbers. After a fault of the bytes the source has given them up to and with the one that shows
+/// it, and it fails only where none stands in what it gave.
 pub fn read<S: Source>(alloc: Global, source: &mut S) -> Result<Certificate, ReadFault>
     ensures tells { IfSome (S.left source.old) (Tells result) }
     ensures answer { IfSome (S.left source.old) (IsAnswerTo result) }
     ensures failed { (result ≡ Err ReadFault.Failed) ↔ (S.has_failed source.new ≡ true) }
     ensures taken { IfOk result
         (λ c. Consumes (S.left source.old) (S.left source.new) (spelling c)) }
+    ensures stops { IfErr result (StopsAtFault (S.left source.old) (S.left source.new)) }
     ensures given { (seen : List ℕ) × Consumes (S.left source.old) (S.left source.new) seen }
 {
     read_all(alloc, source)

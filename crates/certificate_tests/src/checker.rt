@@ -47,13 +47,29 @@ fn each_fault_and_refusal(rt: HostRuntime) {
         // Another text in front.
         (7, b"2", Err(ReadFault::Format(FormatFault::OtherMagic))),
         // More rows announced than any memory holds.
-        (31, &[0xff; 8], Err(ReadFault::Format(FormatFault::Truncated))),
+        (
+            31,
+            &[0xff; 8],
+            Err(ReadFault::Format(FormatFault::Truncated)),
+        ),
         // A cost of 1,048,576.
-        (20, &[0, 0, 16], Err(ReadFault::Format(FormatFault::OutOfRange))),
+        (
+            20,
+            &[0, 0, 16],
+            Err(ReadFault::Format(FormatFault::OutOfRange)),
+        ),
         // The second row's board in the first row.
-        (39, &[1, 0, 2, 3], Err(ReadFault::Format(FormatFault::NotRising))),
+        (
+            39,
+            &[1, 0, 2, 3],
+            Err(ReadFault::Format(FormatFault::NotRising)),
+        ),
         // The same board at 1,048,576: a row's order is judged last.
-        (39, &[1, 0, 2, 3, 0, 0, 16], Err(ReadFault::Format(FormatFault::OutOfRange))),
+        (
+            39,
+            &[1, 0, 2, 3, 0, 0, 16],
+            Err(ReadFault::Format(FormatFault::OutOfRange)),
+        ),
         // One row less announced than stands there.
         (31, &[4], Err(ReadFault::Format(FormatFault::BytesAfterEnd))),
         // The plans R, R, L and R, U, D.

@@ -60,7 +60,11 @@ fn each_read_fails_in_turn(rt: HostRuntime) {
     // Each byte is a read, and so is the end. Nothing behind a fault is read.
     for (text, reads, answer) in [
         (&ONE_MOVE, 46, None),
-        (&with_groups, 12, Some(ReadFault::Format(FormatFault::OutOfRange))),
+        (
+            &with_groups,
+            12,
+            Some(ReadFault::Format(FormatFault::OutOfRange)),
+        ),
     ] {
         for reads_before in 0..=reads {
             let mut source = ByteSource::new(FailingReader { text, reads_before });

@@ -1,8 +1,8 @@
-use Rattle.std.proofs.Common.{refl, [], ◌∷◌}
+use Rattle.std.proofs.Common.{arith, refl, [], ◌∷◌}
 use Rattle.certificate.specs.Sources.{Refuses}
 use Rattle.certificate.specs.Readings.{byte_within, byte_in}
 use Rattle.certificate.specs.declared.faults.FormatFault.TheVariants.{OutOfRange}
-use Rattle.certificate.proofs.FieldLemmas.{passed, cut_short, refused, below_range, above_range}
+use Rattle.certificate.proofs.FieldLemmas.{passed, cut_short, refused, not_range, below_range, above_range}
 use Rattle.certificate.proofs.fields.read_byte.Goals.{then-byte-low-via-then-byte-low, then-byte-low-via-else-byte-low+then-high-byte}
 use Rattle.certificate.proofs.fields.read_byte.Goals as goal
 
@@ -18,7 +18,7 @@ returns-then-byte-low-clause-refused g c =
     let low = c.args.low in
     let high = c.args.high in
     let byte = c.in_ok-byte.byte in
-    refused OutOfRange 1 (byte_in low high) (left c.args.source.now) (left c.next_due.new.source) (byte ∷ []) c.in_ok-byte.ensures.byte refl
+    refused OutOfRange not_range 1 (omega arith) (byte_in low high) (left c.args.source.now) (left c.next_due.new.source) (byte ∷ []) c.in_ok-byte.ensures.byte refl
     (elim c.then-byte-low.branch [
       | then-byte-low-via-then-byte-low w ↦ below_range low high byte w.if-byte-low.true
       | then-byte-low-via-else-byte-low+then-high-byte w ↦ above_range low high byte w.if-high-byte.true

@@ -1,11 +1,10 @@
 use Rattle.std.proofs.Common.{sym, ◌∙◌, refl}
 use Rattle.certificate.specs.Sources.{Refuses}
-use Rattle.certificate.specs.Spellings.{number_text}
 use Rattle.certificate.specs.Readings.{row}
 use Rattle.certificate.proofs.FieldLemmas.{passed}
-use Rattle.certificate.proofs.TextLemmas.{board_law, number_law}
-use Rattle.certificate.proofs.RowLemmas.{not_risen, sides_of, follows_from_test}
-use Rattle.certificate.proofs.SourceLemmas.{first_refuses, then_refuses, as_one_refuses}
+use Rattle.certificate.proofs.TextLemmas.{board_law}
+use Rattle.certificate.proofs.RowLemmas.{sides_of, follows_from_test}
+use Rattle.certificate.proofs.SourceLemmas.{first_refuses, then_refuses, as_one_refuses, row_refuses}
 use Rattle.certificate.proofs.fields.read_row.Goals as goal
 
 pub returns-in_err-board-clause-refused : goal.returns-in_err-board-clause-refused
@@ -24,12 +23,10 @@ returns-in_err-cost-clause-refused g c =
     (as_one_refuses (then_refuses _ (board_law c.args.shape (sides_of c.args.shape b c.in_ok-board.ensures.board)) b b.tiles (record { board = c.in_ok-board.ensures.board; is = refl }) c.in_ok-board.ensures.taken (first_refuses _ c.in_err-cost.ensures.refused)))
 
 pub returns-then-not-comes_after-clause-refused : goal.returns-then-not-comes_after-clause-refused
-unfolding row
 returns-then-not-comes_after-clause-refused g c =
-    let b = c.in_ok-board.board in
-    let n = c.in_ok-cost.cost in
-    as_one_refuses (then_refuses _ (board_law c.args.shape (sides_of c.args.shape b c.in_ok-board.ensures.board)) b b.tiles (record { board = c.in_ok-board.ensures.board; is = refl }) c.in_ok-board.ensures.taken
-    (then_refuses _ number_law n (number_text n) (record { within = c.in_ok-cost.ensures.within; is = refl }) c.in_ok-cost.ensures.taken (not_risen c.args.before (b, n) (g.S.Source.left c.read_number.new.source) (sym c.comes_after.ensures ∙ c.if-not-comes_after.true))))
+    let left = g.S.Source.left in
+    row_refuses c.args.shape c.args.before c.in_ok-board.board c.in_ok-cost.cost (left c.args.source.now) (left c.read_board.new.source) (left c.read_number.new.source) c.in_ok-board.ensures.board c.in_ok-cost.ensures.within c.in_ok-board.ensures.taken c.in_ok-cost.ensures.taken
+    (sym c.comes_after.ensures ∙ c.if-not-comes_after.true)
 
 pub returns-clause-follows : goal.returns-clause-follows
 returns-clause-follows g c = follows_from_test c.args.shape c.args.before c.in_ok-board.board c.requires c.in_ok-board.ensures.board (sym c.comes_after.ensures ∙ c.if-not-comes_after.false)

@@ -1,4 +1,4 @@
-use Rattle.certificate.proofs.LawLemmas.{all_decided, all_told}
+use Rattle.certificate.proofs.LawLemmas.{all_decided, all_told, all_stopped}
 use Rattle.certificate.proofs.reading.read.Goals as goal
 
 pub returns-clause-answer : goal.returns-clause-answer
@@ -10,3 +10,8 @@ pub returns-clause-tells : goal.returns-clause-tells
 returns-clause-tells g c =
     let left = g.S.Source.left in
     all_told c.read_all.result (left c.args.source.now) (left c.read_all.new.source) c.read_all.ensures.whole c.read_all.ensures.refused
+
+pub returns-clause-stops : goal.returns-clause-stops
+returns-clause-stops g c =
+    let left = g.S.Source.left in
+    all_stopped c.read_all.result (left c.args.source.now) (left c.read_all.new.source) c.read_all.ensures.refused
