@@ -1,9 +1,10 @@
 ghost use Rattle.std.specs.Prelude.{◌<◌, length, IfSome};
 
-use std::alloc::{AllocError, Global};
+use std::alloc::Global;
+use std::io;
 
 /// The bytes that a text in escapes stands for, or `None` where a backslash begins no escape.
-pub fn unescape(alloc: Global, text: &str) -> Result<Option<Vec<u8>>, AllocError> {
+pub fn unescape(alloc: Global, text: &str) -> io::Result<Option<Vec<u8>>> {
     let mut bytes = Vec::new(alloc);
     let mut rest = text.as_bytes();
     'bytes: while !rest.is_empty() {
@@ -36,7 +37,7 @@ fn first_byte(text: &[u8]) -> Option<(u8, &[u8])>
 }
 
 /// Adds the lines of bytes to a text, each in escapes, on a line of its own, behind a mark.
-pub fn push_lines(text: &mut String, mark: &str, bytes: &[u8]) -> Result<(), AllocError> {
+pub fn push_lines(text: &mut String, mark: &str, bytes: &[u8]) -> io::Result<()> {
     for line in bytes.split_inclusive(|byte| *byte == b'\n') {
         text.push_str(mark)?;
         for byte in line {
@@ -48,13 +49,14 @@ pub fn push_lines(text: &mut String, mark: &str, bytes: &[u8]) -> Result<(), All
 }
 
 // Adds a byte to a text: itself where it is printable ASCII, else as an escape.
-fn push_escaped(text: &mut String, byte: u8) -> Result<(), AllocError> {
+fn push_escaped(text: &mut String, byte: u8) -> io::Result<()> {
     match byte {
-        b'\n' => text.push_str("\\n"),
-        b'\r' => text.push_str("\\r"),
-        b'\t' => text.push_str("\\t"),
-        b'\\' => text.push_str("\\\\"),
-        b' '..=b'~' => text.push(char::from(byte)),
-        _ => write!(text, "\\x{byte:02x}"),
+        b'\n' => text.push_str("\\n")?,
+        b'\r' => text.push_str("\\r")?,
+        b'\t' => text.push_str("\\t")?,
+        b'\\' => text.push_str("\\\\")?,
+        b' '..=b'~' => text.push(char::from(byte))?,
+        _ => write!(text, "\\x{byte:02x}")?,
     }
+    Ok(())
 }

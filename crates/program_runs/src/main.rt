@@ -13,7 +13,7 @@ mod escapes;
 use batch_cli::run_program;
 use byte_streams::{ByteSink, ByteSource};
 use escapes::{push_lines, unescape};
-use std::alloc::{AllocError, Global};
+use std::alloc::Global;
 use std::io::{self, BufRead, BufReader, ErrorKind};
 
 fn main(rt: HostRuntime) -> io::Result<()> {
@@ -42,17 +42,19 @@ fn print_run(rt: &(impl Print + AllocGlobal), row: &str) -> io::Result<()> {
 }
 
 // The words of a text with a space between two, or none where it is empty.
-fn words_of(alloc: Global, text: &str) -> Result<Vec<String>, AllocError> {
+fn words_of(alloc: Global, text: &str) -> io::Result<Vec<String>> {
     if text.is_empty() {
         return Ok(Vec::new(alloc));
     }
-    text.split(' ')
+    let words = text
+        .split(' ')
         .map(|word| word.to_string(alloc))
-        .try_collect(alloc)
+        .try_collect(alloc)?;
+    Ok(words)
 }
 
 // The status of a run and what it writes.
-fn answer_to(alloc: Global, words: &[String], input: &[u8]) -> Result<String, AllocError> {
+fn answer_to(alloc: Global, words: &[String], input: &[u8]) -> io::Result<String> {
     let mut source = ByteSource::new(input);
     let mut sink = ByteSink::new(Vec::new(alloc));
     let mut errors = ByteSink::new(Vec::new(alloc));
