@@ -1,49 +1,73 @@
 -- What several calls of a sink wrote.
-use Rattle.std.proofs.Common.{ℕ, ◌≡◌, ◌<◌, ◌-◌, List, ◌++◌, length, Option, sym, ◌∙◌, ap, append_assoc, refl, take, drop, take-append-drop, arith}
+use Rattle.std.proofs.Common.{ℕ, ◌≡◌, ◌<◌, ◌-◌, false, List, [], ◌++◌, length, Option, Result, Ok, Err, sym, ◌∙◌, ap, append_assoc, refl, take, drop, take-append-drop, arith}
+use Rattle.std.proofs.lemmas.Bool.{false≢true}
 use Rattle.std.proofs.lemmas.List.{length-drop}
 use Rattle.std.specs.Io.KnownBytes.{Appends, Keeps}
-use Rattle.std.proofs.KnownBytes.{Appends-trans, Appends-kept}
-use Rattle.byte_streams.specs.Sink.{AppendsBeginning, AreTaken, StopsAtFailure}
+use Rattle.std.proofs.KnownBytes.{Appends-nil, Appends-trans, Appends-kept}
+use Rattle.byte_streams.specs.Streams.{SinkState, Change}
+use Rattle.byte_streams.specs.Sink.{Puts, PutsBeginning, WritesAll, FailsWriting, Writes, AreTaken, StopsAtFailure}
+
+-- one change after the other
+abbrev pub from_to : {State : Type 0} → State → State → Change State
+from_to old new = record { before = old; after = new }
+
+-- nothing is a beginning of any bytes
+pub PutsBeginning-none : (a : SinkState) (bytes : List ℕ) → PutsBeginning (from_to a a) bytes
+PutsBeginning-none a bytes = record { sent = []; unsent = bytes; parts = refl; put = Appends-nil a.contents }
 
 -- the first n bytes were written, and then a call failed
-pub AppendsBeginning-from_take : (a b c : Option (List ℕ)) (n : ℕ) (xs : List ℕ) → Appends a b (take n xs) → Keeps b c → AppendsBeginning a c xs
-AppendsBeginning-from_take a b c n xs p q = record {
-  sent = take n xs;
-  unsent = drop n xs;
-  parts = sym (take-append-drop n xs);
-  appended = Appends-kept a b c (take n xs) p q;
+pub PutsBeginning-from_take : (sink : Change SinkState) (between : Option (List ℕ)) (n : ℕ) (bytes : List ℕ) → Appends sink.before.contents between (take n bytes) → Keeps between sink.after.contents → PutsBeginning sink bytes
+PutsBeginning-from_take sink between n bytes first none = record {
+  sent = take n bytes;
+  unsent = drop n bytes;
+  parts = sym (take-append-drop n bytes);
+  put = Appends-kept sink.before.contents between sink.after.contents (take n bytes) first none;
 }
 
 -- all of the first bytes were written, and then a beginning of the next
-pub AppendsBeginning-after : (a b c : Option (List ℕ)) (xs ys : List ℕ) → Appends a b xs → AppendsBeginning b c ys → AppendsBeginning a c (xs ++ ys)
-AppendsBeginning-after a b c xs ys p q = record {
+pub PutsBeginning-after : (a b c : SinkState) (xs ys : List ℕ) → Puts (from_to a b) xs → PutsBeginning (from_to b c) ys → PutsBeginning (from_to a c) (xs ++ ys)
+PutsBeginning-after a b c xs ys p q = record {
   sent = xs ++ q.sent;
   unsent = q.unsent;
   parts = ap (λ l. xs ++ l) q.parts ∙ sym (append_assoc xs q.sent q.unsent);
-  appended = Appends-trans a b c xs q.sent p q.appended;
+  put = Appends-trans a.contents b.contents c.contents xs q.sent p q.put;
 }
 
 -- a beginning of the first bytes is one of the first and the next
-pub AppendsBeginning-longer : (a b : Option (List ℕ)) (xs ys : List ℕ) → AppendsBeginning a b xs → AppendsBeginning a b (xs ++ ys)
-AppendsBeginning-longer a b xs ys p = record {
+pub PutsBeginning-longer : (sink : Change SinkState) (xs ys : List ℕ) → PutsBeginning sink xs → PutsBeginning sink (xs ++ ys)
+PutsBeginning-longer sink xs ys p = record {
   sent = p.sent;
   unsent = p.unsent ++ ys;
   parts = ap (λ l. l ++ ys) p.parts ∙ append_assoc p.sent p.unsent ys;
-  appended = p.appended;
+  put = p.put;
 }
 
 -- all of the first bytes are a beginning of the first and the next
-pub AppendsBeginning-from_all : (a b : Option (List ℕ)) (xs ys : List ℕ) → Appends a b xs → AppendsBeginning a b (xs ++ ys)
-AppendsBeginning-from_all a b xs ys p = record { sent = xs; unsent = ys; parts = refl; appended = p }
+pub PutsBeginning-from_all : (sink : Change SinkState) (xs ys : List ℕ) → Puts sink xs → PutsBeginning sink (xs ++ ys)
+PutsBeginning-from_all sink xs ys p = record { sent = xs; unsent = ys; parts = refl; put = p }
+
+-- the first bytes were written, and then the next, as far as the second call wrote them
+pub Writes-after : {E : Type 0} (a b c : SinkState) (xs ys : List ℕ) (result : Result (Unit {0}) E) → WritesAll (from_to a b) xs → Writes (from_to b c) ys result → Writes (from_to a c) (xs ++ ys) result
+Writes-after a b c xs ys (Ok done) first second = (Appends-trans a.contents b.contents c.contents xs ys first.0 second.0, (first.1.0, second.1.1))
+Writes-after a b c xs ys (Err fault) first second =
+    (PutsBeginning-after a b c xs ys first.0 second.0, second.1, λ failed. absurd (false≢true (sym first.1.0 ∙ failed)))
+
+-- the first call failed, so the next bytes were not begun
+pub FailsWriting-longer : (sink : Change SinkState) (xs ys : List ℕ) → FailsWriting sink xs → FailsWriting sink (xs ++ ys)
+FailsWriting-longer sink xs ys first = (PutsBeginning-longer sink xs ys first.0, first.1, first.2)
+
+-- nothing was to be written
+pub WritesAll-nothing : (a : SinkState) → a.has_failed ≡ false → WritesAll (from_to a a) []
+WritesAll-nothing a unfailed = (Appends-nil a.contents, (unfailed, unfailed))
 
 -- the first n bytes were taken, bytes were left, and then a write failed
-pub StopsAtFailure-from_take : {W : Type 0} (takes : W → List ℕ → W → Type 0) (fails : W → W → Type 0) (old before new : W) (n : ℕ) (bytes : List ℕ) → n < length bytes → AreTaken takes old (take n bytes) before → fails before new → StopsAtFailure takes fails old bytes new
+pub StopsAtFailure-from_take : {W : Type 0} (takes : W → List ℕ → W → Type 0) (fails : W → W → Type 0) (old before new : W) (n : ℕ) (bytes : List ℕ) → n < length bytes → AreTaken takes old (take n bytes) before → fails before new → StopsAtFailure takes fails (from_to old new) bytes
 StopsAtFailure-from_take takes fails old before new n bytes within taken failed =
     let shorter : length (drop n bytes) ≡ length bytes - n = length-drop n bytes in
     record {
       sent = take n bytes;
       unsent = drop n bytes;
-      before = before;
+      between = before;
       parts = sym (take-append-drop n bytes);
       left = omega (arith, within, shorter);
       taken = taken;

@@ -1,3 +1,4 @@
+pub mod Streams
 pub mod Source
 pub mod Sink
 pub mod ByteSource

@@ -5,10 +5,10 @@
 //! contracts say what stands then.
 #![tactic(auto)]
 
-pub mod reader;
-pub mod sink;
-pub mod source;
-pub mod writer;
+mod reader;
+mod sink;
+mod source;
+mod writer;
 
 pub use reader::Reader;
 pub use sink::{ByteSink, Sink, WriteFailed};

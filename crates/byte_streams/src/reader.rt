@@ -1,3 +1,5 @@
+//! What is read of std: one read, with a word for its failure.
+
 ghost use Rattle.std.specs.Prelude.{ℕ, ◌<◌, IfOk, List, OnErr, Option, length, take};
 ghost use Rattle.std.specs.Io.{ReadsAtMost};
 ghost use Rattle.std.specs.Io.KnownBytes.{ReadConsumes};

@@ -1,7 +1,10 @@
-ghost use Rattle.std.specs.Prelude.{◌≡◌, ◌<◌, ◌≤◌, ℕ, Bool, true, false, is_err, IfOk, IsErr, length, List, OnErr, OnOk, Option, take};
+//! Bytes that are written, and what writes them to a writer.
+
+ghost use Rattle.std.specs.Prelude.{◌≡◌, ◌<◌, ◌≤◌, ℕ, true, false, IfOk, length, List, OnErr, OnOk, Option, take};
 ghost use Rattle.std.specs.Io.KnownBytes.{Appends, Keeps};
-ghost use Rattle.byte_streams.specs.Sink.{AppendsBeginning, AreTaken, StopsAtFailure};
-ghost use Rattle.byte_streams.specs.ByteSink.{inner_writer, sink_has_failed};
+ghost use Rattle.byte_streams.specs.Streams.{SinkState, change};
+ghost use Rattle.byte_streams.specs.Sink.{Writes, Flushes, AreTaken, StopsAtFailure};
+ghost use Rattle.byte_streams.specs.ByteSink.{inner_writer, byte_sink_state};
 
 use crate::writer::Writer;
 use thiserror::Error;
@@ -13,11 +16,8 @@ pub struct WriteFailed;
 
 /// Bytes that are written, to what may fail.
 pub trait Sink {
-    // The bytes that are written, where they are known, with those that a buffer holds back.
-    ghost contents: { Self → Option (List ℕ) };
-
-    // A write or a flush has failed.
-    ghost has_failed: { Self → Bool };
+    // The bytes that are written, and whether a write or a flush has failed.
+    ghost state: { Self → SinkState };
 
     // A flush came last, and has succeeded.
     ghost is_flushed: { Self → Type 0 };
@@ -27,21 +27,14 @@ pub trait Sink {
     /// It fails exactly where the sink has failed after it. What was written then is what stood
     /// before and a beginning of the bytes, and each later call fails and writes nothing.
     fn put(&mut self, bytes: &[u8]) -> Result<(), WriteFailed>
-        ensures all { OnOk result (Appends (contents self.old) (contents self.new) bytes.now) }
-        ensures beginning { OnErr result
-            (AppendsBeginning (contents self.old) (contents self.new) bytes.now) }
-        ensures fails { has_failed self.new ≡ is_err result }
-        ensures stays { has_failed self.old ≡ true
-            → IsErr result × Keeps (contents self.old) (contents self.new) };
+        ensures { Writes (change state self.old self.new) bytes.now result };
 
     /// Passes on what is still held back.
     ///
     /// It fails exactly where the sink has failed after it, and writes no byte of its own.
     fn flush(&mut self) -> Result<(), WriteFailed>
-        ensures kept { Keeps (contents self.old) (contents self.new) }
-        ensures flushed { OnOk result (is_flushed self.new) }
-        ensures fails { has_failed self.new ≡ is_err result }
-        ensures stays { has_failed self.old ≡ true → IsErr result };
+        ensures flushes { Flushes (change state self.old self.new) result }
+        ensures last { OnOk result (is_flushed self.new) };
 }
 
 /// The bytes that a writer takes, up to its first failure.
@@ -57,8 +50,8 @@ pub struct ByteSink<W> {
 impl<W: Writer> ByteSink<W> {
     /// A sink that adds to what the writer holds.
     pub fn new(writer: W) -> Self
-        ensures writer { inner_writer result ≡ writer }
-        ensures fresh { sink_has_failed result ≡ false }
+        ensures writer { result.writer ≡ writer }
+        ensures fresh { result.has_failed ≡ false }
     {
         ByteSink {
             writer,
@@ -68,37 +61,29 @@ impl<W: Writer> ByteSink<W> {
 
     /// The writer, with what it holds. Nothing is flushed.
     pub fn into_inner(self) -> W
-        ensures { result ≡ inner_writer self }
+        ensures { result ≡ self.writer }
     {
         self.writer
     }
 }
 
 impl<W: Writer> Sink for ByteSink<W> {
-    ghost contents = { λ s. W.contents (inner_writer s) };
+    ghost state = { byte_sink_state W.contents };
 
-    ghost has_failed = { sink_has_failed };
-
-    ghost is_flushed = { λ s. (before : W) × W.flushes before (inner_writer s) };
+    ghost is_flushed = { λ sink. (before : W) × W.flushes before (inner_writer sink) };
 
     fn put(&mut self, bytes: &[u8]) -> Result<(), WriteFailed>
-        ensures all { OnOk result (Appends (W.contents (inner_writer self.old))
-            (W.contents (inner_writer self.new)) bytes.now) }
-        ensures beginning { OnErr result (AppendsBeginning (W.contents (inner_writer self.old))
-            (W.contents (inner_writer self.new)) bytes.now) }
-        ensures fails { sink_has_failed self.new ≡ is_err result }
-        ensures stays { sink_has_failed self.old ≡ true → IsErr result
-            × Keeps (W.contents (inner_writer self.old)) (W.contents (inner_writer self.new)) }
+        ensures writes { Writes (change (byte_sink_state W.contents) self.old self.new)
+            bytes.now result }
 
         // It succeeds by writes of which each took bytes. It fails by such writes and one more,
         // which failed or took no byte, or since it had failed before.
-        ensures writes { OnOk result (AreTaken W.write_takes (inner_writer self.old) bytes.now
-            (inner_writer self.new)) }
-        ensures cause { sink_has_failed self.old ≡ false
-            → OnErr result (StopsAtFailure W.write_takes W.write_fails (inner_writer self.old)
-            bytes.now (inner_writer self.new)) }
-        ensures untouched { sink_has_failed self.old ≡ true
-            → inner_writer self.new ≡ inner_writer self.old }
+        ensures taken { OnOk result
+            (AreTaken W.write_takes self.old.writer bytes.now self.new.writer) }
+        ensures cause { self.old.has_failed ≡ false → OnErr result
+            (StopsAtFailure W.write_takes W.write_fails (change inner_writer self.old self.new)
+            bytes.now) }
+        ensures untouched { self.old.has_failed ≡ true → self.new.writer ≡ self.old.writer }
     {
         if self.has_failed {
             return Err(WriteFailed);
@@ -117,18 +102,14 @@ impl<W: Writer> Sink for ByteSink<W> {
     }
 
     fn flush(&mut self) -> Result<(), WriteFailed>
-        ensures kept { Keeps (W.contents (inner_writer self.old))
-            (W.contents (inner_writer self.new)) }
-        ensures fails { sink_has_failed self.new ≡ is_err result }
-        ensures stays { sink_has_failed self.old ≡ true → IsErr result }
+        ensures flushes { Flushes (change (byte_sink_state W.contents) self.old self.new) result }
 
         // It succeeds only by a flush, and fails only by one that failed in this call, or since it
         // had failed before.
-        ensures flushed { OnOk result (W.flushes (inner_writer self.old) (inner_writer self.new)) }
-        ensures cause { sink_has_failed self.old ≡ false
-            → OnErr result (W.flush_fails (inner_writer self.old) (inner_writer self.new)) }
-        ensures untouched { sink_has_failed self.old ≡ true
-            → inner_writer self.new ≡ inner_writer self.old }
+        ensures last { OnOk result (W.flushes self.old.writer self.new.writer) }
+        ensures cause { self.old.has_failed ≡ false
+            → OnErr result (W.flush_fails self.old.writer self.new.writer) }
+        ensures untouched { self.old.has_failed ≡ true → self.new.writer ≡ self.old.writer }
     {
         if self.has_failed {
             return Err(WriteFailed);

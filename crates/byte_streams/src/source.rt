@@ -1,7 +1,9 @@
-ghost use Rattle.std.specs.Prelude.{◌≡◌, ℕ, Bool, true, false, is_err, IfOk, IsErr, List, OnErr, Option};
-ghost use Rattle.std.specs.Io.KnownBytes.{Keeps};
-ghost use Rattle.byte_streams.specs.Source.{GivesByte, GivenByRead};
-ghost use Rattle.byte_streams.specs.ByteSource.{inner_reader, source_has_failed};
+//! Bytes that are read one by one, and those of a reader.
+
+ghost use Rattle.std.specs.Prelude.{◌≡◌, ℕ, true, false, IfOk, List, OnErr, Option};
+ghost use Rattle.byte_streams.specs.Streams.{SourceState, change};
+ghost use Rattle.byte_streams.specs.Source.{GivesNext, GivenByRead};
+ghost use Rattle.byte_streams.specs.ByteSource.{inner_reader, byte_source_state};
 
 use crate::reader::Reader;
 use thiserror::Error;
@@ -13,21 +15,15 @@ pub struct ReadFailed;
 
 /// Bytes that are read one by one, from what may fail.
 pub trait Source {
-    // The bytes that are left, where they are known.
-    ghost left: { Self → Option (List ℕ) };
-
-    // Reading has failed.
-    ghost has_failed: { Self → Bool };
+    // The bytes that are left, and whether reading has failed.
+    ghost state: { Self → SourceState };
 
     /// The next byte, or `None` at the end.
     ///
     /// It fails exactly where the source has failed after it. No byte is lost then, and each later
     /// call fails too.
     fn next_byte(&mut self) -> Result<Option<u8>, ReadFailed>
-        ensures byte { IfOk result (GivesByte (left self.old) (left self.new)) }
-        ensures kept { OnErr result (Keeps (left self.old) (left self.new)) }
-        ensures fails { has_failed self.new ≡ is_err result }
-        ensures stays { has_failed self.old ≡ true → IsErr result };
+        ensures { GivesNext (change state self.old self.new) result };
 }
 
 /// The bytes of a reader, up to its first failure.
@@ -42,8 +38,8 @@ pub struct ByteSource<R> {
 impl<R: Reader> ByteSource<R> {
     /// A source of what the reader has left.
     pub fn new(reader: R) -> Self
-        ensures reader { inner_reader result ≡ reader }
-        ensures fresh { source_has_failed result ≡ false }
+        ensures reader { result.reader ≡ reader }
+        ensures fresh { result.has_failed ≡ false }
     {
         ByteSource {
             reader,
@@ -53,33 +49,25 @@ impl<R: Reader> ByteSource<R> {
 
     /// The reader, which stands after the last byte that was given.
     pub fn into_inner(self) -> R
-        ensures { result ≡ inner_reader self }
+        ensures { result ≡ self.reader }
     {
         self.reader
     }
 }
 
 impl<R: Reader> Source for ByteSource<R> {
-    ghost left = { λ s. R.left (inner_reader s) };
-
-    ghost has_failed = { source_has_failed };
+    ghost state = { byte_source_state R.left };
 
     fn next_byte(&mut self) -> Result<Option<u8>, ReadFailed>
-        ensures byte { IfOk result
-            (GivesByte (R.left (inner_reader self.old)) (R.left (inner_reader self.new))) }
-        ensures kept { OnErr result
-            (Keeps (R.left (inner_reader self.old)) (R.left (inner_reader self.new))) }
-        ensures fails { source_has_failed self.new ≡ is_err result }
-        ensures stays { source_has_failed self.old ≡ true → IsErr result }
+        ensures gives { GivesNext (change (byte_source_state R.left) self.old self.new) result }
 
         // It succeeds by one read, and fails only by one that failed in this call, or since it had
         // failed before.
         ensures reads { IfOk result
-            (GivenByRead R.read_gives (inner_reader self.old) (inner_reader self.new)) }
-        ensures cause { source_has_failed self.old ≡ false
-            → OnErr result (R.read_fails (inner_reader self.old) (inner_reader self.new)) }
-        ensures untouched { source_has_failed self.old ≡ true
-            → inner_reader self.new ≡ inner_reader self.old }
+            (GivenByRead R.read_gives (change inner_reader self.old self.new)) }
+        ensures cause { self.old.has_failed ≡ false
+            → OnErr result (R.read_fails self.old.reader self.new.reader) }
+        ensures untouched { self.old.has_failed ≡ true → self.new.reader ≡ self.old.reader }
     {
         if self.has_failed {
             return Err(ReadFailed);

@@ -1,9 +1,10 @@
-use Rattle.std.proofs.Common.{take, drop, arith}
+use Rattle.std.proofs.Common.{take, drop, arith, sym, ◌∙◌, refl}
+use Rattle.std.proofs.lemmas.Bool.{false≢true}
 use Rattle.std.proofs.Math.Seq.{take-add}
 use Rattle.std.proofs.lemmas.List.{take_rest}
 use Rattle.std.proofs.KnownBytes.{Appends-nil, Appends-trans}
 use Rattle.byte_streams.specs.Sink.AreTaken.{by_none, by_one_more}
-use Rattle.byte_streams.proofs.SinkLemmas.{AppendsBeginning-from_take, StopsAtFailure-from_take}
+use Rattle.byte_streams.proofs.SinkLemmas.{PutsBeginning-from_take, StopsAtFailure-from_take}
 use Rattle.byte_streams.proofs.sink.ByteSinkSink.put.Goals as goal
 
 pub writes-init : goal.writes-init
@@ -24,9 +25,9 @@ writes-preserved g c =
       taken = rw take-add longer;
     }
 
-pub returns-in-Err-clause-beginning : goal.returns-in-Err-clause-beginning
-returns-in-Err-clause-beginning g c =
-    AppendsBeginning-from_take _ _ _ c.writes.sent _ c.writes.invariant.appended c.in-Err.ensures.kept
+pub returns-in-Err-clause-writes : goal.returns-in-Err-clause-writes
+returns-in-Err-clause-writes g c =
+    (PutsBeginning-from_take _ _ c.writes.sent _ c.writes.invariant.appended c.in-Err.ensures.kept, refl, λ failed. absurd (false≢true (sym c.if-self.false ∙ failed)))
 
 pub returns-in-Err-clause-cause : goal.returns-in-Err-clause-cause
 returns-in-Err-clause-cause g c unfailed =
