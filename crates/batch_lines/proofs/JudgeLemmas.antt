@@ -5,45 +5,46 @@ use Rattle.std.proofs.lemmas.List.{take_all}
 use Rattle.batch_lines.specs.declared.lines.LineKind.TheVariants.{PassedOver, Within, TooLong}
 use Rattle.batch_lines.specs.declared.lines.Start.{Start}
 use Rattle.batch_lines.specs.Lines.{without_return}
-use Rattle.batch_lines.specs.Starts.{passes, IsHeard}
+use Rattle.batch_lines.specs.Starts.{passes, IsScanned}
 use Rattle.batch_lines.specs.Readings.{IsJudged}
-use Rattle.batch_lines.proofs.StartLemmas.{kind_of-passed, kind_of-long, kind_of-within, length-without_return}
+use Rattle.batch_lines.specs.declared.lines.TheConstants.{LINE_LIMIT, KEPT}
+use Rattle.batch_lines.proofs.StartLemmas.{scan_of, kind_of-passed, kind_of-long, kind_of-within, length-without_return}
 
 -- a line that is passed over
-pub judged_passed : (line kept left : List ℕ) (start : Start) (more : Bool) → IsHeard line kept start more → passes start ≡ true → IsJudged line PassedOver left
-judged_passed line kept left start more heard passed = record {
-  judged = sym (kind_of-passed line (ap passes (sym heard.begins) ∙ passed));
+pub judged_passed : (line kept left : List ℕ) (start : Start) (more : Bool) → IsScanned line kept (scan_of start more) → passes start ≡ true → IsJudged line PassedOver left
+judged_passed line kept left start more scan passed = record {
+  judged = sym (kind_of-passed line (ap passes (sym scan.begins) ∙ passed));
   whole = λ e. absurd (cc);
 }
 
 -- a line with more bytes than are kept
-pub judged_more : (line kept left : List ℕ) (start : Start) (more : Bool) → IsHeard line kept start more → passes start ≡ false → more ≡ true → IsJudged line TooLong left
-judged_more line kept left start more heard answered long = record {
-  judged = sym (kind_of-long line (ap passes (sym heard.begins) ∙ answered) (omega (arith, heard.long.0 long, length-without_return line)));
+pub judged_more : (line kept left : List ℕ) (start : Start) (more : Bool) → IsScanned line kept (scan_of start more) → passes start ≡ false → more ≡ true → IsJudged line TooLong left
+judged_more line kept left start more scan answered long = record {
+  judged = sym (kind_of-long line (ap passes (sym scan.begins) ∙ answered) (omega (arith, scan.long.0 long, length-without_return line)));
   whole = λ e. absurd (cc);
 }
 
 -- all bytes of the line are kept
-whole_line : (line kept : List ℕ) (start : Start) → IsHeard line kept start false → kept ≡ line
-whole_line line kept start heard =
-    let short : length line ≤ 1025 = ⊎_elim (λ (long : 1025 < length line). absurd (let e = heard.long.1 long in cc)) (λ (l : length line ≤ 1025). l) (cases_lt 1025 (length line)) in
-    heard.first ∙ take_all 1025 line short
+whole_line : (line kept : List ℕ) (start : Start) → IsScanned line kept (scan_of start false) → kept ≡ line
+whole_line line kept start scan =
+    let short : length line ≤ KEPT = ⊎_elim (λ (long : KEPT < length line). absurd (let e = scan.long.1 long in cc)) (λ (l : length line ≤ KEPT). l) (cases_lt KEPT (length line)) in
+    scan.first ∙ take_all KEPT line short
 
 -- a line of which all bytes are kept, and what is left of them without a carriage return
-pub judged_long : (line kept left : List ℕ) (start : Start) (more : Bool) → IsHeard line kept start more → passes start ≡ false → more ≡ false → left ≡ without_return kept → 1024 < length left → IsJudged line TooLong left
-judged_long line kept left start more heard answered all dropped long =
-    let whole = whole_line line kept start (subst (λ (m : Bool). IsHeard line kept start m) all heard) in
+pub judged_long : (line kept left : List ℕ) (start : Start) (more : Bool) → IsScanned line kept (scan_of start more) → passes start ≡ false → more ≡ false → left ≡ without_return kept → LINE_LIMIT < length left → IsJudged line TooLong left
+judged_long line kept left start more scan answered all dropped long =
+    let whole = whole_line line kept start (subst (λ (m : Bool). IsScanned line kept (scan_of start m)) all scan) in
     let is : left ≡ without_return line = dropped ∙ ap without_return whole in
     record {
-      judged = sym (kind_of-long line (ap passes (sym heard.begins) ∙ answered) (omega (arith, long, ap length is)));
+      judged = sym (kind_of-long line (ap passes (sym scan.begins) ∙ answered) (omega (arith, long, ap length is)));
       whole = λ e. absurd (cc);
     }
 
-pub judged_within : (line kept left : List ℕ) (start : Start) (more : Bool) → IsHeard line kept start more → passes start ≡ false → more ≡ false → left ≡ without_return kept → length left ≤ 1024 → IsJudged line Within left
-judged_within line kept left start more heard answered all dropped short =
-    let whole = whole_line line kept start (subst (λ (m : Bool). IsHeard line kept start m) all heard) in
+pub judged_within : (line kept left : List ℕ) (start : Start) (more : Bool) → IsScanned line kept (scan_of start more) → passes start ≡ false → more ≡ false → left ≡ without_return kept → length left ≤ LINE_LIMIT → IsJudged line Within left
+judged_within line kept left start more scan answered all dropped short =
+    let whole = whole_line line kept start (subst (λ (m : Bool). IsScanned line kept (scan_of start m)) all scan) in
     let is : left ≡ without_return line = dropped ∙ ap without_return whole in
     record {
-      judged = sym (kind_of-within line (ap passes (sym heard.begins) ∙ answered) (omega (arith, short, ap length is)));
+      judged = sym (kind_of-within line (ap passes (sym scan.begins) ∙ answered) (omega (arith, short, ap length is)));
       whole = λ e. is;
     }

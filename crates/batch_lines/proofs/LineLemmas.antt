@@ -7,9 +7,14 @@ use Rattle.std.proofs.lemmas.List.{take_all, take-append-le, nil_from_length}
 use Rattle.batch_lines.specs.declared.lines.Start.{Start}
 use Rattle.batch_lines.specs.declared.lines.Start.TheVariants.{Blanks}
 use Rattle.batch_lines.specs.Lines.{lines_of, onto_first}
-use Rattle.batch_lines.specs.Starts.{start_after, IsHeard}
-use Rattle.batch_lines.specs.Readings.{HasNoFeed, TakesKnown, TakesNoLine, CountsTaken}
-use Rattle.batch_lines.proofs.StartLemmas.{start_more}
+use Rattle.batch_lines.specs.Starts.{start_after, IsScanned}
+use Rattle.batch_lines.specs.Readings.{HasNoFeed, TakesKnown, CountsKnown}
+use Rattle.batch_lines.specs.declared.lines.TheConstants.{LINE_LIMIT, KEPT, INPUT_LIMIT}
+use Rattle.batch_lines.proofs.StartLemmas.{start_more, scan_of}
+
+-- no whole line is among the bytes that were taken within the limit
+abbrev pub LosesLine : Option (List ℕ) → Option (List ℕ) → ℕ → Type 0
+LosesLine old new room = (seen : List ℕ) × Consumes old new seen × HasNoFeed (take room seen)
 
 -- bytes without a line feed before one are the first line
 feed_ends : (line rest : List ℕ) → HasNoFeed line → lines_of (line ++ 10 ∷ rest) ≡ line ∷ lines_of rest
@@ -35,53 +40,53 @@ pub record IsUnderWay (old now : Option (List ℕ)) (before taken : ℕ) (kept :
   pub seen : List ℕ
   pub consumed : Consumes old now seen
   pub no_feed : HasNoFeed seen
-  pub heard : IsHeard seen kept start more
+  pub scan : IsScanned seen kept (scan_of start more)
   pub counted : taken ≡ before + length seen
-  pub within : taken ≤ 18446744073709551614
+  pub within : taken ≤ INPUT_LIMIT
 
-pub IsUnderWay-none : (old : Option (List ℕ)) (taken : ℕ) → taken ≤ 18446744073709551614 → IsUnderWay old old taken taken [] Blanks false
+pub IsUnderWay-none : (old : Option (List ℕ)) (taken : ℕ) → taken ≤ INPUT_LIMIT → IsUnderWay old old taken taken [] Blanks false
 IsUnderWay-none old taken within = record {
   seen = [];
   consumed = Consumes-nil old;
   no_feed = tt;
-  heard = record { first = refl; begins = refl; long = ((λ h. absurd (false≢true h)), (λ h. absurd (omega arith))) };
+  scan = record { first = refl; begins = refl; long = ((λ h. absurd (false≢true h)), (λ h. absurd (omega arith))) };
   counted = omega arith;
   within = within;
 }
 
 -- one more byte, which is kept
-pub IsUnderWay-kept : (old now new : Option (List ℕ)) (before taken : ℕ) (kept : List ℕ) (start : Start) (more : Bool) (b : ℕ) → length kept < 1025 → b ≢ 10 → Consumes now new (b ∷ []) → taken + 1 ≤ 18446744073709551614 →
+pub IsUnderWay-kept : (old now new : Option (List ℕ)) (before taken : ℕ) (kept : List ℕ) (start : Start) (more : Bool) (b : ℕ) → length kept < KEPT → b ≢ 10 → Consumes now new (b ∷ []) → taken + 1 ≤ INPUT_LIMIT →
     IsUnderWay old now before taken kept start more → IsUnderWay old new before (taken + 1) (kept ++ b ∷ []) (start_after start b) more
 IsUnderWay-kept old now new before taken kept start more b room other byte within way =
-    let short : length way.seen ≤ 1024 = omega (arith, length-take 1025 way.seen, ap length way.heard.first) in
-    let whole : kept ≡ way.seen = way.heard.first ∙ take_all 1025 way.seen (omega arith) in
+    let short : length way.seen ≤ LINE_LIMIT = omega (arith, length-take KEPT way.seen, ap length way.scan.first) in
+    let whole : kept ≡ way.seen = way.scan.first ∙ take_all KEPT way.seen (omega arith) in
     let longer : length (way.seen ++ b ∷ []) ≡ length way.seen + 1 = length-append way.seen (b ∷ []) in
     record {
       seen = way.seen ++ b ∷ [];
       consumed = Consumes-trans old now new way.seen (b ∷ []) way.consumed byte;
       no_feed = HasNoFeed-more way.seen b way.no_feed other;
-      heard = record {
-        first = ap (λ (l : List ℕ). l ++ b ∷ []) whole ∙ sym (take_all 1025 (way.seen ++ b ∷ []) (omega arith));
-        begins = ap (λ (s : Start). start_after s b) way.heard.begins ∙ sym (start_more Blanks way.seen b);
-        long = ((λ h. absurd (omega (arith, way.heard.long.0 h))), (λ h. absurd (omega arith)));
+      scan = record {
+        first = ap (λ (l : List ℕ). l ++ b ∷ []) whole ∙ sym (take_all KEPT (way.seen ++ b ∷ []) (omega arith));
+        begins = ap (λ (s : Start). start_after s b) way.scan.begins ∙ sym (start_more Blanks way.seen b);
+        long = ((λ h. absurd (omega (arith, way.scan.long.0 h))), (λ h. absurd (omega arith)));
       };
       counted = omega (arith, way.counted);
       within = within;
     }
 
 -- one more byte, which is not kept
-pub IsUnderWay-long : (old now new : Option (List ℕ)) (before taken : ℕ) (kept : List ℕ) (start : Start) (more : Bool) (b : ℕ) → 1025 ≤ length kept → b ≢ 10 → Consumes now new (b ∷ []) → taken + 1 ≤ 18446744073709551614 →
+pub IsUnderWay-long : (old now new : Option (List ℕ)) (before taken : ℕ) (kept : List ℕ) (start : Start) (more : Bool) (b : ℕ) → KEPT ≤ length kept → b ≢ 10 → Consumes now new (b ∷ []) → taken + 1 ≤ INPUT_LIMIT →
     IsUnderWay old now before taken kept start more → IsUnderWay old new before (taken + 1) kept (start_after start b) true
 IsUnderWay-long old now new before taken kept start more b full other byte within way =
-    let enough : 1025 ≤ length way.seen = omega (arith, length-take 1025 way.seen, ap length way.heard.first) in
+    let enough : KEPT ≤ length way.seen = omega (arith, length-take KEPT way.seen, ap length way.scan.first) in
     let longer : length (way.seen ++ b ∷ []) ≡ length way.seen + 1 = length-append way.seen (b ∷ []) in
     record {
       seen = way.seen ++ b ∷ [];
       consumed = Consumes-trans old now new way.seen (b ∷ []) way.consumed byte;
       no_feed = HasNoFeed-more way.seen b way.no_feed other;
-      heard = record {
-        first = way.heard.first ∙ sym (take-append-le 1025 way.seen (b ∷ []) enough);
-        begins = ap (λ (s : Start). start_after s b) way.heard.begins ∙ sym (start_more Blanks way.seen b);
+      scan = record {
+        first = way.scan.first ∙ sym (take-append-le KEPT way.seen (b ∷ []) enough);
+        begins = ap (λ (s : Start). start_after s b) way.scan.begins ∙ sym (start_more Blanks way.seen b);
         long = ((λ h. omega arith), (λ h. refl));
       };
       counted = omega (arith, way.counted);
@@ -117,17 +122,17 @@ nothing_taken (Some input) (Some left) (Some rest) p q k = (p ∙ q, k ∙ sym p
 -- the end of the input before any byte of a line
 pub ends_before : (old now new : Option (List ℕ)) (before taken : ℕ) (kept : List ℕ) (start : Start) (more : Bool) → length kept ≡ 0 → IsAtEnd now → Keeps now new → IsUnderWay old now before taken kept start more → IsAtEnd old × Keeps old new × (taken ≡ before)
 ends_before old now new before taken kept start more none q k way =
-    let short : length way.seen ≡ 0 = omega (arith, length-take 1025 way.seen, ap length way.heard.first) in
+    let short : length way.seen ≡ 0 = omega (arith, length-take KEPT way.seen, ap length way.scan.first) in
     let at = nothing_taken old now new (subst (Consumes old now) (nil_from_length way.seen short) way.consumed) q k in
     (at.0, at.1, omega (arith, way.counted))
 
 -- the end of the input after some bytes of a line
 pub ends_after : (old now new : Option (List ℕ)) (before taken : ℕ) (kept : List ℕ) (start : Start) (more : Bool) → 0 < length kept → IsAtEnd now → Keeps now new → IsUnderWay old now before taken kept start more →
-    (line : List ℕ) × TakesKnown old new line × IsHeard line kept start more × (before < taken)
+    (line : List ℕ) × TakesKnown old new line × IsScanned line kept (scan_of start more) × (before < taken)
 ends_after old now new before taken kept start more some q k way =
-    (way.seen, last way.seen way.no_feed way.consumed enough, way.heard, omega (arith, way.counted, enough)) where
+    (way.seen, last way.seen way.no_feed way.consumed enough, way.scan, omega (arith, way.counted, enough)) where
       enough : 0 < length way.seen
-      enough = omega (arith, length-take 1025 way.seen, ap length way.heard.first)
+      enough = omega (arith, length-take KEPT way.seen, ap length way.scan.first)
 
       last : (seen : List ℕ) → HasNoFeed seen → Consumes old now seen → 0 < length seen → TakesKnown old new seen
       last [] none p l = absurd (omega arith)
@@ -135,9 +140,9 @@ ends_after old now new before taken kept start more some q k way =
 
 -- a line feed after the bytes of a line
 pub ends_by_feed : (old now new : Option (List ℕ)) (before taken : ℕ) (kept : List ℕ) (start : Start) (more : Bool) → Consumes now new (10 ∷ []) → IsUnderWay old now before taken kept start more →
-    (line : List ℕ) × TakesKnown old new line × IsHeard line kept start more × (before < taken + 1)
+    (line : List ℕ) × TakesKnown old new line × IsScanned line kept (scan_of start more) × (before < taken + 1)
 ends_by_feed old now new before taken kept start more feed way =
-    (way.seen, feed_taken old now new way.seen way.no_feed way.consumed feed, way.heard, omega (arith, way.counted))
+    (way.seen, feed_taken old now new way.seen way.no_feed way.consumed feed, way.scan, omega (arith, way.counted))
 
 -- to keep what is left is to take nothing
 kept_consumes : (x y : Option (List ℕ)) → Keeps x y → Consumes x y []
@@ -146,36 +151,36 @@ kept_consumes (Some xs) None k = absurd k
 kept_consumes (Some xs) (Some ys) k = sym k
 
 -- the source fails on the way
-pub lost_on_the_way : (old now new : Option (List ℕ)) (before taken room : ℕ) (kept : List ℕ) (start : Start) (more : Bool) → Keeps now new → IsUnderWay old now before taken kept start more → TakesNoLine old new room
+pub lost_on_the_way : (old now new : Option (List ℕ)) (before taken room : ℕ) (kept : List ℕ) (start : Start) (more : Bool) → Keeps now new → IsUnderWay old now before taken kept start more → LosesLine old new room
 lost_on_the_way old now new before taken room kept start more k way =
     (way.seen, subst (λ (bytes : List ℕ). Consumes old new bytes) (append-nil way.seen) (Consumes-trans old now new way.seen [] way.consumed (kept_consumes now new k)), HasNoFeed-take room way.seen way.no_feed)
 
 -- the input passes its limit
-pub lost_past_limit : (old now new : Option (List ℕ)) (before taken : ℕ) (kept : List ℕ) (start : Start) (more : Bool) (b : ℕ) → Consumes now new (b ∷ []) → 18446744073709551614 < taken + 1 → IsUnderWay old now before taken kept start more → TakesNoLine old new (18446744073709551614 - before)
+pub lost_past_limit : (old now new : Option (List ℕ)) (before taken : ℕ) (kept : List ℕ) (start : Start) (more : Bool) (b : ℕ) → Consumes now new (b ∷ []) → INPUT_LIMIT < taken + 1 → IsUnderWay old now before taken kept start more → LosesLine old new (INPUT_LIMIT - before)
 lost_past_limit old now new before taken kept start more b byte past way =
-    let room : 18446744073709551614 - before ≡ length way.seen = omega (arith, way.counted, way.within) in
-    let whole : take (18446744073709551614 - before) (way.seen ++ b ∷ []) ≡ way.seen =
+    let room : INPUT_LIMIT - before ≡ length way.seen = omega (arith, way.counted, way.within) in
+    let whole : take (INPUT_LIMIT - before) (way.seen ++ b ∷ []) ≡ way.seen =
     ap (λ (n : ℕ). take n (way.seen ++ b ∷ [])) room ∙ take-append-le (length way.seen) way.seen (b ∷ []) (omega arith) ∙ take_all (length way.seen) way.seen (omega arith) in
     (way.seen ++ b ∷ [], Consumes-trans old now new way.seen (b ∷ []) way.consumed byte, subst HasNoFeed (sym whole) way.no_feed)
 
 -- nothing was taken
-pub lost_at_once : (old : Option (List ℕ)) (room : ℕ) → TakesNoLine old old room
+pub lost_at_once : (old : Option (List ℕ)) (room : ℕ) → LosesLine old old room
 lost_at_once old room = ([], Consumes-nil old, HasNoFeed-take room [] tt)
 
 -- what was taken is counted
-counts : (old now : Option (List ℕ)) (before taken : ℕ) (seen : List ℕ) → Consumes old now seen → taken ≡ before + length seen → CountsTaken old now before taken
+counts : (old now : Option (List ℕ)) (before taken : ℕ) (seen : List ℕ) → Consumes old now seen → taken ≡ before + length seen → CountsKnown old now before taken
 counts None now before taken seen p e = tt
 counts (Some input) None before taken seen p e = absurd p
 counts (Some input) (Some rest) before taken seen p e = omega (arith, ap length p, length-append seen rest)
 
-pub counted_on_the_way : (old now new : Option (List ℕ)) (before taken : ℕ) (kept : List ℕ) (start : Start) (more : Bool) → Keeps now new → IsUnderWay old now before taken kept start more → CountsTaken old new before taken
+pub counted_on_the_way : (old now new : Option (List ℕ)) (before taken : ℕ) (kept : List ℕ) (start : Start) (more : Bool) → Keeps now new → IsUnderWay old now before taken kept start more → CountsKnown old new before taken
 counted_on_the_way old now new before taken kept start more k way =
     counts old new before taken way.seen (subst (λ (bytes : List ℕ). Consumes old new bytes) (append-nil way.seen) (Consumes-trans old now new way.seen [] way.consumed (kept_consumes now new k))) way.counted
 
-pub counted_with_byte : (old now new : Option (List ℕ)) (before taken : ℕ) (kept : List ℕ) (start : Start) (more : Bool) (b : ℕ) → Consumes now new (b ∷ []) → IsUnderWay old now before taken kept start more → CountsTaken old new before (taken + 1)
+pub counted_with_byte : (old now new : Option (List ℕ)) (before taken : ℕ) (kept : List ℕ) (start : Start) (more : Bool) (b : ℕ) → Consumes now new (b ∷ []) → IsUnderWay old now before taken kept start more → CountsKnown old new before (taken + 1)
 counted_with_byte old now new before taken kept start more b byte way =
     counts old new before (taken + 1) (way.seen ++ b ∷ []) (Consumes-trans old now new way.seen (b ∷ []) way.consumed byte) (omega (arith, way.counted, length-append way.seen (b ∷ [])))
 
-pub counted_at_once : (old : Option (List ℕ)) (before : ℕ) → CountsTaken old old before before
+pub counted_at_once : (old : Option (List ℕ)) (before : ℕ) → CountsKnown old old before before
 counted_at_once None before = tt
 counted_at_once (Some input) before = refl

@@ -1,11 +1,17 @@
 -- A line is judged by how it begins and by its length.
-use Rattle.std.proofs.Common.{◌≡◌, ◌≢◌, ℕ, suc, ◌+◌, ◌-◌, ◌<◌, ◌≤◌, List, [], ◌∷◌, ◌++◌, true, false, length, get_or, take, refl, sym, ap, ◌∙◌, arith}
+use Rattle.std.proofs.Common.{◌≡◌, ◌≢◌, ℕ, Bool, suc, ◌+◌, ◌-◌, ◌<◌, ◌≤◌, List, [], ◌∷◌, ◌++◌, true, false, length, get_or, take, refl, sym, ap, ◌∙◌, arith}
 use Rattle.std.proofs.lemmas.Bool.{ne_eqb, eq-eqb, lt-ltb, le-ltb}
 use Rattle.batch_lines.specs.declared.lines.LineKind.TheVariants.{PassedOver, Within, TooLong}
 use Rattle.batch_lines.specs.declared.lines.Start.{Start}
 use Rattle.batch_lines.specs.declared.lines.Start.TheVariants.{Blanks, Comment, Words}
 use Rattle.batch_lines.specs.Lines.{without_return, is_passed_over, kind_of}
 use Rattle.batch_lines.specs.Starts.{start_after, start_of, passes}
+use Rattle.batch_lines.specs.declared.lines.Scan.{Scan}
+use Rattle.batch_lines.specs.declared.lines.TheConstants.{LINE_LIMIT}
+
+-- what is remembered of a line beside its first bytes
+abbrev pub scan_of : Start → Bool → Scan
+scan_of start more = record { start = start; more = more }
 
 comment_stays : (bs : List ℕ) → passes (start_of Comment bs) ≡ true
 comment_stays [] = refl
@@ -29,11 +35,11 @@ start_more start (c ∷ bs) b = start_more (start_after start c) bs b
 pub kind_of-passed : (line : List ℕ) → passes (start_of Blanks line) ≡ true → kind_of line ≡ PassedOver
 kind_of-passed line passed = rw (passed_over_is line, passed) refl
 
-pub kind_of-long : (line : List ℕ) → passes (start_of Blanks line) ≡ false → 1024 < length (without_return line) → kind_of line ≡ TooLong
-kind_of-long line answered long = rw (passed_over_is line, answered, lt-ltb 1024 (length (without_return line)) long) refl
+pub kind_of-long : (line : List ℕ) → passes (start_of Blanks line) ≡ false → LINE_LIMIT < length (without_return line) → kind_of line ≡ TooLong
+kind_of-long line answered long = rw (passed_over_is line, answered, lt-ltb LINE_LIMIT (length (without_return line)) long) refl
 
-pub kind_of-within : (line : List ℕ) → passes (start_of Blanks line) ≡ false → length (without_return line) ≤ 1024 → kind_of line ≡ Within
-kind_of-within line answered short = rw (passed_over_is line, answered, le-ltb 1024 (length (without_return line)) short) refl
+pub kind_of-within : (line : List ℕ) → passes (start_of Blanks line) ≡ false → length (without_return line) ≤ LINE_LIMIT → kind_of line ≡ Within
+kind_of-within line answered short = rw (passed_over_is line, answered, le-ltb LINE_LIMIT (length (without_return line)) short) refl
 
 -- no more than one byte is dropped
 pub length-without_return : (line : List ℕ) → length line ≤ length (without_return line) + 1

@@ -1,6 +1,7 @@
 -- The lines of an input, and what is to be done with each.
 use Rattle.std.specs.Prelude.{ℕ, ◌==◌, ◌||◌, List, [], ◌∷◌, length, nat_lt, Bool, true, if◌then◌else◌}
 use Rattle.batch_lines.specs.declared.lines.LineKind.{LineKind}
+use Rattle.batch_lines.specs.declared.lines.TheConstants.{LINE_LIMIT}
 use Rattle.batch_lines.specs.declared.lines.LineKind.TheVariants.{PassedOver, Within, TooLong}
 
 -- a byte before the other bytes of the first line
@@ -30,4 +31,4 @@ is_passed_over (b ∷ bs) = if is_blank b then is_passed_over bs else b == 35
 
 -- what is to be done with a line: first a carriage return is dropped, then it is passed over whatever its length, then its length is judged
 abbrev pub kind_of : List ℕ → LineKind
-kind_of line = if is_passed_over (without_return line) then PassedOver else if nat_lt 1024 (length (without_return line)) then TooLong else Within
+kind_of line = if is_passed_over (without_return line) then PassedOver else if nat_lt LINE_LIMIT (length (without_return line)) then TooLong else Within

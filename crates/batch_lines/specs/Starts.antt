@@ -2,6 +2,8 @@
 use Rattle.std.specs.Prelude.{ℕ, ◌≡◌, ◌<◌, ◌==◌, ◌↔◌, List, [], ◌∷◌, length, take, Bool, true, false, IsTrue, if◌then◌else◌}
 use Rattle.batch_lines.specs.Lines.{is_blank}
 use Rattle.batch_lines.specs.declared.lines.Start.{Start}
+use Rattle.batch_lines.specs.declared.lines.Scan.{Scan}
+use Rattle.batch_lines.specs.declared.lines.TheConstants.{KEPT}
 use Rattle.batch_lines.specs.declared.lines.Start.TheVariants.{Blanks, Return, Comment, Words}
 
 -- after one more byte
@@ -24,7 +26,7 @@ passes Comment = true
 passes Words = false
 
 -- of a line its first bytes are kept, how it begins, and whether it has more bytes
-pub record IsHeard (line kept : List ℕ) (start : Start) (more : Bool) : Type 0 where
-  pub first : kept ≡ take 1025 line
-  pub begins : start ≡ start_of Blanks line
-  pub long : IsTrue more ↔ (1025 < length line)
+pub record IsScanned (line kept : List ℕ) (scan : Scan) : Type 0 where
+  pub first : kept ≡ take KEPT line
+  pub begins : scan.start ≡ start_of Blanks line
+  pub long : IsTrue scan.more ↔ (KEPT < length line)

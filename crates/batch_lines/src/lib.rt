@@ -1,8 +1,8 @@
 //! How an input is cut into lines, and what the words of a line spell.
 #![tactic(auto)]
 
-pub mod lines;
-pub mod words;
+mod lines;
+mod words;
 
 pub use lines::{LINE_LIMIT, Line, LineKind, LineReader};
 pub use words::{Entry, EntryFault, read_entry};

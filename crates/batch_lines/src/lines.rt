@@ -1,13 +1,17 @@
-ghost use Rattle.std.specs.Prelude.{◌≡◌, ◌<◌, ◌≤◌, ◌-◌, ◌⊎◌, ◌↔◌, ℕ, List, [], true, IfOk, IsErr, OnErr, take};
+//! Lines of an input: how they are cut from a source, and what is to be done with each.
+
+ghost use Rattle.std.specs.Prelude.{◌≡◌, ◌≤◌, ℕ, List, [], take};
+ghost use Rattle.byte_streams.specs.Streams.{change, from_to};
 ghost use Rattle.batch_lines.specs.Lines.{without_return};
-ghost use Rattle.batch_lines.specs.Starts.{start_after, passes, IsHeard};
-ghost use Rattle.batch_lines.specs.Readings.{Reading, IsJudged, TakesLine, TakesNoLine, HearsLine, CountsTaken, IsPastLimit};
+ghost use Rattle.batch_lines.specs.Starts.{start_after, passes, IsScanned};
+ghost use Rattle.batch_lines.specs.Readings.{Reading, IsJudged, ReadsLine, ScansLine};
 
 use arrayvec::ArrayVec;
 use byte_streams::{ReadFailed, Source};
 use std::marker::Model;
 
-/// The most bytes of a line that is answered, without a carriage return and a line feed at its end.
+/// The most bytes of a line that is answered, without a carriage return and a line feed at its
+/// end.
 pub const LINE_LIMIT: usize = 1024;
 
 // The most bytes of an input.
@@ -39,7 +43,7 @@ pub struct Line {
 pub struct LineReader {
     lines: u64,
     taken: u64,
-    kept: ArrayVec<u8, 1025>,
+    kept: ArrayVec<u8, KEPT>,
 }
 
 impl Model for LineReader {
@@ -62,37 +66,29 @@ impl LineReader {
         }
     }
 
-    /// Takes the next line from the source, with its line feed and nothing behind it, or answers None
-    /// at the end. It fails where the source fails, or where the input has more than
+    /// Takes the next line from the source, with its line feed and nothing behind it, or answers
+    /// None at the end. It fails where the source fails, or where the input has more than
     /// 18,446,744,073,709,551,614 bytes; the line that was begun is lost then, and each later call
     /// fails too.
     pub fn next_line<S: Source>(&mut self, source: &mut S) -> Result<Option<Line>, ReadFailed>
-        ensures line { IfOk result
-            (TakesLine (S.left source.old) (S.left source.new) self.old self.new) }
-        ensures lost { OnErr result
-            (TakesNoLine (S.left source.old) (S.left source.new)
-            (18446744073709551614 - self.old.taken)) }
-        ensures fails { IsErr result
-            ↔ ((S.has_failed source.new ≡ true) ⊎ IsPastLimit self.new.taken) }
-        ensures stays { (S.has_failed source.old ≡ true) ⊎ IsPastLimit self.old.taken → IsErr result }
-        ensures numbered { OnErr result (self.new.lines ≡ self.old.lines) }
-        ensures counted { CountsTaken (S.left source.old) (S.left source.new) self.old.taken self.new.taken }
+        ensures { ReadsLine (change S.state source.old source.new) (from_to self.old self.new)
+            result }
     {
-        let heard = match hear_line(source, &mut self.taken, &mut self.kept) {
-            Ok(Some(heard)) => heard,
+        let scan = match scan_line(source, &mut self.taken, &mut self.kept) {
+            Ok(Some(scan)) => scan,
             Ok(None) => return Ok(None),
             Err(failure) => return Err(failure),
         };
         self.lines += 1;
-        let kind = judge(heard, &mut self.kept);
+        let kind = judge(scan, &mut self.kept);
         Ok(Some(Line {
             number: self.lines,
             kind,
         }))
     }
 
-    /// The bytes of the last line, without a carriage return at its end, where that line is within the
-    /// limit.
+    /// The bytes of the last line, without a carriage return at its end, where that line is within
+    /// the limit.
     pub fn bytes(&self) -> &[u8]
         ensures { result.now ≡ self.now.kept }
     {
@@ -137,26 +133,20 @@ impl Start {
 
 // What is remembered of a line beside its first bytes.
 #[derive(Clone, Copy, Debug, PartialEq, Eq)]
-struct Heard {
+struct Scan {
     start: Start,
     // It has more bytes than are kept.
     more: bool,
 }
 
 // Takes the next line from the source, and keeps its first bytes.
-fn hear_line<S: Source>(
+fn scan_line<S: Source>(
     source: &mut S,
     taken: &mut u64,
-    kept: &mut ArrayVec<u8, 1025>,
-) -> Result<Option<Heard>, ReadFailed>
-    ensures line { IfOk result
-        (HearsLine (S.left source.old) (S.left source.new) taken.old taken.new kept.new.items) }
-    ensures lost { OnErr result
-        (TakesNoLine (S.left source.old) (S.left source.new) (18446744073709551614 - taken.old)) }
-    ensures fails { IsErr result ↔ ((S.has_failed source.new ≡ true) ⊎ IsPastLimit taken.new) }
-    ensures stays { (S.has_failed source.old ≡ true) ⊎ IsPastLimit taken.old → IsErr result }
-    ensures counted { CountsTaken (S.left source.old) (S.left source.new) taken.old taken.new }
-    ensures grows { taken.old ≤ taken.new }
+    kept: &mut ArrayVec<u8, KEPT>,
+) -> Result<Option<Scan>, ReadFailed>
+    ensures { ScansLine (change S.state source.old source.new) (from_to taken.old taken.new)
+        kept.new.items result }
 {
     kept.clear();
     if *taken > INPUT_LIMIT {
@@ -173,14 +163,14 @@ fn hear_line<S: Source>(
             if kept.is_empty() {
                 return Ok(None);
             }
-            return Ok(Some(Heard { start, more }));
+            return Ok(Some(Scan { start, more }));
         };
         *taken += 1;
         if *taken > INPUT_LIMIT {
             return Err(ReadFailed);
         }
         if byte == b'\n' {
-            return Ok(Some(Heard { start, more }));
+            return Ok(Some(Scan { start, more }));
         }
         start = start.after(byte);
         if kept.len() < KEPT {
@@ -192,14 +182,14 @@ fn hear_line<S: Source>(
 }
 
 // What is to be done with a line. One carriage return at its end is dropped.
-fn judge(heard: Heard, kept: &mut ArrayVec<u8, 1025>) -> LineKind
-    ensures { (line : List ℕ) → IsHeard line kept.old.items heard.start heard.more
+fn judge(scan: Scan, kept: &mut ArrayVec<u8, KEPT>) -> LineKind
+    ensures { (line : List ℕ) → IsScanned line kept.old.items scan
         → IsJudged line result kept.new.items }
 {
-    if heard.start.passes() {
+    if scan.start.passes() {
         return LineKind::PassedOver;
     }
-    if heard.more {
+    if scan.more {
         return LineKind::TooLong;
     }
     kept.truncate(length_without_return(kept.as_slice()));

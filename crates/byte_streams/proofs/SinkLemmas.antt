@@ -4,12 +4,8 @@ use Rattle.std.proofs.lemmas.Bool.{false≢true}
 use Rattle.std.proofs.lemmas.List.{length-drop}
 use Rattle.std.specs.Io.KnownBytes.{Appends, Keeps}
 use Rattle.std.proofs.KnownBytes.{Appends-nil, Appends-trans, Appends-kept}
-use Rattle.byte_streams.specs.Streams.{SinkState, Change}
+use Rattle.byte_streams.specs.Streams.{SinkState, Change, from_to}
 use Rattle.byte_streams.specs.Sink.{Puts, PutsBeginning, WritesAll, FailsWriting, Writes, AreTaken, StopsAtFailure}
-
--- one change after the other
-abbrev pub from_to : {State : Type 0} → State → State → Change State
-from_to old new = record { before = old; after = new }
 
 -- nothing is a beginning of any bytes
 pub PutsBeginning-none : (a : SinkState) (bytes : List ℕ) → PutsBeginning (from_to a a) bytes

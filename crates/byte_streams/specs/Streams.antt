@@ -19,3 +19,7 @@ pub record Change (State : Type 0) : Type 0 where
 -- by a word for the state, and the value before and after
 abbrev pub change : {A State : Type 0} → (A → State) → A → A → Change State
 change state old new = record { before = state old; after = state new }
+
+-- by the states themselves
+abbrev pub from_to : {State : Type 0} → State → State → Change State
+from_to old new = record { before = old; after = new }
