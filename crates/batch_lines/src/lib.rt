@@ -4,5 +4,5 @@
 mod lines;
 mod words;
 
-pub use lines::{LINE_LIMIT, Line, LineKind, LineReader};
+pub use lines::{INPUT_LIMIT, LINE_LIMIT, Line, LineKind, LineReader};
 pub use words::{Entry, EntryFault, read_entry};

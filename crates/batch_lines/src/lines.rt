@@ -14,8 +14,8 @@ use std::marker::Model;
 /// end.
 pub const LINE_LIMIT: usize = 1024;
 
-// The most bytes of an input.
-const INPUT_LIMIT: u64 = 18_446_744_073_709_551_614;
+/// The most bytes of an input: one less than what can be counted.
+pub const INPUT_LIMIT: u64 = 18_446_744_073_709_551_614;
 
 // A line that is answered and a carriage return.
 const KEPT: usize = 1025;

@@ -1,58 +1,69 @@
 -- The reports of lines, one line after the other.
-use Rattle.std.proofs.Common.{◌≡◌, ℕ, suc, ◌+◌, ◌≤◌, List, [], ◌∷◌, ◌++◌, Option, None, Some, length, refl, sym, ap, ◌∙◌, subst, inl, inr, arith, append_assoc, append-nil, length-append}
-use Rattle.std.specs.Io.KnownBytes.{Appends}
-use Rattle.std.proofs.KnownBytes.{Appends-trans}
-use Rattle.board.specs.Grids.{Grid}
-use Rattle.board.specs.Positions.{Position}
-use Rattle.byte_streams.specs.Sink.{AppendsBeginning}
-use Rattle.byte_streams.proofs.SinkLemmas.{AppendsBeginning-after}
+use Rattle.std.proofs.Common.{◌≡◌, ℕ, suc, ◌+◌, ◌≤◌, List, [], ◌∷◌, ◌++◌, Option, None, Some, length, refl, sym, ap, ◌∙◌, subst, arith, append_assoc, append-nil, length-append}
+use Rattle.std.proofs.KnownBytes.{Appends-nil, Appends-trans}
+use Rattle.byte_streams.specs.Streams.{SourceState, SinkState, Change, from_to}
+use Rattle.byte_streams.specs.Sink.{Puts, PutsBeginning}
+use Rattle.byte_streams.proofs.SinkLemmas.{PutsBeginning-after}
 use Rattle.batch_lines.specs.Lines.{lines_of, without_return}
-use Rattle.batch_lines.specs.Readings.{TakesKnown, CountsTaken, IsJudged}
-use Rattle.batch_runs.specs.Batches.{IsAnswer, IsReportOf, IsReport, IsBatch, AreRead, AreFirst, WritesSome, no_lines, with_outcome}
+use Rattle.batch_lines.specs.Readings.{TakesKnown, TakesLine, CountsKnown, IsJudged}
+use Rattle.batch_runs.specs.Batches.{Rules, Answer, AnswersEntry, AnswersKind, AnswersLine, AnswersLines, answer_text, answers_text, with_answer, with_answers, no_lines, AreRead, AreFirst, ReportsSome}
+use Rattle.batch_runs.specs.Batches.Answer.{passed_over, refused, answered}
 use Rattle.batch_lines.specs.declared.lines.LineKind.{LineKind}
 use Rattle.batch_lines.specs.declared.lines.LineKind.TheVariants.{PassedOver, Within, TooLong}
-use Rattle.outcomes.specs.declared.outcome.Outcome.{Outcome}
 use Rattle.outcomes.specs.declared.outcome.Outcome.TheVariants.{Optimal, Unsolvable, Bounded}
 use Rattle.batch_runs.specs.declared.batch.Summary.{Summary}
 
-module _ (grid : Grid) (allows : Position → Option Outcome → Type 0) where
-  -- one line more
-  IsBatch-more : (n : ℕ) (lines : List (List ℕ)) (before : Summary) (text : List ℕ) (middle : Summary) (line more : List ℕ) (after : Summary) → IsBatch grid allows n lines before text middle → IsReport grid allows (n + length lines) line middle more after → IsBatch grid allows n (lines ++ line ∷ []) before (text ++ more) after
-  IsBatch-more n [] before text middle line more after batch report =
-      let at : n + 0 ≡ n = omega arith in
-      let here : IsReport grid allows n line before more after = subst (λ (counts : Summary). IsReport grid allows n line counts more after) batch.1 (subst (λ (k : ℕ). IsReport grid allows k line middle more after) at report) in
-      (more, [], after, here, (refl, refl), ap (λ (t : List ℕ). t ++ more) batch.0 ∙ sym (append-nil more))
-  IsBatch-more n (next ∷ lines) before text middle line more after batch report =
-      let at : n + suc (length lines) ≡ (n + 1) + length lines = omega arith in
-      let rest = IsBatch-more (n + 1) lines batch.2 batch.1 middle line more after batch.4 (subst (λ (k : ℕ). IsReport grid allows k line middle more after) at report) in
-      (batch.0, batch.1 ++ more, batch.2, batch.3, rest, ap (λ (t : List ℕ). t ++ more) batch.5 ∙ append_assoc batch.0 batch.1 more)
+-- ---- one answer more
 
-  -- what is written for the bytes that were read is what is written for the line
-  pub report_is : (n : ℕ) (bytes : List ℕ) (kind : LineKind) (kept : List ℕ) (before : Summary) (text : List ℕ) (after : Summary) → IsJudged bytes kind kept → IsReportOf grid allows n kind kept before text after → IsReport grid allows n bytes before text after
-  report_is n bytes PassedOver kept before text after judged report = subst (λ (kind : LineKind). IsReportOf grid allows n kind (without_return bytes) before text after) judged.judged report
-  report_is n bytes TooLong kept before text after judged report = subst (λ (kind : LineKind). IsReportOf grid allows n kind (without_return bytes) before text after) judged.judged report
-  report_is n bytes Within kept before text after judged report =
-      subst (λ (kind : LineKind). IsReportOf grid allows n kind (without_return bytes) before text after) judged.judged (subst (λ (bs : List ℕ). IsAnswer grid allows n bs before text after) (judged.whole refl) report)
+AnswersLines-more : (rules : Rules) (lines : List (List ℕ)) (answers : List Answer) (line : List ℕ) (answer : Answer) → AnswersLines rules lines answers → AnswersLine rules line answer → AnswersLines rules (lines ++ line ∷ []) (answers ++ answer ∷ [])
+AnswersLines-more rules [] [] line answer before now = (now, tt)
+AnswersLines-more rules [] (other ∷ answers) line answer before now = absurd before
+AnswersLines-more rules (next ∷ lines) [] line answer before now = absurd before
+AnswersLines-more rules (next ∷ lines) (first ∷ answers) line answer before now = (before.0, AnswersLines-more rules lines answers line answer before.1 now)
 
--- how many lines are counted
+-- as many answers as lines
+AnswersLines-length : (rules : Rules) (lines : List (List ℕ)) (answers : List Answer) → AnswersLines rules lines answers → length answers ≡ length lines
+AnswersLines-length rules [] [] before = refl
+AnswersLines-length rules [] (other ∷ answers) before = absurd before
+AnswersLines-length rules (next ∷ lines) [] before = absurd before
+AnswersLines-length rules (next ∷ lines) (first ∷ answers) before = ap suc (AnswersLines-length rules lines answers before.1)
+
+answers_text-more : (n : ℕ) (answers : List Answer) (answer : Answer) → answers_text n (answers ++ answer ∷ []) ≡ answers_text n answers ++ answer_text (n + length answers) answer
+answers_text-more n [] answer =
+    let at : n ≡ n + 0 = omega arith in
+    append-nil (answer_text n answer) ∙ ap (λ (k : ℕ). answer_text k answer) at
+answers_text-more n (first ∷ answers) answer =
+    let at : (n + 1) + length answers ≡ n + suc (length answers) = omega arith in
+    ap (λ (l : List ℕ). answer_text n first ++ l) (answers_text-more (n + 1) answers answer ∙ ap (λ (k : ℕ). answers_text (n + 1) answers ++ answer_text k answer) at)
+    ∙ sym (append_assoc (answer_text n first) (answers_text (n + 1) answers) (answer_text (n + suc (length answers)) answer))
+
+with_answers-more : (counts : Summary) (answers : List Answer) (answer : Answer) → with_answers counts (answers ++ answer ∷ []) ≡ with_answer (with_answers counts answers) answer
+with_answers-more counts [] answer = refl
+with_answers-more counts (first ∷ answers) answer = with_answers-more (with_answer counts first) answers answer
+
+-- the answer by the bytes that were kept is the answer to the line
+pub answer_is : (rules : Rules) (line : List ℕ) (kind : LineKind) (kept : List ℕ) (answer : Answer) → IsJudged line kind kept → AnswersKind rules kind kept answer → AnswersLine rules line answer
+answer_is rules line PassedOver kept answer judged is = subst (λ (kind : LineKind). AnswersKind rules kind (without_return line) answer) judged.judged is
+answer_is rules line TooLong kept answer judged is = subst (λ (kind : LineKind). AnswersKind rules kind (without_return line) answer) judged.judged is
+answer_is rules line Within kept answer judged is =
+    subst (λ (kind : LineKind). AnswersKind rules kind (without_return line) answer) judged.judged (subst (λ (bytes : List ℕ). AnswersEntry rules bytes answer) (judged.whole refl) is)
+
+-- ---- how many lines are counted
+
 abbrev pub total : Summary → ℕ
 total counts = counts.optimal + counts.unsolvable + counts.bounded + counts.refused
 
-counts_one : (before : Summary) (outcome : Outcome) → total (with_outcome before outcome) ≡ total before + 1
-counts_one before (Optimal cost plan rows) = omega arith
-counts_one before (Unsolvable why) = omega arith
-counts_one before (Bounded bound best cause) = omega arith
-
 -- a line is counted once at most
-counted_once : (grid : Grid) (allows : Position → Option Outcome → Type 0) (n : ℕ) (kind : LineKind) (bytes : List ℕ) (before : Summary) (text : List ℕ) (after : Summary) → IsReportOf grid allows n kind bytes before text after → total after ≤ total before + 1
-counted_once grid allows n PassedOver bytes before text after report = let e = ap total report.1 in omega arith
-counted_once grid allows n TooLong bytes before text after report = let e = ap total report.1 in omega arith
-counted_once grid allows n Within bytes before text after (inl (fault, first, written, counted)) = let e = ap total counted in omega arith
-counted_once grid allows n Within bytes before text after (inr (inl (id, b, outcome, entry, allowed, written, counted))) = let e = ap total counted in omega (arith, counts_one before outcome)
-counted_once grid allows n Within bytes before text after (inr (inr (id, b, entry, lacking, written, counted))) = let e = ap total counted in omega arith
+counted_once : (before : Summary) (answer : Answer) → total (with_answer before answer) ≤ total before + 1
+counted_once before passed_over = omega arith
+counted_once before (refused code) = omega arith
+counted_once before (answered id (Optimal cost plan rows)) = omega arith
+counted_once before (answered id (Unsolvable why)) = omega arith
+counted_once before (answered id (Bounded bound best cause)) = omega arith
 
--- one line more was read
-pub AreRead-more : (input now new : Option (List ℕ)) (lines : List (List ℕ)) (line : List ℕ) → AreRead input now lines → TakesKnown now new line → AreRead input new (lines ++ line ∷ [])
+-- ---- one line more
+
+AreRead-more : (input now new : Option (List ℕ)) (lines : List (List ℕ)) (line : List ℕ) → AreRead input now lines → TakesKnown now new line → AreRead input new (lines ++ line ∷ [])
 AreRead-more None now new lines line read taken = tt
 AreRead-more (Some bytes) None new lines line read taken = absurd read
 AreRead-more (Some bytes) (Some left) None lines line read taken = absurd taken
@@ -64,46 +75,90 @@ AreFirst-read (Some bytes) None lines read = absurd read
 AreFirst-read (Some bytes) (Some left) lines read = (lines_of left, read)
 
 -- the reports of the lines that were read are written
-pub record IsRunning (grid : Grid) (allows : Position → Option Outcome → Type 0) (input now written written' : Option (List ℕ)) (numbered : ℕ) (counts : Summary) : Type 0 where
+pub record IsRunning (rules : Rules) (source : Change SourceState) (sink : Change SinkState) (numbered : ℕ) (counts : Summary) : Type 0 where
   pub lines : List (List ℕ)
-  pub text : List ℕ
-  pub read : AreRead input now lines
-  pub batch : IsBatch grid allows 1 lines no_lines text counts
-  pub appended : Appends written written' text
-  pub counted : numbered ≡ length lines
+  pub answers : List Answer
+  pub read : AreRead source.before.left source.after.left lines
+  pub answered : AnswersLines rules lines answers
+  pub written : Puts sink (answers_text 1 answers)
+  pub counted : counts ≡ with_answers no_lines answers
+  pub at : numbered ≡ length lines
   pub few : total counts ≤ numbered
 
+-- nothing is read yet
+pub IsRunning-none : (rules : Rules) (a : SourceState) (x : SinkState) → IsRunning rules (from_to a a) (from_to x x) 0 no_lines
+IsRunning-none rules a x = record {
+  lines = [];
+  answers = [];
+  read = none a.left;
+  answered = tt;
+  written = Appends-nil x.contents;
+  counted = refl;
+  at = refl;
+  few = omega arith;
+}
+  where
+    none : (input : Option (List ℕ)) → AreRead input input []
+    none None = tt
+    none (Some bytes) = refl
+
+-- a line is read, which is judged so and has this answer
+pub record IsNext (rules : Rules) (source : Change SourceState) (numbered n : ℕ) (answer : Answer) : Type 0 where
+  pub line : List ℕ
+  pub kind : LineKind
+  pub kept : List ℕ
+  pub taken : TakesLine source line
+  pub judged : IsJudged line kind kept
+  pub number : n ≡ numbered + 1
+  pub is : AnswersKind rules kind kept answer
+
 -- one line more was read and its report is written
-pub IsRunning-more : (grid : Grid) (allows : Position → Option Outcome → Type 0) (input now new written written' written'' : Option (List ℕ)) (numbered n : ℕ) (counts after : Summary) (bytes : List ℕ) (kind : LineKind) (kept text : List ℕ) → IsRunning grid allows input now written written' numbered counts → TakesKnown now new bytes → IsJudged bytes kind kept → n ≡ numbered + 1 → IsReportOf grid allows n kind kept counts text after → Appends written' written'' text → IsRunning grid allows input new written written'' n after
-IsRunning-more grid allows input now new written written' written'' numbered n counts after bytes kind kept text running taken judged next report appended =
-    let at : n ≡ 1 + length running.lines = omega (arith, running.counted) in
-    let longer = length-append running.lines (bytes ∷ []) in
+pub IsRunning-more : (rules : Rules) (a b c : SourceState) (x y z : SinkState) (numbered n : ℕ) (counts : Summary) (answer : Answer) → IsRunning rules (from_to a b) (from_to x y) numbered counts → IsNext rules (from_to b c) numbered n answer → Puts (from_to y z) (answer_text n answer)
+    → IsRunning rules (from_to a c) (from_to x z) n (with_answer counts answer)
+IsRunning-more rules a b c x y z numbered n counts answer running next put =
+    let as_many = AnswersLines-length rules running.lines running.answers running.answered in
+    let at : n ≡ 1 + length running.answers = omega (arith, running.at, next.number, as_many) in
+    let longer = length-append running.lines (next.line ∷ []) in
+    let text : answers_text 1 running.answers ++ answer_text n answer ≡ answers_text 1 (running.answers ++ answer ∷ []) = ap (λ (k : ℕ). answers_text 1 running.answers ++ answer_text k answer) at ∙ sym (answers_text-more 1 running.answers answer) in
     record {
-      lines = running.lines ++ bytes ∷ [];
-      text = running.text ++ text;
-      read = AreRead-more input now new running.lines bytes running.read taken;
-      batch = IsBatch-more grid allows 1 running.lines no_lines running.text counts bytes text after running.batch (subst (λ (k : ℕ). IsReport grid allows k bytes counts text after) at (report_is grid allows n bytes kind kept counts text after judged report));
-      appended = Appends-trans written written' written'' running.text text running.appended appended;
-      counted = omega (arith, running.counted, longer);
-      few = omega (arith, running.few, counted_once grid allows n kind kept counts text after report);
+      lines = running.lines ++ next.line ∷ [];
+      answers = running.answers ++ answer ∷ [];
+      read = AreRead-more a.left b.left c.left running.lines next.line running.read next.taken;
+      answered = AnswersLines-more rules running.lines running.answers next.line answer running.answered (answer_is rules next.line next.kind next.kept answer next.judged next.is);
+      written = subst (λ (l : List ℕ). Puts (from_to x z) l) text (Appends-trans x.contents y.contents z.contents (answers_text 1 running.answers) (answer_text n answer) running.written put);
+      counted = ap (λ (s : Summary). with_answer s answer) running.counted ∙ sym (with_answers-more no_lines running.answers answer);
+      at = omega (arith, running.at, next.number, longer);
+      few = omega (arith, running.few, next.number, counted_once counts answer);
     }
 
 -- the report of one line more is written in part
-pub writes_part : (grid : Grid) (allows : Position → Option Outcome → Type 0) (input now new written written' written'' : Option (List ℕ)) (numbered n : ℕ) (counts after : Summary) (bytes : List ℕ) (kind : LineKind) (kept text : List ℕ) → IsRunning grid allows input now written written' numbered counts → TakesKnown now new bytes → IsJudged bytes kind kept → n ≡ numbered + 1 → IsReportOf grid allows n kind kept counts text after → AppendsBeginning written' written'' text → WritesSome grid allows input written written''
-writes_part grid allows input now new written written' written'' numbered n counts after bytes kind kept text running taken judged next report begun =
-    let at : n ≡ 1 + length running.lines = omega (arith, running.counted) in
+pub reports_part : (rules : Rules) (a b c : SourceState) (x y z : SinkState) (numbered n : ℕ) (counts : Summary) (answer : Answer) → IsRunning rules (from_to a b) (from_to x y) numbered counts → IsNext rules (from_to b c) numbered n answer → PutsBeginning (from_to y z) (answer_text n answer)
+    → ReportsSome rules (from_to a c) (from_to x z)
+reports_part rules a b c x y z numbered n counts answer running next begun =
+    let as_many = AnswersLines-length rules running.lines running.answers running.answered in
+    let at : n ≡ 1 + length running.answers = omega (arith, running.at, next.number, as_many) in
+    let text : answers_text 1 running.answers ++ answer_text n answer ≡ answers_text 1 (running.answers ++ answer ∷ []) = ap (λ (k : ℕ). answers_text 1 running.answers ++ answer_text k answer) at ∙ sym (answers_text-more 1 running.answers answer) in
     record {
-      lines = running.lines ++ bytes ∷ [];
-      text = running.text ++ text;
-      counts = after;
-      first = AreFirst-read input new (running.lines ++ bytes ∷ []) (AreRead-more input now new running.lines bytes running.read taken);
-      batch = IsBatch-more grid allows 1 running.lines no_lines running.text counts bytes text after running.batch (subst (λ (k : ℕ). IsReport grid allows k bytes counts text after) at (report_is grid allows n bytes kind kept counts text after judged report));
-      begun = AppendsBeginning-after written written' written'' running.text text running.appended begun;
+      lines = running.lines ++ next.line ∷ [];
+      answers = running.answers ++ answer ∷ [];
+      first = AreFirst-read a.left c.left (running.lines ++ next.line ∷ []) (AreRead-more a.left b.left c.left running.lines next.line running.read next.taken);
+      answered = AnswersLines-more rules running.lines running.answers next.line answer running.answered (answer_is rules next.line next.kind next.kept answer next.judged next.is);
+      begun = subst (λ (l : List ℕ). PutsBeginning (from_to x z) l) text (PutsBeginning-after x y z (answers_text 1 running.answers) (answer_text n answer) running.written begun);
     }
 
+-- nothing of the next line is written
+pub reports_so_far : (rules : Rules) (a b : SourceState) (x y : SinkState) (numbered : ℕ) (counts : Summary) → IsRunning rules (from_to a b) (from_to x y) numbered counts → (c : SourceState) → ReportsSome rules (from_to a c) (from_to x y)
+reports_so_far rules a b x y numbered counts running c = record {
+  lines = running.lines;
+  answers = running.answers;
+  first = AreFirst-read a.left b.left running.lines running.read;
+  answered = running.answered;
+  begun = record { sent = answers_text 1 running.answers; unsent = []; parts = sym (append-nil (answers_text 1 running.answers)); put = running.written };
+}
+
 -- what was taken is counted on
-pub CountsTaken-more : (a b c : Option (List ℕ)) (x y z : ℕ) → CountsTaken a b x y → CountsTaken b c y z → CountsTaken a c x z
-CountsTaken-more None b c x y z p q = tt
-CountsTaken-more (Some xs) None c x y z p q = absurd p
-CountsTaken-more (Some xs) (Some ys) None x y z p q = absurd q
-CountsTaken-more (Some xs) (Some ys) (Some zs) x y z p q = p ∙ q
+pub CountsKnown-more : (a b c : Option (List ℕ)) (x y z : ℕ) → CountsKnown a b x y → CountsKnown b c y z → CountsKnown a c x z
+CountsKnown-more None b c x y z p q = tt
+CountsKnown-more (Some xs) None c x y z p q = absurd p
+CountsKnown-more (Some xs) (Some ys) None x y z p q = absurd q
+CountsKnown-more (Some xs) (Some ys) (Some zs) x y z p q = p ∙ q

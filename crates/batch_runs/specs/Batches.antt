@@ -1,19 +1,71 @@
 -- What is written for an input: a report for each line that isn't passed over, in order.
-use Rattle.std.specs.Prelude.{ℕ, ◌≡◌, ◌⊎◌, ◌+◌, ◌-◌, ◌<◌, List, [], ◌∷◌, ◌++◌, length, Option, None, Some, ⊤, ◌==◌, cond, codes}
-use Rattle.std.specs.Io.KnownBytes.{Appends}
-use Rattle.byte_streams.specs.Sink.{AppendsBeginning}
+use Rattle.std.specs.Prelude.{ℕ, ◌≡◌, ◌⊎◌, ◌+◌, ◌-◌, ◌<◌, ◌^◌, true, false, List, [], ◌∷◌, ◌++◌, length, Option, None, Some, Result, Ok, Err, ⊤, ◌==◌, ◌&&◌, if◌then◌else◌, codes}
 use Rattle.board.specs.Grids.{Grid}
 use Rattle.board.specs.Positions.{Position}
+use Rattle.byte_streams.specs.Streams.{SourceState, SinkState, Change, from_to}
+use Rattle.byte_streams.specs.Sink.{Puts, PutsBeginning}
 use Rattle.batch_lines.specs.Lines.{lines_of, without_return, kind_of}
 use Rattle.batch_lines.specs.Readings.{TakesNoLine, CountsTaken}
 use Rattle.batch_lines.specs.Words.{IsEntry, IsFirstEntryFault, entry_code_of}
-use Rattle.reports.specs.Reports.{outcome_data, refused_data, report_text}
 use Rattle.batch_lines.specs.declared.words.EntryFault.{EntryFault}
 use Rattle.batch_lines.specs.declared.lines.LineKind.{LineKind}
 use Rattle.batch_lines.specs.declared.lines.LineKind.TheVariants.{PassedOver, Within, TooLong}
+use Rattle.batch_lines.specs.declared.lines.TheConstants.{INPUT_LIMIT}
+use Rattle.reports.specs.Reports.{outcome_data, refused_data, report_text}
 use Rattle.outcomes.specs.declared.outcome.Outcome.{Outcome}
 use Rattle.outcomes.specs.declared.outcome.Outcome.TheVariants.{Optimal, Unsolvable, Bounded}
 use Rattle.batch_runs.specs.declared.batch.Summary.{Summary}
+use Rattle.batch_runs.specs.declared.faults.LinesFault.{LinesFault}
+use Rattle.batch_runs.specs.declared.faults.LinesFault.TheVariants.{Read, Write, Memory}
+
+-- the shape of the boards, and which outcomes a board may be answered by; no outcome tells a want of memory before the first step
+pub record Rules : Type 1 where
+  pub grid : Grid
+  pub allows : Position → Option Outcome → Type 0
+
+-- ---- the answer to a line
+
+-- a line is passed over; or it is refused by a fault with this code; or its board, with this id, is answered by an outcome
+pub data Answer : Type 0 where
+  passed_over : Answer
+  refused : (code : List ℕ) → Answer
+  answered : (id : List ℕ) (outcome : Outcome) → Answer
+
+-- a line to be read is refused by its first fault, or it is answered by an outcome that is allowed for its board, or refused by V3 where a want of memory before the first step is allowed for it
+pub data AnswersEntry (rules : Rules) (line : List ℕ) : Answer → Type 0 where
+  by_fault : (fault : EntryFault) → IsFirstEntryFault rules.grid line fault → AnswersEntry rules line (refused (entry_code_of fault))
+  by_outcome : (id : List ℕ) (b : Position) (outcome : Outcome) → IsEntry rules.grid line id b → rules.allows b (Some outcome) → AnswersEntry rules line (answered id outcome)
+  by_want : (id : List ℕ) (b : Position) → IsEntry rules.grid line id b → rules.allows b None → AnswersEntry rules line (refused (codes "V3"))
+
+-- the answer to a line of this kind with these bytes
+abbrev pub AnswersKind : Rules → LineKind → List ℕ → Answer → Type 0
+AnswersKind rules PassedOver bytes answer = answer ≡ passed_over
+AnswersKind rules TooLong bytes answer = answer ≡ refused (codes "E12")
+AnswersKind rules Within bytes answer = AnswersEntry rules bytes answer
+
+-- the answer to a line
+abbrev pub AnswersLine : Rules → List ℕ → Answer → Type 0
+AnswersLine rules line answer = AnswersKind rules (kind_of line) (without_return line) answer
+
+-- an answer to each of the lines, in their order
+abbrev pub AnswersLines : Rules → List (List ℕ) → List Answer → Type 0
+AnswersLines rules [] [] = ⊤
+AnswersLines rules [] (answer ∷ answers) = ⊥
+AnswersLines rules (line ∷ lines) [] = ⊥
+AnswersLines rules (line ∷ lines) (answer ∷ answers) = AnswersLine rules line answer × AnswersLines rules lines answers
+
+-- ---- what is written of answers, and how they are counted
+
+-- what is written of the answer to line n
+abbrev pub answer_text : ℕ → Answer → List ℕ
+answer_text n passed_over = []
+answer_text n (refused code) = report_text (refused_data code n)
+answer_text n (answered id outcome) = report_text (outcome_data id outcome)
+
+-- what is written of the answers to lines of which the first has number n
+abbrev pub answers_text : ℕ → List Answer → List ℕ
+answers_text n [] = []
+answers_text n (answer ∷ answers) = answer_text n answer ++ answers_text (n + 1) answers
 
 -- one line more of the kind of this outcome
 abbrev pub with_outcome : Summary → Outcome → Summary
@@ -25,44 +77,33 @@ with_outcome counts (Bounded bound best cause) = record counts { bounded = count
 abbrev pub with_refused : Summary → Summary
 with_refused counts = record counts { refused = counts.refused + 1 }
 
--- one line more can be counted
-pub record HasRoom (counts : Summary) : Type 0 where
-  pub optimal : counts.optimal < 18446744073709551615
-  pub unsolvable : counts.unsolvable < 18446744073709551615
-  pub bounded : counts.bounded < 18446744073709551615
-  pub refused : counts.refused < 18446744073709551615
+-- one line more with this answer
+abbrev pub with_answer : Summary → Answer → Summary
+with_answer counts passed_over = counts
+with_answer counts (refused code) = with_refused counts
+with_answer counts (answered id outcome) = with_outcome counts outcome
 
--- A line to be read is refused by its first fault; or it is answered by an outcome that is allowed for its board,
--- or refused by V3 where a want of memory before the first step is allowed for it.
-abbrev pub IsAnswer : Grid → (Position → Option Outcome → Type 0) → ℕ → List ℕ → Summary → List ℕ → Summary → Type 0
-IsAnswer grid allows n line before text after =
-    ((fault : EntryFault) × IsFirstEntryFault grid line fault × (text ≡ report_text (refused_data (entry_code_of fault) n)) × (after ≡ with_refused before))
-    ⊎ ((id : List ℕ) × (b : Position) × (outcome : Outcome) × IsEntry grid line id b × allows b (Some outcome) × (text ≡ report_text (outcome_data id outcome)) × (after ≡ with_outcome before outcome))
-    ⊎ ((id : List ℕ) × (b : Position) × IsEntry grid line id b × allows b None × (text ≡ report_text (refused_data (codes "V3") n)) × (after ≡ with_refused before))
-
--- what is written for a line of this kind with these bytes, and how the counts change
-abbrev pub IsReportOf : Grid → (Position → Option Outcome → Type 0) → ℕ → LineKind → List ℕ → Summary → List ℕ → Summary → Type 0
-IsReportOf grid allows n PassedOver bytes before text after = (text ≡ []) × (after ≡ before)
-IsReportOf grid allows n TooLong bytes before text after = (text ≡ report_text (refused_data (codes "E12") n)) × (after ≡ with_refused before)
-IsReportOf grid allows n Within bytes before text after = IsAnswer grid allows n bytes before text after
-
--- what is written for a line
-abbrev pub IsReport : Grid → (Position → Option Outcome → Type 0) → ℕ → List ℕ → Summary → List ℕ → Summary → Type 0
-IsReport grid allows n line before text after = IsReportOf grid allows n (kind_of line) (without_return line) before text after
-
--- the reports of these lines, of which the first has number n, one after the other
-abbrev pub IsBatch : Grid → (Position → Option Outcome → Type 0) → ℕ → List (List ℕ) → Summary → List ℕ → Summary → Type 0
-IsBatch grid allows n [] before text after = (text ≡ []) × (after ≡ before)
-IsBatch grid allows n (line ∷ lines) before text after =
-    (first : List ℕ) × (rest : List ℕ) × (middle : Summary) × IsReport grid allows n line before first middle × IsBatch grid allows (n + 1) lines middle rest after × (text ≡ first ++ rest)
-
--- the status of a run with these counts: 1 where some line is bounded or refused
-abbrev pub status_of_counts : Summary → ℕ
-status_of_counts counts = cond (counts.bounded == 0) (cond (counts.refused == 0) 0 1) 1
+-- more lines with these answers
+abbrev pub with_answers : Summary → List Answer → Summary
+with_answers counts [] = counts
+with_answers counts (answer ∷ answers) = with_answers (with_answer counts answer) answers
 
 -- no line is counted yet
 abbrev pub no_lines : Summary
 no_lines = record { optimal = 0; unsolvable = 0; bounded = 0; refused = 0 }
+
+-- one line more can be counted
+pub record HasRoom (counts : Summary) : Type 0 where
+  pub optimal : counts.optimal + 1 < 2 ^ 64
+  pub unsolvable : counts.unsolvable + 1 < 2 ^ 64
+  pub bounded : counts.bounded + 1 < 2 ^ 64
+  pub refused : counts.refused + 1 < 2 ^ 64
+
+-- the status of a run with these counts: 1 where some line is bounded or refused
+abbrev pub status_of_counts : Summary → ℕ
+status_of_counts counts = if counts.bounded == 0 && counts.refused == 0 then 0 else 1
+
+-- ---- what a run reads and writes
 
 -- these are the lines that were read whole, where the input is known
 abbrev pub AreRead : Option (List ℕ) → Option (List ℕ) → List (List ℕ) → Type 0
@@ -80,37 +121,56 @@ abbrev pub AreFirst : Option (List ℕ) → List (List ℕ) → Type 0
 AreFirst None lines = ⊤
 AreFirst (Some input) lines = (more : List (List ℕ)) × (lines_of input ≡ lines ++ more)
 
--- the reports of all lines were written, and these are their counts
-pub record WritesAll (grid : Grid) (allows : Position → Option Outcome → Type 0) (input written written' : Option (List ℕ)) (counts : Summary) : Type 0 where
-  pub lines : List (List ℕ)
-  pub text : List ℕ
-  pub all : AreAll input lines
-  pub batch : IsBatch grid allows 1 lines no_lines text counts
-  pub appended : Appends written written' text
-
--- the reports of the lines that were read whole were written, and what was taken after them, within the limit, has no whole line in it
-pub record WritesWhole (grid : Grid) (allows : Position → Option Outcome → Type 0) (input left written written' : Option (List ℕ)) : Type 0 where
-  pub lines : List (List ℕ)
-  pub text : List ℕ
-  pub counts : Summary
-  pub before : Option (List ℕ)
-  pub taken : ℕ
-  pub whole : AreRead input before lines
-  pub counted : CountsTaken input before 0 taken
-  pub lost : TakesNoLine before left (18446744073709551614 - taken)
-  pub batch : IsBatch grid allows 1 lines no_lines text counts
-  pub appended : Appends written written' text
-
--- a beginning of the reports of the first lines was written
-pub record WritesSome (grid : Grid) (allows : Position → Option Outcome → Type 0) (input written written' : Option (List ℕ)) : Type 0 where
-  pub lines : List (List ℕ)
-  pub text : List ℕ
-  pub counts : Summary
-  pub first : AreFirst input lines
-  pub batch : IsBatch grid allows 1 lines no_lines text counts
-  pub begun : AppendsBeginning written written' text
-
 -- the input has more bytes than it may
 abbrev pub IsTooLong : Option (List ℕ) → Type 0
 IsTooLong None = ⊤
-IsTooLong (Some input) = 18446744073709551614 < length input
+IsTooLong (Some input) = INPUT_LIMIT < length input
+
+-- these lines were read whole, and what was taken after them, within the limit, has no whole line in it: the source failed, or the input is too long
+pub record LosesLine (source : Change SourceState) (lines : List (List ℕ)) : Type 0 where
+  pub between : SourceState
+  pub taken : ℕ
+  pub whole : AreRead source.before.left between.left lines
+  pub counted : CountsTaken (from_to source.before between) (from_to 0 taken)
+  pub lost : TakesNoLine (from_to between source.after) (INPUT_LIMIT - taken)
+  pub cause : (source.after.has_failed ≡ true) ⊎ IsTooLong source.before.left
+
+-- the reports of all lines were written, and these are their counts
+pub record ReportsAll (rules : Rules) (source : Change SourceState) (sink : Change SinkState) (counts : Summary) : Type 0 where
+  pub lines : List (List ℕ)
+  pub answers : List Answer
+  pub all : AreAll source.before.left lines
+  pub answered : AnswersLines rules lines answers
+  pub written : Puts sink (answers_text 1 answers)
+  pub counted : counts ≡ with_answers no_lines answers
+
+-- a line was lost, and the reports of the lines before it were written
+pub record ReportsWhole (rules : Rules) (source : Change SourceState) (sink : Change SinkState) : Type 0 where
+  pub lines : List (List ℕ)
+  pub answers : List Answer
+  pub lost : LosesLine source lines
+  pub answered : AnswersLines rules lines answers
+  pub written : Puts sink (answers_text 1 answers)
+
+-- a beginning of the reports of the first lines was written
+pub record ReportsSome (rules : Rules) (source : Change SourceState) (sink : Change SinkState) : Type 0 where
+  pub lines : List (List ℕ)
+  pub answers : List Answer
+  pub first : AreFirst source.before.left lines
+  pub answered : AnswersLines rules lines answers
+  pub begun : PutsBeginning sink (answers_text 1 answers)
+
+-- reading has not failed
+abbrev pub IsReadable : Change SourceState → Type 0
+IsReadable source = source.after.has_failed ≡ false
+
+-- the sink has failed only if it had before
+abbrev pub KeepsFailure : Change SinkState → Type 0
+KeepsFailure sink = sink.after.has_failed ≡ sink.before.has_failed
+
+-- How a run over lines ends: all lines are reported; or reading failed, and the lines before are reported; or writing or memory failed, and a beginning of the reports is written.
+abbrev pub ReportsLines : Rules → Change SourceState → Change SinkState → Result Summary LinesFault → Type 0
+ReportsLines rules source sink (Ok counts) = ReportsAll rules source sink counts × IsReadable source × KeepsFailure sink
+ReportsLines rules source sink (Err Read) = ReportsWhole rules source sink × KeepsFailure sink
+ReportsLines rules source sink (Err Write) = ReportsSome rules source sink × IsReadable source × (sink.after.has_failed ≡ true)
+ReportsLines rules source sink (Err (Memory lacking)) = ReportsSome rules source sink × IsReadable source × KeepsFailure sink

@@ -4,7 +4,7 @@ use Rattle.batch_runs.specs.declared.faults.LinesFault.{LinesFault}
 use Rattle.batch_runs.specs.declared.faults.LinesFault.TheVariants.{Read, Write, Memory}
 
 -- the code that a fault is reported by
-abbrev pub lines_code_of : LinesFault → List ℕ
-lines_code_of Read = codes "B1"
-lines_code_of Write = codes "B2"
-lines_code_of (Memory lacking) = codes "B3"
+abbrev pub lines_code : LinesFault → List ℕ
+lines_code Read = codes "B1"
+lines_code Write = codes "B2"
+lines_code (Memory lacking) = codes "B3"

@@ -1,8 +1,10 @@
-ghost use Rattle.std.specs.Prelude.{◌≡◌, ◌⊎◌, ◌+◌, ◌↔◌, true, false, IfOk, OnErr, Err, Option, Some, None, string_bytes};
-ghost use Rattle.board.specs.Grids.{Grid};
-ghost use Rattle.board.specs.Positions.{Position};
-ghost use Rattle.batch_runs.specs.Batches.{IsReportOf, IsAnswer, HasRoom, with_outcome, with_refused, WritesAll, WritesWhole, WritesSome, IsTooLong};
-ghost use Rattle.outcomes.specs.declared.outcome.Outcome.{Outcome};
+//! Lines in, reports out, by any solver.
+
+ghost use Rattle.std.specs.Prelude.{◌≡◌, IfOk, OnErr, Some, None, string_bytes};
+ghost use Rattle.byte_streams.specs.Streams.{change};
+ghost use Rattle.batch_runs.specs.Batches.{Rules, Answer, AnswersKind, AnswersEntry, ReportsLines};
+ghost use Rattle.batch_runs.specs.Batches.{HasRoom, answer_text, with_answer};
+ghost use Rattle.batch_runs.specs.Batches.{with_outcome, with_refused};
 
 use crate::faults::LinesFault;
 use batch_lines::{EntryFault, Line, LineKind, LineReader, read_entry};
@@ -13,19 +15,17 @@ use outcomes::{Outcome, SolveFault};
 use reports::{NoReport, outcome_report, refused_report};
 use std::alloc::Global;
 
-/// What answers boards.
-pub trait Answerer {
-    // The shape of the boards that it answers.
-    ghost grid: { Self → Grid };
+/// What solves boards.
+pub trait Solver {
+    // The shape of the boards that it solves, and what a board may be answered by.
+    ghost rules: { Self → Rules };
 
-    // The outcomes that a board may be answered by; no outcome tells a want of memory before the first step.
-    ghost allows: { Self → Position → Option Outcome → Type 0 };
-
-    /// Answers a board. The error tells a want of memory before the first step.
-    fn answer(&self, alloc: Global, start: &Board) -> Result<Outcome, OutOfMemory>
-        requires { start.now.grid ≡ grid self.now }
-        ensures answered { IfOk result (λ outcome. allows self.now start.now (Some outcome)) }
-        ensures lacking { OnErr result (allows self.now start.now None) };
+    /// Solves a board. The error tells a want of memory before the first step.
+    fn solve(&self, alloc: Global, start: &Board) -> Result<Outcome, OutOfMemory>
+        requires { start.now.grid ≡ (rules self.now).grid }
+        ensures answered { IfOk result (λ outcome.
+            (rules self.now).allows start.now (Some outcome)) }
+        ensures lacking { OnErr result ((rules self.now).allows start.now None) };
 }
 
 /// How many lines were answered, and how.
@@ -64,25 +64,16 @@ impl Summary {
 }
 
 /// Writes a report for each line of the source that isn't passed over, in order.
-pub fn run_lines<S: Source, K: Sink, A: Answerer>(
+pub fn run_lines<S: Source, K: Sink, A: Solver>(
     alloc: Global,
     source: &mut S,
     sink: &mut K,
     shape: Shape,
-    answerer: &A,
+    solver: &A,
 ) -> Result<Summary, LinesFault>
-    requires { A.grid answerer.now ≡ shape }
-    ensures all { IfOk result (WritesAll shape (A.allows answerer.now)
-        (S.left source.old) (K.contents sink.old) (K.contents sink.new)) }
-    ensures whole { result ≡ Err LinesFault.Read → WritesWhole shape (A.allows answerer.now)
-        (S.left source.old) (S.left source.new) (K.contents sink.old) (K.contents sink.new) }
-    ensures cannot_read { result ≡ Err LinesFault.Read
-        → (S.has_failed source.new ≡ true) ⊎ IsTooLong (S.left source.old) }
-    ensures read_failed { S.has_failed source.new ≡ true → result ≡ Err LinesFault.Read }
-    ensures cannot_write { K.has_failed sink.old ≡ false
-        → (result ≡ Err LinesFault.Write) ↔ (K.has_failed sink.new ≡ true) }
-    ensures begun { OnErr result (WritesSome shape (A.allows answerer.now)
-        (S.left source.old) (K.contents sink.old) (K.contents sink.new)) }
+    requires { (A.rules solver.now).grid ≡ shape }
+    ensures { ReportsLines (A.rules solver.now) (change S.state source.old source.new)
+        (change K.state sink.old sink.new) result }
 {
     let mut reader = LineReader::new();
     let mut summary = Summary {
@@ -99,7 +90,7 @@ pub fn run_lines<S: Source, K: Sink, A: Answerer>(
         let Some(line) = next else {
             return Ok(summary);
         };
-        let report = match report_line(alloc, shape, answerer, line, reader.bytes(), summary) {
+        let report = match report_line(alloc, shape, solver, line, reader.bytes(), summary) {
             Ok(report) => report,
             Err(lacking) => return Err(LinesFault::Memory(lacking)),
         };
@@ -110,19 +101,22 @@ pub fn run_lines<S: Source, K: Sink, A: Answerer>(
     }
 }
 
-// What is written for a line, whose bytes are given where it is to be read, and the counts after it.
-fn report_line<A: Answerer>(
+// What is written for a line, whose bytes are given where it is to be read, and the counts after
+// it.
+fn report_line<A: Solver>(
     alloc: Global,
     shape: Shape,
-    answerer: &A,
+    solver: &A,
     line: Line,
     bytes: &[u8],
     summary: Summary,
 ) -> Result<(String, Summary), NoReport>
-    requires grid { A.grid answerer.now ≡ shape }
+    requires grid { (A.rules solver.now).grid ≡ shape }
     requires room { HasRoom summary }
-    ensures { IfOk result (λ report. IsReportOf shape (A.allows answerer.now)
-        line.number line.kind bytes.now summary (string_bytes report.0) report.1) }
+    ensures { IfOk result (λ report. (answer : Answer)
+        × AnswersKind (A.rules solver.now) line.kind bytes.now answer
+        × (string_bytes report.0 ≡ answer_text line.number answer)
+        × (report.1 ≡ with_answer summary answer)) }
 {
     match line.kind {
         LineKind::PassedOver => Ok((String::new(alloc), summary)),
@@ -130,23 +124,25 @@ fn report_line<A: Answerer>(
             let text = refused_report(alloc, EntryFault::NoText.code(), line.number)?;
             Ok((text, summary.with_refused()))
         }
-        LineKind::Within => answer_line(alloc, shape, answerer, line.number, bytes, summary),
+        LineKind::Within => answer_line(alloc, shape, solver, line.number, bytes, summary),
     }
 }
 
 // What is written for a line that is to be read, and the counts after it.
-fn answer_line<A: Answerer>(
+fn answer_line<A: Solver>(
     alloc: Global,
     shape: Shape,
-    answerer: &A,
+    solver: &A,
     number: u64,
     bytes: &[u8],
     summary: Summary,
 ) -> Result<(String, Summary), NoReport>
-    requires grid { A.grid answerer.now ≡ shape }
+    requires grid { (A.rules solver.now).grid ≡ shape }
     requires room { HasRoom summary }
-    ensures { IfOk result (λ report. IsAnswer shape (A.allows answerer.now)
-        number bytes.now summary (string_bytes report.0) report.1) }
+    ensures { IfOk result (λ report. (answer : Answer)
+        × AnswersEntry (A.rules solver.now) bytes.now answer
+        × (string_bytes report.0 ≡ answer_text number answer)
+        × (report.1 ≡ with_answer summary answer)) }
 {
     let entry = match read_entry(shape, bytes) {
         Ok(entry) => entry,
@@ -155,7 +151,7 @@ fn answer_line<A: Answerer>(
             return Ok((text, summary.with_refused()));
         }
     };
-    match answerer.answer(alloc, &entry.board) {
+    match solver.solve(alloc, &entry.board) {
         Ok(outcome) => {
             let text = outcome_report(alloc, entry.id, &outcome)?;
             Ok((text, summary.with_outcome(&outcome)))

@@ -1,5 +1,7 @@
+//! Why a run over lines ends early.
+
 ghost use Rattle.std.specs.Prelude.{◌≡◌};
-ghost use Rattle.batch_runs.specs.Faults.{lines_code_of};
+ghost use Rattle.batch_runs.specs.Faults.{lines_code};
 
 use reports::NoReport;
 use thiserror::Error;
@@ -21,7 +23,7 @@ pub enum LinesFault {
 impl LinesFault {
     /// The code that the fault is reported by: `B1` to `B3`.
     pub fn code(self) -> &'static str
-        ensures { result.now ≡ lines_code_of self }
+        ensures { result.now ≡ lines_code self }
     {
         match self {
             LinesFault::Read => "B1",

@@ -1,3 +1,5 @@
+//! What all lines of a batch have in common.
+
 ghost use Rattle.std.specs.Prelude.{◌≡◌};
 
 use board::{Board, Shape, Weights};

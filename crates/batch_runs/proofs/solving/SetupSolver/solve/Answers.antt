@@ -2,7 +2,7 @@ use Rattle.std.proofs.Common.{refl, sym, subst, ◌∙◌, inr}
 use Rattle.std.proofs.lemmas.Bool.{true≢false}
 use Rattle.board.specs.Positions.{Position}
 use Rattle.board.specs.Classes.{SameClass}
-use Rattle.batch_runs.proofs.solving.SetupAnswerer.answer.Goals as goal
+use Rattle.batch_runs.proofs.solving.SetupSolver.solve.Goals as goal
 
 pub returns-then-not-same_class-clause-answered : goal.returns-then-not-same_class-clause-answered
 returns-then-not-same_class-clause-answered c =
