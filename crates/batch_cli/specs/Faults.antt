@@ -10,13 +10,13 @@ use Rattle.batch_cli.specs.declared.faults.BatchFault.{BatchFault}
 use Rattle.batch_cli.specs.declared.faults.BatchFault.TheVariants.{Read, Write, Memory, CertificateRead, CertificateMemory, CertificateWrite}
 
 -- the code that a fault is reported by
-abbrev pub batch_code_of : BatchFault → List ℕ
-batch_code_of Read = codes "B1"
-batch_code_of Write = codes "B2"
-batch_code_of (Memory lacking) = codes "B3"
-batch_code_of CertificateRead = codes "F6"
-batch_code_of (CertificateMemory refused) = codes "F7"
-batch_code_of CertificateWrite = codes "F8"
+abbrev pub batch_code : BatchFault → List ℕ
+batch_code Read = codes "B1"
+batch_code Write = codes "B2"
+batch_code (Memory lacking) = codes "B3"
+batch_code CertificateRead = codes "F6"
+batch_code (CertificateMemory refused) = codes "F7"
+batch_code CertificateWrite = codes "F8"
 
 -- the same fault, of a run over lines
 abbrev pub of_lines : LinesFault → BatchFault

@@ -1,7 +1,7 @@
 -- The program: how it ends, what it writes of that, and its status.
-use Rattle.std.specs.Prelude.{ℕ, ◌≡◌, ◌⊎◌, Bool, true, false, List, [], ◌∷◌, ◌++◌, Option, Result, Ok, Err, codes}
-use Rattle.std.specs.Io.KnownBytes.{Appends}
-use Rattle.byte_streams.specs.Sink.{AppendsBeginning}
+use Rattle.std.specs.Prelude.{ℕ, ◌≡◌, ◌≢◌, ◌⊎◌, true, false, String, List, [], ◌∷◌, ◌++◌, Result, Ok, Err, codes}
+use Rattle.byte_streams.specs.Streams.{SourceState, SinkState, Change}
+use Rattle.byte_streams.specs.Sink.{Puts, PutsBeginning}
 use Rattle.board.specs.Grids.{Grid}
 use Rattle.board.specs.Positions.{goal_of}
 use Rattle.board.specs.CostRules.{unit_rule}
@@ -12,9 +12,9 @@ use Rattle.batch_cli.specs.declared.faults.BatchFault.TheVariants.{Read, Write, 
 use Rattle.batch_cli.specs.declared.program.Ending.{Ending}
 use Rattle.batch_cli.specs.declared.program.Ending.TheVariants.{Usage, NoBuffers, Ran, Faulted}
 use Rattle.batch_cli.specs.Faults.{of_lines}
-use Rattle.batch_runs.specs.Batches.{status_of_counts, WritesAll, WritesWhole, WritesSome, IsTooLong}
+use Rattle.batch_runs.specs.Batches.{Rules, ReportsAll, ReportsWhole, ReportsSome, IsReadable, status_of_counts}
 use Rattle.batch_runs.specs.Setups.{SetupState}
-use Rattle.batch_runs.specs.Solving.{MayAnswer}
+use Rattle.batch_runs.specs.Solving.{rules_of}
 
 -- 3 by 3, Korf's goal, unit cost
 abbrev pub small_grid : Grid
@@ -23,8 +23,7 @@ small_grid = record { rows = 3; cols = 3 }
 abbrev pub default_setup : SetupState
 default_setup = record { goal = goal_of small_grid; rule = unit_rule small_grid }
 
--- 0 where each line is optimal or unsolvable, 1 where some line is bounded or refused, 2 for the words, 3 for streams that
--- failed, 4 for want of memory
+-- 0 where each line is optimal or unsolvable, 1 where some line is bounded or refused, 2 for the words, 3 for streams that failed, 4 for want of memory
 abbrev pub status_of : Ending → ℕ
 status_of Usage = 2
 status_of NoBuffers = 4
@@ -51,23 +50,33 @@ message_of (Faulted CertificateRead) = line_of (codes "tilesolve: F6")
 message_of (Faulted (CertificateMemory refused)) = line_of (codes "tilesolve: F7")
 message_of (Faulted CertificateWrite) = line_of (codes "tilesolve: F8")
 
--- a beginning of the text was written, and all of it where the stream has not failed
-abbrev pub IsTold : Option (List ℕ) → Option (List ℕ) → Bool → List ℕ → Type 0
-IsTold written written' failed text = AppendsBeginning written written' text × (failed ≡ false → Appends written written' text)
+-- the message was written, or a beginning of it where the stream has failed; and the status is answered
+pub record Tells (errors : Change SinkState) (ending : Ending) (status : ℕ) : Type 0 where
+  pub told : status ≡ status_of ending
+  pub begun : PutsBeginning errors (message_of ending)
+  pub whole : errors.after.has_failed ≡ false → Puts errors (message_of ending)
+
+-- the sink has failed
+abbrev pub HasFailed : SinkState → Type 0
+HasFailed sink = sink.has_failed ≡ true
+
+-- the program's batch
+abbrev pub default_rules : Rules
+default_rules = rules_of default_setup
+
+-- How a run over lines ends that flushes its sink: all lines are reported; or reading failed, and the lines before are reported; or writing or memory failed, and a beginning of the reports is written.
+abbrev pub EndsRun : Change SourceState → Change SinkState → Result Summary LinesFault → Type 0
+EndsRun source sink (Ok counts) = ReportsAll default_rules source sink counts × IsReadable source × (sink.after.has_failed ≡ false)
+EndsRun source sink (Err lines.Read) = ReportsWhole default_rules source sink
+EndsRun source sink (Err lines.Write) = ReportsSome default_rules source sink × IsReadable source × HasFailed sink.after
+EndsRun source sink (Err (lines.Memory lacking)) = ReportsSome default_rules source sink × IsReadable source
 
 -- how the program ends after a run over lines
 abbrev pub ending_of : Result Summary LinesFault → Ending
 ending_of (Ok counts) = Ran counts
 ending_of (Err fault) = Faulted (of_lines fault)
 
--- How a run ends, by the input, what is left of it, what was written before and after, and whether the streams have failed: all
--- lines are reported; or reading failed, and the lines read whole are reported; or writing or memory failed, and a
--- beginning of the reports is written.
-abbrev pub EndsRun : Option (List ℕ) → Option (List ℕ) → Option (List ℕ) → Option (List ℕ) → Bool → Bool → Result Summary LinesFault → Type 0
-EndsRun input left written written' unread unwritten (Ok counts) =
-    WritesAll small_grid (MayAnswer default_setup) input written written' counts × (unwritten ≡ false)
-EndsRun input left written written' unread unwritten (Err lines.Read) =
-    WritesWhole small_grid (MayAnswer default_setup) input left written written' × ((unread ≡ true) ⊎ IsTooLong input)
-EndsRun input left written written' unread unwritten (Err lines.Write) =
-    WritesSome small_grid (MayAnswer default_setup) input written written' × (unwritten ≡ true)
-EndsRun input left written written' unread unwritten (Err (lines.Memory lacking)) = WritesSome small_grid (MayAnswer default_setup) input written written'
+-- how the program ends: without words by such a run, with words by its usage
+abbrev pub EndsBy : List String → Change SourceState → Change SinkState → Ending → Type 0
+EndsBy words source sink ending =
+    ((words ≡ []) × ((run : Result Summary LinesFault) × EndsRun source sink run × (ending ≡ ending_of run))) ⊎ ((words ≢ []) × (ending ≡ Usage))

@@ -1,5 +1,7 @@
+//! Why a run of any kind ends early.
+
 ghost use Rattle.std.specs.Prelude.{◌≡◌};
-ghost use Rattle.batch_cli.specs.Faults.{batch_code_of};
+ghost use Rattle.batch_cli.specs.Faults.{batch_code};
 
 use batch_runs::LinesFault;
 use certificate_runs::{CertifyFault, CheckFault};
@@ -33,7 +35,7 @@ pub enum BatchFault {
 impl BatchFault {
     /// The code that the fault is reported by: `B1` to `B3`, `F6` to `F8`.
     pub fn code(self) -> &'static str
-        ensures { result.now ≡ batch_code_of self }
+        ensures { result.now ≡ batch_code self }
     {
         match self {
             BatchFault::Read => "B1",
@@ -48,14 +50,14 @@ impl BatchFault {
 
 impl From<LinesFault> for BatchFault {
     ghost use Rattle.std.specs.Prelude.{◌≡◌};
-    ghost use Rattle.batch_runs.specs.Faults.{lines_code_of};
-    ghost use Rattle.batch_cli.specs.Faults.{batch_code_of, of_lines};
+    ghost use Rattle.batch_runs.specs.Faults.{lines_code};
+    ghost use Rattle.batch_cli.specs.Faults.{batch_code, of_lines};
 
     ghost from_gives = { λ fault sum. sum ≡ of_lines fault };
 
     fn from(fault: LinesFault) -> BatchFault
         ensures given { result ≡ of_lines fault }
-        ensures code { batch_code_of result ≡ lines_code_of fault }
+        ensures code { batch_code result ≡ lines_code fault }
     {
         match fault {
             LinesFault::Read => BatchFault::Read,
@@ -67,14 +69,14 @@ impl From<LinesFault> for BatchFault {
 
 impl From<CertifyFault> for BatchFault {
     ghost use Rattle.std.specs.Prelude.{◌≡◌};
-    ghost use Rattle.certificate_runs.specs.Faults.{certify_code_of};
-    ghost use Rattle.batch_cli.specs.Faults.{batch_code_of, of_certify};
+    ghost use Rattle.certificate_runs.specs.Faults.{certify_code};
+    ghost use Rattle.batch_cli.specs.Faults.{batch_code, of_certify};
 
     ghost from_gives = { λ fault sum. sum ≡ of_certify fault };
 
     fn from(fault: CertifyFault) -> BatchFault
         ensures given { result ≡ of_certify fault }
-        ensures code { batch_code_of result ≡ certify_code_of fault }
+        ensures code { batch_code result ≡ certify_code fault }
     {
         match fault {
             CertifyFault::Read => BatchFault::Read,
@@ -87,14 +89,14 @@ impl From<CertifyFault> for BatchFault {
 
 impl From<CheckFault> for BatchFault {
     ghost use Rattle.std.specs.Prelude.{◌≡◌};
-    ghost use Rattle.certificate_runs.specs.Faults.{check_code_of};
-    ghost use Rattle.batch_cli.specs.Faults.{batch_code_of, of_check};
+    ghost use Rattle.certificate_runs.specs.Faults.{check_code};
+    ghost use Rattle.batch_cli.specs.Faults.{batch_code, of_check};
 
     ghost from_gives = { λ fault sum. sum ≡ of_check fault };
 
     fn from(fault: CheckFault) -> BatchFault
         ensures given { result ≡ of_check fault }
-        ensures code { batch_code_of result ≡ check_code_of fault }
+        ensures code { batch_code result ≡ check_code fault }
     {
         match fault {
             CheckFault::CertificateRead => BatchFault::CertificateRead,

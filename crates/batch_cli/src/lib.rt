@@ -1,11 +1,14 @@
-//! The library of the program `tilesolve`: boards in, reports or a certificate out, and certificates checked.
+//! The library of the program `tilesolve`: boards in, reports or a certificate out, and
+//! certificates checked.
 #![tactic(auto)]
 
-pub mod faults;
-pub mod program;
+mod faults;
+mod program;
 
-pub use batch_lines::{Entry, EntryFault, LINE_LIMIT, Line, LineKind, LineReader, read_entry};
-pub use batch_runs::{Answerer, LinesFault, Setup, Summary, run_batch, run_lines};
+pub use batch_lines::{
+    Entry, EntryFault, INPUT_LIMIT, LINE_LIMIT, Line, LineKind, LineReader, read_entry,
+};
+pub use batch_runs::{LinesFault, Setup, Solver, Summary, run_batch, run_lines};
 pub use certificate_runs::{CertifyFault, CheckFault, run_cert, run_check};
 pub use faults::BatchFault;
 pub use outcomes::{Cause, Outcome, SolveFault, Want, Why};

@@ -1,9 +1,10 @@
-ghost use Rattle.std.specs.Prelude.{◌≡◌, ◌≢◌, ◌⊎◌, true, false, [], Result};
-ghost use Rattle.batch_runs.specs.declared.batch.Summary.{Summary};
-ghost use Rattle.batch_runs.specs.declared.faults.LinesFault.{LinesFault};
+//! The program over any streams.
+
+ghost use Rattle.std.specs.Prelude.{◌≡◌, ◌≢◌, ◌⊎◌, false, []};
+ghost use Rattle.byte_streams.specs.Streams.{change};
 ghost use Rattle.batch_cli.specs.declared.program.Ending.{Ending};
-ghost use Rattle.batch_cli.specs.declared.program.Ending.TheVariants.{Usage};
-ghost use Rattle.batch_cli.specs.Programs.{default_setup, status_of, message_of, ending_of, IsTold, EndsRun};
+ghost use Rattle.batch_cli.specs.Programs.{default_setup, status_of, message_of};
+ghost use Rattle.batch_cli.specs.Programs.{Tells, EndsBy, EndsRun, HasFailed};
 
 use crate::faults::BatchFault;
 use batch_runs::{LinesFault, Setup, Summary, run_batch};
@@ -25,8 +26,8 @@ pub enum Ending {
 }
 
 impl Ending {
-    /// The exit status: 0 where each line is optimal or unsolvable, 1 where some line is bounded or refused,
-    /// 2 for words, 3 for a stream that failed, 4 for want of memory.
+    /// The exit status: 0 where each line is optimal or unsolvable, 1 where some line is bounded or
+    /// refused, 2 for words, 3 for a stream that failed, 4 for want of memory.
     pub fn status(self) -> u8
         ensures { result ≡ status_of self }
     {
@@ -61,19 +62,18 @@ impl Ending {
 
     /// Writes the message, or a beginning of it where it cannot be written, and answers the status.
     pub fn tell<E: Sink>(self, errors: &mut E) -> u8
-        ensures status { result ≡ status_of self }
-        ensures told { IsTold (E.contents errors.old) (E.contents errors.new) (E.has_failed errors.new) (message_of self) }
+        ensures { Tells (change E.state errors.old errors.new) self result }
     {
         let _ = errors.put(self.message().as_bytes());
         self.status()
     }
 }
 
-/// Runs the program over any streams, and answers its exit status. The words are those after the program's
-/// name.
+/// Runs the program over any streams, and answers its exit status. The words are those after the
+/// program's name.
 ///
-/// Without words it reports the lines of the source to the sink, for 3 by 3 boards at unit cost with Korf's
-/// goal, and flushes the sink.
+/// Without words it reports the lines of the source to the sink, for 3 by 3 boards at unit cost
+/// with Korf's goal, and flushes the sink.
 pub fn run_program<S: Source, K: Sink, E: Sink>(
     alloc: Global,
     words: &[String],
@@ -81,14 +81,12 @@ pub fn run_program<S: Source, K: Sink, E: Sink>(
     sink: &mut K,
     errors: &mut E,
 ) -> u8
-    requires { K.has_failed sink.old ≡ false }
-    ensures ended { (ending : Ending) × (result ≡ status_of ending)
-        × IsTold (E.contents errors.old) (E.contents errors.new) (E.has_failed errors.new) (message_of ending)
-        × ((words.now ≡ [] × ((run : Result Summary LinesFault) × (ending ≡ ending_of run)
-        × EndsRun (S.left source.old) (S.left source.new) (K.contents sink.old) (K.contents sink.new)
-        (S.has_failed source.new) (K.has_failed sink.new) run))
-        ⊎ (words.now ≢ [] × (ending ≡ Usage) × (source.new ≡ source.old) × (sink.new ≡ sink.old))) }
-    ensures flushed { words.now ≡ [] → K.is_flushed sink.new ⊎ (K.has_failed sink.new ≡ true) }
+    requires { (K.state sink.old).has_failed ≡ false }
+    ensures ended { (ending : Ending) × Tells (change E.state errors.old errors.new) ending result
+        × EndsBy words.now (change S.state source.old source.new)
+        (change K.state sink.old sink.new) ending }
+    ensures flushed { words.now ≡ [] → K.is_flushed sink.new ⊎ HasFailed (K.state sink.new) }
+    ensures unused { words.now ≢ [] → (source.new ≡ source.old) × (sink.new ≡ sink.old) }
 {
     if !words.is_empty() {
         return Ending::Usage.tell(errors);
@@ -105,10 +103,10 @@ fn run<S: Source, K: Sink>(
     source: &mut S,
     sink: &mut K,
 ) -> Result<Summary, LinesFault>
-    requires { K.has_failed sink.old ≡ false }
-    ensures ended { EndsRun (S.left source.old) (S.left source.new) (K.contents sink.old) (K.contents sink.new)
-        (S.has_failed source.new) (K.has_failed sink.new) result }
-    ensures flushed { K.is_flushed sink.new ⊎ (K.has_failed sink.new ≡ true) }
+    requires { (K.state sink.old).has_failed ≡ false }
+    ensures ended { EndsRun (change S.state source.old source.new)
+        (change K.state sink.old sink.new) result }
+    ensures flushed { K.is_flushed sink.new ⊎ HasFailed (K.state sink.new) }
 {
     let setup = default_setup();
     let counts = match run_batch(alloc, source, sink, &setup) {

@@ -63,7 +63,7 @@ counted_once before (answered id (Bounded bound best cause)) = omega arith
 
 -- ---- one line more
 
-AreRead-more : (input now new : Option (List ℕ)) (lines : List (List ℕ)) (line : List ℕ) → AreRead input now lines → TakesKnown now new line → AreRead input new (lines ++ line ∷ [])
+pub AreRead-more : (input now new : Option (List ℕ)) (lines : List (List ℕ)) (line : List ℕ) → AreRead input now lines → TakesKnown now new line → AreRead input new (lines ++ line ∷ [])
 AreRead-more None now new lines line read taken = tt
 AreRead-more (Some bytes) None new lines line read taken = absurd read
 AreRead-more (Some bytes) (Some left) None lines line read taken = absurd taken

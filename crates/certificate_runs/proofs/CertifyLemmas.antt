@@ -1,8 +1,8 @@
 -- From an outcome to a certificate, and from a reply to what is written.
-use Rattle.std.proofs.Common.{◌≡◌, ◌≢◌, ℕ, suc, ◌<◌, ◌^◌, List, [], ◌∷◌, Option, None, Some, Vec, All, AllPairs, length, codes, string_bytes, refl, sym, subst, ◌∙◌, inl, inr, arith}
+use Rattle.std.proofs.Common.{◌≡◌, ◌≢◌, ℕ, suc, ◌+◌, ◌<◌, ◌^◌, List, [], ◌∷◌, Option, None, Some, Result, Ok, Err, Vec, All, AllPairs, length, codes, refl, sym, ap, subst, ◌∙◌, inl, inr, arith}
 use Rattle.std.specs.List.{AllByRecursion}
 use Rattle.std.proofs.lemmas.List.Elements.{recursion_from_All}
-use Rattle.byte_streams.specs.Sink.{AppendsBeginning}
+use Rattle.byte_streams.specs.Streams.{SourceState, SinkState, Change}
 use Rattle.board.specs.Grids.{Grid}
 use Rattle.board.specs.Positions.{Position, IsBoard}
 use Rattle.board.specs.Keys.{key_of}
@@ -11,23 +11,28 @@ use Rattle.outcomes.specs.Outcomes.{Task, AreRowsOf, Answers}
 use Rattle.outcomes.specs.declared.outcome.Outcome.TheVariants.{Optimal}
 use Rattle.board.specs.declared.moves.Move.{Move}
 use Rattle.std.specs.declared.alloc.Global.{Global}
-use Rattle.batch_lines.specs.Lines.{kind_of, without_return}
+use Rattle.batch_lines.specs.Lines.{without_return}
 use Rattle.batch_lines.specs.Readings.{IsJudged}
 use Rattle.batch_lines.specs.Words.{IsEntry, IsFirstEntryFault, entry_code_of}
 use Rattle.batch_lines.specs.declared.words.EntryFault.{EntryFault}
 use Rattle.batch_lines.specs.declared.lines.Line.{Line}
 use Rattle.batch_lines.specs.declared.lines.LineKind.{LineKind}
 use Rattle.batch_lines.specs.declared.lines.LineKind.TheVariants.{PassedOver, Within, TooLong}
-use Rattle.certificate.specs.Certificates.{AreNamedCosts, IsBoardOf, IsRow, RiseAfter, IsCertificate}
-use Rattle.certificate.specs.Spellings.{spelling}
-use Rattle.batch_runs.specs.Batches.{no_lines, with_refused}
+use Rattle.certificate.specs.Certificates.{Statement, AreNamedCosts, IsBoardOf, IsRow, RiseAfter, IsCertificate}
+use Rattle.batch_runs.specs.Batches.Answer.{refused}
+use Rattle.batch_runs.specs.Batches.AnswersEntry.{by_fault, by_want}
 use Rattle.batch_runs.specs.Setups.{SetupState}
-use Rattle.batch_runs.specs.Solving.{MayAnswer, task_of}
+use Rattle.batch_runs.specs.Solving.{MayAnswer, task_of, rules_of}
 use Rattle.certificate_runs.specs.declared.faults.CertifyFault.{CertifyFault}
-use Rattle.batch_runs.proofs.BatchLemmas.{report_is}
+use Rattle.batch_runs.proofs.BatchLemmas.{answer_is}
 use Rattle.certificate_runs.specs.declared.certifying.Reply.{Reply}
 use Rattle.certificate_runs.specs.declared.certifying.Reply.TheVariants.{Certified, Reported}
-use Rattle.certificate_runs.specs.Certifying.{IsCertificateFor, IsReply, IsRefusal, FindsLine, EndsFirst, text_of, write_fault_of}
+use Rattle.certificate_runs.specs.Outputs.{Output}
+use Rattle.certificate_runs.specs.Certifying.{IsCertificateFor, IsReply, IsRefusal, FindsFirst, SeeksFirst, PutsReply, Replies, first_line, report_of, reply_output}
+
+-- a line that is to be read
+abbrev pub within : ℕ → Line
+within n = record { number = n; kind = Within }
 
 -- the rows of an outcome rise by their lists of tiles
 module _ (order : KeysAreInOrder) (grid : Grid) where
@@ -49,36 +54,48 @@ module _ (order : KeysAreInOrder) (grid : Grid) where
 pub rows_fit : (task : Task) (rows : List (Position × ℕ)) (cost : ℕ) → AreRowsOf task rows cost → AllByRecursion (IsRow task.goal.grid) rows
 rows_fit task rows cost are = recursion_from_All (IsRow task.goal.grid) rows (λ k d in_range. record { board = record { board = (are.boards k d in_range).0; sides = (are.boards k d in_range).1 }; cost = are.low k d in_range })
 
+-- no certificate is a refusal
+no_refusal : (c : Statement) (code : List ℕ) (n : ℕ) → ¬ IsRefusal code n (Certified c)
+no_refusal c code n is = let told = ap (λ (output : Output). output.status) is in absurd (omega (arith, told))
+
 -- a line that is refused by its first fault
-pub refused_entry : (setup : SetupState) (n : ℕ) (bytes : List ℕ) (fault : EntryFault) (reply : Reply) → IsFirstEntryFault setup.goal.grid bytes fault → IsRefusal (entry_code_of fault) n reply → IsReply setup n Within bytes reply
-refused_entry setup n bytes fault (Certified c) first refused = absurd refused
-refused_entry setup n bytes fault (Reported text status) first (written, told) = (with_refused no_lines, inl (fault, first, written, refl), refl, told)
+pub refused_entry : (setup : SetupState) (n : ℕ) (bytes : List ℕ) (fault : EntryFault) (reply : Reply) → IsFirstEntryFault setup.goal.grid bytes fault → IsRefusal (entry_code_of fault) n reply → IsReply setup (within n) bytes reply
+refused_entry setup n bytes fault (Certified c) first is = absurd (no_refusal c (entry_code_of fault) n is)
+refused_entry setup n bytes fault (Reported text status) first is = (refused (entry_code_of fault), by_fault fault first, tt, is)
 
 -- a board for which memory was wanting before the first step
-pub refused_board : (setup : SetupState) (n : ℕ) (bytes id : List ℕ) (b : Position) (reply : Reply) → IsEntry setup.goal.grid bytes id b → MayAnswer setup b None → IsRefusal (codes "V3") n reply → IsReply setup n Within bytes reply
-refused_board setup n bytes id b (Certified c) entry lacking refused = absurd refused
-refused_board setup n bytes id b (Reported text status) entry lacking (written, told) = (with_refused no_lines, inr (inr (id, b, entry, lacking, written, refl)), refl, told)
+pub refused_board : (setup : SetupState) (n : ℕ) (bytes id : List ℕ) (b : Position) (reply : Reply) → IsEntry setup.goal.grid bytes id b → MayAnswer setup b None → IsRefusal (codes "V3") n reply → IsReply setup (within n) bytes reply
+refused_board setup n bytes id b (Certified c) entry lacking is = absurd (no_refusal c (codes "V3") n is)
+refused_board setup n bytes id b (Reported text status) entry lacking is = (refused (codes "V3"), by_want id b entry lacking, tt, is)
 
 -- a line that is too long
-pub refused_line : (setup : SetupState) (n : ℕ) (kind : LineKind) (bytes : List ℕ) (reply : Reply) → kind ≢ PassedOver → kind ≢ Within → IsRefusal (codes "E12") n reply → IsReply setup n kind bytes reply
-refused_line setup n PassedOver bytes reply here long refused = absurd (here refl)
-refused_line setup n Within bytes reply here long refused = absurd (long refl)
-refused_line setup n TooLong bytes (Certified c) here long refused = absurd refused
-refused_line setup n TooLong bytes (Reported text status) here long (written, told) = (with_refused no_lines, (written, refl), refl, told)
+pub refused_line : (setup : SetupState) (n : ℕ) (kind : LineKind) (bytes : List ℕ) (reply : Reply) → kind ≢ PassedOver → kind ≢ Within → IsRefusal (codes "E12") n reply → IsReply setup (record { number = n; kind = kind }) bytes reply
+refused_line setup n PassedOver bytes reply here long is = absurd (here refl)
+refused_line setup n Within bytes reply here long is = absurd (long refl)
+refused_line setup n TooLong bytes (Certified c) here long is = absurd (no_refusal c (codes "E12") n is)
+refused_line setup n TooLong bytes (Reported text status) here long is = (refused (codes "E12"), refl, tt, is)
 
--- the reply to the bytes that were kept is one to the line
-pub reply_is : (setup : SetupState) (n : ℕ) (bytes : List ℕ) (kind : LineKind) (kept : List ℕ) (reply : Reply) → IsJudged bytes kind kept → IsReply setup n kind kept reply → IsReply setup n (kind_of bytes) (without_return bytes) reply
-reply_is setup n bytes kind kept (Certified c) judged (within, named) = (sym judged.judged ∙ within, subst (λ (bs : List ℕ). IsCertificateFor setup bs c) (judged.whole within) named)
-reply_is setup n bytes kind kept (Reported text status) judged (counts, report, none, told) = (counts, report_is setup.goal.grid (MayAnswer setup) n bytes kind kept no_lines (string_bytes text) counts judged report, none, told)
+-- the reply to the bytes that were kept is one to the first line
+reply_is : (setup : SetupState) (source : Change SourceState) (first : FindsFirst source) (line : Line) (kept : List ℕ) (reply : Reply) → IsJudged first.line line.kind kept → line.number ≡ length first.passed + 1 → IsReply setup line kept reply
+    → IsReply setup (first_line source first) (without_return first.line) reply
+reply_is setup source first line kept (Certified c) judged at (is, named) = (sym judged.judged ∙ is, subst (λ (bytes : List ℕ). IsCertificateFor setup bytes c) (judged.whole is) named)
+reply_is setup source first line kept (Reported text status) judged at (answer, is, other, output) =
+    (answer, answer_is (rules_of setup) first.line line.kind kept answer judged is, other, output ∙ ap (λ (n : ℕ). report_of n answer) at)
 
--- a beginning of the reply was written
-pub ends_writing : (setup : SetupState) (input left written written' : Option (List ℕ)) (line : Line) (kept : List ℕ) (reply : Reply) (fault : CertifyFault) → FindsLine input left kept (Some line) → IsReply setup line.number line.kind kept reply → fault ≡ write_fault_of reply → AppendsBeginning written written' (text_of reply) → EndsFirst setup input left written written' fault
-ends_writing setup input left written written' line kept (Certified c) fault (passed, bytes, read, judged, at) reply is begun =
-    let named = subst (λ (n : ℕ). IsReply setup n (kind_of bytes) (without_return bytes) (Certified c)) at (reply_is setup line.number bytes line.kind kept (Certified c) judged reply) in
-    subst (λ (f : CertifyFault). EndsFirst setup input left written written' f) (sym is) (passed, bytes, spelling c, read, named.0, (c, named.1, refl), begun)
-ends_writing setup input left written written' line kept (Reported text status) fault (passed, bytes, read, judged, at) reply is begun =
-    let reported = subst (λ (n : ℕ). IsReply setup n (kind_of bytes) (without_return bytes) (Reported text status)) at (reply_is setup line.number bytes line.kind kept (Reported text status) judged reply) in
-    subst (λ (f : CertifyFault). EndsFirst setup input left written written' f) (sym is) (passed, bytes, string_bytes text, status, read, reported, begun)
+-- a reply to the line that was found is written, or a beginning of it
+pub replied : (setup : SetupState) (source : Change SourceState) (sink : Change SinkState) (line : Line) (kept : List ℕ) (reply : Reply) (result : Result ℕ CertifyFault) → SeeksFirst source kept (Ok (Some line)) → IsReply setup line kept reply → PutsReply sink reply result → Replies setup source sink result
+replied setup source sink line kept (Certified c) (Ok status) (readable, (first, judged, at)) reply put =
+    let named = reply_is setup source first line kept (Certified c) judged at reply in
+    (readable, inr (reply_output (Certified c), (first, inl (named.0, (c, named.1, refl))), put.0, put.1))
+replied setup source sink line kept (Certified c) (Err fault) (readable, (first, judged, at)) reply put =
+    let named = reply_is setup source first line kept (Certified c) judged at reply in
+    subst (λ (f : CertifyFault). Replies setup source sink (Err f)) (sym put.1) (readable, (reply_output (Certified c), (first, named.0, (c, named.1, refl)), put.0))
+replied setup source sink line kept (Reported text told) (Ok status) (readable, (first, judged, at)) reply put =
+    let reported = reply_is setup source first line kept (Reported text told) judged at reply in
+    (readable, inr (reply_output (Reported text told), (first, inr reported), put.0, put.1))
+replied setup source sink line kept (Reported text told) (Err fault) (readable, (first, judged, at)) reply put =
+    let reported = reply_is setup source first line kept (Reported text told) judged at reply in
+    subst (λ (f : CertifyFault). Replies setup source sink (Err f)) (sym put.1) (readable, (reply_output (Reported text told), (first, reported), put.0))
 
 -- an outcome that names a plan of least cost has a certificate
 pub certificate_is : (order : KeysAreInOrder) (setup : SetupState) (b : Position) (cost : ℕ) (plan : Vec Move Global) (rows : Vec (Position × ℕ) Global) → IsBoard setup.goal → IsBoardOf setup.goal.grid b → AreNamedCosts setup.goal.grid setup.rule → length rows.items < 2 ^ 64 → Answers (task_of setup b) (Optimal cost plan rows) → IsCertificate (record { grid = setup.goal.grid; costs = setup.rule; start = b; goal = setup.goal; cost = cost; plan = plan.items; rows = rows.items })

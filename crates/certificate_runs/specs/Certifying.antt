@@ -1,10 +1,11 @@
 -- What is written for the first line of an input that isn't passed over: a certificate, or a report.
-use Rattle.std.specs.Prelude.{ℕ, ◌≡◌, ◌⊎◌, ◌+◌, ◌-◌, List, [], ◌∷◌, ◌++◌, length, Option, None, Some, All, string_bytes}
-use Rattle.std.specs.Io.KnownBytes.{Appends}
-use Rattle.byte_streams.specs.Sink.{AppendsBeginning}
+use Rattle.std.specs.Prelude.{ℕ, ◌≡◌, ◌⊎◌, ◌+◌, List, [], ◌∷◌, ◌++◌, length, Option, None, Some, Result, Ok, Err, All, string_bytes, ⊤}
+use Rattle.byte_streams.specs.Streams.{SourceState, SinkState, Change}
+use Rattle.byte_streams.specs.Sink.{WritesAll, FailsWriting}
+use Rattle.byte_streams.specs.declared.source.ReadFailed.{ReadFailed}
 use Rattle.board.specs.Positions.{Position}
 use Rattle.batch_lines.specs.Lines.{without_return, kind_of}
-use Rattle.batch_lines.specs.Readings.{IsJudged, TakesNoLine, CountsTaken}
+use Rattle.batch_lines.specs.Readings.{IsJudged}
 use Rattle.batch_lines.specs.Words.{IsEntry}
 use Rattle.batch_lines.specs.declared.lines.Line.{Line}
 use Rattle.batch_lines.specs.declared.lines.LineKind.{LineKind}
@@ -12,15 +13,16 @@ use Rattle.batch_lines.specs.declared.lines.LineKind.TheVariants.{PassedOver, Wi
 use Rattle.certificate.specs.Certificates.{Statement, IsCertificate}
 use Rattle.certificate.specs.Spellings.{spelling}
 use Rattle.certificate_check.specs.Refusals.{IsProved}
-use Rattle.reports.specs.Reports.{refused_data, report_text}
+use Rattle.outcomes.specs.declared.outcome.Outcome.TheVariants.{Optimal, Unsolvable, Bounded}
+use Rattle.batch_runs.specs.Batches.{Answer, AnswersKind, AreRead, AreAll, LosesLine, IsReadable, answer_text, with_answer, no_lines, status_of_counts}
+use Rattle.batch_runs.specs.Batches.Answer.{passed_over, refused, answered}
+use Rattle.batch_runs.specs.Setups.{SetupState}
+use Rattle.batch_runs.specs.Solving.{rules_of}
+use Rattle.certificate_runs.specs.Outputs.{Output, IsUntouched}
 use Rattle.certificate_runs.specs.declared.certifying.Reply.{Reply}
 use Rattle.certificate_runs.specs.declared.certifying.Reply.TheVariants.{Certified, Reported}
-use Rattle.batch_runs.specs.declared.batch.Summary.{Summary}
 use Rattle.certificate_runs.specs.declared.faults.CertifyFault.{CertifyFault}
 use Rattle.certificate_runs.specs.declared.faults.CertifyFault.TheVariants.{Read, Write, Memory, CertificateWrite}
-use Rattle.batch_runs.specs.Batches.{IsReportOf, AreRead, AreAll, no_lines, status_of_counts}
-use Rattle.batch_runs.specs.Setups.{SetupState}
-use Rattle.batch_runs.specs.Solving.{MayAnswer}
 
 -- a certificate of this board, with the setup's goal and costs, whose plan leads there at its cost and whose rows prove it
 pub record IsCertificateOf (setup : SetupState) (b : Position) (c : Statement) : Type 0 where
@@ -35,85 +37,104 @@ pub record IsCertificateOf (setup : SetupState) (b : Position) (c : Statement) :
 abbrev pub IsCertificateFor : SetupState → List ℕ → Statement → Type 0
 IsCertificateFor setup bytes c = (id : List ℕ) × (b : Position) × IsEntry setup.goal.grid bytes id b × IsCertificateOf setup b c
 
--- the text spells such a certificate
-abbrev pub Certifies : SetupState → List ℕ → List ℕ → Type 0
-Certifies setup bytes text = (c : Statement) × IsCertificateFor setup bytes c × (text ≡ spelling c)
+-- ---- what is written for a line
 
--- the text is the report of line n as in a batch, but not one of a least plan; and its status
-abbrev pub ReportsOf : SetupState → ℕ → LineKind → List ℕ → List ℕ → ℕ → Type 0
-ReportsOf setup n kind bytes text status =
-    (counts : Summary) × IsReportOf setup.goal.grid (MayAnswer setup) n kind bytes no_lines text counts × (counts.optimal ≡ 0) × (status ≡ status_of_counts counts)
+-- the certificate of the board that these bytes name, with the status 0
+abbrev pub Certifies : SetupState → List ℕ → Output → Type 0
+Certifies setup bytes output = (c : Statement) × IsCertificateFor setup bytes c × (output ≡ record { text = spelling c; status = 0 })
 
--- what is written for line n, and the status: a certificate with the status 0, or a report
-abbrev pub AnswersLine : SetupState → ℕ → List ℕ → List ℕ → ℕ → Type 0
-AnswersLine setup n line text status =
-    ((kind_of line ≡ Within) × Certifies setup (without_return line) text × (status ≡ 0)) ⊎ ReportsOf setup n (kind_of line) (without_return line) text status
+-- an answer that names no least plan
+abbrev pub IsNotOptimal : Answer → Type 0
+IsNotOptimal passed_over = ⊤
+IsNotOptimal (refused code) = ⊤
+IsNotOptimal (answered id (Optimal cost plan rows)) = ⊥
+IsNotOptimal (answered id (Unsolvable why)) = ⊤
+IsNotOptimal (answered id (Bounded bound best cause)) = ⊤
 
--- the reply to a line of this kind with these bytes
-abbrev pub IsReply : SetupState → ℕ → LineKind → List ℕ → Reply → Type 0
-IsReply setup n kind bytes (Certified c) = (kind ≡ Within) × IsCertificateFor setup bytes c
-IsReply setup n kind bytes (Reported text status) = ReportsOf setup n kind bytes (string_bytes text) status
+-- the report of the answer to line n, with the status of a batch of this line alone
+abbrev pub report_of : ℕ → Answer → Output
+report_of n answer = record { text = answer_text n answer; status = status_of_counts (with_answer no_lines answer) }
+
+-- the report of a line with these bytes, as in a batch, but not one of a least plan
+abbrev pub ReportsLine : SetupState → Line → List ℕ → Output → Type 0
+ReportsLine setup line bytes output = (answer : Answer) × AnswersKind (rules_of setup) line.kind bytes answer × IsNotOptimal answer × (output ≡ report_of line.number answer)
+
+-- the certificate or the report of a line with these bytes
+abbrev pub RepliesTo : SetupState → Line → List ℕ → Output → Type 0
+RepliesTo setup line bytes output = ((line.kind ≡ Within) × Certifies setup bytes output) ⊎ ReportsLine setup line bytes output
+
+-- the same of what is to be written
+abbrev pub IsReply : SetupState → Line → List ℕ → Reply → Type 0
+IsReply setup line bytes (Certified c) = (line.kind ≡ Within) × IsCertificateFor setup bytes c
+IsReply setup line bytes (Reported text status) = ReportsLine setup line bytes (record { text = string_bytes text; status = status })
 
 -- what is written of a reply, and its status
-abbrev pub text_of : Reply → List ℕ
-text_of (Certified c) = spelling c
-text_of (Reported text status) = string_bytes text
+abbrev pub reply_output : Reply → Output
+reply_output (Certified c) = record { text = spelling c; status = 0 }
+reply_output (Reported text status) = record { text = string_bytes text; status = status }
 
-abbrev pub reply_status : Reply → ℕ
-reply_status (Certified c) = 0
-reply_status (Reported text status) = status
+-- the fault of writing a reply
+abbrev pub write_fault : Reply → CertifyFault
+write_fault (Certified c) = CertificateWrite
+write_fault (Reported text status) = Write
 
--- a fault of writing a reply
-abbrev pub write_fault_of : Reply → CertifyFault
-write_fault_of (Certified c) = CertificateWrite
-write_fault_of (Reported text status) = Write
+-- a reply is written whole, and its status answered; or the sink has failed
+abbrev pub PutsReply : Change SinkState → Reply → Result ℕ CertifyFault → Type 0
+PutsReply sink reply (Ok status) = WritesAll sink (reply_output reply).text × (status ≡ (reply_output reply).status)
+PutsReply sink reply (Err fault) = FailsWriting sink (reply_output reply).text × (fault ≡ write_fault reply)
 
 -- the report of line n, which is refused by a fault with this code
 abbrev pub IsRefusal : List ℕ → ℕ → Reply → Type 0
-IsRefusal code n (Certified c) = ⊥
-IsRefusal code n (Reported text status) = (string_bytes text ≡ report_text (refused_data code n)) × (status ≡ 1)
+IsRefusal code n reply = reply_output reply ≡ report_of n (refused code)
+
+-- ---- the first line that isn't passed over
 
 abbrev pub IsPassedOver : List ℕ → Type 0
 IsPassedOver line = kind_of line ≡ PassedOver
 
--- the lines that were read: some that are passed over, and one that isn't
-pub record ReadsTo (input left : Option (List ℕ)) (passed : List (List ℕ)) (line : List ℕ) : Type 0 where
-  pub read : AreRead input left (passed ++ line ∷ [])
+-- all lines are passed over
+abbrev pub PassesAll : Change SourceState → Type 0
+PassesAll source = (lines : List (List ℕ)) × AreAll source.before.left lines × All IsPassedOver lines
+
+-- some lines were read that are passed over, and one that isn't, and nothing behind it
+pub record FindsFirst (source : Change SourceState) : Type 0 where
+  pub passed : List (List ℕ)
+  pub line : List ℕ
+  pub read : AreRead source.before.left source.after.left (passed ++ line ∷ [])
   pub before : All IsPassedOver passed
   pub here : ¬ IsPassedOver line
 
--- all lines are passed over
-abbrev pub PassesAll : Option (List ℕ) → Type 0
-PassesAll input = (lines : List (List ℕ)) × AreAll input lines × All IsPassedOver lines
+-- its number, and what is to be done with it
+abbrev pub first_line : (source : Change SourceState) → FindsFirst source → Line
+first_line source first = record { number = length first.passed + 1; kind = kind_of first.line }
 
--- the first line that isn't passed over was read, and nothing behind it; or there is none
-abbrev pub FindsLine : Option (List ℕ) → Option (List ℕ) → List ℕ → Option Line → Type 0
-FindsLine input left kept None = PassesAll input
-FindsLine input left kept (Some line) =
-    (passed : List (List ℕ)) × (bytes : List ℕ) × ReadsTo input left passed bytes × IsJudged bytes line.kind kept × (line.number ≡ length passed + 1)
+-- the lines that were read whole are passed over, and the next one is lost
+abbrev pub LosesFirst : Change SourceState → Type 0
+LosesFirst source = (passed : List (List ℕ)) × All IsPassedOver passed × LosesLine source passed
 
--- the lines that were read whole are passed over, and what was taken after them, within the limit, has no whole line in it
-pub record LosesLine (input left : Option (List ℕ)) : Type 0 where
-  pub lines : List (List ℕ)
-  pub before : Option (List ℕ)
-  pub taken : ℕ
-  pub passed : All IsPassedOver lines
-  pub whole : AreRead input before lines
-  pub counted : CountsTaken input before 0 taken
-  pub lost : TakesNoLine before left (18446744073709551614 - taken)
+-- the search for it: it is found, and its bytes are kept where they are to be read; or there is none; or it is lost
+abbrev pub SeeksFirst : Change SourceState → List ℕ → Result (Option Line) ReadFailed → Type 0
+SeeksFirst source kept (Ok None) = IsReadable source × PassesAll source
+SeeksFirst source kept (Ok (Some line)) = IsReadable source × ((first : FindsFirst source) × IsJudged first.line line.kind kept × (line.number ≡ length first.passed + 1))
+SeeksFirst source kept (Err failure) = LosesFirst source
 
--- All lines are passed over and nothing is written; or the first other one is answered, and nothing behind it was read.
-abbrev pub AnswersFirst : SetupState → Option (List ℕ) → Option (List ℕ) → Option (List ℕ) → Option (List ℕ) → ℕ → Type 0
-AnswersFirst setup input left written written' status =
-    (PassesAll input × (written' ≡ written) × (status ≡ 0))
-    ⊎ ((passed : List (List ℕ)) × (line : List ℕ) × (text : List ℕ) × ReadsTo input left passed line × AnswersLine setup (length passed + 1) line text status × Appends written written' text)
+-- ---- how the run ends
 
--- What was read and written where the run ended early: the line was lost and nothing was written; or it was read, and a
--- beginning of its report or of its certificate was written, or nothing where memory was wanting.
-abbrev pub EndsFirst : SetupState → Option (List ℕ) → Option (List ℕ) → Option (List ℕ) → Option (List ℕ) → CertifyFault → Type 0
-EndsFirst setup input left written written' Read = LosesLine input left × (written' ≡ written)
-EndsFirst setup input left written written' Write =
-    (passed : List (List ℕ)) × (line : List ℕ) × (text : List ℕ) × (status : ℕ) × ReadsTo input left passed line × ReportsOf setup (length passed + 1) (kind_of line) (without_return line) text status × AppendsBeginning written written' text
-EndsFirst setup input left written written' (Memory lacking) = (passed : List (List ℕ)) × (line : List ℕ) × ReadsTo input left passed line × (written' ≡ written)
-EndsFirst setup input left written written' CertificateWrite =
-    (passed : List (List ℕ)) × (line : List ℕ) × (text : List ℕ) × ReadsTo input left passed line × (kind_of line ≡ Within) × Certifies setup (without_return line) text × AppendsBeginning written written' text
+-- this is written for the first line
+abbrev pub RepliesToFirst : SetupState → Change SourceState → Output → Type 0
+RepliesToFirst setup source output = (first : FindsFirst source) × RepliesTo setup (first_line source first) (without_return first.line) output
+
+abbrev pub ReportsFirst : SetupState → Change SourceState → Output → Type 0
+ReportsFirst setup source output = (first : FindsFirst source) × ReportsLine setup (first_line source first) (without_return first.line) output
+
+abbrev pub CertifiesFirst : SetupState → Change SourceState → Output → Type 0
+CertifiesFirst setup source output = (first : FindsFirst source) × (kind_of first.line ≡ Within) × Certifies setup (without_return first.line) output
+
+-- How the run ends: all lines are passed over, and nothing is written; or the first other one is replied to. Else the line was lost, or memory was wanting, and nothing was written; or writing failed.
+abbrev pub Replies : SetupState → Change SourceState → Change SinkState → Result ℕ CertifyFault → Type 0
+Replies setup source sink (Ok status) =
+    IsReadable source × ((PassesAll source × IsUntouched sink × (status ≡ 0)) ⊎ ((output : Output) × RepliesToFirst setup source output × WritesAll sink output.text × (status ≡ output.status)))
+Replies setup source sink (Err Read) = LosesFirst source × IsUntouched sink
+Replies setup source sink (Err Write) = IsReadable source × ((output : Output) × ReportsFirst setup source output × FailsWriting sink output.text)
+Replies setup source sink (Err (Memory lacking)) = IsReadable source × FindsFirst source × IsUntouched sink
+Replies setup source sink (Err CertificateWrite) = IsReadable source × ((output : Output) × CertifiesFirst setup source output × FailsWriting sink output.text)

@@ -6,14 +6,14 @@ use Rattle.certificate_runs.specs.declared.faults.CertifyFault.TheVariants.{Read
 use Rattle.certificate_runs.specs.declared.faults.CheckFault.TheVariants as check
 
 -- the code that a fault is reported by
-abbrev pub certify_code_of : CertifyFault → List ℕ
-certify_code_of Read = codes "B1"
-certify_code_of Write = codes "B2"
-certify_code_of (Memory lacking) = codes "B3"
-certify_code_of CertificateWrite = codes "F8"
+abbrev pub certify_code : CertifyFault → List ℕ
+certify_code Read = codes "B1"
+certify_code Write = codes "B2"
+certify_code (Memory lacking) = codes "B3"
+certify_code CertificateWrite = codes "F8"
 
-abbrev pub check_code_of : CheckFault → List ℕ
-check_code_of check.CertificateRead = codes "F6"
-check_code_of (check.CertificateMemory refused) = codes "F7"
-check_code_of check.Write = codes "B2"
-check_code_of (check.Memory lacking) = codes "B3"
+abbrev pub check_code : CheckFault → List ℕ
+check_code check.CertificateRead = codes "F6"
+check_code (check.CertificateMemory refused) = codes "F7"
+check_code check.Write = codes "B2"
+check_code (check.Memory lacking) = codes "B3"

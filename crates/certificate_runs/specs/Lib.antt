@@ -1,3 +1,4 @@
+pub mod Outputs
 pub mod Faults
 pub mod Checking
 pub mod Certifying

@@ -1,17 +1,19 @@
-ghost use Rattle.std.specs.Prelude.{◌≡◌, ◌≢◌, ◌⊎◌, ◌↔◌, [], true, false, Err, IfOk, IfErr, OnErr, IsErr, is_err};
-ghost use Rattle.std.specs.Io.KnownBytes.{Appends};
-ghost use Rattle.byte_streams.specs.Sink.{AppendsBeginning};
+//! A line in, a certificate out.
+
+ghost use Rattle.std.specs.Prelude.{◌≡◌, ◌≢◌, [], IfOk};
+ghost use Rattle.byte_streams.specs.Streams.{change};
 ghost use Rattle.outcomes.specs.declared.outcome.Outcome.TheVariants.{Optimal};
 ghost use Rattle.outcomes.specs.Outcomes.{Answers};
 ghost use Rattle.batch_lines.specs.declared.lines.LineKind.TheVariants.{PassedOver, Within};
 ghost use Rattle.certificate.specs.Certificates.{AreNamedCosts, IsBoardOf};
-ghost use Rattle.batch_runs.specs.Batches.{IsTooLong, no_lines, with_outcome, status_of_counts};
+ghost use Rattle.batch_runs.specs.Batches.{no_lines, with_outcome, status_of_counts};
 ghost use Rattle.batch_runs.specs.Solving.{task_of};
-ghost use Rattle.certificate_runs.specs.Certifying.{FindsLine, LosesLine, AnswersFirst, EndsFirst, IsCertificateOf, IsReply, IsRefusal, text_of, reply_status, write_fault_of};
+ghost use Rattle.certificate_runs.specs.Certifying.{Replies, SeeksFirst, PutsReply};
+ghost use Rattle.certificate_runs.specs.Certifying.{IsCertificateOf, IsReply, IsRefusal};
 
 use crate::faults::CertifyFault;
 use batch_lines::{EntryFault, Line, LineKind, LineReader, read_entry};
-use batch_runs::{Answerer, Setup};
+use batch_runs::{Setup, Solver};
 use board::laws::keys_are_in_order;
 use board::{Board, Move};
 use byte_streams::{ReadFailed, Sink, Source};
@@ -20,29 +22,21 @@ use outcomes::{Outcome, SolveFault};
 use reports::{NoReport, outcome_report, refused_report};
 use std::alloc::Global;
 
-/// Answers the first line of the source that isn't passed over, and takes nothing behind it: where a plan of
-/// least cost is found, its certificate is written, else the line's report.
+/// Answers the first line of the source that isn't passed over, and takes nothing behind it: where
+/// a plan of least cost is found, its certificate is written, else the line's report.
 ///
-/// Answers the status: 0 for a certificate, for a board without a plan, and where no line is to be answered;
-/// 1 for a bound and for a line that is refused. Nothing is written where reading fails or memory is wanting.
-/// Nothing is flushed.
+/// Answers the status: 0 for a certificate, for a board without a plan, and where no line is to be
+/// answered; 1 for a bound and for a line that is refused. Nothing is written where reading fails
+/// or memory is wanting. Nothing is flushed.
 pub fn run_cert<S: Source, K: Sink>(
     alloc: Global,
     source: &mut S,
     sink: &mut K,
     setup: &Setup,
 ) -> Result<u8, CertifyFault>
-    requires named { AreNamedCosts setup.now.goal.grid setup.now.rule }
-    ensures answered { IfOk result (AnswersFirst setup.now (S.left source.old) (S.left source.new)
-        (K.contents sink.old) (K.contents sink.new)) }
-    ensures ended { IfErr result (EndsFirst setup.now (S.left source.old) (S.left source.new)
-        (K.contents sink.old) (K.contents sink.new)) }
-    ensures cannot_read { result ≡ Err CertifyFault.Read
-        → (S.has_failed source.new ≡ true) ⊎ IsTooLong (S.left source.old) }
-    ensures read_failed { S.has_failed source.new ≡ true → result ≡ Err CertifyFault.Read }
-    ensures cannot_write { K.has_failed sink.old ≡ false
-        → ((result ≡ Err CertifyFault.Write) ⊎ (result ≡ Err CertifyFault.CertificateWrite))
-        ↔ (K.has_failed sink.new ≡ true) }
+    requires { AreNamedCosts setup.now.goal.grid setup.now.rule }
+    ensures { Replies setup.now (change S.state source.old source.new)
+        (change K.state sink.old sink.new) result }
 {
     let mut reader = LineReader::new();
     match find_line(source, &mut reader) {
@@ -65,10 +59,7 @@ enum Reply {
 // The next line that isn't passed over.
 fn find_line<S: Source>(source: &mut S, reader: &mut LineReader) -> Result<Option<Line>, ReadFailed>
     requires { reader.old ≡ record { lines = 0; taken = 0; kept = [] } }
-    ensures found { IfOk result (FindsLine (S.left source.old) (S.left source.new) reader.new.kept) }
-    ensures lost { OnErr result (LosesLine (S.left source.old) (S.left source.new)) }
-    ensures fails { IsErr result → (S.has_failed source.new ≡ true) ⊎ IsTooLong (S.left source.old) }
-    ensures failed { S.has_failed source.new ≡ true → IsErr result }
+    ensures { SeeksFirst (change S.state source.old source.new) reader.new.kept result }
 {
     'lines: loop {
         let next = match reader.next_line(source) {
@@ -89,7 +80,7 @@ fn find_line<S: Source>(source: &mut S, reader: &mut LineReader) -> Result<Optio
 fn reply_to_line(alloc: Global, setup: &Setup, line: Line, bytes: &[u8]) -> Result<Reply, NoReport>
     requires named { AreNamedCosts setup.now.goal.grid setup.now.rule }
     requires kind { line.kind ≢ PassedOver }
-    ensures { IfOk result (IsReply setup.now line.number line.kind bytes.now) }
+    ensures { IfOk result (IsReply setup.now line bytes.now) }
 {
     match line.kind {
         LineKind::Within => reply_to_entry(alloc, setup, line.number, bytes),
@@ -105,13 +96,14 @@ fn reply_to_entry(
     bytes: &[u8],
 ) -> Result<Reply, NoReport>
     requires { AreNamedCosts setup.now.goal.grid setup.now.rule }
-    ensures { IfOk result (IsReply setup.now number Within bytes.now) }
+    ensures { IfOk result
+        (IsReply setup.now (record { number = number; kind = Within }) bytes.now) }
 {
     let entry = match read_entry(setup.shape(), bytes) {
         Ok(entry) => entry,
         Err(fault) => return refuse(alloc, fault.code(), number),
     };
-    match setup.answer(alloc, &entry.board) {
+    match setup.solve(alloc, &entry.board) {
         Ok(Outcome::Optimal { cost, plan, rows }) => {
             let certificate = certify(setup, entry.board, cost, plan, rows);
             Ok(Reply::Certified(certificate))
@@ -171,11 +163,7 @@ fn certify(
 
 // Writes a reply, and answers its status.
 fn put_reply<K: Sink>(sink: &mut K, reply: &Reply) -> Result<u8, CertifyFault>
-    ensures put { IfOk result (λ status. (status ≡ reply_status reply.now)
-        × Appends (K.contents sink.old) (K.contents sink.new) (text_of reply.now)) }
-    ensures begun { IfErr result (λ fault. (fault ≡ write_fault_of reply.now)
-        × AppendsBeginning (K.contents sink.old) (K.contents sink.new) (text_of reply.now)) }
-    ensures failed { K.has_failed sink.new ≡ is_err result }
+    ensures { PutsReply (change K.state sink.old sink.new) reply.now result }
 {
     match reply {
         Reply::Certified(certificate) => match write(sink, certificate) {

@@ -1,7 +1,9 @@
-ghost use Rattle.std.specs.Prelude.{◌≡◌, ◌↔◌, ℕ, List, true, false, Err, IfOk, IfErr, IfSome, is_err, string_bytes};
-ghost use Rattle.std.specs.Io.KnownBytes.{Appends, Consumes};
-ghost use Rattle.byte_streams.specs.Sink.{AppendsBeginning};
-ghost use Rattle.certificate_runs.specs.Checking.{IsJudgement, IsRefused, IsVerdict, EndsCheck};
+//! A certificate in, a verdict out.
+
+ghost use Rattle.std.specs.Prelude.{IfOk};
+ghost use Rattle.byte_streams.specs.Streams.{change};
+ghost use Rattle.certificate_runs.specs.Checking.{IsJudgement, IsRefused, Checks, PutsVerdict};
+ghost use Rattle.certificate_runs.specs.Checking.{verdict_output};
 
 use crate::faults::CheckFault;
 use byte_streams::{Sink, Source};
@@ -10,25 +12,18 @@ use certificate_check::check;
 use reports::{NoReport, accepted_report, refused_certificate_report};
 use std::alloc::Global;
 
-/// Checks the certificate that the source spells, and writes one line: the least cost, or the code of the
-/// first fault. Answers the status: 0 where it is accepted, 5 where it is refused.
+/// Checks the certificate that the source spells, and writes one line: the least cost, or the code
+/// of the first fault. Answers the status: 0 where it is accepted, 5 where it is refused.
 ///
-/// Nothing is written where the source fails, or where there is no memory for the certificate or for the
-/// line. Nothing is flushed.
+/// Nothing is written where the source fails, or where there is no memory for the certificate or
+/// for the line. Nothing is flushed.
 pub fn run_check<S: Source, K: Sink>(
     alloc: Global,
     source: &mut S,
     sink: &mut K,
 ) -> Result<u8, CheckFault>
-    ensures checked { IfOk result (λ status. (text : List ℕ)
-        × IfSome (S.left source.old) (IsVerdict text status)
-        × Appends (K.contents sink.old) (K.contents sink.new) text) }
-    ensures ended { IfErr result
-        (EndsCheck (S.left source.old) (K.contents sink.old) (K.contents sink.new)) }
-    ensures cannot_read { (result ≡ Err CheckFault.CertificateRead) ↔ (S.has_failed source.new ≡ true) }
-    ensures cannot_write { K.has_failed sink.old ≡ false
-        → (result ≡ Err CheckFault.Write) ↔ (K.has_failed sink.new ≡ true) }
-    ensures given { (seen : List ℕ) × Consumes (S.left source.old) (S.left source.new) seen }
+    ensures { Checks (change S.state source.old source.new) (change K.state sink.old sink.new)
+        result }
 {
     match read(alloc, source) {
         Ok(certificate) => match judge(alloc, &certificate) {
@@ -46,7 +41,7 @@ pub fn run_check<S: Source, K: Sink>(
 
 // The line that is written of a certificate, and its status.
 fn judge(alloc: Global, certificate: &Certificate) -> Result<(String, u8), NoReport>
-    ensures { IfOk result (λ verdict. IsJudgement certificate.now (string_bytes verdict.0) verdict.1) }
+    ensures { IfOk result (λ verdict. IsJudgement certificate.now (verdict_output verdict)) }
 {
     match check(certificate) {
         Ok(()) => Ok((accepted_report(alloc, certificate.cost())?, 0)),
@@ -56,18 +51,15 @@ fn judge(alloc: Global, certificate: &Certificate) -> Result<(String, u8), NoRep
 
 // The line that is written of a fault, and its status.
 fn refuse(alloc: Global, code: &str) -> Result<(String, u8), NoReport>
-    ensures { IfOk result (λ verdict. IsRefused code.now (string_bytes verdict.0) verdict.1) }
+    ensures { IfOk result (λ verdict. IsRefused code.now (verdict_output verdict)) }
 {
     Ok((refused_certificate_report(alloc, code)?, 5))
 }
 
 // Writes the line of a verdict, and answers its status.
 fn put_verdict<K: Sink>(sink: &mut K, text: &str, status: u8) -> Result<u8, CheckFault>
-    ensures put { IfOk result (λ told. (told ≡ status)
-        × Appends (K.contents sink.old) (K.contents sink.new) text.now) }
-    ensures begun { IfErr result (λ fault. (fault ≡ CheckFault.Write)
-        × AppendsBeginning (K.contents sink.old) (K.contents sink.new) text.now) }
-    ensures failed { K.has_failed sink.new ≡ is_err result }
+    ensures { PutsVerdict (change K.state sink.old sink.new)
+        (record { text = text.now; status = status }) result }
 {
     match sink.put(text.as_bytes()) {
         Ok(()) => Ok(status),

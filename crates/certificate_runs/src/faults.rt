@@ -1,5 +1,7 @@
+//! Why a run that writes or checks a certificate ends early.
+
 ghost use Rattle.std.specs.Prelude.{◌≡◌};
-ghost use Rattle.certificate_runs.specs.Faults.{certify_code_of, check_code_of};
+ghost use Rattle.certificate_runs.specs.Faults.{certify_code, check_code};
 
 use memory::OutOfMemory;
 use reports::NoReport;
@@ -25,7 +27,7 @@ pub enum CertifyFault {
 impl CertifyFault {
     /// The code that the fault is reported by: `B1` to `B3`, `F8`.
     pub fn code(self) -> &'static str
-        ensures { result.now ≡ certify_code_of self }
+        ensures { result.now ≡ certify_code self }
     {
         match self {
             CertifyFault::Read => "B1",
@@ -56,7 +58,7 @@ pub enum CheckFault {
 impl CheckFault {
     /// The code that the fault is reported by: `F6`, `F7`, `B2`, `B3`.
     pub fn code(self) -> &'static str
-        ensures { result.now ≡ check_code_of self }
+        ensures { result.now ≡ check_code self }
     {
         match self {
             CheckFault::CertificateRead => "F6",

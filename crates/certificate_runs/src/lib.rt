@@ -1,9 +1,10 @@
-//! Runs that write and check certificates: a line in and a certificate out, a certificate in and a verdict out.
+//! Runs that write and check certificates: a line in and a certificate out, a certificate in and a
+//! verdict out.
 #![tactic(auto)]
 
-pub mod certifying;
-pub mod checking;
-pub mod faults;
+mod certifying;
+mod checking;
+mod faults;
 
 pub use certifying::run_cert;
 pub use checking::run_check;

@@ -1,13 +1,14 @@
-use Rattle.std.proofs.Common.{◌-◌}
-use Rattle.batch_lines.specs.Readings.{CountsTaken}
+use Rattle.std.proofs.Common.{◌-◌, ◌+◌}
+use Rattle.batch_lines.specs.Readings.{CountsKnown}
+use Rattle.batch_lines.specs.declared.lines.TheConstants.{INPUT_LIMIT}
 use Rattle.certificate_runs.proofs.FindLemmas.{IsSearching}
 use Rattle.certificate_runs.proofs.certifying.find_line.Given as goal
 
 abbrev pub invariant-lines : goal.invariant-lines
 invariant-lines g l = record {
-  searching : IsSearching (g.S.Source.left l.fn.source) (g.S.Source.left l.source) l.reader.lines;
-  taken : CountsTaken (g.S.Source.left l.fn.source) (g.S.Source.left l.source) 0 l.reader.taken;
+  searching : IsSearching (g.S.Source.state l.fn.source).left (g.S.Source.state l.source).left l.reader.lines;
+  taken : CountsKnown (g.S.Source.state l.fn.source).left (g.S.Source.state l.source).left 0 l.reader.taken;
 }
 
 abbrev pub decreases-lines : goal.decreases-lines
-decreases-lines g l = 18446744073709551615 - l.reader.taken
+decreases-lines g l = (INPUT_LIMIT + 1) - l.reader.taken

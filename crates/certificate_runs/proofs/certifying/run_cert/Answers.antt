@@ -1,14 +1,8 @@
-use Rattle.std.proofs.Common.{◌≡◌}
-use Rattle.std.proofs.lemmas.Result.{IfErr-weaker}
-use Rattle.byte_streams.specs.Sink.{AppendsBeginning}
-use Rattle.certificate_runs.specs.Certifying.{EndsFirst, text_of, write_fault_of}
-use Rattle.certificate_runs.proofs.CertifyLemmas.{ends_writing}
+use Rattle.byte_streams.specs.Streams.{change}
+use Rattle.certificate_runs.proofs.CertifyLemmas.{replied}
 use Rattle.certificate_runs.proofs.certifying.run_cert.Goals as goal
 
-pub returns-in-Ok-clause-ended : goal.returns-in-Ok-clause-ended
-returns-in-Ok-clause-ended g c =
-    let left = g.S.Source.left in
-    let contents = g.K.Sink.contents in
-    let found = rw c.in-Ok-Some.field-0-is at c.in-Ok-Some.ensures.found in
-    IfErr-weaker c.put_reply.result (λ fault. (fault ≡ write_fault_of c.in-Ok.reply) × AppendsBeginning (contents c.args.sink.now) (contents c.put_reply.new.sink) (text_of c.in-Ok.reply)) (EndsFirst c.args.setup.now (left c.args.source.now) (left c.find_line.new.source) (contents c.args.sink.now) (contents c.put_reply.new.sink))
-    (λ fault told. ends_writing c.args.setup.now (left c.args.source.now) (left c.find_line.new.source) (contents c.args.sink.now) (contents c.put_reply.new.sink) c.in-Ok-Some.line c.find_line.new.reader.kept c.in-Ok.reply fault found (rw c.bytes.ensures at c.in-Ok.ensures) told.0 told.1) c.put_reply.ensures.begun
+pub returns-in-Ok : goal.returns-in-Ok
+returns-in-Ok g c =
+    let found = rw c.in-Ok-Some.field-0-is at c.in-Ok-Some.ensures in
+    replied c.args.setup.now (change g.S.Source.state c.args.source.now c.find_line.new.source) (change g.K.Sink.state c.args.sink.now c.put_reply.new.sink) c.in-Ok-Some.line c.find_line.new.reader.kept c.in-Ok.reply c.put_reply.result found (rw c.bytes.ensures at c.in-Ok.ensures) c.put_reply.ensures
