@@ -5,7 +5,7 @@ ghost use Rattle.certificate.specs.Certificates.{AreNamedCosts};
 use crate::certificates::{ONE_MOVE, SOLVED};
 use crate::fakes::{FailingReader, FailingWriter, NEVER};
 use batch_cli::{
-    Answerer, BatchFault, Cause, Ending, LinesFault, Outcome, Setup, Summary, Why, run_batch,
+    BatchFault, Cause, Ending, LinesFault, Outcome, Setup, Solver, Summary, Why, run_batch,
     run_cert, run_check, run_lines, run_program,
 };
 use board::{Board, Move, Shape, Weights};
@@ -23,12 +23,10 @@ struct ByBlank {
     shape: Shape,
 }
 
-impl Answerer for ByBlank {
-    ghost grid = { λ s. s.shape };
+impl Solver for ByBlank {
+    ghost rules = { λ s. record { grid = s.shape; allows = λ _ _. Unit {0} } };
 
-    ghost allows = { λ _ _ _. Unit {0} };
-
-    fn answer(&self, alloc: Global, start: &Board) -> Result<Outcome, OutOfMemory> {
+    fn solve(&self, alloc: Global, start: &Board) -> Result<Outcome, OutOfMemory> {
         match start.blank() {
             0 => Ok(Outcome::Optimal {
                 cost: 2,

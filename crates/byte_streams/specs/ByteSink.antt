@@ -1,11 +1,15 @@
 -- What a clause reads of a `ByteSink`.
-use Rattle.std.specs.Prelude.{ℕ, List, Option}
+use Rattle.std.specs.Prelude.{ℕ, Bool, List, Option}
 use Rattle.byte_streams.specs.Streams.{SinkState}
 use Rattle.byte_streams.specs.declared.sink.ByteSink.{ByteSink}
 
 -- the writer that the sink writes to
 abbrev pub inner_writer : {W : Type 0} → ByteSink W → W
 inner_writer sink = sink.writer
+
+-- a write or a flush has failed
+abbrev pub sink_has_failed : {W : Type 0} → ByteSink W → Bool
+sink_has_failed sink = sink.has_failed
 
 -- what it holds, by the writer's contents
 abbrev pub byte_sink_state : {W : Type 0} → (W → Option (List ℕ)) → ByteSink W → SinkState

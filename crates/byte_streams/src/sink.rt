@@ -4,7 +4,7 @@ ghost use Rattle.std.specs.Prelude.{◌≡◌, ◌<◌, ◌≤◌, ℕ, true, fa
 ghost use Rattle.std.specs.Io.KnownBytes.{Appends, Keeps};
 ghost use Rattle.byte_streams.specs.Streams.{SinkState, change};
 ghost use Rattle.byte_streams.specs.Sink.{Writes, Flushes, AreTaken, StopsAtFailure};
-ghost use Rattle.byte_streams.specs.ByteSink.{inner_writer, byte_sink_state};
+ghost use Rattle.byte_streams.specs.ByteSink.{inner_writer, sink_has_failed, byte_sink_state};
 
 use crate::writer::Writer;
 use thiserror::Error;
@@ -50,8 +50,8 @@ pub struct ByteSink<W> {
 impl<W: Writer> ByteSink<W> {
     /// A sink that adds to what the writer holds.
     pub fn new(writer: W) -> Self
-        ensures writer { result.writer ≡ writer }
-        ensures fresh { result.has_failed ≡ false }
+        ensures writer { inner_writer result ≡ writer }
+        ensures fresh { sink_has_failed result ≡ false }
     {
         ByteSink {
             writer,
@@ -61,7 +61,7 @@ impl<W: Writer> ByteSink<W> {
 
     /// The writer, with what it holds. Nothing is flushed.
     pub fn into_inner(self) -> W
-        ensures { result ≡ self.writer }
+        ensures { result ≡ inner_writer self }
     {
         self.writer
     }
@@ -79,11 +79,12 @@ impl<W: Writer> Sink for ByteSink<W> {
         // It succeeds by writes of which each took bytes. It fails by such writes and one more,
         // which failed or took no byte, or since it had failed before.
         ensures taken { OnOk result
-            (AreTaken W.write_takes self.old.writer bytes.now self.new.writer) }
-        ensures cause { self.old.has_failed ≡ false → OnErr result
+            (AreTaken W.write_takes (inner_writer self.old) bytes.now (inner_writer self.new)) }
+        ensures cause { sink_has_failed self.old ≡ false → OnErr result
             (StopsAtFailure W.write_takes W.write_fails (change inner_writer self.old self.new)
             bytes.now) }
-        ensures untouched { self.old.has_failed ≡ true → self.new.writer ≡ self.old.writer }
+        ensures untouched { sink_has_failed self.old ≡ true
+            → inner_writer self.new ≡ inner_writer self.old }
     {
         if self.has_failed {
             return Err(WriteFailed);
@@ -106,10 +107,11 @@ impl<W: Writer> Sink for ByteSink<W> {
 
         // It succeeds only by a flush, and fails only by one that failed in this call, or since it
         // had failed before.
-        ensures last { OnOk result (W.flushes self.old.writer self.new.writer) }
-        ensures cause { self.old.has_failed ≡ false
-            → OnErr result (W.flush_fails self.old.writer self.new.writer) }
-        ensures untouched { self.old.has_failed ≡ true → self.new.writer ≡ self.old.writer }
+        ensures last { OnOk result (W.flushes (inner_writer self.old) (inner_writer self.new)) }
+        ensures cause { sink_has_failed self.old ≡ false
+            → OnErr result (W.flush_fails (inner_writer self.old) (inner_writer self.new)) }
+        ensures untouched { sink_has_failed self.old ≡ true
+            → inner_writer self.new ≡ inner_writer self.old }
     {
         if self.has_failed {
             return Err(WriteFailed);

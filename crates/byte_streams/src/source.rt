@@ -3,7 +3,7 @@
 ghost use Rattle.std.specs.Prelude.{◌≡◌, ℕ, true, false, IfOk, List, OnErr, Option};
 ghost use Rattle.byte_streams.specs.Streams.{SourceState, change};
 ghost use Rattle.byte_streams.specs.Source.{GivesNext, GivenByRead};
-ghost use Rattle.byte_streams.specs.ByteSource.{inner_reader, byte_source_state};
+ghost use Rattle.byte_streams.specs.ByteSource.{inner_reader, source_has_failed, byte_source_state};
 
 use crate::reader::Reader;
 use thiserror::Error;
@@ -38,8 +38,8 @@ pub struct ByteSource<R> {
 impl<R: Reader> ByteSource<R> {
     /// A source of what the reader has left.
     pub fn new(reader: R) -> Self
-        ensures reader { result.reader ≡ reader }
-        ensures fresh { result.has_failed ≡ false }
+        ensures reader { inner_reader result ≡ reader }
+        ensures fresh { source_has_failed result ≡ false }
     {
         ByteSource {
             reader,
@@ -49,7 +49,7 @@ impl<R: Reader> ByteSource<R> {
 
     /// The reader, which stands after the last byte that was given.
     pub fn into_inner(self) -> R
-        ensures { result ≡ self.reader }
+        ensures { result ≡ inner_reader self }
     {
         self.reader
     }
@@ -65,9 +65,10 @@ impl<R: Reader> Source for ByteSource<R> {
         // failed before.
         ensures reads { IfOk result
             (GivenByRead R.read_gives (change inner_reader self.old self.new)) }
-        ensures cause { self.old.has_failed ≡ false
-            → OnErr result (R.read_fails self.old.reader self.new.reader) }
-        ensures untouched { self.old.has_failed ≡ true → self.new.reader ≡ self.old.reader }
+        ensures cause { source_has_failed self.old ≡ false
+            → OnErr result (R.read_fails (inner_reader self.old) (inner_reader self.new)) }
+        ensures untouched { source_has_failed self.old ≡ true
+            → inner_reader self.new ≡ inner_reader self.old }
     {
         if self.has_failed {
             return Err(ReadFailed);
