@@ -8,8 +8,8 @@ use Rattle.std.proofs.lemmas.Option.{slice_get_within, get_or_from_slice_get, sl
 use Rattle.board.specs.Grids.{Grid, cell_count}
 use Rattle.board.specs.Positions.{Position, IsBoard}
 use Rattle.board.specs.Faults.{IsFirstPlace, IsFirstFault}
-use Rattle.board.specs.declared.faults.BoardFault.{BoardFault}
-use Rattle.board.specs.declared.faults.BoardFault.TheVariants.{SideOutOfRange, WrongCount, TileOutOfRange, TileRepeated}
+use Rattle.board.specs.declared.faults.TilesFault.{TilesFault}
+use Rattle.board.specs.declared.faults.TilesFault.TheVariants.{WrongCount, TileOutOfRange, TileRepeated}
 use Rattle.batch_lines.specs.TileNumbers.{tile_number}
 use Rattle.batch_lines.specs.Words.{words_of, id_of, tile_words, Spells, SpellEach, IsEntry, IsFirstWord, IsFirstWordFault, IsFirstEntryFault}
 use Rattle.batch_lines.specs.declared.words.EntryFault.{EntryFault}
@@ -111,21 +111,19 @@ repeated grid words place few = (
 )
 
 -- the first fault of the numbers is that of the words
-same_fault : (grid : Grid) (words : List (List ℕ)) → cell_count grid ≤ 25 → (fault : BoardFault) → IsFirstFault grid (map tile_number words) fault ↔ IsFirstWordFault grid words fault
-same_fault grid words few SideOutOfRange = (λ no. no, λ no. no)
+same_fault : (grid : Grid) (words : List (List ℕ)) → cell_count grid ≤ 25 → (fault : TilesFault) → IsFirstFault grid (map tile_number words) fault ↔ IsFirstWordFault grid words fault
 same_fault grid words few WrongCount = (λ wrong e. wrong (length-map words tile_number ∙ e), λ wrong e. wrong (sym (length-map words tile_number) ∙ e))
 same_fault grid words few (TileOutOfRange place) = out_of_range grid words place few
 same_fault grid words few (TileRepeated place) = repeated grid words place few
 
 -- a surplus of words is a surplus of numbers
-surplus : (grid : Grid) (words : List (List ℕ)) → cell_count grid ≤ 25 → 26 < length words → (fault : BoardFault) → IsFirstFault grid (map tile_number (take 26 words)) fault ↔ IsFirstWordFault grid words fault
-surplus grid words few more SideOutOfRange = (λ no. no, λ no. no)
+surplus : (grid : Grid) (words : List (List ℕ)) → cell_count grid ≤ 25 → 26 < length words → (fault : TilesFault) → IsFirstFault grid (map tile_number (take 26 words)) fault ↔ IsFirstWordFault grid words fault
 surplus grid words few more WrongCount = (λ wrong e. absurd (omega arith), λ wrong e. absurd (omega (arith, length-map (take 26 words) tile_number, length-take 26 words)))
 surplus grid words few more (TileOutOfRange place) = (λ fault. absurd (let e = fault.0.one_each in omega (arith, length-map (take 26 words) tile_number, length-take 26 words)), λ fault. absurd (let e = fault.1.one_each in omega arith))
 surplus grid words few more (TileRepeated place) = (λ fault. absurd (let e = fault.0.one_each in omega (arith, length-map (take 26 words) tile_number, length-take 26 words)), λ fault. absurd (let e = fault.4.one_each in omega arith))
 
 -- the first fault of the numbers that are read is that of the words
-read_fault : (grid : Grid) (words : List (List ℕ)) (numbers : List ℕ) → cell_count grid ≤ 25 → numbers ≡ map tile_number (take 26 words) → (fault : BoardFault) → IsFirstFault grid numbers fault ↔ IsFirstWordFault grid words fault
+read_fault : (grid : Grid) (words : List (List ℕ)) (numbers : List ℕ) → cell_count grid ≤ 25 → numbers ≡ map tile_number (take 26 words) → (fault : TilesFault) → IsFirstFault grid numbers fault ↔ IsFirstWordFault grid words fault
 read_fault grid words numbers few read fault =
     subst (λ (ns : List ℕ). IsFirstFault grid ns fault ↔ IsFirstWordFault grid words fault) (sym read)
     (⊎_elim
@@ -162,7 +160,7 @@ entry_is grid line id numbers b few read text named board is =
     })
 
 -- where the numbers have no fault, the line has none
-pub no_fault : {A B : Type 0} (grid : Grid) (line numbers : List ℕ) (board : A) (entry : B) → cell_count grid ≤ 25 → numbers ≡ map tile_number (take 26 (tile_words (words_of line))) → IsUtf8 line → ((fault : BoardFault) → IsErrOf {T = A} {E = BoardFault} (Ok board) fault ↔ IsFirstFault grid numbers fault) → (fault : EntryFault) → IsErrOf {T = B} {E = EntryFault} (Ok entry) fault ↔ IsFirstEntryFault grid line fault
+pub no_fault : {A B : Type 0} (grid : Grid) (line numbers : List ℕ) (board : A) (entry : B) → cell_count grid ≤ 25 → numbers ≡ map tile_number (take 26 (tile_words (words_of line))) → IsUtf8 line → ((fault : TilesFault) → IsErrOf {T = A} {E = TilesFault} (Ok board) fault ↔ IsFirstFault grid numbers fault) → (fault : EntryFault) → IsErrOf {T = B} {E = EntryFault} (Ok entry) fault ↔ IsFirstEntryFault grid line fault
 no_fault grid line numbers board entry few read text none NoText = (λ e. absurd (cc), λ no. absurd (no text))
 no_fault grid line numbers board entry few read text none (NoBoard fault) = (
   (λ e. absurd (cc)),
@@ -170,9 +168,9 @@ no_fault grid line numbers board entry few read text none (NoBoard fault) = (
 )
 
 -- the fault of the numbers is the fault of the line
-pub entry_fault : {A B : Type 0} (grid : Grid) (line numbers : List ℕ) (found : BoardFault) → cell_count grid ≤ 25 → numbers ≡ map tile_number (take 26 (tile_words (words_of line))) → IsUtf8 line → ((fault : BoardFault) → IsErrOf {T = A} {E = BoardFault} (Err found) fault ↔ IsFirstFault grid numbers fault) → (fault : EntryFault) → IsErrOf {T = B} {E = EntryFault} (Err (NoBoard found)) fault ↔ IsFirstEntryFault grid line fault
+pub entry_fault : {A B : Type 0} (grid : Grid) (line numbers : List ℕ) (found : TilesFault) → cell_count grid ≤ 25 → numbers ≡ map tile_number (take 26 (tile_words (words_of line))) → IsUtf8 line → ((fault : TilesFault) → IsErrOf {T = A} {E = TilesFault} (Err found) fault ↔ IsFirstFault grid numbers fault) → (fault : EntryFault) → IsErrOf {T = B} {E = EntryFault} (Err (NoBoard found)) fault ↔ IsFirstEntryFault grid line fault
 entry_fault grid line numbers found few read text same NoText = (λ e. absurd (cc), λ no. absurd (no text))
 entry_fault grid line numbers found few read text same (NoBoard fault) = (
   (λ e. let is : found ≡ fault = cc in (text, (read_fault grid (tile_words (words_of line)) numbers few read fault).0 ((same fault).0 (ap Err is)))),
-  (λ first. let e = (same fault).1 ((read_fault grid (tile_words (words_of line)) numbers few read fault).1 first.1) in let is : found ≡ fault = cc in ap (λ (f : BoardFault). Err (NoBoard f)) is),
+  (λ first. let e = (same fault).1 ((read_fault grid (tile_words (words_of line)) numbers few read fault).1 first.1) in let is : found ≡ fault = cc in ap (λ (f : TilesFault). Err (NoBoard f)) is),
 )

@@ -5,9 +5,9 @@ use Rattle.std.specs.Char.{IsAsciiDigit}
 use Rattle.std.specs.Str.Parse.{digits_value}
 use Rattle.board.specs.Grids.{Grid, cell_count}
 use Rattle.board.specs.Positions.{Position, IsBoard}
-use Rattle.board.specs.Faults.{code_of}
-use Rattle.board.specs.declared.faults.BoardFault.{BoardFault}
-use Rattle.board.specs.declared.faults.BoardFault.TheVariants.{SideOutOfRange, WrongCount, TileOutOfRange, TileRepeated}
+use Rattle.board.specs.Faults.{tiles_code}
+use Rattle.board.specs.declared.faults.TilesFault.{TilesFault}
+use Rattle.board.specs.declared.faults.TilesFault.TheVariants.{WrongCount, TileOutOfRange, TileRepeated}
 use Rattle.batch_lines.specs.Lines.{is_blank}
 use Rattle.batch_lines.specs.declared.words.EntryFault.{EntryFault}
 use Rattle.batch_lines.specs.declared.words.EntryFault.TheVariants.{NoText, NoBoard}
@@ -55,8 +55,7 @@ pub record IsFirstWord (grid : Grid) (words : List (List ℕ)) (place : ℕ) : T
   pub different : (j k : ℕ) (first second : List ℕ) (n : ℕ) → j < k → k < place → slice_get words j ≡ Some first → slice_get words k ≡ Some second → Spells first n → ¬ Spells second n
 
 -- the first fault of tile words: their count, else that of the first offending place
-abbrev pub IsFirstWordFault : Grid → List (List ℕ) → BoardFault → Type 0
-IsFirstWordFault grid words SideOutOfRange = ⊥
+abbrev pub IsFirstWordFault : Grid → List (List ℕ) → TilesFault → Type 0
 IsFirstWordFault grid words WrongCount = length words ≢ cell_count grid
 IsFirstWordFault grid words (TileOutOfRange place) =
     (word : List ℕ) × IsFirstWord grid words place × (slice_get words place ≡ Some word) × ((n : ℕ) → Spells word n → cell_count grid ≤ n)
@@ -71,4 +70,4 @@ IsFirstEntryFault grid line (NoBoard fault) = IsUtf8 line × IsFirstWordFault gr
 -- the code that a fault is reported by
 abbrev pub entry_code_of : EntryFault → List ℕ
 entry_code_of NoText = codes "E12"
-entry_code_of (NoBoard fault) = code_of fault
+entry_code_of (NoBoard fault) = tiles_code fault

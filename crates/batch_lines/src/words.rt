@@ -6,7 +6,7 @@ ghost use Rattle.batch_lines.specs.Words.{words_of, id_of, tile_words, IsEntry, 
 ghost use Rattle.batch_lines.specs.declared.words.EntryFault.{EntryFault};
 
 use arrayvec::ArrayVec;
-use board::{Board, BoardFault, Shape};
+use board::{Board, Shape, TilesFault};
 use thiserror::Error;
 
 /// Why a line is refused.
@@ -17,7 +17,7 @@ pub enum EntryFault {
     NoText,
     /// E2 to E4
     #[error("{0}")]
-    NoBoard(BoardFault),
+    NoBoard(TilesFault),
 }
 
 impl EntryFault {

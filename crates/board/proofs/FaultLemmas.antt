@@ -8,8 +8,8 @@ use Rattle.std.proofs.lemmas.List.Quantifiers.{all_pairs_push}
 use Rattle.board.specs.Grids.{Grid, IsShape, cell_count}
 use Rattle.board.specs.Positions.{IsBoard}
 use Rattle.board.specs.Faults.{IsFirstPlace, IsFirstFault}
-use Rattle.board.specs.declared.faults.BoardFault.{BoardFault}
-use Rattle.board.specs.declared.faults.BoardFault.TheVariants.{SideOutOfRange, WrongCount, TileOutOfRange, TileRepeated}
+use Rattle.board.specs.declared.faults.TilesFault.{TilesFault}
+use Rattle.board.specs.declared.faults.TilesFault.TheVariants.{WrongCount, TileOutOfRange, TileRepeated}
 use Rattle.board.proofs.TileLemmas.{same_place}
 
 -- the numbers before a place are different tiles, and they are the ones that are marked
@@ -81,8 +81,7 @@ not_repeated numbers place within different (k, inside, is) =
     omega arith
 
 -- the tiles of a board have no fault
-pub no_fault : (grid : Grid) (numbers : List ℕ) → IsBoard (record { grid = grid; tiles = numbers }) → (fault : BoardFault) → IsFirstFault grid numbers fault → ⊥
-no_fault grid numbers board SideOutOfRange first = first
+pub no_fault : (grid : Grid) (numbers : List ℕ) → IsBoard (record { grid = grid; tiles = numbers }) → (fault : TilesFault) → IsFirstFault grid numbers fault → ⊥
 no_fault grid numbers board WrongCount first = first board.one_each
 no_fault grid numbers board (TileOutOfRange place) first = omega (arith, first.1, board.in_range place 0 first.0.within)
 no_fault grid numbers board (TileRepeated place) first = not_repeated numbers place first.0.within board.different first.2
@@ -118,21 +117,17 @@ one_place grid numbers p q first fault second fault' =
     ⊎_elim (λ (e : q ≡ p). e) (λ (h : (q < p) ⊎ (p < q)). ⊎_elim (λ (l : q < p). absurd (not_after l)) (λ (l : p < q). absurd (not_before l)) h) (cases_order q p)
 
 -- there is one first fault
-pub one_fault : (grid : Grid) (numbers : List ℕ) (fault fault' : BoardFault) → IsFirstFault grid numbers fault → IsFirstFault grid numbers fault' → fault' ≡ fault
+pub one_fault : (grid : Grid) (numbers : List ℕ) (fault fault' : TilesFault) → IsFirstFault grid numbers fault → IsFirstFault grid numbers fault' → fault' ≡ fault
 unfolding IsFaulty
-one_fault grid numbers SideOutOfRange fault' first second = absurd first
-one_fault grid numbers WrongCount SideOutOfRange first second = absurd second
 one_fault grid numbers WrongCount WrongCount first second = refl
 one_fault grid numbers WrongCount (TileOutOfRange q) first second = absurd (first second.0.one_each)
 one_fault grid numbers WrongCount (TileRepeated q) first second = absurd (first second.0.one_each)
-one_fault grid numbers (TileOutOfRange p) SideOutOfRange first second = absurd second
 one_fault grid numbers (TileOutOfRange p) WrongCount first second = absurd (second first.0.one_each)
 one_fault grid numbers (TileOutOfRange p) (TileOutOfRange q) first second = ap TileOutOfRange (one_place grid numbers p q first.0 (inl first.1) second.0 (inl second.1))
 one_fault grid numbers (TileOutOfRange p) (TileRepeated q) first second =
     let same = one_place grid numbers p q first.0 (inl first.1) second.0 (inr second.2) in
     let low : get_or numbers p 0 < cell_count grid = subst (λ (k : ℕ). get_or numbers k 0 < cell_count grid) same second.1 in
     absurd (omega (arith, first.1, low))
-one_fault grid numbers (TileRepeated p) SideOutOfRange first second = absurd second
 one_fault grid numbers (TileRepeated p) WrongCount first second = absurd (second first.0.one_each)
 one_fault grid numbers (TileRepeated p) (TileOutOfRange q) first second =
     let same = one_place grid numbers p q first.0 (inr first.2) second.0 (inl second.1) in

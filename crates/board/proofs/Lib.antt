@@ -9,3 +9,4 @@ pub mod StorageLemmas
 pub mod StepLemmas
 pub mod GoalLemmas
 pub mod KeyLemmas
+pub mod LetterLemmas

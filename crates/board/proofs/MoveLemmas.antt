@@ -12,7 +12,7 @@ use Rattle.board.specs.Grids.{Grid, cell_count}
 use Rattle.board.specs.Neighbours.{LiesTowards, opposite}
 use Rattle.board.specs.Positions.{Position, IsBoard, cell_of, blank_of}
 use Rattle.board.specs.CostRules.{CostRule, weight_of}
-use Rattle.board.specs.Moves.{Moves, exchanged}
+use Rattle.board.specs.Moves.{Moves, blank_exchange}
 use Rattle.board.proofs.TileLemmas.{same_place, all_differ, across, across-across, across_back, across_below, at_swap, cell_is, has_cell}
 
 abbrev pub exchange : Position → ℕ → ℕ → Position
@@ -60,7 +60,7 @@ cell_below grid R from to lies = lies.0
 cell_below grid D from to lies = lies.0
 
 -- after an exchange with a cell the blank is on that cell
-pub blank_after : (b : Position) → IsBoard b → (to : ℕ) → to < cell_count b.grid → blank_of (exchanged b to) ≡ to
+pub blank_after : (b : Position) → IsBoard b → (to : ℕ) → to < cell_count b.grid → blank_of (blank_exchange b to) ≡ to
 blank_after b board to to_below =
     let some : 0 < cell_count b.grid = omega arith in
     cell_of-exchange b (blank_of b) to board (has_cell b board 0 some).0 to_below 0 some
@@ -92,7 +92,7 @@ one_cell grid D from x y first second = same_cell grid x y (omega (arith, first.
 pub one_move : (rule : CostRule) (b : Position) (m : Move) (b' b'' : Position) (c d : ℕ) → Moves rule b m b' c → Moves rule b m b'' d → (b'' ≡ b') × (d ≡ c)
 one_move rule b m b' b'' c d first second =
     let same = one_cell b.grid m (blank_of b) first.cell second.cell first.towards second.towards in
-    (second.after ∙ ap (exchanged b) same ∙ sym first.after, second.cost ∙ ap (λ (k : ℕ). weight_of rule (get_or b.tiles k 0)) same ∙ sym first.cost)
+    (second.after ∙ ap (blank_exchange b) same ∙ sym first.after, second.cost ∙ ap (λ (k : ℕ). weight_of rule (get_or b.tiles k 0)) same ∙ sym first.cost)
 
 -- the other way round
 lies_back : (grid : Grid) (m : Move) (from to : ℕ) → from < cell_count grid → LiesTowards grid m from to → LiesTowards grid (opposite m) to from

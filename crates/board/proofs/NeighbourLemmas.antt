@@ -10,7 +10,7 @@ use Rattle.board.specs.Grids.{Grid, IsShape, cell_count, row_of, column_of}
 use Rattle.board.specs.Neighbours.{LiesTowards, neighbour}
 use Rattle.board.specs.Positions.{Position, IsBoard, blank_of}
 use Rattle.board.specs.CostRules.{CostRule}
-use Rattle.board.specs.Moves.{Moves, moved_to, successor}
+use Rattle.board.specs.Moves.{Moves, successor_at, successor}
 use Rattle.board.proofs.TileLemmas.{has_cell}
 
 if_some : (b : Bool) (x to : ℕ) → cond b None (Some x) ≡ Some to → (b ≡ false) × (x ≡ to)
@@ -105,7 +105,7 @@ module _ (grid : Grid) (from to : ℕ) (some : 0 < grid.cols) (inside : from < c
       let is : from + grid.cols ≡ to = omega (arith, lies.2) in
       cond-false _ _ _ (ne_eqb _ _ ne) ∙ ap Some is
 
-some_step : (rule : CostRule) (b : Position) (o : Option ℕ) (b' : Position) (c : ℕ) → option_map (moved_to rule b) o ≡ Some (b', c) → (cell : ℕ) × (o ≡ Some cell) × (moved_to rule b cell ≡ (b', c))
+some_step : (rule : CostRule) (b : Position) (o : Option ℕ) (b' : Position) (c : ℕ) → option_map (successor_at rule b) o ≡ Some (b', c) → (cell : ℕ) × (o ≡ Some cell) × (successor_at rule b cell ≡ (b', c))
 some_step rule b None b' c is = cc
 some_step rule b (Some cell) b' c is = (cell, refl, cc)
 

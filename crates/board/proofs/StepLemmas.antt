@@ -12,7 +12,7 @@ use Rattle.board.specs.Grids.{cell_count}
 use Rattle.board.specs.Positions.{Position, IsBoard, blank_of}
 use Rattle.board.specs.CostRules.{CostRule, weight_of}
 use Rattle.board.specs.Neighbours.{neighbour}
-use Rattle.board.specs.Moves.{Moves, exchanged, moved_to, successor}
+use Rattle.board.specs.Moves.{Moves, blank_exchange, successor_at, successor}
 use Rattle.board.specs.Storage.{position_in, IsStored}
 use Rattle.board.specs.declared.boards.Board.TheInside.{Inside}
 use Rattle.board.proofs.TileLemmas.{has_cell, same_place}
@@ -65,7 +65,7 @@ module _ (inside : Inside) (from to : ℕ) (stored : IsStored inside) (at : from
   from_below : from < cell_count inside.shape
   from_below = subst (λ (x : ℕ). x < cell_count inside.shape) (sym at) (blank_stands (position_in inside) stored.board).0
 
-  tiles_after : (position_in after).tiles ≡ (exchanged (position_in inside) to).tiles
+  tiles_after : (position_in after).tiles ≡ (blank_exchange (position_in inside) to).tiles
   tiles_after =
       let n : ℕ = cell_count inside.shape in
       let ts : List ℕ = take n inside.tiles in
@@ -79,7 +79,7 @@ module _ (inside : Inside) (from to : ℕ) (stored : IsStored inside) (at : from
       let blank : swap ts from to ≡ swap ts (blank_of (position_in inside)) to = ap (λ (x : ℕ). swap ts x to) at in
       cc
 
-  pub position_after : position_in after ≡ exchanged (position_in inside) to
+  pub position_after : position_in after ≡ blank_exchange (position_in inside) to
   position_after = λ i. record { grid = inside.shape; tiles = tiles_after i }
 
   pub board_after : IsBoard (position_in after)
@@ -99,7 +99,7 @@ module _ (inside : Inside) (from to : ℕ) (stored : IsStored inside) (at : from
       let tile : get_or (take (cell_count inside.shape) inside.tiles) to 0 ≡ get_or inside.tiles to 0 = get_or-take (cell_count inside.shape) inside.tiles to 0 to_below in
       let here : Some to ≡ neighbour inside.shape m (blank_of (position_in inside)) = found ∙ ap (neighbour inside.shape m) at in
       let worth : cost ≡ weight_of rule (get_or (take (cell_count inside.shape) inside.tiles) to 0) = paid ∙ ap (weight_of rule) (sym tile) in
-      (λ i. Some (position_after i, worth i)) ∙ ap (option_map (moved_to rule (position_in inside))) here
+      (λ i. Some (position_after i, worth i)) ∙ ap (option_map (successor_at rule (position_in inside))) here
 
 -- the successor is the move
 pub moves_from : (rule : CostRule) (b : Position) (m : Move) (answer : Option (Position × ℕ)) → IsBoard b → answer ≡ successor rule b m → (b' : Position) (c : ℕ) → (answer ≡ Some (b', c)) ↔ Moves rule b m b' c

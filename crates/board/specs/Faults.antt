@@ -1,6 +1,10 @@
--- Why numbers are no shape and no board, and the code of each reason.
+-- Why sides are no shape and numbers no board, and the code of each reason.
 use Rattle.std.specs.Prelude.{ℕ, ◌≡◌, ◌≢◌, ◌<◌, ◌≤◌, List, length, take, All, AllPairs, Contains, slice_index, codes}
 use Rattle.board.specs.Grids.{Grid, cell_count}
+use Rattle.board.specs.declared.faults.ShapeFault.{ShapeFault}
+use Rattle.board.specs.declared.faults.ShapeFault.TheVariants as shape
+use Rattle.board.specs.declared.faults.TilesFault.{TilesFault}
+use Rattle.board.specs.declared.faults.TilesFault.TheVariants as tiles
 use Rattle.board.specs.declared.faults.BoardFault.{BoardFault}
 use Rattle.board.specs.declared.faults.BoardFault.TheVariants.{SideOutOfRange, WrongCount, TileOutOfRange, TileRepeated}
 
@@ -12,16 +16,35 @@ pub record IsFirstPlace (grid : Grid) (numbers : List ℕ) (place : ℕ) : Type 
   pub different : AllPairs (λ x y. x ≢ y) (take place numbers)
 
 -- the first fault of numbers that should be the tiles of a board: their count, else that of the first offending place
-abbrev pub IsFirstFault : Grid → List ℕ → BoardFault → Type 0
-IsFirstFault grid numbers SideOutOfRange = ⊥
-IsFirstFault grid numbers WrongCount = length numbers ≢ cell_count grid
-IsFirstFault grid numbers (TileOutOfRange place) = IsFirstPlace grid numbers place × (cell_count grid ≤ slice_index numbers place)
-IsFirstFault grid numbers (TileRepeated place) =
+abbrev pub IsFirstFault : Grid → List ℕ → TilesFault → Type 0
+IsFirstFault grid numbers tiles.WrongCount = length numbers ≢ cell_count grid
+IsFirstFault grid numbers (tiles.TileOutOfRange place) = IsFirstPlace grid numbers place × (cell_count grid ≤ slice_index numbers place)
+IsFirstFault grid numbers (tiles.TileRepeated place) =
     IsFirstPlace grid numbers place × (slice_index numbers place < cell_count grid) × Contains (take place numbers) (slice_index numbers place)
 
--- the code that a fault is reported by
-abbrev pub code_of : BoardFault → List ℕ
-code_of SideOutOfRange = codes "E1"
-code_of WrongCount = codes "E2"
-code_of (TileOutOfRange place) = codes "E3"
-code_of (TileRepeated place) = codes "E4"
+-- the code that a fault of sides is reported by
+abbrev pub shape_code : ShapeFault → List ℕ
+shape_code shape.SideOutOfRange = codes "E1"
+
+-- that of a fault of numbers
+abbrev pub tiles_code : TilesFault → List ℕ
+tiles_code tiles.WrongCount = codes "E2"
+tiles_code (tiles.TileOutOfRange place) = codes "E3"
+tiles_code (tiles.TileRepeated place) = codes "E4"
+
+-- that of either
+abbrev pub board_code : BoardFault → List ℕ
+board_code SideOutOfRange = codes "E1"
+board_code WrongCount = codes "E2"
+board_code (TileOutOfRange place) = codes "E3"
+board_code (TileRepeated place) = codes "E4"
+
+-- the same fault, of sides
+abbrev pub of_shape : ShapeFault → BoardFault
+of_shape shape.SideOutOfRange = SideOutOfRange
+
+-- of numbers
+abbrev pub of_tiles : TilesFault → BoardFault
+of_tiles tiles.WrongCount = WrongCount
+of_tiles (tiles.TileOutOfRange place) = TileOutOfRange place
+of_tiles (tiles.TileRepeated place) = TileRepeated place

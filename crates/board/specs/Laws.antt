@@ -1,7 +1,8 @@
--- The laws of moves, plans, classes, keys and rows.
+-- The laws of letters, moves, plans, classes, keys and rows.
 use Rattle.std.specs.Prelude.{ℕ, ◌≡◌, ◌+◌, ◌^◌, ◌<◌, ◌↔◌, List, ◌++◌, take, drop, Some}
 use Rattle.board.specs.declared.moves.Move.{Move}
 use Rattle.board.specs.Grids.{Grid, cell_count}
+use Rattle.board.specs.Letters.{letter_of, move_of_letter}
 use Rattle.board.specs.Neighbours.{LiesTowards, neighbour, opposite}
 use Rattle.board.specs.Positions.{Position, IsBoard}
 use Rattle.board.specs.CostRules.{CostRule}
@@ -10,6 +11,10 @@ use Rattle.board.specs.Plans.{Leads, NothingBelow}
 use Rattle.board.specs.Classes.{SameClass}
 use Rattle.board.specs.Keys.{key_of, Precedes}
 use Rattle.board.specs.Rows.{Proves, IsLowerBound}
+
+-- a letter is read as the move whose letter it is, and nothing else is read
+abbrev pub LettersAreRead : Type 0
+LettersAreRead = (m : Move) (letter : ℕ) → (move_of_letter letter ≡ Some m) ↔ (letter ≡ letter_of m)
 
 -- the neighbour that is computed is the cell that lies there
 abbrev pub NeighboursLieThere : Type 0

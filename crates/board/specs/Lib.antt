@@ -2,6 +2,7 @@ pub mod Grids
 pub mod Neighbours
 pub mod Positions
 pub mod CostRules
+pub mod Letters
 pub mod Moves
 pub mod Plans
 pub mod Rows

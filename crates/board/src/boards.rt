@@ -1,4 +1,8 @@
-ghost use Rattle.std.specs.Prelude.{◌≡◌, ◌==◌, ◌<◌, ◌≤◌, ◌↔◌, ◌-◌, ◌++◌, ℕ, position, IsTrue, IsOk, IsSome, IsErrOf, OnOk, IfErr, IfOk, IfSome, length, take, replicate, slice_get, Some};
+//! Boards: the numbers on their cells, their keys, and the moves of the blank.
+
+ghost use Rattle.std.specs.Prelude.{◌≡◌, ◌==◌, ◌<◌, ◌≤◌, ◌↔◌, ◌-◌, ◌*◌, ◌++◌, ℕ, Some};
+ghost use Rattle.std.specs.Prelude.{IsTrue, IsOk, IsSome, IsErrOf, OnOk, IfErr, IfOk, IfSome};
+ghost use Rattle.std.specs.Prelude.{length, take, replicate, position, slice_get};
 ghost use Rattle.board.specs.Grids.{cell_count};
 ghost use Rattle.board.specs.Positions.{Position, IsBoard, blank_of, goal_of};
 ghost use Rattle.board.specs.Keys.{key_of, HasKey};
@@ -6,13 +10,13 @@ ghost use Rattle.board.specs.Digits.{digits_of};
 ghost use Rattle.board.specs.Moves.{Moves, successor};
 ghost use Rattle.board.specs.Faults.{IsFirstFault};
 ghost use Rattle.board.specs.Classes.{inversions};
-ghost use Rattle.board.specs.declared.faults.BoardFault.{BoardFault};
+ghost use Rattle.board.specs.declared.faults.TilesFault.{TilesFault};
 
-use super::classes::count_inversions;
-use super::costs::{Weights, count_up};
-use super::faults::BoardFault;
-use super::moves::Move;
-use super::shapes::Shape;
+use crate::classes::count_inversions;
+use crate::costs::{Weights, count_up};
+use crate::faults::TilesFault;
+use crate::moves::Move;
+use crate::shapes::Shape;
 use std::marker::Model;
 
 /// The tiles on the cells of a board, each number once, with 0 for the blank.
@@ -27,7 +31,8 @@ impl Model for Board {
 
     ghost Value = { Position };
 
-    ghost use Rattle.board.specs.Storage.{position_in, storage_of, IsStored, storage_of-position_in};
+    ghost use Rattle.board.specs.Storage.{position_in, storage_of, IsStored};
+    ghost use Rattle.board.specs.Storage.{storage_of-position_in};
 
     ghost view = { position_in };
 
@@ -62,13 +67,14 @@ impl Eq for Board {
 }
 
 impl Board {
-    /// The board with these numbers on its cells, from cell 0 on, or the first fault: E2 where their
-    /// count is not that of the cells, else by place E3 where a number is not below the count of cells,
-    /// E4 where it stood before.
-    pub fn from_tiles(shape: Shape, numbers: &[u8]) -> Result<Self, BoardFault>
+    /// The board with these numbers on its cells, from cell 0 on, or the first fault: E2 where
+    /// their count is not that of the cells, else by place E3 where a number is not below the count
+    /// of cells, E4 where it stood before.
+    pub fn from_tiles(shape: Shape, numbers: &[u8]) -> Result<Self, TilesFault>
         ensures accepted { IsOk result ↔ IsBoard (record { grid = shape; tiles = numbers.now }) }
         ensures value { IfOk result (λ b. b ≡ record { grid = shape; tiles = numbers.now }) }
-        ensures fault { (fault : BoardFault) → IsErrOf result fault ↔ IsFirstFault shape numbers.now fault }
+        ensures fault { (fault : TilesFault) →
+            IsErrOf result fault ↔ IsFirstFault shape numbers.now fault }
     {
         if let Err(fault) = check_tiles(shape, numbers) {
             return Err(fault);
@@ -86,14 +92,14 @@ impl Board {
         Board { shape, tiles }
     }
 
-    /// The board as one number: 5 bits a cell, cell 0 highest. So the keys of boards of one shape are in
-    /// the order of their lists of tiles.
+    /// The board as one number: 5 bits a cell, cell 0 highest. So the keys of boards of one shape
+    /// are in the order of their lists of tiles.
     pub fn key(&self) -> u128
         ensures value { result ≡ key_of self.now }
         ensures board { IsBoard self.now }
     {
         let mut key = 0;
-        for tile in &self.tiles[..self.shape.cells()] {
+        for tile in self.tiles() {
             key = key * 32 + *tile as u128;
         }
         key
@@ -113,6 +119,14 @@ impl Board {
         } else {
             None
         }
+    }
+
+    /// The numbers on the cells, from cell 0 on.
+    pub fn tiles(&self) -> &[u8]
+        ensures value { result.now ≡ self.now.tiles }
+        ensures board { IsBoard self.now }
+    {
+        &self.tiles[..self.shape.cells()]
     }
 
     /// The tile on a cell, 0 for the blank.
@@ -144,13 +158,13 @@ impl Board {
     // How many pairs of cells there are of which the earlier holds the greater number.
     pub(crate) fn inversions(&self) -> usize
         ensures value { result ≡ inversions self.now.tiles }
-        ensures high { result ≤ 625 }
+        ensures high { result ≤ 25 * 25 }
     {
-        count_inversions(&self.tiles[..self.shape.cells()])
+        count_inversions(self.tiles())
     }
 
-    /// The board after a move and the weight of the tile moved, or None where the blank would leave the
-    /// board.
+    /// The board after a move and the weight of the tile moved, or None where the blank would leave
+    /// the board.
     pub fn step(&self, direction: Move, weights: &Weights) -> Option<(Board, u32)>
         requires { weights.now.grid ≡ self.now.grid }
         ensures moves { (b : Position) (cost : ℕ) →
@@ -175,22 +189,22 @@ impl Board {
 }
 
 // The first fault of numbers that should be the tiles of a board, if there is one.
-fn check_tiles(shape: Shape, numbers: &[u8]) -> Result<(), BoardFault>
+fn check_tiles(shape: Shape, numbers: &[u8]) -> Result<(), TilesFault>
     ensures sound { OnOk result (IsBoard (record { grid = shape; tiles = numbers.now })) }
     ensures fault { IfErr result (IsFirstFault shape numbers.now) }
 {
     let count = shape.cells();
     if numbers.len() != count {
-        return Err(BoardFault::WrongCount);
+        return Err(TilesFault::WrongCount);
     }
     let mut seen = [false; 25];
     for (place, number) in numbers.iter().enumerate() {
         let tile = *number as usize;
         if tile >= count {
-            return Err(BoardFault::TileOutOfRange(place));
+            return Err(TilesFault::TileOutOfRange(place));
         }
         if seen[tile] {
-            return Err(BoardFault::TileRepeated(place));
+            return Err(TilesFault::TileRepeated(place));
         }
         seen[tile] = true;
     }

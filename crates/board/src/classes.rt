@@ -1,9 +1,11 @@
-ghost use Rattle.std.specs.Prelude.{◌≡◌, ◌<◌, ◌≤◌, ◌↔◌, IsTrue, length, count_by, nat_lt};
+//! The two classes of boards.
+
+ghost use Rattle.std.specs.Prelude.{◌≡◌, ◌<◌, ◌≤◌, ◌↔◌, ◌*◌, IsTrue, length, count_by, nat_lt};
 ghost use Rattle.board.specs.Grids.{IsShape, cell_count};
 ghost use Rattle.board.specs.Classes.{SameClass, inversions, taxicab};
 
-use super::boards::Board;
-use super::shapes::Shape;
+use crate::boards::Board;
+use crate::shapes::Shape;
 
 /// Whether two boards of one shape are in one class. No plan leads from one class to the other.
 pub fn same_class(a: &Board, b: &Board) -> bool
@@ -19,7 +21,7 @@ pub fn same_class(a: &Board, b: &Board) -> bool
 pub(crate) fn count_inversions(tiles: &[u8]) -> usize
     requires { length tiles.now ≤ 25 }
     ensures value { result ≡ inversions tiles.now }
-    ensures high { result ≤ 625 }
+    ensures high { result ≤ 25 * 25 }
 {
     let mut count = 0;
     for place in 0..tiles.len() {

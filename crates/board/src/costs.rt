@@ -1,10 +1,19 @@
+//! What moves cost, and the greatest costs.
+
 ghost use Rattle.std.specs.Prelude.{◌≡◌, ◌<◌, ◌≤◌, ◌↔◌, ◌-◌, ◌++◌, IsTrue, replicate};
 ghost use Rattle.std.specs.List.{range_with_len};
 ghost use Rattle.board.specs.Grids.{cell_count};
 ghost use Rattle.board.specs.CostRules.{IsCostRule, unit_rule, face_rule, weight_of};
 
-use super::shapes::Shape;
+use crate::shapes::Shape;
 use std::marker::Model;
+
+/// The greatest cost that is handled.
+pub const GREATEST_COST: u32 = 1_048_575;
+
+/// The greatest cost at which a board is expanded: with a move of the greatest weight it stays
+/// within `GREATEST_COST`.
+pub const GREATEST_EXPANDED_COST: u32 = 1_048_320;
 
 /// What it costs to move each tile of a board: a weight from 1 to 255.
 #[derive(Clone, Copy, Debug)]

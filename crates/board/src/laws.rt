@@ -1,6 +1,30 @@
 //! The laws of the definitions: each is the contract of a function that does nothing.
 
-ghost use Rattle.board.specs.Laws.{NeighboursLieThere, SuccessorsAreMoves, MovesKeepBoards, MovesAreDetermined, MovesAreTakenBack, PlansAreJoined, PlansAreCut, PlansAreDetermined, PlansKeepBoards, MovesKeepTheClass, PlansKeepTheClass, KeysNameBoards, KeysFit, KeysAreInOrder, RowsSuffice};
+ghost use Rattle.std.specs.Prelude.{◌≡◌, ◌+◌};
+ghost use Rattle.board.specs.Moves.{all_moves};
+ghost use Rattle.board.specs.Laws.{LettersAreRead, NeighboursLieThere, SuccessorsAreMoves};
+ghost use Rattle.board.specs.Laws.{MovesKeepBoards, MovesAreDetermined, MovesAreTakenBack};
+ghost use Rattle.board.specs.Laws.{PlansAreJoined, PlansAreCut, PlansAreDetermined};
+ghost use Rattle.board.specs.Laws.{PlansKeepBoards, MovesKeepTheClass, PlansKeepTheClass};
+ghost use Rattle.board.specs.Laws.{KeysNameBoards, KeysFit, KeysAreInOrder, RowsSuffice};
+
+use crate::costs::{GREATEST_COST, GREATEST_EXPANDED_COST};
+use crate::moves::Move;
+
+/// `Move::ALL` is the four moves in their order.
+pub fn all_moves_are_there()
+    ensures { Move.ALL ≡ all_moves }
+{}
+
+/// A letter is read as the move whose letter it is, and nothing else is read.
+pub fn letters_are_read()
+    ensures { LettersAreRead }
+{}
+
+/// A move of the greatest weight keeps a board that is expanded within the greatest cost.
+pub fn expansions_stay_within()
+    ensures { GREATEST_EXPANDED_COST + 255 ≡ GREATEST_COST }
+{}
 
 /// What is computed of a move is what it does, both ways.
 pub fn successors_are_moves()

@@ -1,24 +1,24 @@
-//! Boards of the sliding-tile puzzle: shapes, boards and their keys, moves and what they cost, plans, and
-//! the two classes of boards.
+//! Boards of the sliding-tile puzzle: shapes, boards and their keys, moves and what they cost,
+//! plans, and the two classes of boards.
 //!
-//! A board is the list of the tiles on its cells, from left to right and from top to bottom, with 0 for
-//! the blank (Korf 1985). Nothing here takes memory.
+//! A board is the list of the tiles on its cells, from left to right and from top to bottom, with 0
+//! for the blank (Korf 1985). Nothing here takes memory.
 #![tactic(auto)]
 
-pub mod boards;
-pub mod classes;
-pub mod costs;
-pub mod faults;
+mod boards;
+mod classes;
+mod costs;
+mod faults;
 pub mod laws;
-pub mod moves;
-pub mod plans;
-pub mod shapes;
-pub mod worked;
+mod moves;
+mod plans;
+mod shapes;
+mod worked;
 
 pub use boards::Board;
 pub use classes::same_class;
-pub use costs::Weights;
-pub use faults::BoardFault;
+pub use costs::{GREATEST_COST, GREATEST_EXPANDED_COST, Weights};
+pub use faults::{BoardFault, ShapeFault, TilesFault};
 pub use moves::Move;
 pub use plans::follow;
 pub use shapes::Shape;

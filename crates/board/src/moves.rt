@@ -1,8 +1,11 @@
+//! The four moves: their letters, their opposites, and the neighbours that they lead to.
+
 ghost use Rattle.std.specs.Prelude.{◌≡◌, ◌<◌, ◌↔◌, ℕ, IsTrue, Some};
 ghost use Rattle.board.specs.Grids.{cell_count};
 ghost use Rattle.board.specs.Neighbours.{LiesTowards, neighbour, opposite};
+ghost use Rattle.board.specs.Letters.{letter_of, move_of_letter};
 
-use super::shapes::Shape;
+use crate::shapes::Shape;
 
 /// A move, by the direction in which the blank goes: up, left, right or down.
 #[derive(Clone, Copy, Debug)]
@@ -40,6 +43,9 @@ impl Eq for Move {
 }
 
 impl Move {
+    /// The four moves, in the order in which they are tried.
+    pub const ALL: [Move; 4] = [Move::U, Move::L, Move::R, Move::D];
+
     /// The move that takes this one back: the opposite direction.
     pub fn undo(self) -> Self
         ensures { result ≡ opposite self }
@@ -49,6 +55,31 @@ impl Move {
             Move::L => Move::R,
             Move::R => Move::L,
             Move::D => Move::U,
+        }
+    }
+
+    /// The letter of the move, as a byte of ASCII.
+    pub fn letter(self) -> u8
+        ensures { result ≡ letter_of self }
+    {
+        match self {
+            Move::U => b'U',
+            Move::L => b'L',
+            Move::R => b'R',
+            Move::D => b'D',
+        }
+    }
+
+    /// The move with a letter, or None where the byte is no letter of a move.
+    pub fn from_letter(letter: u8) -> Option<Move>
+        ensures { result ≡ move_of_letter letter }
+    {
+        match letter {
+            b'U' => Some(Move::U),
+            b'L' => Some(Move::L),
+            b'R' => Some(Move::R),
+            b'D' => Some(Move::D),
+            _ => None,
         }
     }
 }

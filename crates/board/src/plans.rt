@@ -1,18 +1,21 @@
+//! Plans followed.
+
 ghost use Rattle.std.specs.Prelude.{◌≡◌, ◌↔◌, ℕ, Ok, Err};
 ghost use Rattle.board.specs.Positions.{Position};
 ghost use Rattle.board.specs.Plans.{Leads, IsStuckAt};
 
-use super::boards::Board;
-use super::costs::Weights;
-use super::moves::Move;
+use crate::boards::Board;
+use crate::costs::Weights;
+use crate::moves::Move;
 
-/// Follows a plan from a board: the end and the cost, or the place of the first move by which the blank
-/// would leave the board, counted from 0.
+/// Follows a plan from a board: the end and the cost, or the place of the first move by which the
+/// blank would leave the board, counted from 0.
 pub fn follow(start: &Board, plan: &[Move], weights: &Weights) -> Result<(Board, u128), usize>
     requires { weights.now.grid ≡ start.now.grid }
     ensures led { (b : Position) (cost : ℕ) →
         (result ≡ Ok (b, cost)) ↔ Leads weights.now start.now plan.now b cost }
-    ensures stuck { (place : ℕ) → (result ≡ Err place) ↔ IsStuckAt weights.now start.now plan.now place }
+    ensures stuck { (place : ℕ) →
+        (result ≡ Err place) ↔ IsStuckAt weights.now start.now plan.now place }
 {
     let mut board = *start;
     let mut cost: u128 = 0;

@@ -1,8 +1,10 @@
+//! The sides of a board.
+
 ghost use Rattle.std.specs.Prelude.{◌≡◌, ◌≤◌, ◌↔◌, IsOk, IsTrue, IfOk, IfErr};
 ghost use Rattle.board.specs.Grids.{Grid, IsShape, cell_count};
-ghost use Rattle.board.specs.declared.faults.BoardFault.TheVariants.{SideOutOfRange};
+ghost use Rattle.board.specs.declared.faults.ShapeFault.TheVariants.{SideOutOfRange};
 
-use super::faults::BoardFault;
+use crate::faults::ShapeFault;
 use std::marker::Model;
 
 /// The sides of a board, each from 2 to 5.
@@ -46,13 +48,13 @@ impl Eq for Shape {
 
 impl Shape {
     /// The shape with these sides, or E1 where a side is not from 2 to 5.
-    pub fn new(rows: u8, cols: u8) -> Result<Self, BoardFault>
+    pub fn new(rows: u8, cols: u8) -> Result<Self, ShapeFault>
         ensures accepted { IsOk result ↔ IsShape (record { rows = rows; cols = cols }) }
         ensures value { IfOk result (λ shape. shape ≡ record { rows = rows; cols = cols }) }
         ensures fault { IfErr result (λ fault. fault ≡ SideOutOfRange) }
     {
         if rows < 2 || 5 < rows || cols < 2 || 5 < cols {
-            return Err(BoardFault::SideOutOfRange);
+            return Err(ShapeFault::SideOutOfRange);
         }
         Ok(Shape { rows, cols })
     }

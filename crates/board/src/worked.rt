@@ -1,6 +1,7 @@
 //! Worked rows that the definitions meet: each is the contract of a function that does nothing.
 
-ghost use Rattle.board.specs.Worked.{TwoLeft, SixRound, OneUp, FourSuccessors, TwoClasses, TwoKeys, OneRow};
+ghost use Rattle.board.specs.Worked.{TwoLeft, SixRound, OneUp, FourSuccessors};
+ghost use Rattle.board.specs.Worked.{TwoClasses, TwoKeys, OneRow};
 
 /// Two moves to the left, at both cost rules.
 pub fn two_left()

@@ -1,5 +1,5 @@
 use board::Move::{D, L, R, U};
-use board::{Board, BoardFault, Move, Shape, Weights, follow, same_class};
+use board::{Board, BoardFault, Move, Shape, TilesFault, Weights, follow, same_class};
 use std::test::Fail;
 
 // A plan between two lists of tiles, with its unit cost and its face cost.
@@ -110,8 +110,8 @@ fn keys(rt: HostRuntime) -> Result<(), Fail> {
     Ok(())
 }
 
-// Boards, and whether they are in the class of Korf's goal. The last is the fifteen puzzle with two tiles exchanged,
-// which no plan solves.
+// Boards, and whether they are in the class of Korf's goal. The last is the fifteen puzzle with two
+// tiles exchanged, which no plan solves.
 const CLASSES: [(u8, &[u8], bool); 3] = [
     (2, &[1, 0, 2, 3], true),
     (2, &[0, 2, 1, 3], false),
@@ -132,13 +132,13 @@ fn classes(rt: HostRuntime) -> Result<(), Fail> {
     Ok(())
 }
 
-// Numbers that are no board of 2 by 2, and the first fault of each: their count before any place, then the first
-// offending place, counted from 0.
-const FAULTS: [(&[u8], BoardFault); 4] = [
-    (&[9, 9, 9], BoardFault::WrongCount),
-    (&[0, 1, 2, 4], BoardFault::TileOutOfRange(3)),
-    (&[0, 1, 1, 4], BoardFault::TileRepeated(2)),
-    (&[4, 4, 0, 0], BoardFault::TileOutOfRange(0)),
+// Numbers that are no board of 2 by 2, and the first fault of each: their count before any place,
+// then the first offending place, counted from 0.
+const FAULTS: [(&[u8], TilesFault); 4] = [
+    (&[9, 9, 9], TilesFault::WrongCount),
+    (&[0, 1, 2, 4], TilesFault::TileOutOfRange(3)),
+    (&[0, 1, 1, 4], TilesFault::TileRepeated(2)),
+    (&[4, 4, 0, 0], TilesFault::TileOutOfRange(0)),
 ];
 
 #[test]
@@ -150,7 +150,8 @@ fn first_faults(rt: HostRuntime) -> Result<(), Fail> {
     Ok(())
 }
 
-// The calls that the tables above leave out, and a plan whose second move leaves the board, at place 1.
+// The calls that the tables above leave out, and a plan whose second move leaves the board, at
+// place 1.
 #[test]
 fn each_call_once(rt: HostRuntime) -> Result<(), Fail> {
     let shape = Shape::new(2, 3)?;
@@ -164,6 +165,10 @@ fn each_call_once(rt: HostRuntime) -> Result<(), Fail> {
         ("neighbour", shape.neighbour(1, D) == Some(4)),
         ("neighbour", shape.neighbour(2, R) == None),
         ("undo", U.undo() == D),
+        ("letter", L.letter() == b'L'),
+        ("from_letter", Move::from_letter(b'R') == Some(R)),
+        ("from_letter", Move::from_letter(b'r') == None),
+        ("tiles", board.tiles() == [1, 2, 3, 4, 0, 5].as_slice()),
         ("goal", Board::goal(shape).tile(5) == 5),
         ("tile", board.tile(3) == 4),
         ("blank", board.blank() == 4),

@@ -1,6 +1,6 @@
 ghost use Rattle.std.specs.Prelude.{◌≡◌};
 
-use board::{Board, BoardFault, Shape, Weights};
+use board::{Board, Shape, Weights};
 use database_build::{NO_VALUE, Table, build, is_potential};
 use pattern_index::Group;
 use std::alloc::Global;

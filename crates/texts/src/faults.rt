@@ -1,5 +1,5 @@
 use batch_cli::{BatchFault, CertifyFault, CheckFault, EntryFault, LinesFault, SolveFault};
-use board::{BoardFault, Move};
+use board::{BoardFault, Move, ShapeFault, TilesFault};
 use byte_streams::{ReadFailed, WriteFailed};
 use certificate::{FormatFault, ReadFault, WriteFault};
 use certificate_check::Refusal;
@@ -31,15 +31,25 @@ fn print_boards(rt: &impl Print) -> io::Result<()> {
     ] {
         print_fault(rt, fault.code(), fault)?;
     }
+    rt.println("\n# Faults of each kind of call: making a shape or a board")?;
+    let fault = ShapeFault::SideOutOfRange;
+    print_fault(rt, fault.code(), fault)?;
+    for fault in [
+        TilesFault::WrongCount,
+        TilesFault::TileOutOfRange(7),
+        TilesFault::TileRepeated(0),
+    ] {
+        print_fault(rt, fault.code(), fault)?;
+    }
     Ok(())
 }
 
 fn print_lines(rt: &impl Print) -> io::Result<()> {
     rt.println("\n# Faults of lines")?;
     for fault in [
-        EntryFault::NoBoard(BoardFault::WrongCount),
-        EntryFault::NoBoard(BoardFault::TileOutOfRange(24)),
-        EntryFault::NoBoard(BoardFault::TileRepeated(1)),
+        EntryFault::NoBoard(TilesFault::WrongCount),
+        EntryFault::NoBoard(TilesFault::TileOutOfRange(24)),
+        EntryFault::NoBoard(TilesFault::TileRepeated(1)),
         EntryFault::NoText,
     ] {
         print_fault(rt, fault.code(), fault)?;
