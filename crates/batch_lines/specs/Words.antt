@@ -68,6 +68,6 @@ IsFirstEntryFault grid line NoText = ¬ IsUtf8 line
 IsFirstEntryFault grid line (NoBoard fault) = IsUtf8 line × IsFirstWordFault grid (tile_words (words_of line)) fault
 
 -- the code that a fault is reported by
-abbrev pub entry_code_of : EntryFault → List ℕ
-entry_code_of NoText = codes "E12"
-entry_code_of (NoBoard fault) = tiles_code fault
+abbrev pub entry_code : EntryFault → List ℕ
+entry_code NoText = codes "E12"
+entry_code (NoBoard fault) = tiles_code fault

@@ -1,8 +1,11 @@
+//! Words of a line: its id, and the board that they spell.
+
 ghost use Rattle.std.specs.Prelude.{◌≡◌, ◌≤◌, ◌↔◌, IfOk, IsErrOf, length, map, not, take};
 ghost use Rattle.std.specs.List.{position_or_len};
 ghost use Rattle.batch_lines.specs.Lines.{is_blank};
 ghost use Rattle.batch_lines.specs.TileNumbers.{tile_number};
-ghost use Rattle.batch_lines.specs.Words.{words_of, id_of, tile_words, IsEntry, IsFirstEntryFault, entry_code_of};
+ghost use Rattle.batch_lines.specs.Words.{words_of, id_of, tile_words, IsEntry, IsFirstEntryFault};
+ghost use Rattle.batch_lines.specs.Words.{entry_code};
 ghost use Rattle.batch_lines.specs.declared.words.EntryFault.{EntryFault};
 
 use arrayvec::ArrayVec;
@@ -23,7 +26,7 @@ pub enum EntryFault {
 impl EntryFault {
     /// The code that the fault is reported by: `E12`, or that of the board's fault.
     pub fn code(self) -> &'static str
-        ensures { result.now ≡ entry_code_of self }
+        ensures { result.now ≡ entry_code self }
     {
         match self {
             EntryFault::NoText => "E12",
@@ -42,7 +45,8 @@ pub struct Entry<'a> {
 /// Reads a line: the id and the board that its words spell, or the first fault.
 pub fn read_entry(shape: Shape, line: &[u8]) -> Result<Entry<'_>, EntryFault>
     ensures entry { IfOk result (λ entry. IsEntry shape line.now entry.id.now entry.board) }
-    ensures fault { (fault : EntryFault) → IsErrOf result fault ↔ IsFirstEntryFault shape line.now fault }
+    ensures fault { (fault : EntryFault) → IsErrOf result fault
+        ↔ IsFirstEntryFault shape line.now fault }
 {
     let Ok(text) = std::str::from_utf8(line) else {
         return Err(EntryFault::NoText);
@@ -56,7 +60,8 @@ pub fn read_entry(shape: Shape, line: &[u8]) -> Result<Entry<'_>, EntryFault>
     }
 }
 
-// The most words that are read as tiles: one more than the cells of any board, so that a surplus is seen.
+// The most words that are read as tiles: one more than the cells of any board, so that a surplus is
+// seen.
 const TILES_READ: usize = 26;
 
 // The numbers that the words of a text say.

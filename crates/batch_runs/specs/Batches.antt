@@ -6,7 +6,7 @@ use Rattle.byte_streams.specs.Streams.{SourceState, SinkState, Change, from_to}
 use Rattle.byte_streams.specs.Sink.{Puts, PutsBeginning}
 use Rattle.batch_lines.specs.Lines.{lines_of, without_return, kind_of}
 use Rattle.batch_lines.specs.Readings.{TakesNoLine, CountsTaken}
-use Rattle.batch_lines.specs.Words.{IsEntry, IsFirstEntryFault, entry_code_of}
+use Rattle.batch_lines.specs.Words.{IsEntry, IsFirstEntryFault, entry_code}
 use Rattle.batch_lines.specs.declared.words.EntryFault.{EntryFault}
 use Rattle.batch_lines.specs.declared.lines.LineKind.{LineKind}
 use Rattle.batch_lines.specs.declared.lines.LineKind.TheVariants.{PassedOver, Within, TooLong}
@@ -33,7 +33,7 @@ pub data Answer : Type 0 where
 
 -- a line to be read is refused by its first fault, or it is answered by an outcome that is allowed for its board, or refused by V3 where a want of memory before the first step is allowed for it
 pub data AnswersEntry (rules : Rules) (line : List ℕ) : Answer → Type 0 where
-  by_fault : (fault : EntryFault) → IsFirstEntryFault rules.grid line fault → AnswersEntry rules line (refused (entry_code_of fault))
+  by_fault : (fault : EntryFault) → IsFirstEntryFault rules.grid line fault → AnswersEntry rules line (refused (entry_code fault))
   by_outcome : (id : List ℕ) (b : Position) (outcome : Outcome) → IsEntry rules.grid line id b → rules.allows b (Some outcome) → AnswersEntry rules line (answered id outcome)
   by_want : (id : List ℕ) (b : Position) → IsEntry rules.grid line id b → rules.allows b None → AnswersEntry rules line (refused (codes "V3"))
 

@@ -13,7 +13,7 @@ use Rattle.board.specs.declared.moves.Move.{Move}
 use Rattle.std.specs.declared.alloc.Global.{Global}
 use Rattle.batch_lines.specs.Lines.{without_return}
 use Rattle.batch_lines.specs.Readings.{IsJudged}
-use Rattle.batch_lines.specs.Words.{IsEntry, IsFirstEntryFault, entry_code_of}
+use Rattle.batch_lines.specs.Words.{IsEntry, IsFirstEntryFault, entry_code}
 use Rattle.batch_lines.specs.declared.words.EntryFault.{EntryFault}
 use Rattle.batch_lines.specs.declared.lines.Line.{Line}
 use Rattle.batch_lines.specs.declared.lines.LineKind.{LineKind}
@@ -59,9 +59,9 @@ no_refusal : (c : Statement) (code : List ℕ) (n : ℕ) → ¬ IsRefusal code n
 no_refusal c code n is = let told = ap (λ (output : Output). output.status) is in absurd (omega (arith, told))
 
 -- a line that is refused by its first fault
-pub refused_entry : (setup : SetupState) (n : ℕ) (bytes : List ℕ) (fault : EntryFault) (reply : Reply) → IsFirstEntryFault setup.goal.grid bytes fault → IsRefusal (entry_code_of fault) n reply → IsReply setup (within n) bytes reply
-refused_entry setup n bytes fault (Certified c) first is = absurd (no_refusal c (entry_code_of fault) n is)
-refused_entry setup n bytes fault (Reported text status) first is = (refused (entry_code_of fault), by_fault fault first, tt, is)
+pub refused_entry : (setup : SetupState) (n : ℕ) (bytes : List ℕ) (fault : EntryFault) (reply : Reply) → IsFirstEntryFault setup.goal.grid bytes fault → IsRefusal (entry_code fault) n reply → IsReply setup (within n) bytes reply
+refused_entry setup n bytes fault (Certified c) first is = absurd (no_refusal c (entry_code fault) n is)
+refused_entry setup n bytes fault (Reported text status) first is = (refused (entry_code fault), by_fault fault first, tt, is)
 
 -- a board for which memory was wanting before the first step
 pub refused_board : (setup : SetupState) (n : ℕ) (bytes id : List ℕ) (b : Position) (reply : Reply) → IsEntry setup.goal.grid bytes id b → MayAnswer setup b None → IsRefusal (codes "V3") n reply → IsReply setup (within n) bytes reply

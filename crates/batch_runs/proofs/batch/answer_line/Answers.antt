@@ -1,7 +1,7 @@
 use Rattle.std.proofs.Common.{refl, sym, subst}
 use Rattle.board.specs.Grids.{Grid}
 use Rattle.std.specs.Prelude.{codes}
-use Rattle.batch_lines.specs.Words.{IsEntry, IsFirstEntryFault, entry_code_of}
+use Rattle.batch_lines.specs.Words.{IsEntry, IsFirstEntryFault, entry_code}
 use Rattle.batch_runs.specs.Batches.Answer.{refused, answered}
 use Rattle.batch_runs.specs.Batches.AnswersEntry.{by_fault, by_outcome, by_want}
 use Rattle.batch_runs.proofs.batch.answer_line.Goals as goal
@@ -9,7 +9,7 @@ use Rattle.batch_runs.proofs.batch.answer_line.Goals as goal
 pub returns-in-Err : goal.returns-in-Err
 returns-in-Err g c =
     let fault = c.in-Err.fault in
-    (refused (entry_code_of fault), by_fault fault (subst (λ (grid : Grid). IsFirstEntryFault grid c.args.bytes.now fault) (sym c.requires.grid) ((c.in-Err.ensures.fault fault).0 refl)), rw c.code.ensures at c.in_ok-text-in-Err.ensures, c.with_refused.ensures)
+    (refused (entry_code fault), by_fault fault (subst (λ (grid : Grid). IsFirstEntryFault grid c.args.bytes.now fault) (sym c.requires.grid) ((c.in-Err.ensures.fault fault).0 refl)), rw c.code.ensures at c.in_ok-text-in-Err.ensures, c.with_refused.ensures)
 
 pub returns-in_ok-text-in-Ok-solve : goal.returns-in_ok-text-in-Ok-solve
 returns-in_ok-text-in-Ok-solve g c =
