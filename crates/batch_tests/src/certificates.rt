@@ -1,3 +1,5 @@
+//! Certificates that runs write, changed and checked.
+
 use batch_cli::{Setup, run_cert, run_check};
 use board::{Board, Shape, Weights};
 use byte_streams::{ByteSink, ByteSource};
@@ -20,7 +22,8 @@ pub(crate) const ONE_MOVE: [u8; 45] = [
     1, 0, 2, 3, 0, 0, 0, 0, // the row
 ];
 
-// From which byte to which `ONE_MOVE` is replaced, by what, and the code that the result is refused by.
+// From which byte to which `ONE_MOVE` is replaced, by what, and the code that the result is refused
+// by.
 const CHANGES: [(usize, usize, &[u8], &str); 13] = [
     (0, 1, &[0x55], "F1"),
     (44, 45, &[], "F2"),

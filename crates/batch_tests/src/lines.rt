@@ -1,7 +1,9 @@
-use crate::fakes::FailingReader;
+//! How inputs are cut into lines.
+
 use batch_cli::LineKind::{PassedOver, TooLong, Within};
 use batch_cli::{Line, LineKind, LineReader};
 use byte_streams::{ByteSource, ReadFailed};
+use failing_streams::FailingReader;
 use std::alloc::Global;
 use std::io::ErrorKind;
 

@@ -1,15 +1,17 @@
+//! The five runs, with each call of each stream failing in turn.
+
 ghost use Rattle.std.specs.Prelude.{◌≡◌, false};
 ghost use Rattle.byte_streams.specs.ByteSink.{sink_has_failed};
 ghost use Rattle.certificate.specs.Certificates.{AreNamedCosts};
 
 use crate::certificates::{ONE_MOVE, SOLVED};
-use crate::fakes::{FailingReader, FailingWriter, NEVER};
 use batch_cli::{
     BatchFault, Cause, Ending, LinesFault, Outcome, Setup, Solver, Summary, Why, run_batch,
     run_cert, run_check, run_lines, run_program,
 };
 use board::{Board, Move, Shape, Weights};
 use byte_streams::{ByteSink, ByteSource};
+use failing_streams::{FailingReader, FailingWriter, NEVER};
 use memory::{OutOfMemory, copy_of, with_capacity};
 use std::alloc::Global;
 use std::io::ErrorKind;
@@ -63,7 +65,8 @@ enum Run {
     Check,
 }
 
-// A line for each answer of `ByBlank`, one that is refused before it is asked, and one that is passed over.
+// A line for each answer of `ByBlank`, one that is refused before it is asked, and one that is
+// passed over.
 const LINES: &[u8] = b"a 0 1 2 3\nb 1 0 2 3\nc 1 2 0 3\nd 1 2 3 0\ne 1\n#\n";
 
 // A run over an input, and how it ends where no stream fails.
@@ -189,8 +192,8 @@ impl Case {
         }
     }
 
-    // What is due where the read after so many others fails: of a batch the reports of the lines that are whole, and
-    // else nothing.
+    // What is due where the read after so many others fails: of a batch the reports of the lines
+    // that are whole, and else nothing.
     fn due_before(&self, read: usize) -> &'static [u8] {
         if matches!(self.run, Run::Certify | Run::Check) {
             return b"";
@@ -204,7 +207,8 @@ impl Case {
         first_lines(self.output, lines)
     }
 
-    // How many writes and flushes it makes: one for each byte of the output, and the flush of the program.
+    // How many writes and flushes it makes: one for each byte of the output, and the flush of the
+    // program.
     fn calls(&self) -> usize {
         if self.run == Run::Program {
             self.output.len().saturating_add(1)
@@ -243,7 +247,8 @@ struct Ended {
     unread: usize,
 }
 
-// Runs a case over an input, an output and a standard error that fail at the call after so many others.
+// Runs a case over an input, an output and a standard error that fail at the call after so many
+// others.
 fn end(alloc: Global, case: &Case, read: usize, write: usize, tell: usize) -> Ended {
     let mut source = ByteSource::new(FailingReader {
         bytes: case.input,
@@ -341,7 +346,8 @@ fn fails_so(alloc: Global, case: &Case, read: usize, write: usize, told: &str, d
     true
 }
 
-// Whether a run ends as is due where no call fails, and leaves what stands behind the bytes that it is to read.
+// Whether a run ends as is due where no call fails, and leaves what stands behind the bytes that it
+// is to read.
 fn succeeds(alloc: Global, case: &Case) -> bool {
     let ended = end(alloc, case, NEVER, NEVER, NEVER);
     ended.status == case.status
@@ -351,7 +357,8 @@ fn succeeds(alloc: Global, case: &Case) -> bool {
         && ended.unread == case.input.len().saturating_sub(case.reads)
 }
 
-// The read and the write, counted from 0, that first end a run otherwise than is due where they fail.
+// The read and the write, counted from 0, that first end a run otherwise than is due where they
+// fail.
 fn first_wrong_end(alloc: Global, case: &Case) -> Option<(usize, usize)> {
     if !succeeds(alloc, case) {
         return Some((NEVER, NEVER));

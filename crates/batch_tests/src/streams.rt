@@ -1,15 +1,17 @@
+//! Streams over std, and over readers and writers that fail.
+
 ghost use Rattle.std.specs.Prelude.{◌≡◌, ◌<◌, ◌+◌, ◌^◌, ◌++◌, false, length, None, Some};
 ghost use Rattle.byte_streams.specs.ByteSource.{source_has_failed};
 ghost use Rattle.byte_streams.specs.ByteSink.{inner_writer, sink_has_failed};
 
-use crate::fakes::{FailingReader, FailingWriter};
 use byte_streams::{ByteSink, ByteSource, ReadFailed, Reader, Sink, Source, WriteFailed, Writer};
+use failing_streams::{FailingReader, FailingWriter};
 use std::alloc::Global;
 use std::io;
 use std::io::{ErrorKind, Read};
 
-// Whether a source gives the bytes before the read that fails, loses none, and fails for ever after them. Its fourth
-// read is that of the end.
+// Whether a source gives the bytes before the read that fails, loses none, and fails for ever after
+// them. Its fourth read is that of the end.
 fn reads_up_to_failure(kind: ErrorKind, reads_before: usize) -> bool {
     let text = b"abc";
     let mut source = ByteSource::new(FailingReader {
@@ -30,8 +32,8 @@ fn reads_up_to_failure(kind: ErrorKind, reads_before: usize) -> bool {
     source.into_inner().bytes.len() == text.len().saturating_sub(reads_before)
 }
 
-// Whether a sink writes the bytes before the write or flush that fails, and fails for ever after them. There are five
-// writes and a flush.
+// Whether a sink writes the bytes before the write or flush that fails, and fails for ever after
+// them. There are five writes and a flush.
 fn writes_up_to_failure(alloc: Global, kind: Option<ErrorKind>, calls_before: usize) -> bool {
     let mut sink = ByteSink::new(FailingWriter::new(alloc, calls_before, kind));
     let due = if calls_before < 6 {
@@ -161,7 +163,8 @@ fn next_of_text(source: &mut ByteSource<Text>) -> Option<u8>
     source.next_byte().unwrap()
 }
 
-// The count is proved too: each write adds to it, and `put` makes no write but those that took the bytes.
+// The count is proved too: each write adds to it, and `put` makes no write but those that took the
+// bytes.
 fn count_of(sink: ByteSink<Counter>, bytes: &[u8]) -> usize
     requires fresh { sink_has_failed sink ≡ false }
     requires empty { (inner_writer sink).count ≡ 0 }

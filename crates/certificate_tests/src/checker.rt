@@ -1,4 +1,6 @@
-use super::vectors::{GOAL, ONE_MOVE, THREE_MOVES};
+//! The checker: certificates that it accepts, and one for each refusal.
+
+use crate::vectors::{GOAL, ONE_MOVE, THREE_MOVES};
 use board::Move;
 use byte_streams::ByteSource;
 use certificate::{FormatFault, ReadFault, read};

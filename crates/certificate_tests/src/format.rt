@@ -1,4 +1,6 @@
-use super::vectors::{FOUR_LETTERS, GOAL, ONE_MOVE};
+//! The format: certificates byte for byte, written and read, and each fault.
+
+use crate::vectors::{FOUR_LETTERS, GOAL, ONE_MOVE};
 use board::{Board, Move, Shape, Weights};
 use byte_streams::{ByteSink, ByteSource};
 use certificate::{Certificate, LIMIT, Parts, read, write};

@@ -1,5 +1,5 @@
-//! Tests of the crates `certificate` and `certificate_check`: certificates by their fields and by their
-//! bytes, streams that fail, and what the checker answers.
+//! Tests of the crates `certificate` and `certificate_check`: certificates by their fields and by
+//! their bytes, streams that fail, and what the checker answers.
 #![tactic(auto)]
 
 #[cfg(test)]

@@ -1,57 +1,12 @@
-use super::vectors::ONE_MOVE;
+//! Streams that fail at each of their calls in turn.
+
+use crate::vectors::ONE_MOVE;
 use byte_streams::{ByteSink, ByteSource};
 use certificate::{Certificate, FormatFault, ReadFault, WriteFault, read, write};
+use failing_streams::{FailingReader, FailingWriter};
 use std::alloc::Global;
-use std::io;
-use std::io::{ErrorKind, Read, Write};
+use std::io::ErrorKind;
 use std::test::Fail;
-
-// Gives one byte a read, and fails at the read after so many others.
-#[derive(Drop)]
-struct FailingReader<'a> {
-    text: &'a [u8],
-    reads_before: usize,
-}
-
-impl Read for FailingReader<'_> {
-    fn read(&mut self, buffer: &mut [u8]) -> io::Result<usize> {
-        if self.reads_before == 0 {
-            // A later read would give bytes again: only the source remembers the failure.
-            self.reads_before = 99;
-            return Err(io::Error::from(ErrorKind::Other));
-        }
-        self.reads_before -= 1;
-        let most = buffer.len().min(1);
-        self.text.read(&mut buffer[..most])
-    }
-}
-
-// Takes one byte a write, and fails at the write after so many others.
-#[derive(Drop)]
-struct FailingWriter {
-    taken: Vec<u8>,
-    writes_before: usize,
-}
-
-impl Write for FailingWriter {
-    fn write(&mut self, bytes: &[u8]) -> io::Result<usize> {
-        let [first, ..] = bytes else {
-            return Ok(0);
-        };
-        if self.writes_before == 0 {
-            // A later write would take bytes again: only the sink remembers the failure.
-            self.writes_before = 99;
-            return Err(io::Error::from(ErrorKind::Other));
-        }
-        self.writes_before -= 1;
-        self.taken.push(*first)?;
-        Ok(1)
-    }
-
-    fn flush(&mut self) -> io::Result<()> {
-        Ok(())
-    }
-}
 
 #[test]
 fn each_read_fails_in_turn(rt: HostRuntime) {
@@ -67,7 +22,11 @@ fn each_read_fails_in_turn(rt: HostRuntime) {
         ),
     ] {
         for reads_before in 0..=reads {
-            let mut source = ByteSource::new(FailingReader { text, reads_before });
+            let mut source = ByteSource::new(FailingReader {
+                bytes: text,
+                reads_before,
+                kind: ErrorKind::Other,
+            });
             let fault = read(rt.alloc(), &mut source).err();
             let want = if reads_before < reads {
                 Some(ReadFault::Failed)
@@ -85,10 +44,8 @@ fn written(
     certificate: &Certificate,
     writes_before: usize,
 ) -> (Result<(), WriteFault>, Vec<u8>) {
-    let mut sink = ByteSink::new(FailingWriter {
-        taken: Vec::new(alloc),
-        writes_before,
-    });
+    let writer = FailingWriter::new(alloc, writes_before, Some(ErrorKind::Other));
+    let mut sink = ByteSink::new(writer);
     let answer = write(&mut sink, certificate);
     (answer, sink.into_inner().taken)
 }

@@ -1,3 +1,5 @@
+//! Certificates by their bytes.
+
 // The goal of 2 by 2, which a plan of no moves leads to from itself.
 pub(crate) const GOAL: [u8; 36] = [
     0x54, 0x49, 0x4c, 0x45, 0x43, 0x52, 0x54, 0x31, 2, 2, 0, 0, // the opening
@@ -6,8 +8,8 @@ pub(crate) const GOAL: [u8; 36] = [
     0, 0, 0, 0, 0, 0, 0, 0, // the count of rows
 ];
 
-// 1 0 over 2 3 is solved by one move to the left, and the start's row alone proves it: each successor is
-// at the cost.
+// 1 0 over 2 3 is solved by one move to the left, and the start's row alone proves it: each
+// successor is at the cost.
 pub(crate) const ONE_MOVE: [u8; 45] = [
     0x54, 0x49, 0x4c, 0x45, 0x43, 0x52, 0x54, 0x31, 2, 2, 0, 0, // the opening
     1, 0, 2, 3, 0, 1, 2, 3, // start and goal

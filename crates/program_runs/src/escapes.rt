@@ -1,3 +1,5 @@
+//! Escapes of bytes, read and written.
+
 ghost use Rattle.std.specs.Prelude.{◌<◌, length, IfSome};
 
 use std::alloc::Global;

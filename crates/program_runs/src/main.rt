@@ -1,11 +1,14 @@
-//! Runs the program `tilesolve` once for each row of a table, and prints for each row what it answered.
+//! Runs the program `tilesolve` once for each row of a table, and prints for each row what it
+//! answered.
 //!
-//! The table is standard input. Each of its lines is a row, but for those that begin with `#`: the words, with a
-//! space between two, then a tab, then the input in escapes. Of the escapes `\n`, `\r`, `\t` and `\\` are one byte,
-//! and so is `\x` with two hexadecimal digits. A line that is none of this ends the program by an error.
+//! The table is standard input. Each of its lines is a row, but for those that begin with `#`: the
+//! words, with a space between two, then a tab, then the input in escapes. Of the escapes `\n`,
+//! `\r`, `\t` and `\\` are one byte, and so is `\x` with two hexadecimal digits. A line that is
+//! none of this ends the program by an error.
 //!
-//! What is printed is the row itself, the status, the lines of the output behind `> `, those of standard error
-//! behind `! `, and an empty line. Output is in the same escapes, so that each of its bytes can be told.
+//! What is printed is the row itself, the status, the lines of the output behind `> `, those of
+//! standard error behind `! `, and an empty line. Output is in the same escapes, so that each of
+//! its bytes can be told.
 #![tactic(auto)]
 
 mod escapes;

@@ -1,3 +1,5 @@
+//! What a call answered.
+
 /// What a call answered.
 #[derive(Clone, Copy)]
 pub enum Answer {

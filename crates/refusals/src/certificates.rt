@@ -1,3 +1,5 @@
+//! Certificates that are read.
+
 use crate::answer::{Answer, refused_if, whole_if};
 use byte_streams::ByteSource;
 use certificate::{ReadFault, read};

@@ -1,3 +1,5 @@
+//! Tables that are built, and partitions that are copied.
+
 use crate::answer::{Answer, whole_if};
 use board::{Board, Shape, Weights};
 use database_build::build;
@@ -19,7 +21,8 @@ pub fn build_table(alloc: Global) -> Answer {
     }
 }
 
-/// Copies a partition of one group. Where the list of its groups finds no memory, there is none to copy.
+/// Copies a partition of one group. Where the list of its groups finds no memory, there is none to
+/// copy.
 pub fn copy_partition(alloc: Global) -> Answer {
     let shape = Shape::new(2, 2).unwrap();
     let Ok(group) = Group::new(shape, &[3]) else {

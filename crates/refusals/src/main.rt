@@ -1,12 +1,12 @@
-//! Makes small calls that take memory, and prints for each what it answered: the whole right answer, or no more
-//! than it may answer where memory is refused. `checks/refusals` refuses each allocation of each call in turn.
+//! Makes small calls that take memory, and prints for each what it answered: the whole right
+//! answer, or no more than it may answer where memory is refused. `checks/refusals` refuses each
+//! allocation of each call in turn.
 //!
-//!     refusals                  makes each call once
-//!     refusals CALL             makes that call alone
-//!     refusals CALL REQUESTS    makes so many small requests for memory before the call
+//! refusals                  makes each call once refusals CALL             makes that call alone
+//! refusals CALL REQUESTS    makes so many small requests for memory before the call
 //!
-//! The program takes no other memory before a call. The exit status is 1 where an answer is wrong, as one for
-//! want of memory is where nothing was refused, and 2 for words that name no call.
+//! The program takes no other memory before a call. The exit status is 1 where an answer is wrong,
+//! as one for want of memory is where nothing was refused, and 2 for words that name no call.
 #![tactic(auto)]
 
 mod answer;
@@ -69,8 +69,8 @@ fn is_refused(alloc: Global, requests: u32) -> bool {
     false
 }
 
-// What is printed of an answer, or why it is wrong. Where memory is refused only after the call, the call met no
-// refusal, so that its answer has to be whole.
+// What is printed of an answer, or why it is wrong. Where memory is refused only after the call,
+// the call met no refusal, so that its answer has to be whole.
 fn judge(answer: Answer, is_refused_later: bool) -> Result<&'static str, &'static str> {
     match answer {
         Answer::Whole if is_refused_later => Ok("whole, refused later"),
@@ -101,8 +101,8 @@ fn tell(rt: &(impl Print + Eprint + AllocGlobal), name: &str) -> u8 {
     }
 }
 
-// The word at a place, or None where there is none. It is copied to a buffer, so that it takes no memory; one that
-// is too long, or no text, is read as an empty word.
+// The word at a place, or None where there is none. It is copied to a buffer, so that it takes no
+// memory; one that is too long, or no text, is read as an empty word.
 fn read_word<'a>(rt: &impl Env, place: usize, buffer: &'a mut [u8]) -> Option<&'a str> {
     match rt.arg(place, buffer) {
         Ok(length) => Some(std::str::from_utf8(&buffer[..length]).unwrap_or("")),

@@ -1,3 +1,5 @@
+//! Runs over lines and with certificates.
+
 ghost use Rattle.certificate.specs.Certificates.{AreNamedCosts};
 
 use crate::answer::{Answer, refused_if, whole_if};
@@ -48,7 +50,8 @@ pub fn run_two_lines(alloc: Global) -> Answer {
     }
 }
 
-/// Writes the certificate of a line's board. Where memory is refused, a report may stand in its place, or nothing.
+/// Writes the certificate of a line's board. Where memory is refused, a report may stand in its
+/// place, or nothing.
 pub fn write_certificate(alloc: Global) -> Answer {
     let Ok(mut page) = page(alloc) else {
         return Answer::Refused;

@@ -1,3 +1,5 @@
+//! Boards that are solved.
+
 ghost use Rattle.std.specs.Prelude.{◌≡◌};
 
 use crate::answer::{Answer, refused_if, whole_if};
@@ -6,8 +8,8 @@ use outcomes::{Cause, Outcome, Want, Why};
 use plain_search::solve;
 use std::alloc::Global;
 
-/// Solves a board of two rows for Korf's goal, at face cost or else at unit cost. Its least plan is known to cost
-/// so much, or it is known to have none.
+/// Solves a board of two rows for Korf's goal, at face cost or else at unit cost. Its least plan is
+/// known to cost so much, or it is known to have none.
 pub fn search(
     alloc: Global,
     cols: u8,
@@ -32,8 +34,8 @@ pub fn search(
     }
 }
 
-// Judges an outcome. Where memory was refused it is a bound, which is no higher than the least cost, with no plan or
-// one that costs more than the bound.
+// Judges an outcome. Where memory was refused it is a bound, which is no higher than the least
+// cost, with no plan or one that costs more than the bound.
 fn judge(outcome: &Outcome, start: &Board, weights: &Weights, least: Option<u32>) -> Answer
     requires { weights.now.grid ≡ start.now.grid }
 {

@@ -1,3 +1,5 @@
+//! The endings of the program.
+
 use batch_cli::{BatchFault, Ending, Summary};
 use memory::OutOfMemory;
 use std::io;

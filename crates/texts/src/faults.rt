@@ -1,3 +1,5 @@
+//! Each fault by its code and its text.
+
 use batch_cli::{BatchFault, CertifyFault, CheckFault, EntryFault, LinesFault, SolveFault};
 use board::{BoardFault, Move, ShapeFault, TilesFault};
 use byte_streams::{ReadFailed, WriteFailed};

@@ -1,3 +1,5 @@
+//! Each form of report.
+
 use batch_cli::{
     Cause, NoReport, Outcome, Want, Why, accepted_report, outcome_report,
     refused_certificate_report, refused_report,

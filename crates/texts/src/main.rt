@@ -1,6 +1,7 @@
-//! Prints the texts that a client of the library can meet: each form of report, each fault by its code and its
-//! text, and each ending of the program with its status and its message. Only a report that was not made for want of
-//! memory is left out, since nothing but a refusal in its maker makes it.
+//! Prints the texts that a client of the library can meet: each form of report, each fault by its
+//! code and its text, and each ending of the program with its status and its message. Only a report
+//! that was not made for want of memory is left out, since nothing but a refusal in its maker makes
+//! it.
 #![tactic(auto)]
 
 mod endings;

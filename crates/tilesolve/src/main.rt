@@ -9,7 +9,8 @@ use std::io::{BufReader, BufWriter};
 use std::process::ExitCode;
 use std::rt::Env;
 
-// The words after the program's name, or how the program ends where they are no texts or find no memory.
+// The words after the program's name, or how the program ends where they are no texts or find no
+// memory.
 fn read_words(rt: &(impl Env + AllocGlobal)) -> Result<Vec<String>, Ending> {
     let Ok(words) = env::args(rt) else {
         return Err(Ending::Usage);

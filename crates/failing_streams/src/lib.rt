@@ -1,16 +1,21 @@
+//! A reader and a writer that fail at one call, for tests.
+#![tactic(auto)]
+
 use std::alloc::Global;
 use std::io;
 use std::io::{ErrorKind, Read, Write};
 
-// More calls than any run of these tests makes.
-pub(crate) const NEVER: usize = 9999;
+/// More calls than any test makes.
+pub const NEVER: usize = 9999;
 
-// Gives its bytes, and fails at the read after so many others.
+/// Gives its bytes, and fails at the read after so many others.
 #[derive(Drop)]
-pub(crate) struct FailingReader<'a> {
-    pub(crate) bytes: &'a [u8],
-    pub(crate) reads_before: usize,
-    pub(crate) kind: ErrorKind,
+pub struct FailingReader<'a> {
+    /// What is left.
+    pub bytes: &'a [u8],
+    pub reads_before: usize,
+    /// The error of the read that fails.
+    pub kind: ErrorKind,
 }
 
 impl Read for FailingReader<'_> {
@@ -25,18 +30,19 @@ impl Read for FailingReader<'_> {
     }
 }
 
-// Takes one byte a write, and fails at the write or flush after so many others.
+/// Takes one byte a write, and fails at the write or flush after so many others.
 #[derive(Drop)]
-pub(crate) struct FailingWriter {
-    pub(crate) taken: Vec<u8>,
-    pub(crate) flushes: usize,
+pub struct FailingWriter {
+    pub taken: Vec<u8>,
+    pub flushes: usize,
     calls_before: usize,
     // None: the write takes no byte.
     kind: Option<ErrorKind>,
 }
 
 impl FailingWriter {
-    pub(crate) fn new(alloc: Global, calls_before: usize, kind: Option<ErrorKind>) -> Self {
+    /// A writer that has taken nothing. Without a kind of error the write that fails takes no byte.
+    pub fn new(alloc: Global, calls_before: usize, kind: Option<ErrorKind>) -> Self {
         FailingWriter {
             taken: Vec::new(alloc),
             flushes: 0,
