@@ -2,8 +2,9 @@
 //! answer, or no more than it may answer where memory is refused. `checks/refusals` refuses each
 //! allocation of each call in turn.
 //!
-//! refusals                  makes each call once refusals CALL             makes that call alone
-//! refusals CALL REQUESTS    makes so many small requests for memory before the call
+//!     refusals                  makes each call once
+//!     refusals CALL             makes that call alone
+//!     refusals CALL REQUESTS    makes so many small requests for memory before the call
 //!
 //! The program takes no other memory before a call. The exit status is 1 where an answer is wrong,
 //! as one for want of memory is where nothing was refused, and 2 for words that name no call.
