@@ -5,6 +5,7 @@ use Rattle.board.specs.declared.moves.Move.{Move}
 use Rattle.board.specs.Grids.{Grid, IsShape}
 use Rattle.board.specs.Positions.{Position}
 use Rattle.board.specs.CostRules.{CostRule}
+use Rattle.certificate.specs.Fields.{SpellsAllRows, SpellsBoard, SpellsCount, SpellsFront, SpellsNumber, SpellsOpening, SpellsPlan}
 use Rattle.certificate.specs.declared.faults.FormatFault.{FormatFault}
 use Rattle.certificate.specs.declared.faults.FormatFault.TheVariants.{OutOfRange, BytesAfterEnd}
 use Rattle.certificate.specs.Certificates.{Statement, AreNamedCosts, IsBoardOf, IsRow, RiseAfter, IsCertificate}
@@ -12,7 +13,7 @@ use Rattle.certificate.specs.Spellings.{opening_text, number_text, count_text, p
 use Rattle.certificate.specs.Readings.{◌>>=◌, continued, give, number, count, count_in, board, opening, plan, rows, all_rows, end, front, certificate, IsFaultAt}
 use Rattle.certificate.specs.Laws.{AreBytes, Begins}
 use Rattle.certificate.proofs.ReaderLemmas.{Law, Opens, Law-iff, Opens-iff, Both, Law-seq, Opens-seq, Known, Law-give, Opens-give, fine, faulty, both_ok, one_fails, field_from, AreBytes-rest}
-use Rattle.certificate.proofs.TextLemmas.{OpeningText, opening_law, opening_opens, BoardText, board_law, board_opens, NumberText, number_law, number_opens, PlanText, plan_law, plan_opens, CountText, count_law}
+use Rattle.certificate.proofs.TextLemmas.{opening_law, opening_opens, board_law, board_opens, number_law, number_opens, plan_law, plan_opens, count_law}
 use Rattle.certificate.proofs.RowLemmas.{RowsText, rows_law, rows_before}
 
 -- ---- all before the rows
@@ -24,37 +25,32 @@ named_grid : (grid : Grid) (costs : CostRule) → AreNamedCosts grid costs → c
 named_grid grid costs (inl unit) = ap (λ (rule : CostRule). rule.grid) unit
 named_grid grid costs (inr face) = ap (λ (rule : CostRule). rule.grid) face
 
-pub record FrontText (c : Statement) (text : List ℕ) : Type 0 where
-  pub fits : IsCertificate c
-  pub bare : c.rows ≡ []
-  pub is : text ≡ front_text c
+abbrev pub FrontParts : Statement → List ℕ → Type 0
+FrontParts = Both SpellsOpening (λ costs. Both (SpellsBoard costs.grid) (λ start. Both (SpellsBoard costs.grid) (λ goal. Both SpellsNumber (λ cost. Both SpellsPlan (λ moves. Known (bare_of costs start goal cost moves))))))
 
-abbrev FrontParts : Statement → List ℕ → Type 0
-FrontParts = Both OpeningText (λ costs. Both (BoardText costs.grid) (λ start. Both (BoardText costs.grid) (λ goal. Both NumberText (λ cost. Both PlanText (λ moves. Known (bare_of costs start goal cost moves))))))
-
-front_there : (c : Statement) (text : List ℕ) → FrontParts c text → FrontText c text
+pub front_there : (c : Statement) (text : List ℕ) → FrontParts c text → SpellsFront c text
 front_there c text (costs, s0, t0, o, (start, s1, t1, b, (goal, s2, t2, g, (cost, s3, t3, n, (moves, s4, t4, p, (known, nil), e4), e3), e2), e1), e0) =
-    let made : FrontText (bare_of costs start goal cost moves) text = record {
+    let made : SpellsFront (bare_of costs start goal cost moves) text = record {
       fits = record { sides = o.sides; costs = o.named; start = b.board; goal = g.board; cost = n.within; plan = p.within; count = omega arith; rows = tt; rising = tt };
       bare = refl;
       is = e0 ∙ (λ i. o.is i ++ e1 i) ∙ (λ i. opening_text costs ++ (b.is i ++ e2 i)) ∙ (λ i. opening_text costs ++ (start.tiles ++ (g.is i ++ e3 i))) ∙ (λ i. opening_text costs ++ (start.tiles ++ (goal.tiles ++ (n.is i ++ e4 i))))
           ∙ (λ i. opening_text costs ++ (start.tiles ++ (goal.tiles ++ (number_text cost ++ (p.is i ++ nil i))))) ∙ ap (λ (l : List ℕ). opening_text costs ++ (start.tiles ++ (goal.tiles ++ (number_text cost ++ l)))) (append-nil (plan_text moves));
     } in
-    subst (λ (d : Statement). FrontText d text) (sym known) made
+    subst (λ (d : Statement). SpellsFront d text) (sym known) made
 
-front_back : (c : Statement) (text : List ℕ) → FrontText c text → FrontParts c text
+front_back : (c : Statement) (text : List ℕ) → SpellsFront c text → FrontParts c text
 front_back c text t =
     let same : c.costs.grid ≡ c.grid = named_grid c.grid c.costs t.fits.costs in
     let costs = c.costs in
-    let o : OpeningText costs (opening_text costs) = record {
+    let o : SpellsOpening costs (opening_text costs) = record {
       sides = subst (λ (g : Grid). IsShape g) (sym same) t.fits.sides;
       named = subst (λ (g : Grid). AreNamedCosts g c.costs) (sym same) t.fits.costs;
       is = refl;
     } in
-    let b : BoardText costs.grid c.start c.start.tiles = record { board = subst (λ (g : Grid). IsBoardOf g c.start) (sym same) t.fits.start; is = refl } in
-    let g : BoardText costs.grid c.goal c.goal.tiles = record { board = subst (λ (g : Grid). IsBoardOf g c.goal) (sym same) t.fits.goal; is = refl } in
-    let n : NumberText c.cost (number_text c.cost) = record { within = t.fits.cost; is = refl } in
-    let p : PlanText c.plan (plan_text c.plan) = record { within = t.fits.plan; is = refl } in
+    let b : SpellsBoard costs.grid c.start c.start.tiles = record { board = subst (λ (g : Grid). IsBoardOf g c.start) (sym same) t.fits.start; is = refl } in
+    let g : SpellsBoard costs.grid c.goal c.goal.tiles = record { board = subst (λ (g : Grid). IsBoardOf g c.goal) (sym same) t.fits.goal; is = refl } in
+    let n : SpellsNumber c.cost (number_text c.cost) = record { within = t.fits.cost; is = refl } in
+    let p : SpellsPlan c.plan (plan_text c.plan) = record { within = t.fits.plan; is = refl } in
     let known : c ≡ bare_of costs c.start c.goal c.cost c.plan = λ i. record { grid = sym same i; costs = c.costs; start = c.start; goal = c.goal; cost = c.cost; plan = c.plan; rows = t.bare i } in (
       costs,
       opening_text costs,
@@ -71,33 +67,27 @@ front_back c text t =
       t.is,
     )
 
-pub front_law : Law front FrontText
+pub front_law : Law front SpellsFront
 unfolding front
-front_law = Law-iff _ FrontParts FrontText front_there front_back
-    (Law-seq opening _ OpeningText _ opening_law (λ costs _ o.
-    Law-seq (board costs.grid) _ (BoardText costs.grid) _ (board_law costs.grid o.sides) (λ start _ _.
-    Law-seq (board costs.grid) _ (BoardText costs.grid) _ (board_law costs.grid o.sides) (λ goal _ _.
-    Law-seq number _ NumberText _ number_law (λ cost _ _.
-    Law-seq plan _ PlanText _ plan_law (λ moves _ _. Law-give (bare_of costs start goal cost moves)))))))
+front_law = Law-iff _ FrontParts SpellsFront front_there front_back
+    (Law-seq opening _ SpellsOpening _ opening_law (λ costs _ o.
+    Law-seq (board costs.grid) _ (SpellsBoard costs.grid) _ (board_law costs.grid o.sides) (λ start _ _.
+    Law-seq (board costs.grid) _ (SpellsBoard costs.grid) _ (board_law costs.grid o.sides) (λ goal _ _.
+    Law-seq number _ SpellsNumber _ number_law (λ cost _ _.
+    Law-seq plan _ SpellsPlan _ plan_law (λ moves _ _. Law-give (bare_of costs start goal cost moves)))))))
 
-front_opens : Opens front FrontText
+front_opens : Opens front SpellsFront
 unfolding front
-front_opens = Opens-iff _ FrontParts FrontText front_there
-    (Opens-seq opening _ OpeningText _ opening_law opening_opens (λ costs _ o.
-    Opens-seq (board costs.grid) _ (BoardText costs.grid) _ (board_law costs.grid o.sides) (board_opens costs.grid o.sides) (λ start _ _.
-    Opens-seq (board costs.grid) _ (BoardText costs.grid) _ (board_law costs.grid o.sides) (board_opens costs.grid o.sides) (λ goal _ _.
-    Opens-seq number _ NumberText _ number_law number_opens (λ cost _ _.
-    Opens-seq plan _ PlanText _ plan_law plan_opens (λ moves _ _. Opens-give (bare_of costs start goal cost moves)))))))
+front_opens = Opens-iff _ FrontParts SpellsFront front_there
+    (Opens-seq opening _ SpellsOpening _ opening_law opening_opens (λ costs _ o.
+    Opens-seq (board costs.grid) _ (SpellsBoard costs.grid) _ (board_law costs.grid o.sides) (board_opens costs.grid o.sides) (λ start _ _.
+    Opens-seq (board costs.grid) _ (SpellsBoard costs.grid) _ (board_law costs.grid o.sides) (board_opens costs.grid o.sides) (λ goal _ _.
+    Opens-seq number _ SpellsNumber _ number_law number_opens (λ cost _ _.
+    Opens-seq plan _ SpellsPlan _ plan_law plan_opens (λ moves _ _. Opens-give (bare_of costs start goal cost moves)))))))
 
 -- ---- the rows
 
-pub record ProofText (grid : Grid) (rs : List (Position × ℕ)) (text : List ℕ) : Type 0 where
-  pub count : length rs < 2 ^ 64
-  pub rows : AllByRecursion (IsRow grid) rs
-  pub rising : RiseAfter None rs
-  pub is : text ≡ count_text (length rs) ++ flat_map row_text rs
-
-proof_there : (grid : Grid) (rs : List (Position × ℕ)) (text : List ℕ) → Both CountText (λ n. RowsText grid None n) rs text → ProofText grid rs text
+pub proof_there : (grid : Grid) (rs : List (Position × ℕ)) (text : List ℕ) → Both SpellsCount (λ n. RowsText grid None n) rs text → SpellsAllRows grid rs text
 proof_there grid rs text (n, s, t, c, r, e) = record {
   count = subst (λ (m : ℕ). m < 2 ^ 64) (sym r.count) c.within;
   rows = r.rows;
@@ -105,12 +95,12 @@ proof_there grid rs text (n, s, t, c, r, e) = record {
   is = e ∙ (λ i. c.is i ++ r.is i) ∙ ap (λ (m : ℕ). count_text m ++ flat_map row_text rs) (sym r.count);
 }
 
-proof_back : (grid : Grid) (rs : List (Position × ℕ)) (text : List ℕ) → ProofText grid rs text → Both CountText (λ n. RowsText grid None n) rs text
+proof_back : (grid : Grid) (rs : List (Position × ℕ)) (text : List ℕ) → SpellsAllRows grid rs text → Both SpellsCount (λ n. RowsText grid None n) rs text
 proof_back grid rs text t = (length rs, count_text (length rs), flat_map row_text rs, record { within = t.count; is = refl }, record { count = refl; rows = t.rows; rising = t.rising; is = refl }, t.is)
 
-pub all_rows_law : (grid : Grid) → IsShape grid → Law (all_rows grid) (ProofText grid)
+pub all_rows_law : (grid : Grid) → IsShape grid → Law (all_rows grid) (SpellsAllRows grid)
 unfolding all_rows
-all_rows_law grid sides = Law-iff _ (Both CountText (λ n. RowsText grid None n)) (ProofText grid) (proof_there grid) (proof_back grid) (Law-seq count _ CountText _ count_law (λ n _ _. rows_law grid None n sides tt))
+all_rows_law grid sides = Law-iff _ (Both SpellsCount (λ n. RowsText grid None n)) (SpellsAllRows grid) (proof_there grid) (proof_back grid) (Law-seq count _ SpellsCount _ count_law (λ n _ _. rows_law grid None n sides tt))
 
 -- ---- the whole
 

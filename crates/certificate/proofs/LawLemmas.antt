@@ -1,18 +1,20 @@
 -- What follows of spellings and first faults.
-use Rattle.std.proofs.Common.{◌≡◌, ◌⊎◌, inl, inr, ℕ, List, [], ◌∷◌, ◌++◌, Option, None, Some, Result, Ok, Err, refl, sym, ap, ◌∙◌, append-nil}
-use Rattle.std.specs.Prelude.{IfSome, IfOk, IfErr}
-use Rattle.std.specs.Io.KnownBytes.{Consumes}
+use Rattle.std.proofs.Common.{◌≡◌, ◌⊎◌, inl, inr, ℕ, List, [], ◌∷◌, ◌++◌, Bool, true, Option, None, Some, Result, Ok, Err, refl, sym, ap, subst, ◌∙◌, append-nil}
+use Rattle.std.specs.Prelude.{IfSome, ◌↔◌}
+use Rattle.std.proofs.lemmas.Bool.{false≢true}
 use Rattle.certificate.specs.declared.faults.FormatFault.{FormatFault}
 use Rattle.certificate.specs.declared.faults.FormatFault.TheVariants.{BytesAfterEnd}
 use Rattle.certificate.specs.declared.faults.ReadFault.{ReadFault}
 use Rattle.certificate.specs.declared.faults.ReadFault.TheVariants.{Format, Failed, NoMemory}
 use Rattle.certificate.specs.Certificates.{Statement}
 use Rattle.certificate.specs.Spellings.{Spells, spelling}
-use Rattle.certificate.specs.Readings.{certificate, give, end, continued, IsFirstFault}
-use Rattle.certificate.specs.Sources.{RefusesAtEnd, StopsAtFault, Tells, IsAnswerTo}
+use Rattle.certificate.specs.Readings.{certificate, give, end, continued, IsFaultOf, IsFirstFault}
+use Rattle.byte_streams.specs.Streams.{SourceState, Change}
+use Rattle.byte_streams.specs.Source.{Takes}
+use Rattle.certificate.specs.Sources.{IfFormat, is_failure, FindsAll, ReadsAll, Tells, IsAnswerTo, ReadsCertificate}
 use Rattle.certificate.specs.Laws.{AreBytes}
 use Rattle.certificate.proofs.ReaderLemmas.{fine, faulty}
-use Rattle.certificate.proofs.FieldLemmas.{if_format}
+use Rattle.certificate.proofs.FieldLemmas.{if_known}
 use Rattle.certificate.proofs.CertificateLemmas.{read_again, read_takes}
 
 never : (c : Statement) (l : List ℕ) (fault : FormatFault) (from : List ℕ) → fine c l ≡ faulty Statement fault from → ⊥
@@ -75,22 +77,47 @@ decided (Err (Format g)) input tells = record {
 decided (Err Failed) input tells = record { spelled = λ c s. inr (inl refl); faulty = λ fault f. inr (inl refl) }
 decided (Err (NoMemory refused)) input tells = record { spelled = λ c s. inr (inr (refused, refl)); faulty = λ fault f. inr (inr (refused, refl)) }
 
-pub all_decided : (result : Result Statement ReadFault) (old : Option (List ℕ)) → IfSome old (Tells result) → IfSome old (IsAnswerTo result)
+all_decided : (result : Result Statement ReadFault) (left : Option (List ℕ)) → IfSome left (Tells result) → IfSome left (IsAnswerTo result)
 all_decided result None tells = tt
 all_decided result (Some input) tells = decided result input tells
 
--- what was read is what the input spells, and a fault is its first
-pub all_told : (result : Result Statement ReadFault) (old new : Option (List ℕ)) → IfOk result (λ c. IfSome old (Spells c)) → IfErr result (RefusesAtEnd certificate old new) → IfSome old (Tells result)
-all_told result None new whole refused = tt
-all_told (Ok c) (Some input) new whole refused = whole
-all_told (Err f) (Some input) new whole refused = if_format f (λ g. (bytes : List ℕ) → Some input ≡ Some bytes → (from : List ℕ) × (certificate bytes ≡ Err (g, from))) (λ g. IsFirstFault input g) (λ g first. first input refl) refused.first
+-- what was read is what the input spells
+told : (c : Statement) (source : Change SourceState) → FindsAll Spells source c → IfSome source.before.left (Tells (Ok c))
+told c source all = if_known source.before.left (λ input. input ≡ all.found.text) (λ input. Spells c input) (λ input is. subst (λ (l : List ℕ). Spells c l) (sym is) all.found.spells) all.whole
 
--- some of the bytes were taken, whatever the answer is
-pub some_taken : (result : Result Statement ReadFault) (old new : Option (List ℕ)) → IfOk result (λ c. Consumes old new (spelling c)) → IfErr result (RefusesAtEnd certificate old new) → (seen : List ℕ) × Consumes old new seen
-some_taken (Ok c) old new whole refused = (spelling c, whole)
-some_taken (Err f) old new whole refused = (refused.seen, refused.taken)
+-- a fault is the first of the input
+faulted : (f : ReadFault) (left : Option (List ℕ)) → IfFormat f (λ g. IfSome left (λ input. IsFaultOf certificate input g)) → IfSome left (Tells (Err f))
+faulted f None first = tt
+faulted (Format g) (Some input) first = first
+faulted Failed (Some input) first = tt
+faulted (NoMemory refused) (Some input) first = tt
 
--- no more was taken than shows the fault
-pub all_stopped : (result : Result Statement ReadFault) (old new : Option (List ℕ)) → IfErr result (RefusesAtEnd certificate old new) → IfErr result (StopsAtFault old new)
-all_stopped (Ok c) old new refused = tt
-all_stopped (Err f) old new refused = (refused.seen, refused.taken, refused.stops)
+abbrev refusal : ReadFault → Result Statement ReadFault
+refusal f = Err f
+
+fails_exactly : (f : ReadFault) (has_failed : Bool) → has_failed ≡ is_failure f → (refusal f ≡ Err Failed) ↔ (has_failed ≡ true)
+fails_exactly (Format g) has_failed is = (λ e. absurd cc, λ t. absurd (false≢true (sym is ∙ t)))
+fails_exactly Failed has_failed is = (λ e. is, λ t. refl)
+fails_exactly (NoMemory refused) has_failed is = (λ e. absurd cc, λ t. absurd (false≢true (sym is ∙ t)))
+
+pub certificate_read : (source : Change SourceState) (result : Result Statement ReadFault) → ReadsAll certificate Spells source result → ReadsCertificate source result
+certificate_read source (Ok c) all =
+    let tells = told c source all in
+    record {
+      tells = tells;
+      answer = all_decided (Ok c) source.before.left tells;
+      failed = (λ e. absurd cc, λ t. absurd (false≢true (sym all.found.on.1 ∙ t)));
+      taken = subst (λ (l : List ℕ). Takes source l) all.found.spells.1 all.found.taken;
+      stops = tt;
+      given = (all.found.text, all.found.taken);
+    }
+certificate_read source (Err f) refuses =
+    let tells = faulted f source.before.left refuses.first in
+    record {
+      tells = tells;
+      answer = all_decided (Err f) source.before.left tells;
+      failed = fails_exactly f source.after.has_failed refuses.failed;
+      taken = tt;
+      stops = record { seen = refuses.seen; taken = refuses.taken; is = refuses.is; stops = refuses.stops };
+      given = (refuses.seen, refuses.taken);
+    }

@@ -3,6 +3,7 @@ pub mod SinkLemmas
 pub mod LawLemmas
 pub mod EndLemmas
 pub mod SourceLemmas
+pub mod PartLemmas
 pub mod CertificateLemmas
 pub mod RowLemmas
 pub mod TextLemmas

@@ -9,18 +9,15 @@ use Rattle.board.specs.Grids.{Grid, IsShape, cell_count}
 use Rattle.board.specs.Positions.{Position}
 use Rattle.board.specs.Keys.{key_of, Precedes}
 use Rattle.board.proofs.KeyLemmas.{packed_in_order, tiles_small}
+use Rattle.certificate.specs.Fields.{SpellsBoard, SpellsNumber, SpellsRow}
 use Rattle.certificate.specs.declared.faults.FormatFault.{FormatFault}
 use Rattle.certificate.specs.declared.faults.FormatFault.TheVariants.{NotRising}
-use Rattle.certificate.specs.Certificates.{IsBoardOf, IsRow, RiseAfter}
+use Rattle.certificate.specs.Certificates.{Follows, IsBoardOf, IsRow, RiseAfter}
 use Rattle.certificate.specs.Spellings.{number_text, row_text}
 use Rattle.certificate.specs.Readings.{◌>>=◌, give, number, board, may_follow, rising, row, rows}
 use Rattle.certificate.specs.Laws.{AreBytes}
 use Rattle.certificate.proofs.ReaderLemmas.{Law, Law-iff, Both, Law-seq, Known, Law-give, Law-as_one, as_one_from, fine, faulty, one_fails, AreBytes-rest}
-use Rattle.certificate.proofs.TextLemmas.{NumberText, number_law, BoardText, board_law}
-
--- the tiles of the board come after those of the one before it, if there is one
-abbrev pub Follows : Option Position → Position → Type 0
-Follows before b = IfSome before (λ a. Precedes a.tiles b.tiles)
+use Rattle.certificate.proofs.TextLemmas.{number_law, board_law}
 
 abbrev pub IsBefore : Grid → Option Position → Type 0
 IsBefore grid before = IfSome before (IsBoardOf grid)
@@ -62,30 +59,25 @@ rising_law before r = record {
         let same : p ≡ q = cc in
         ([], record { passes = is; same = ap (λ (z : (Position × ℕ) × List ℕ). z.0) (sym same); nil = refl }, ap (λ (z : (Position × ℕ) × List ℕ). z.1) same)
 
-pub record RowText (grid : Grid) (before : Option Position) (r : Position × ℕ) (text : List ℕ) : Type 0 where
-  pub row : IsRow grid r
-  pub follows : Follows before r.0
-  pub is : text ≡ row_text r
-
 abbrev RowParts : Grid → Option Position → Position × ℕ → List ℕ → Type 0
-RowParts grid before = Both (BoardText grid) (λ b. Both NumberText (λ g. RisingText before (b, g)))
+RowParts grid before = Both (SpellsBoard grid) (λ b. Both SpellsNumber (λ g. RisingText before (b, g)))
 
-row_there : (grid : Grid) (before : Option Position) → IsBefore grid before → (r : Position × ℕ) (text : List ℕ) → RowParts grid before r text → RowText grid before r text
+row_there : (grid : Grid) (before : Option Position) → IsBefore grid before → (r : Position × ℕ) (text : List ℕ) → RowParts grid before r text → SpellsRow grid before r text
 row_there grid before is r text (b, s0, t0, p, (g, s1, t1, n, up, e1), e0) =
-    let made : RowText grid before (b, g) text = record {
+    let made : SpellsRow grid before (b, g) text = record {
       row = record { board = p.board; cost = n.within };
       follows = follows_from_test grid before b is p.board up.passes;
       is = e0 ∙ (λ i. p.is i ++ e1 i) ∙ (λ i. b.tiles ++ (n.is i ++ up.nil i)) ∙ ap (λ (l : List ℕ). b.tiles ++ l) (append-nil (number_text g));
     } in
-    subst (λ (r : Position × ℕ). RowText grid before r text) (sym up.same) made
+    subst (λ (r : Position × ℕ). SpellsRow grid before r text) (sym up.same) made
 
-row_back : (grid : Grid) (before : Option Position) → IsBefore grid before → (r : Position × ℕ) (text : List ℕ) → RowText grid before r text → RowParts grid before r text
+row_back : (grid : Grid) (before : Option Position) → IsBefore grid before → (r : Position × ℕ) (text : List ℕ) → SpellsRow grid before r text → RowParts grid before r text
 row_back grid before is r text t = (r.0, r.0.tiles, number_text r.1, record { board = t.row.board; is = refl }, (r.1, number_text r.1, [], record { within = t.row.cost; is = refl }, record { passes = test_from_follows grid before r.0 is t.row.board t.follows; same = refl; nil = refl }, sym (append-nil (number_text r.1))), t.is)
 
-pub row_law : (grid : Grid) (before : Option Position) → IsShape grid → IsBefore grid before → Law (row grid before) (RowText grid before)
+pub row_law : (grid : Grid) (before : Option Position) → IsShape grid → IsBefore grid before → Law (row grid before) (SpellsRow grid before)
 unfolding row
-row_law grid before sides is = Law-as_one _ (RowText grid before)
-    (Law-iff _ (RowParts grid before) (RowText grid before) (row_there grid before is) (row_back grid before is) (Law-seq (board grid) _ (BoardText grid) _ (board_law grid sides) (λ b _ _. Law-seq number _ NumberText _ number_law (λ g _ _. rising_law before (b, g)))))
+row_law grid before sides is = Law-as_one _ (SpellsRow grid before)
+    (Law-iff _ (RowParts grid before) (SpellsRow grid before) (row_there grid before is) (row_back grid before is) (Law-seq (board grid) _ (SpellsBoard grid) _ (board_law grid sides) (λ b _ _. Law-seq number _ SpellsNumber _ number_law (λ g _ _. rising_law before (b, g)))))
 
 pub row_from : (grid : Grid) (before : Option Position) (bytes : List ℕ) (fault : FormatFault) (from : List ℕ) → row grid before bytes ≡ Err (fault, from) → bytes ≡ from
 unfolding row
@@ -101,7 +93,7 @@ pub record RowsText (grid : Grid) (before : Option Position) (n : ℕ) (rs : Lis
 
 abbrev RowsParts : Grid → Option Position → ℕ → List (Position × ℕ) → List ℕ → Type 0
 RowsParts grid before zero = Known []
-RowsParts grid before (suc n) = Both (RowText grid before) (λ first. Both (RowsText grid (Some first.0) n) (λ others. Known (first ∷ others)))
+RowsParts grid before (suc n) = Both (SpellsRow grid before) (λ first. Both (RowsText grid (Some first.0) n) (λ others. Known (first ∷ others)))
 
 rows_there : (grid : Grid) (before : Option Position) (n : ℕ) (rs : List (Position × ℕ)) (text : List ℕ) → RowsParts grid before n rs text → RowsText grid before n rs text
 rows_there grid before zero rs text p =
@@ -127,7 +119,7 @@ pub rows_law : (grid : Grid) (before : Option Position) (n : ℕ) → IsShape gr
 unfolding rows
 rows_law grid before zero sides is = Law-iff (give []) (Known []) (RowsText grid before zero) (rows_there grid before zero) (rows_back grid before zero) (Law-give [])
 rows_law grid before (suc n) sides is = Law-iff _ (RowsParts grid before (suc n)) (RowsText grid before (suc n)) (rows_there grid before (suc n)) (rows_back grid before (suc n))
-    (Law-seq (row grid before) _ (RowText grid before) _ (row_law grid before sides is)
+    (Law-seq (row grid before) _ (SpellsRow grid before) _ (row_law grid before sides is)
     (λ first _ t. Law-seq (rows grid (Some first.0) n) _ (RowsText grid (Some first.0) n) _ (rows_law grid (Some first.0) n sides t.row.board) (λ others _ _. Law-give (first ∷ others))))
 
 -- one row, and then those before a faulty one

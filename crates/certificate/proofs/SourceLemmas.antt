@@ -1,76 +1,97 @@
 -- Readers of a source that follow one another: the first refuses, or a later one does.
 use Rattle.std.proofs.Common.{◌≡◌, ⊎_elim, Bool, false, cond, ℕ, zero, suc, ◌+◌, ◌<◌, List, [], ◌∷◌, ◌++◌, length, get_or, take, drop, map, Option, Some, None, Result, Ok, Err, refl, sym, ap, subst, ◌∙◌, append_assoc, append-nil, arith}
-use Rattle.std.specs.Prelude.{IfErr, IfSome, codes}
+use Rattle.std.specs.Prelude.{IfSome}
 use Rattle.std.specs.List.{flat_map, AllByRecursion}
-use Rattle.std.specs.Io.KnownBytes.{Consumes}
 use Rattle.std.proofs.KnownBytes.{Consumes-nil, Consumes-trans}
 use Rattle.std.proofs.lemmas.List.{drop_more, take-append-drop}
 use Rattle.std.proofs.lemmas.List.Concat.{flat_map-cons}
 use Rattle.board.specs.declared.moves.Move.{Move}
 use Rattle.board.specs.Grids.{Grid, IsShape}
 use Rattle.board.specs.Positions.{Position}
-use Rattle.board.specs.CostRules.{CostRule}
+use Rattle.certificate.specs.Fields.{SpellsBoard, SpellsNumber, SpellsRow}
 use Rattle.certificate.specs.declared.faults.FormatFault.{FormatFault}
 use Rattle.certificate.specs.declared.faults.ReadFault.{ReadFault}
 use Rattle.memory.specs.declared.OutOfMemory.{OutOfMemory}
 use Rattle.certificate.specs.declared.faults.ReadFault.TheVariants.{Format, Failed, NoMemory}
 use Rattle.certificate.specs.declared.faults.FormatFault.TheVariants.{Truncated, OutOfRange, NotRising}
-use Rattle.certificate.specs.Certificates.{IsBoardOf, IsWithinLimit, IsRow, RiseAfter}
-use Rattle.certificate.specs.Spellings.{letter_of, number_text, opening_text, row_text}
-use Rattle.certificate.specs.Readings.{Reader, ◌>>=◌, continued, give, as_one, blamed, IsFaultOf, IsCutOff, HasNoFault, board, number, number_in, may_follow, rising, letter, letters, row, rows, end, grid_of, costs_of}
-use Rattle.certificate.specs.Sources.{Stops, RefusesAt, Refuses, RefusesAtEnd}
-use Rattle.certificate.proofs.FieldLemmas.{known, if_format, all_after, field_short, last_split, not_order}
+use Rattle.certificate.specs.Certificates.{Follows, IsBoardOf, IsWithinLimit, IsRow, RiseAfter}
+use Rattle.certificate.specs.Spellings.{letter_of, number_text, row_text}
+use Rattle.certificate.specs.Readings.{Reader, ◌>>=◌, continued, give, as_one, blamed, IsFaultOf, IsCutOff, HasNoFault, board, number, number_in, may_follow, rising, letter, letters, row, rows, end}
+use Rattle.byte_streams.specs.Streams.{SourceState, Change}
+use Rattle.byte_streams.specs.Source.{Takes}
+use Rattle.byte_streams.proofs.SinkLemmas.{from_to}
+use Rattle.certificate.specs.Sources.{Finds, Stops, RefusesAt, Refuses, Reads, RefusesAtEnd}
+use Rattle.certificate.proofs.FieldLemmas.{if_begun, if_left, if_format, all_after, field_short, last_split, not_order}
 use Rattle.certificate.proofs.ReaderLemmas.{Law, fine, faulty, one_fails}
-use Rattle.certificate.proofs.TextLemmas.{letter_law, BoardText, NumberText, board_law, number_law, four_bytes, ByteText, OpeningParts, opening_there}
-use Rattle.certificate.proofs.RowLemmas.{RowText, row_law, sides_of, Follows, IsBefore}
+use Rattle.certificate.proofs.TextLemmas.{letter_law, board_law, number_law, four_bytes}
+use Rattle.certificate.proofs.RowLemmas.{row_law, sides_of, IsBefore}
 
 -- ---- what is passed on from a later reader to the whole
 
-stops_carried : {X Y : Type 0} (r : Reader X) (s : Reader Y) (B C : List ℕ → Type 0) (text : List ℕ) (old mid : Option (List ℕ)) → ((seen : List ℕ) → IfSome mid (λ input. input ≡ seen) → IfSome old (λ input. input ≡ text ++ seen))
-    → ((l : List ℕ) (g : FormatFault) → IsFaultOf r l g → IsFaultOf s (text ++ l) g) → ((l : List ℕ) → B l → C (text ++ l)) → (seen : List ℕ) (f : ReadFault) → Stops r B mid seen f → Stops s C old (text ++ seen) f
-stops_carried r s B C text old mid all fault sound seen (Format g) w = record {
-  is = fault seen g w.is;
-  at_end = λ e. all seen (w.at_end e);
+stops_carried : (B C : List ℕ → Type 0) (text : List ℕ) (a b c : SourceState) → Takes (from_to a b) text → ((l : List ℕ) → B l → C (text ++ l)) → (seen : List ℕ) (f : ReadFault) → Stops B (from_to b c) seen f → Stops C (from_to a c) (text ++ seen) f
+stops_carried B C text a b c taken sound seen (Format g) w = record {
+  at_end = λ e. all_after a.left b.left text seen taken (w.at_end e);
   at_byte = λ other. let p = w.at_byte other in (text ++ p.0, p.1, ap (λ (l : List ℕ). text ++ l) p.2 ∙ sym (append_assoc text p.0 (p.1 ∷ [])), sound p.0 p.3);
 }
-stops_carried r s B C text old mid all fault sound seen Failed w = sound seen w
-stops_carried r s B C text old mid all fault sound seen (NoMemory refused) w = tt
+stops_carried B C text a b c taken sound seen Failed w = sound seen w
+stops_carried B C text a b c taken sound seen (NoMemory refused) w = tt
 
-carried : {X Y : Type 0} (r : Reader X) (s : Reader Y) (B C : List ℕ → Type 0) (text : List ℕ) (old mid new : Option (List ℕ)) (f : ReadFault) → Consumes old mid text → ((l : List ℕ) (g : FormatFault) → IsFaultOf r l g → IsFaultOf s (text ++ l) g)
-    → ((l : List ℕ) → B l → C (text ++ l)) → RefusesAt r B mid new f → RefusesAt s C old new f
-carried r s B C text old mid new f taken fault sound w = record {
+carried : {X Y : Type 0} (r : Reader X) (s : Reader Y) (B C : List ℕ → Type 0) (text : List ℕ) (a b c : SourceState) (f : ReadFault) → Takes (from_to a b) text → ((l : List ℕ) (g : FormatFault) → IsFaultOf r l g → IsFaultOf s (text ++ l) g)
+    → ((l : List ℕ) → B l → C (text ++ l)) → RefusesAt r B (from_to b c) f → RefusesAt s C (from_to a c) f
+carried r s B C text a b c f taken fault sound w = record {
   seen = text ++ w.seen;
-  taken = Consumes-trans old mid new text w.seen taken w.taken;
-  first = if_format f (λ g. (input : List ℕ) → mid ≡ Some input → IsFaultOf r input g) (λ g. (input : List ℕ) → old ≡ Some input → IsFaultOf s input g)
-      (λ g first input is. let q = known old mid text input is taken in subst (λ (l : List ℕ). IsFaultOf s l g) (sym q.2) (fault q.0 g (first q.0 q.1))) w.first;
-  stops = stops_carried r s B C text old mid (λ seen all. all_after old mid text seen taken all) fault sound w.seen f w.stops;
+  taken = Consumes-trans a.left b.left c.left text w.seen taken w.taken;
+  is = if_format f (λ g. IsFaultOf r w.seen g) (λ g. IsFaultOf s (text ++ w.seen) g) (λ g p. fault w.seen g p) w.is;
+  first = if_format f (λ g. IfSome b.left (λ input. IsFaultOf r input g)) (λ g. IfSome a.left (λ input. IsFaultOf s input g))
+      (λ g p. if_left a.left b.left text (λ input. IsFaultOf r input g) (λ input. IsFaultOf s input g) taken (λ l q. fault l g q) p) w.first;
+  stops = stops_carried B C text a b c taken sound w.seen f w.stops;
+  failed = w.failed;
 }
 
 -- where what a reader finds wrong is wrong in the whole
-carried_cut : {X Y : Type 0} (r : Reader X) (s : Reader Y) (text : List ℕ) (old mid new : Option (List ℕ)) (f : ReadFault) → Consumes old mid text → ((l : List ℕ) (g : FormatFault) → IsFaultOf r l g → IsFaultOf s (text ++ l) g) → Refuses r mid new f → Refuses s old new f
-carried_cut r s text old mid new f taken fault w = carried r s (λ bytes. IsCutOff r bytes) (λ bytes. IsCutOff s bytes) text old mid new f taken fault (λ l cut. fault l Truncated cut) w
+carried_cut : {X Y : Type 0} (r : Reader X) (s : Reader Y) (text : List ℕ) (a b c : SourceState) (f : ReadFault) → Takes (from_to a b) text → ((l : List ℕ) (g : FormatFault) → IsFaultOf r l g → IsFaultOf s (text ++ l) g) → Refuses r (from_to b c) f → Refuses s (from_to a c) f
+carried_cut r s text a b c f taken fault w = carried r s (λ bytes. IsCutOff r bytes) (λ bytes. IsCutOff s bytes) text a b c f taken fault (λ l cut. fault l Truncated cut) w
 
 first_fault : {X Y : Type 0} (a : Reader X) (k : X → Reader Y) (l : List ℕ) (g : FormatFault) → IsFaultOf a l g → IsFaultOf (a >>= k) l g
 unfolding ◌>>=◌
 first_fault a k l g p = (p.0, ap (continued k) p.1)
 
-pub first_refuses : {X Y : Type 0} {a : Reader X} (k : X → Reader Y) {old new : Option (List ℕ)} {f : ReadFault} → Refuses a old new f → Refuses (a >>= k) old new f
-first_refuses {a = a} k {old = old} {new = new} {f = f} r = carried_cut a (a >>= k) [] old old new f (Consumes-nil old) (λ l g p. first_fault a k l g p) r
+pub first_refuses : {X Y : Type 0} {a : Reader X} (k : X → Reader Y) {source : Change SourceState} {f : ReadFault} → Refuses a source f → Refuses (a >>= k) source f
+first_refuses {a = a} k {source = source} {f = f} r = carried_cut a (a >>= k) [] source.before source.before source.after f (Consumes-nil source.before.left) (λ l g p. first_fault a k l g p) r
 
 again_at : {X Y : Type 0} (a : Reader X) (k : X → Reader Y) (A : X → List ℕ → Type 0) → Law a A → (x : X) (text : List ℕ) → A x text → (l : List ℕ) → (a >>= k) (text ++ l) ≡ k x l
 unfolding ◌>>=◌
 again_at a k A law x text t l = ap (continued k) (law.again x text l t)
 
-pub then_refuses : {X Y : Type 0} {a : Reader X} (k : X → Reader Y) {A : X → List ℕ → Type 0} {old mid new : Option (List ℕ)} {f : ReadFault} → Law a A → (x : X) (text : List ℕ) → A x text → Consumes old mid text → Refuses (k x) mid new f
-    → Refuses (a >>= k) old new f
-then_refuses {a = a} k {A = A} {old = old} {mid = mid} {new = new} {f = f} law x text t taken r = carried_cut (k x) (a >>= k) text old mid new f taken (λ l g p. (p.0, again_at a k A law x text t l ∙ p.1)) r
+pub then_refuses : {X Y : Type 0} {a : Reader X} (k : X → Reader Y) {A : X → List ℕ → Type 0} {old mid new : SourceState} {f : ReadFault} {x : X} → Law a A → Finds A (from_to old mid) x → Refuses (k x) (from_to mid new) f → Refuses (a >>= k) (from_to old new) f
+then_refuses {a = a} k {A = A} {old = old} {mid = mid} {new = new} {f = f} {x = x} law p r = carried_cut (k x) (a >>= k) p.text old mid new f p.taken (λ l g q. (q.0, again_at a k A law x p.text p.spells l ∙ q.1)) r
 
-pub as_one_refuses : {X : Type 0} {r : Reader X} {old new : Option (List ℕ)} {f : ReadFault} → Refuses r old new f → Refuses (as_one r) old new f
+pub as_one_refuses : {X : Type 0} {r : Reader X} {source : Change SourceState} {f : ReadFault} → Refuses r source f → Refuses (as_one r) source f
 unfolding as_one
-as_one_refuses {r = reader} {old = old} {new = new} {f = f} r = carried_cut reader (as_one reader) [] old old new f (Consumes-nil old) (λ l g p. blamed_at l g p) r
+as_one_refuses {r = reader} {source = source} {f = f} r = carried_cut reader (as_one reader) [] source.before source.before source.after f (Consumes-nil source.before.left) (λ l g p. blamed_at l g p) r
   where
     blamed_at : (l : List ℕ) (g : FormatFault) → IsFaultOf reader l g → IsFaultOf (as_one reader) l g
     blamed_at l g p = (l, ap (blamed l) p.1)
+
+-- ---- what was found, said otherwise, and one after the other
+
+pub found_as : {X Y : Type 0} {A : X → List ℕ → Type 0} {B : Y → List ℕ → Type 0} {source : Change SourceState} {x : X} {y : Y} → ((text : List ℕ) → A x text → B y text) → Finds A source x → Finds B source y
+found_as h p = record { text = p.text; spells = h p.text p.spells; taken = p.taken; on = p.on }
+
+pub found_after : {X Y Z : Type 0} {A : X → List ℕ → Type 0} {B : Y → List ℕ → Type 0} {C : Z → List ℕ → Type 0} {a b c : SourceState} {x : X} {y : Y} {z : Z} → ((s t : List ℕ) → A x s → B y t → C z (s ++ t)) → Finds A (from_to a b) x → Finds B (from_to b c) y
+    → Finds C (from_to a c) z
+found_after {a = a} {b = b} {c = c} h p q = record {
+  text = p.text ++ q.text;
+  spells = h p.text q.text p.spells q.spells;
+  taken = Consumes-trans a.left b.left c.left p.text q.text p.taken q.taken;
+  on = (p.on.0, q.on.1);
+}
+
+-- a first field was found, and a second reader ends the whole
+pub reads_after : {X Y Z : Type 0} {a : Reader X} (k : X → Reader Y) {A : X → List ℕ → Type 0} (B C : Z → List ℕ → Type 0) {old mid : SourceState} (new : SourceState) {x : X} (r : Result Z ReadFault)
+    → Law a A → ((z : Z) (s t : List ℕ) → A x s → B z t → C z (s ++ t)) → Finds A (from_to old mid) x → Reads (k x) B (from_to mid new) r → Reads (a >>= k) C (from_to old new) r
+reads_after k B C new (Ok z) law both p q = found_after (both z) p q
+reads_after k B C new (Err f) law both p q = then_refuses k law p q
 
 -- ---- the end, and what is looked for there
 
@@ -82,22 +103,21 @@ one_fault {X = X} r l f g p q =
     let same : x ≡ y = cc in
     ap (λ (z : FormatFault × List ℕ). z.0) (sym same)
 
-pub before_end : {X : Type 0} {r : Reader X} {old new : Option (List ℕ)} {f : ReadFault} → Refuses r old new f → RefusesAtEnd r old new f
-before_end {r = reader} {old = old} {new = new} {f = f} r =
-    carried reader reader (λ bytes. IsCutOff reader bytes) (λ bytes. HasNoFault reader bytes) [] old old new f (Consumes-nil old) (λ l g p. p) (λ l cut g p. one_fault reader l Truncated g cut p) r
+pub before_end : {X : Type 0} {r : Reader X} {source : Change SourceState} {f : ReadFault} → Refuses r source f → RefusesAtEnd r source f
+before_end {r = reader} {source = source} {f = f} r =
+    carried reader reader (λ bytes. IsCutOff reader bytes) (λ bytes. HasNoFault reader bytes) [] source.before source.before source.after f (Consumes-nil source.before.left) (λ l g p. p) (λ l cut g p. one_fault reader l Truncated g cut p) r
 
-pub then_at_end : {X Y : Type 0} {a : Reader X} (k : X → Reader Y) {A : X → List ℕ → Type 0} {old mid new : Option (List ℕ)} {f : ReadFault} → Law a A → (x : X) (text : List ℕ) → A x text → Consumes old mid text → RefusesAtEnd (k x) mid new f
-    → RefusesAtEnd (a >>= k) old new f
-then_at_end {a = a} k {A = A} {old = old} {mid = mid} {new = new} {f = f} law x text t taken r =
-    carried (k x) (a >>= k) (λ bytes. HasNoFault (k x) bytes) (λ bytes. HasNoFault (a >>= k) bytes) text old mid new f taken (λ l g p. (p.0, again_at a k A law x text t l ∙ p.1))
-    (λ l sound g p. sound g (p.0, sym (again_at a k A law x text t l) ∙ p.1)) r
+pub then_at_end : {X Y : Type 0} {a : Reader X} (k : X → Reader Y) {A : X → List ℕ → Type 0} {old mid new : SourceState} {f : ReadFault} {x : X} → Law a A → Finds A (from_to old mid) x → RefusesAtEnd (k x) (from_to mid new) f → RefusesAtEnd (a >>= k) (from_to old new) f
+then_at_end {a = a} k {A = A} {old = old} {mid = mid} {new = new} {f = f} {x = x} law p r =
+    carried (k x) (a >>= k) (λ bytes. HasNoFault (k x) bytes) (λ bytes. HasNoFault (a >>= k) bytes) p.text old mid new f p.taken (λ l g q. (q.0, again_at a k A law x p.text p.spells l ∙ q.1))
+    (λ l sound g q. sound g (q.0, sym (again_at a k A law x p.text p.spells l) ∙ q.1)) r
 
 -- nothing is read after the end
-pub end_refuses : {Y : Type 0} (value : Unit {0} → Y) {old new : Option (List ℕ)} {f : ReadFault} → RefusesAtEnd end old new f → RefusesAtEnd (end >>= λ u. give (value u)) old new f
+pub end_refuses : {Y : Type 0} (value : Unit {0} → Y) {source : Change SourceState} {f : ReadFault} → RefusesAtEnd end source f → RefusesAtEnd (end >>= λ u. give (value u)) source f
 unfolding ◌>>=◌ give
-end_refuses {Y = Y} value {old = old} {new = new} {f = f} r =
-    carried end (end >>= λ u. give (value u)) (λ bytes. HasNoFault end bytes) (λ bytes. HasNoFault (end >>= λ u. give (value u)) bytes) [] old old new f (Consumes-nil old) (λ l g p. first_fault end (λ u. give (value u)) l g p)
-    (λ l sound g p. by_end l sound g p) r
+end_refuses {Y = Y} value {source = source} {f = f} r =
+    carried end (end >>= λ u. give (value u)) (λ bytes. HasNoFault end bytes) (λ bytes. HasNoFault (end >>= λ u. give (value u)) bytes) [] source.before source.before source.after f (Consumes-nil source.before.left)
+    (λ l g p. first_fault end (λ u. give (value u)) l g p) (λ l sound g p. by_end l sound g p) r
   where
     never : (y : Y) (l : List ℕ) (g : FormatFault) (from : List ℕ) → fine y l ≡ faulty Y g from → ⊥
     never y l g from e = absurd cc
@@ -114,8 +134,8 @@ row_falls grid before sides b n is within falls rest =
     let judged : rising before (b, n) rest ≡ faulty (Position × ℕ) NotRising rest = ap (λ (up : Bool). cond up (fine (b, n) rest) (faulty (Position × ℕ) NotRising rest)) falls in (
       bytes,
       ap (blamed bytes)
-          (again_at (board grid) (λ b. number >>= λ n. rising before (b, n)) (BoardText grid) (board_law grid sides) b b.tiles (record { board = is; is = refl }) (number_text n ++ rest)
-          ∙ again_at number (λ n. rising before (b, n)) NumberText number_law n (number_text n) (record { within = within; is = refl }) rest ∙ judged),
+          (again_at (board grid) (λ b. number >>= λ n. rising before (b, n)) (SpellsBoard grid) (board_law grid sides) b b.tiles (record { board = is; is = refl }) (number_text n ++ rest)
+          ∙ again_at number (λ n. rising before (b, n)) SpellsNumber number_law n (number_text n) (record { within = within; is = refl }) rest ∙ judged),
     )
 
 row_cut : (grid : Grid) (before : Option Position) → IsShape grid → (b : Position) → IsBoardOf grid b → (rest : List ℕ) → length rest < 4 → IsCutOff (row grid before) (b.tiles ++ rest)
@@ -123,26 +143,27 @@ unfolding row as_one
 row_cut grid before sides b is rest few =
     let bytes = b.tiles ++ rest in
     let cut = first_fault number (λ n. rising before (b, n)) rest Truncated (rest, field_short OutOfRange 4 number_in rest few) in
-    (bytes, ap (blamed bytes) (again_at (board grid) (λ b. number >>= λ n. rising before (b, n)) (BoardText grid) (board_law grid sides) b b.tiles (record { board = is; is = refl }) rest ∙ cut.1))
+    (bytes, ap (blamed bytes) (again_at (board grid) (λ b. number >>= λ n. rising before (b, n)) (SpellsBoard grid) (board_law grid sides) b b.tiles (record { board = is; is = refl }) rest ∙ cut.1))
 
-pub row_refuses : (grid : Grid) (before : Option Position) (b : Position) (n : ℕ) (old mid new : Option (List ℕ)) → IsBoardOf grid b → IsWithinLimit n → Consumes old mid b.tiles → Consumes mid new (number_text n) → may_follow before b ≡ false
-    → Refuses (row grid before) old new (Format NotRising)
-row_refuses grid before b n old mid new is within tiles cost falls =
+pub row_refuses : (grid : Grid) (before : Option Position) (b : Position) (n : ℕ) (old mid new : SourceState) → Finds (SpellsBoard grid) (from_to old mid) b → Finds SpellsNumber (from_to mid new) n → may_follow before b ≡ false → Refuses (row grid before) (from_to old new) (Format NotRising)
+row_refuses grid before b n old mid new p q falls =
+    let is = p.spells.board in
     let sides = sides_of grid b is in
-    let taken = Consumes-trans old mid new b.tiles (number_text n) tiles cost in
+    let within = q.spells.within in
+    let taken : Takes (from_to old new) (b.tiles ++ number_text n) = subst (λ (l : List ℕ). Takes (from_to old new) l) (λ i. p.spells.is i ++ q.spells.is i) (Consumes-trans old.left mid.left new.left p.text q.text p.taken q.taken) in
     record {
       seen = b.tiles ++ number_text n;
       taken = taken;
-      first = λ input from.
-          let q = known old new (b.tiles ++ number_text n) input from taken in
-          subst (λ (l : List ℕ). IsFaultOf (row grid before) l NotRising) (sym (q.2 ∙ append_assoc b.tiles (number_text n) q.0)) (row_falls grid before sides b n is within falls q.0);
+      is = subst (λ (l : List ℕ). IsFaultOf (row grid before) (b.tiles ++ l) NotRising) (append-nil (number_text n)) (row_falls grid before sides b n is within falls []);
+      first = if_begun old.left new.left (b.tiles ++ number_text n) (λ input. IsFaultOf (row grid before) input NotRising) taken
+          (λ rest. subst (λ (l : List ℕ). IsFaultOf (row grid before) l NotRising) (sym (append_assoc b.tiles (number_text n) rest)) (row_falls grid before sides b n is within falls rest));
       stops = record {
-        is = subst (λ (l : List ℕ). IsFaultOf (row grid before) (b.tiles ++ l) NotRising) (append-nil (number_text n)) (row_falls grid before sides b n is within falls []);
         at_end = λ e. absurd (not_order e);
         at_byte = λ _.
             let p = last_split (number_text n) (omega (arith, four_bytes n)) in
             (b.tiles ++ p.0, p.1, ap (λ (l : List ℕ). b.tiles ++ l) p.2 ∙ sym (append_assoc b.tiles p.0 (p.1 ∷ [])), row_cut grid before sides b is p.0 (omega (arith, p.3, four_bytes n)));
       };
+      failed = q.on.1;
     }
 
 -- ---- several letters
@@ -155,7 +176,7 @@ letters_at (m ∷ done) (suc n) rest f fewer fails =
     ap (continued (λ m. letters n >>= λ ms. give (m ∷ ms))) (letter_law.again m (letter_of m ∷ []) (map letter_of done ++ rest) refl)
     ∙ ap (continued (λ ms. give (m ∷ ms))) (letters_at done n rest f (omega (arith, fewer)) fails)
 
-pub letters_refuse : (done : List Move) (n : ℕ) (old mid new : Option (List ℕ)) (f : ReadFault) → length done < n → Consumes old mid (map letter_of done) → Refuses letter mid new f → Refuses (letters n) old new f
+pub letters_refuse : (done : List Move) (n : ℕ) (old mid new : SourceState) (f : ReadFault) → length done < n → Takes (from_to old mid) (map letter_of done) → Refuses letter (from_to mid new) f → Refuses (letters n) (from_to old new) f
 letters_refuse done n old mid new f fewer taken r = carried_cut letter (letters n) (map letter_of done) old mid new f taken (λ l g p. (p.0, letters_at done n l (g, p.0) fewer p.1)) r
 
 -- ---- several rows
@@ -188,37 +209,23 @@ rows_at grid before is done zero rest f fewer all rise fails = absurd (omega (ar
 rows_at grid before is [] (suc n) rest f fewer all rise fails = ap (continued (λ first. rows grid (Some first.0) n >>= λ others. give (first ∷ others))) fails
 rows_at grid before is (r ∷ done) (suc n) rest f fewer all rise fails =
     let text : flat_map row_text (r ∷ done) ++ rest ≡ row_text r ++ (flat_map row_text done ++ rest) = ap (λ (l : List ℕ). l ++ rest) (flat_map-cons row_text r done) ∙ append_assoc (row_text r) (flat_map row_text done) rest in
-    let t : RowText grid before r (row_text r) = record { row = all.0; follows = rise.0; is = refl } in
+    let t : SpellsRow grid before r (row_text r) = record { row = all.0; follows = rise.0; is = refl } in
     ap (rows grid before (suc n)) text
     ∙ ap (continued (λ first. rows grid (Some first.0) n >>= λ others. give (first ∷ others))) ((row_law grid before (sides_of grid r.0 all.0.board) is).again r (row_text r) (flat_map row_text done ++ rest) t)
     ∙ ap (continued (λ others. give (r ∷ others))) (rows_at grid (Some r.0) all.0.board done n rest f (omega (arith, fewer)) all.1 rise.1 fails)
 
-pub rows_refuse : (grid : Grid) (done : List (Position × ℕ)) (n : ℕ) (old mid new : Option (List ℕ)) (f : ReadFault) → length done < n → AllByRecursion (IsRow grid) done → RiseAfter None done
-    → Consumes old mid (flat_map row_text done) → Refuses (row grid (last_of None done)) mid new f → Refuses (rows grid None n) old new f
+pub rows_refuse : (grid : Grid) (done : List (Position × ℕ)) (n : ℕ) (old mid new : SourceState) (f : ReadFault) → length done < n → AllByRecursion (IsRow grid) done → RiseAfter None done
+    → Takes (from_to old mid) (flat_map row_text done) → Refuses (row grid (last_of None done)) (from_to mid new) f → Refuses (rows grid None n) (from_to old new) f
 rows_refuse grid done n old mid new f fewer all rise taken r = carried_cut (row grid (last_of None done)) (rows grid None n) (flat_map row_text done) old mid new f taken (λ l g p. (p.0, rows_at grid None tt done n l (g, p.0) fewer all rise p.1)) r
 
 pub last_is_board : (grid : Grid) (before : Option Position) (rs : List (Position × ℕ)) → IsBefore grid before → AllByRecursion (IsRow grid) rs → IsBefore grid (last_of before rs)
 last_is_board grid before [] is all = is
 last_is_board grid before (r ∷ rs) is all = last_is_board grid (Some r.0) rs all.0.board all.1
 
--- ---- want of memory, and answers that are passed on
+-- ---- want of memory
 
-pub lacks_memory : {X : Type 0} {r : Reader X} (old new : Option (List ℕ)) (text : List ℕ) → Consumes old new text → (refused : OutOfMemory) → Refuses r old new (NoMemory refused)
-lacks_memory old new text taken refused = record { seen = text; taken = taken; first = tt; stops = tt }
-
-pub if_err : {X : Type 0} (r : Result X ReadFault) (P Q : ReadFault → Type 0) → ((f : ReadFault) → P f → Q f) → IfErr r P → IfErr r Q
-if_err (Ok x) P Q h p = tt
-if_err (Err f) P Q h p = h f p
-
--- ---- the opening
-
-pub opening_taken : (a b c d e z : Option (List ℕ)) (rows cols kind none : ℕ) (costs : CostRule) → Consumes a b (codes "TILECRT1") → Consumes b c (rows ∷ []) → Consumes c d (cols ∷ []) → Consumes d e (kind ∷ []) → Consumes e z (none ∷ [])
-    → ByteText 2 5 rows (rows ∷ []) → ByteText 2 5 cols (cols ∷ []) → ByteText 0 1 kind (kind ∷ []) → ByteText 0 0 none (none ∷ []) → costs ≡ costs_of (grid_of rows cols) kind → Consumes a z (opening_text costs)
-opening_taken a b c d e z rows cols kind none costs t0 t1 t2 t3 t4 r s k g is =
-    let text : List ℕ = codes "TILECRT1" ++ rows ∷ cols ∷ kind ∷ none ∷ [] in
-    let parts : OpeningParts costs text = (tt, codes "TILECRT1", rows ∷ cols ∷ kind ∷ none ∷ [], refl, (rows, rows ∷ [], cols ∷ kind ∷ none ∷ [], r, (cols, cols ∷ [], kind ∷ none ∷ [], s, (kind, kind ∷ [], none ∷ [], k, (none, none ∷ [], [], g, (is, refl), refl), refl), refl), refl), refl) in
-    subst (λ (l : List ℕ). Consumes a z l) (opening_there costs text parts).is
-    (Consumes-trans a b z (codes "TILECRT1") (rows ∷ cols ∷ kind ∷ none ∷ []) t0 (Consumes-trans b c z (rows ∷ []) (cols ∷ kind ∷ none ∷ []) t1 (Consumes-trans c d z (cols ∷ []) (kind ∷ none ∷ []) t2 (Consumes-trans d e z (kind ∷ []) (none ∷ []) t3 t4))))
+pub lacks_memory : {X : Type 0} {r : Reader X} (source : Change SourceState) (text : List ℕ) → Takes source text → source.after.has_failed ≡ false → (refused : OutOfMemory) → Refuses r source (NoMemory refused)
+lacks_memory source text taken fine refused = record { seen = text; taken = taken; is = tt; first = tt; stops = tt; failed = fine }
 
 -- ---- a row among others
 

@@ -15,9 +15,10 @@ use Rattle.board.specs.Grids.{Grid, IsShape, cell_count}
 use Rattle.board.specs.Positions.{Position, goal_of}
 use Rattle.board.specs.CostRules.{CostRule, unit_rule, face_rule}
 use Rattle.board.proofs.GoalLemmas.{goal_board}
+use Rattle.certificate.specs.Fields.{SpellsBoard, SpellsByte, SpellsCount, SpellsLetter, SpellsLetters, SpellsMagic, SpellsNumber, SpellsOpening, SpellsPlan}
 use Rattle.certificate.specs.declared.faults.FormatFault.TheVariants.{OtherMagic, OutOfRange}
-use Rattle.certificate.specs.Certificates.{AreNamedCosts, IsBoardOf, IsWithinLimit}
-use Rattle.certificate.specs.Spellings.{kind_of, opening_text, letter_of, number_text, count_text, plan_text}
+use Rattle.certificate.specs.Certificates.{AreNamedCosts, IsWithinLimit}
+use Rattle.certificate.specs.Spellings.{kind_of, opening_text, letter_of, number_text, count_text}
 use Rattle.certificate.specs.Readings.{give, magic, magic_in, byte_within, byte_in, number, number_in, count, count_in, board, board_in, letter, letter_in, grid_of, costs_of, opening, letters, plan, rows}
 use Rattle.certificate.specs.Laws.{AreBytes}
 use Rattle.certificate.proofs.FieldLemmas.{number_back, count_back, letter_found}
@@ -43,62 +44,50 @@ one_byte (b ∷ c ∷ text) e = absurd (omega (arith, e))
 
 -- ---- the magic
 
-abbrev pub MagicText : Unit {0} → List ℕ → Type 0
-MagicText u text = text ≡ codes "TILECRT1"
-
-magic_there : (u : Unit {0}) (text : List ℕ) → MagicText u text → (length text ≡ 8) × (magic_in text ≡ Some u)
+magic_there : (u : Unit {0}) (text : List ℕ) → SpellsMagic u text → (length text ≡ 8) × (magic_in text ≡ Some u)
 unfolding magic_in
 magic_there u text is = (ap (λ (t : List ℕ). length t) is, rw ((bytes_eq-Decides text (codes "TILECRT1")).1 is) refl)
 
-magic_back : (u : Unit {0}) (text : List ℕ) → AreBytes text → length text ≡ 8 → magic_in text ≡ Some u → MagicText u text
+magic_back : (u : Unit {0}) (text : List ℕ) → AreBytes text → length text ≡ 8 → magic_in text ≡ Some u → SpellsMagic u text
 unfolding magic_in
 magic_back u text all len e = by_test (bytes_eq text (codes "TILECRT1")) refl e
   where
-    by_test : (r : Bool) → bytes_eq text (codes "TILECRT1") ≡ r → cond r (Some u) None ≡ Some u → MagicText u text
+    by_test : (r : Bool) → bytes_eq text (codes "TILECRT1") ≡ r → cond r (Some u) None ≡ Some u → SpellsMagic u text
     by_test true is e = (bytes_eq-Decides text (codes "TILECRT1")).0 is
     by_test false is e = absurd cc
 
-pub magic_law : Law magic MagicText
-magic_law = Law-field OtherMagic 8 magic_in MagicText magic_there magic_back
+pub magic_law : Law magic SpellsMagic
+magic_law = Law-field OtherMagic 8 magic_in SpellsMagic magic_there magic_back
 
-magic_opens : Opens magic MagicText
-magic_opens = Opens-field OtherMagic 8 magic_in MagicText tt (codes "TILECRT1") refl
+magic_opens : Opens magic SpellsMagic
+magic_opens = Opens-field OtherMagic 8 magic_in SpellsMagic tt (codes "TILECRT1") refl
 
 -- ---- a byte
 
-pub record ByteText (low high byte : ℕ) (text : List ℕ) : Type 0 where
-  pub above : low ≤ byte
-  pub below : byte ≤ high
-  pub is : text ≡ byte ∷ []
-
-byte_there : (low high byte : ℕ) (text : List ℕ) → ByteText low high byte text → (length text ≡ 1) × (byte_in low high text ≡ Some byte)
+byte_there : (low high byte : ℕ) (text : List ℕ) → SpellsByte low high byte text → (length text ≡ 1) × (byte_in low high text ≡ Some byte)
 unfolding byte_in
 byte_there low high byte text t =
     let in_range : (leb low byte && leb byte high) ≡ true = rw (le-leb _ _ t.above, le-leb _ _ t.below) refl in
     (ap (λ (l : List ℕ). length l) t.is, ap (λ (l : List ℕ). cond (leb low (slice_index l 0) && leb (slice_index l 0) high) (Some (slice_index l 0)) None) t.is ∙ ap (λ (r : Bool). cond r (Some byte) None) in_range)
 
-byte_back : (low high byte : ℕ) (text : List ℕ) → AreBytes text → length text ≡ 1 → byte_in low high text ≡ Some byte → ByteText low high byte text
+byte_back : (low high byte : ℕ) (text : List ℕ) → AreBytes text → length text ≡ 1 → byte_in low high text ≡ Some byte → SpellsByte low high byte text
 unfolding byte_in
 byte_back low high byte text all len e = by_test (leb low (slice_index text 0) && leb (slice_index text 0) high) refl e
   where
-    by_test : (r : Bool) → (leb low (slice_index text 0) && leb (slice_index text 0) high) ≡ r → cond r (Some (slice_index text 0)) None ≡ Some byte → ByteText low high byte text
+    by_test : (r : Bool) → (leb low (slice_index text 0) && leb (slice_index text 0) high) ≡ r → cond r (Some (slice_index text 0)) None ≡ Some byte → SpellsByte low high byte text
     by_test false is e = absurd cc
     by_test true is e =
         let p = and_both _ _ is in
         let same = some_number _ _ e in
         record { above = subst (λ (b : ℕ). low ≤ b) same (leb-true _ _ p.0); below = subst (λ (b : ℕ). b ≤ high) same (leb-true _ _ p.1); is = one_byte text len ∙ ap (λ (b : ℕ). b ∷ []) same }
 
-pub byte_law : (low high : ℕ) → Law (byte_within low high) (ByteText low high)
-byte_law low high = Law-field OutOfRange 1 (byte_in low high) (ByteText low high) (byte_there low high) (byte_back low high)
+pub byte_law : (low high : ℕ) → Law (byte_within low high) (SpellsByte low high)
+byte_law low high = Law-field OutOfRange 1 (byte_in low high) (SpellsByte low high) (byte_there low high) (byte_back low high)
 
-byte_opens : (low high : ℕ) → low ≤ high → Opens (byte_within low high) (ByteText low high)
-byte_opens low high some = Opens-field OutOfRange 1 (byte_in low high) (ByteText low high) low (low ∷ []) (record { above = omega arith; below = some; is = refl })
+byte_opens : (low high : ℕ) → low ≤ high → Opens (byte_within low high) (SpellsByte low high)
+byte_opens low high some = Opens-field OutOfRange 1 (byte_in low high) (SpellsByte low high) low (low ∷ []) (record { above = omega arith; below = some; is = refl })
 
 -- ---- numbers
-
-pub record NumberText (n : ℕ) (text : List ℕ) : Type 0 where
-  pub within : IsWithinLimit n
-  pub is : text ≡ number_text n
 
 pub four_bytes : (n : ℕ) → length (number_text n) ≡ 4
 unfolding number_text
@@ -116,73 +105,62 @@ count_again : (n : ℕ) → n < 2 ^ 64 → from_le_bytes w64 (count_text n) ≡ 
 unfolding count_text
 count_again n low = from_le_bytes-to_le_bytes_8 n low
 
-number_there : (n : ℕ) (text : List ℕ) → NumberText n text → (length text ≡ 4) × (number_in text ≡ Some n)
+number_there : (n : ℕ) (text : List ℕ) → SpellsNumber n text → (length text ≡ 4) × (number_in text ≡ Some n)
 unfolding number_in
 number_there n text t =
     let value : from_le_bytes w32 text ≡ n = ap (from_le_bytes w32) t.is ∙ number_again n (omega (arith, t.within)) in
     (ap (λ (l : List ℕ). length l) t.is ∙ four_bytes n, ap (λ (m : ℕ). cond (leb m 1048575) (Some m) None) value ∙ ap (λ (r : Bool). cond r (Some n) None) (le-leb n 1048575 t.within))
 
-number_in_back : (n : ℕ) (text : List ℕ) → AreBytes text → length text ≡ 4 → number_in text ≡ Some n → NumberText n text
+number_in_back : (n : ℕ) (text : List ℕ) → AreBytes text → length text ≡ 4 → number_in text ≡ Some n → SpellsNumber n text
 unfolding number_in
 number_in_back n text all len e = by_test (leb (from_le_bytes w32 text) 1048575) refl e
   where
-    by_test : (r : Bool) → leb (from_le_bytes w32 text) 1048575 ≡ r → cond r (Some (from_le_bytes w32 text)) None ≡ Some n → NumberText n text
+    by_test : (r : Bool) → leb (from_le_bytes w32 text) 1048575 ≡ r → cond r (Some (from_le_bytes w32 text)) None ≡ Some n → SpellsNumber n text
     by_test false is e = absurd cc
     by_test true is e =
         let same = some_number _ _ e in
         record { within = subst (λ (m : ℕ). m ≤ 1048575) same (leb-true _ _ is); is = sym (number_back text n len (bytes_at text all) (sym same)) }
 
-pub number_law : Law number NumberText
-number_law = Law-field OutOfRange 4 number_in NumberText number_there number_in_back
+pub number_law : Law number SpellsNumber
+number_law = Law-field OutOfRange 4 number_in SpellsNumber number_there number_in_back
 
-pub number_opens : Opens number NumberText
-number_opens = Opens-field OutOfRange 4 number_in NumberText 0 (number_text 0) (record { within = omega arith; is = refl })
-
-pub record CountText (n : ℕ) (text : List ℕ) : Type 0 where
-  pub within : n < 2 ^ 64
-  pub is : text ≡ count_text n
+pub number_opens : Opens number SpellsNumber
+number_opens = Opens-field OutOfRange 4 number_in SpellsNumber 0 (number_text 0) (record { within = omega arith; is = refl })
 
 from_le_below : (text : List ℕ) → AreBytes text → from_le_bytes w64 text < 2 ^ 64
 from_le_below text all = let b = bytes_at text all in omega (arith, b 0, b 1, b 2, b 3, b 4, b 5, b 6, b 7)
 
-count_there : (n : ℕ) (text : List ℕ) → CountText n text → (length text ≡ 8) × (count_in text ≡ Some n)
+count_there : (n : ℕ) (text : List ℕ) → SpellsCount n text → (length text ≡ 8) × (count_in text ≡ Some n)
 unfolding count_in
 count_there n text t = (ap (λ (l : List ℕ). length l) t.is ∙ eight_bytes n, ap (λ (m : ℕ). Some m) (ap (from_le_bytes w64) t.is ∙ count_again n t.within))
 
-count_in_back : (n : ℕ) (text : List ℕ) → AreBytes text → length text ≡ 8 → count_in text ≡ Some n → CountText n text
+count_in_back : (n : ℕ) (text : List ℕ) → AreBytes text → length text ≡ 8 → count_in text ≡ Some n → SpellsCount n text
 unfolding count_in
 count_in_back n text all len e =
     let same = some_number (from_le_bytes w64 text) n e in
     record { within = subst (λ (m : ℕ). m < 2 ^ 64) same (from_le_below text all); is = sym (count_back text n len (bytes_at text all) (sym same)) }
 
-pub count_law : Law count CountText
-count_law = Law-field OutOfRange 8 count_in CountText count_there count_in_back
+pub count_law : Law count SpellsCount
+count_law = Law-field OutOfRange 8 count_in SpellsCount count_there count_in_back
 
 -- ---- boards
 
-pub record BoardText (grid : Grid) (b : Position) (text : List ℕ) : Type 0 where
-  pub board : IsBoardOf grid b
-  pub is : text ≡ b.tiles
-
-board_there : (grid : Grid) (b : Position) (text : List ℕ) → BoardText grid b text → (length text ≡ cell_count grid) × (board_in grid text ≡ Some b)
+board_there : (grid : Grid) (b : Position) (text : List ℕ) → SpellsBoard grid b text → (length text ≡ cell_count grid) × (board_in grid text ≡ Some b)
 board_there grid b text t = (
   ap (λ (l : List ℕ). length l) t.is ∙ t.board.board.one_each ∙ ap cell_count t.board.sides,
   ap (board_in grid) t.is ∙ board_back grid b t.board.board t.board.sides,
 )
 
-board_in_back : (grid : Grid) → IsShape grid → (b : Position) (text : List ℕ) → AreBytes text → length text ≡ cell_count grid → board_in grid text ≡ Some b → BoardText grid b text
+board_in_back : (grid : Grid) → IsShape grid → (b : Position) (text : List ℕ) → AreBytes text → length text ≡ cell_count grid → board_in grid text ≡ Some b → SpellsBoard grid b text
 board_in_back grid sides b text all len e = let p = board_found grid text b sides len e in record { board = record { board = p.0; sides = p.1 }; is = sym p.2 }
 
-pub board_law : (grid : Grid) → IsShape grid → Law (board grid) (BoardText grid)
-board_law grid sides = Law-field OutOfRange (cell_count grid) (board_in grid) (BoardText grid) (board_there grid) (board_in_back grid sides)
+pub board_law : (grid : Grid) → IsShape grid → Law (board grid) (SpellsBoard grid)
+board_law grid sides = Law-field OutOfRange (cell_count grid) (board_in grid) (SpellsBoard grid) (board_there grid) (board_in_back grid sides)
 
-pub board_opens : (grid : Grid) → IsShape grid → Opens (board grid) (BoardText grid)
-board_opens grid sides = Opens-field OutOfRange (cell_count grid) (board_in grid) (BoardText grid) (goal_of grid) (goal_of grid).tiles (record { board = record { board = goal_board grid sides; sides = refl }; is = refl })
+pub board_opens : (grid : Grid) → IsShape grid → Opens (board grid) (SpellsBoard grid)
+board_opens grid sides = Opens-field OutOfRange (cell_count grid) (board_in grid) (SpellsBoard grid) (goal_of grid) (goal_of grid).tiles (record { board = record { board = goal_board grid sides; sides = refl }; is = refl })
 
 -- ---- letters
-
-abbrev pub LetterText : Move → List ℕ → Type 0
-LetterText m text = text ≡ letter_of m ∷ []
 
 letter_has : (m : Move) → letter_in (letter_of m ∷ []) ≡ Some m
 unfolding letter_in
@@ -191,26 +169,21 @@ letter_has L = refl
 letter_has R = refl
 letter_has D = refl
 
-letter_there : (m : Move) (text : List ℕ) → LetterText m text → (length text ≡ 1) × (letter_in text ≡ Some m)
+letter_there : (m : Move) (text : List ℕ) → SpellsLetter m text → (length text ≡ 1) × (letter_in text ≡ Some m)
 letter_there m text is = (ap (λ (l : List ℕ). length l) is, ap letter_in is ∙ letter_has m)
 
-letter_back : (m : Move) (text : List ℕ) → AreBytes text → length text ≡ 1 → letter_in text ≡ Some m → LetterText m text
+letter_back : (m : Move) (text : List ℕ) → AreBytes text → length text ≡ 1 → letter_in text ≡ Some m → SpellsLetter m text
 letter_back m text all len e =
     let one = one_byte text len in
     one ∙ ap (λ (b : ℕ). b ∷ []) (letter_found (slice_index text 0) m (sym (ap letter_in one) ∙ e))
 
-pub letter_law : Law letter LetterText
-letter_law = Law-field OutOfRange 1 letter_in LetterText letter_there letter_back
+pub letter_law : Law letter SpellsLetter
+letter_law = Law-field OutOfRange 1 letter_in SpellsLetter letter_there letter_back
 
-letter_opens : Opens letter LetterText
-letter_opens = Opens-field OutOfRange 1 letter_in LetterText U (letter_of U ∷ []) refl
+letter_opens : Opens letter SpellsLetter
+letter_opens = Opens-field OutOfRange 1 letter_in SpellsLetter U (letter_of U ∷ []) refl
 
 -- ---- the opening
-
-pub record OpeningText (costs : CostRule) (text : List ℕ) : Type 0 where
-  pub sides : IsShape costs.grid
-  pub named : AreNamedCosts costs.grid costs
-  pub is : text ≡ opening_text costs
 
 unit_kind : (grid : Grid) → kind_of (unit_rule grid) ≡ 0
 unit_kind grid = ap (λ (r : Bool). cond r 0 1) ((rules_Decide (unit_rule grid) (unit_rule grid)).1 refl)
@@ -241,25 +214,25 @@ costs_again costs sides (inr face) =
     (omega (arith, kind), ap (costs_of costs.grid) kind ∙ sym face)
 
 abbrev pub OpeningParts : CostRule → List ℕ → Type 0
-OpeningParts = Both MagicText (λ _. Both (ByteText 2 5) (λ rows. Both (ByteText 2 5) (λ cols. Both (ByteText 0 1) (λ kind. Both (ByteText 0 0) (λ _. Known (costs_of (grid_of rows cols) kind))))))
+OpeningParts = Both SpellsMagic (λ _. Both (SpellsByte 2 5) (λ rows. Both (SpellsByte 2 5) (λ cols. Both (SpellsByte 0 1) (λ kind. Both (SpellsByte 0 0) (λ _. Known (costs_of (grid_of rows cols) kind))))))
 
 opening_parts_law : Law opening OpeningParts
 unfolding opening
-opening_parts_law = Law-seq magic _ MagicText _ magic_law (λ _ _ _.
-    Law-seq (byte_within 2 5) _ (ByteText 2 5) _ (byte_law 2 5) (λ rows _ _.
-    Law-seq (byte_within 2 5) _ (ByteText 2 5) _ (byte_law 2 5) (λ cols _ _.
-    Law-seq (byte_within 0 1) _ (ByteText 0 1) _ (byte_law 0 1) (λ kind _ _.
-    Law-seq (byte_within 0 0) _ (ByteText 0 0) _ (byte_law 0 0) (λ _ _ _. Law-give (costs_of (grid_of rows cols) kind))))))
+opening_parts_law = Law-seq magic _ SpellsMagic _ magic_law (λ _ _ _.
+    Law-seq (byte_within 2 5) _ (SpellsByte 2 5) _ (byte_law 2 5) (λ rows _ _.
+    Law-seq (byte_within 2 5) _ (SpellsByte 2 5) _ (byte_law 2 5) (λ cols _ _.
+    Law-seq (byte_within 0 1) _ (SpellsByte 0 1) _ (byte_law 0 1) (λ kind _ _.
+    Law-seq (byte_within 0 0) _ (SpellsByte 0 0) _ (byte_law 0 0) (λ _ _ _. Law-give (costs_of (grid_of rows cols) kind))))))
 
 opening_parts_open : Opens opening OpeningParts
 unfolding opening
-opening_parts_open = Opens-seq magic _ MagicText _ magic_law magic_opens (λ _ _ _.
-    Opens-seq (byte_within 2 5) _ (ByteText 2 5) _ (byte_law 2 5) (byte_opens 2 5 (omega arith)) (λ rows _ _.
-    Opens-seq (byte_within 2 5) _ (ByteText 2 5) _ (byte_law 2 5) (byte_opens 2 5 (omega arith)) (λ cols _ _.
-    Opens-seq (byte_within 0 1) _ (ByteText 0 1) _ (byte_law 0 1) (byte_opens 0 1 (omega arith)) (λ kind _ _.
-    Opens-seq (byte_within 0 0) _ (ByteText 0 0) _ (byte_law 0 0) (byte_opens 0 0 (omega arith)) (λ _ _ _. Opens-give (costs_of (grid_of rows cols) kind))))))
+opening_parts_open = Opens-seq magic _ SpellsMagic _ magic_law magic_opens (λ _ _ _.
+    Opens-seq (byte_within 2 5) _ (SpellsByte 2 5) _ (byte_law 2 5) (byte_opens 2 5 (omega arith)) (λ rows _ _.
+    Opens-seq (byte_within 2 5) _ (SpellsByte 2 5) _ (byte_law 2 5) (byte_opens 2 5 (omega arith)) (λ cols _ _.
+    Opens-seq (byte_within 0 1) _ (SpellsByte 0 1) _ (byte_law 0 1) (byte_opens 0 1 (omega arith)) (λ kind _ _.
+    Opens-seq (byte_within 0 0) _ (SpellsByte 0 0) _ (byte_law 0 0) (byte_opens 0 0 (omega arith)) (λ _ _ _. Opens-give (costs_of (grid_of rows cols) kind))))))
 
-pub opening_there : (costs : CostRule) (text : List ℕ) → OpeningParts costs text → OpeningText costs text
+pub opening_there : (costs : CostRule) (text : List ℕ) → OpeningParts costs text → SpellsOpening costs text
 unfolding opening_text
 opening_there costs text (u, s0, t0, m, (rows, s1, t1, r, (cols, s2, t2, c, (kind, s3, t3, k, (none, s4, t4, g, (is, nil), e4), e3), e2), e1), e0) =
     let grid = grid_of rows cols in
@@ -268,84 +241,76 @@ opening_there costs text (u, s0, t0, m, (rows, s1, t1, r, (cols, s2, t2, c, (kin
     let zero_is : none ≡ 0 = omega (arith, g.below) in
     let end : t3 ≡ 0 ∷ [] = e4 ∙ (λ i. g.is i ++ nil i) ∙ ap (λ (b : ℕ). b ∷ []) zero_is in
     let bytes : text ≡ codes "TILECRT1" ++ rows ∷ cols ∷ kind ∷ 0 ∷ [] = e0 ∙ (λ i. m i ++ e1 i) ∙ (λ i. codes "TILECRT1" ++ (r.is i ++ e2 i)) ∙ (λ i. codes "TILECRT1" ++ rows ∷ (c.is i ++ e3 i)) ∙ (λ i. codes "TILECRT1" ++ rows ∷ cols ∷ (k.is i ++ end i)) in
-    let made : OpeningText (costs_of grid kind) text = record {
+    let made : SpellsOpening (costs_of grid kind) text = record {
       sides = subst (λ (g : Grid). IsShape g) (sym p.2) sides;
       named = subst (λ (g : Grid). AreNamedCosts g (costs_of grid kind)) (sym p.2) p.1;
       is = bytes ∙ (λ i. codes "TILECRT1" ++ (sym p.2 i).rows ∷ (sym p.2 i).cols ∷ sym p.0 i ∷ 0 ∷ []);
     } in
-    subst (λ (rule : CostRule). OpeningText rule text) (sym is) made
+    subst (λ (rule : CostRule). SpellsOpening rule text) (sym is) made
 
-opening_back : (costs : CostRule) (text : List ℕ) → OpeningText costs text → OpeningParts costs text
+opening_back : (costs : CostRule) (text : List ℕ) → SpellsOpening costs text → OpeningParts costs text
 unfolding opening_text
 opening_back costs text t =
     let grid = costs.grid in
     let kind = kind_of costs in
     let p = costs_again costs t.sides t.named in
-    let r : ByteText 2 5 grid.rows (grid.rows ∷ []) = record { above = t.sides.rows_low; below = t.sides.rows_high; is = refl } in
-    let c : ByteText 2 5 grid.cols (grid.cols ∷ []) = record { above = t.sides.cols_low; below = t.sides.cols_high; is = refl } in
-    let k : ByteText 0 1 kind (kind ∷ []) = record { above = omega arith; below = p.0; is = refl } in
-    let g : ByteText 0 0 0 (0 ∷ []) = record { above = omega arith; below = omega arith; is = refl } in
+    let r : SpellsByte 2 5 grid.rows (grid.rows ∷ []) = record { above = t.sides.rows_low; below = t.sides.rows_high; is = refl } in
+    let c : SpellsByte 2 5 grid.cols (grid.cols ∷ []) = record { above = t.sides.cols_low; below = t.sides.cols_high; is = refl } in
+    let k : SpellsByte 0 1 kind (kind ∷ []) = record { above = omega arith; below = p.0; is = refl } in
+    let g : SpellsByte 0 0 0 (0 ∷ []) = record { above = omega arith; below = omega arith; is = refl } in
     (tt, codes "TILECRT1", grid.rows ∷ grid.cols ∷ kind ∷ 0 ∷ [], refl, (grid.rows, grid.rows ∷ [], grid.cols ∷ kind ∷ 0 ∷ [], r, (grid.cols, grid.cols ∷ [], kind ∷ 0 ∷ [], c, (kind, kind ∷ [], 0 ∷ [], k, (0, 0 ∷ [], [], g, (sym p.1, refl), refl), refl), refl), refl), t.is)
 
-pub opening_law : Law opening OpeningText
-opening_law = Law-iff opening OpeningParts OpeningText opening_there opening_back opening_parts_law
+pub opening_law : Law opening SpellsOpening
+opening_law = Law-iff opening OpeningParts SpellsOpening opening_there opening_back opening_parts_law
 
-pub opening_opens : Opens opening OpeningText
-opening_opens = Opens-iff opening OpeningParts OpeningText opening_there opening_parts_open
+pub opening_opens : Opens opening SpellsOpening
+opening_opens = Opens-iff opening OpeningParts SpellsOpening opening_there opening_parts_open
 
 -- ---- the plan
 
-pub record LettersText (n : ℕ) (moves : List Move) (text : List ℕ) : Type 0 where
-  pub count : length moves ≡ n
-  pub is : text ≡ map letter_of moves
-
 abbrev LettersParts : ℕ → List Move → List ℕ → Type 0
 LettersParts zero = Known []
-LettersParts (suc n) = Both LetterText (λ m. Both (LettersText n) (λ ms. Known (m ∷ ms)))
+LettersParts (suc n) = Both SpellsLetter (λ m. Both (SpellsLetters n) (λ ms. Known (m ∷ ms)))
 
-letters_there : (n : ℕ) (moves : List Move) (text : List ℕ) → LettersParts n moves text → LettersText n moves text
+letters_there : (n : ℕ) (moves : List Move) (text : List ℕ) → LettersParts n moves text → SpellsLetters n moves text
 letters_there zero moves text p = record { count = ap (λ (ms : List Move). length ms) p.0; is = p.1 ∙ ap (map letter_of) (sym p.0) }
 letters_there (suc n) moves text (m, s0, t0, is, (ms, s1, t1, l, (known, nil), e1), e0) = record {
   count = ap (λ (l : List Move). length l) known ∙ ap suc l.count;
   is = e0 ∙ (λ i. is i ++ e1 i) ∙ (λ i. letter_of m ∷ (l.is i ++ nil i)) ∙ ap (λ (l : List ℕ). letter_of m ∷ l) (append-nil (map letter_of ms)) ∙ ap (map letter_of) (sym known);
 }
 
-letters_back : (n : ℕ) (moves : List Move) (text : List ℕ) → LettersText n moves text → LettersParts n moves text
+letters_back : (n : ℕ) (moves : List Move) (text : List ℕ) → SpellsLetters n moves text → LettersParts n moves text
 letters_back zero [] text t = (refl, t.is)
 letters_back zero (m ∷ ms) text t = absurd (omega (arith, t.count))
 letters_back (suc n) [] text t = absurd (omega (arith, t.count))
 letters_back (suc n) (m ∷ ms) text t =
     (m, letter_of m ∷ [], map letter_of ms, refl, (ms, map letter_of ms, [], record { count = omega (arith, t.count); is = refl }, (refl, refl), sym (append-nil (map letter_of ms))), t.is)
 
-pub letters_law : (n : ℕ) → Law (letters n) (LettersText n)
+pub letters_law : (n : ℕ) → Law (letters n) (SpellsLetters n)
 unfolding letters
-letters_law zero = Law-iff (give []) (Known []) (LettersText zero) (letters_there zero) (letters_back zero) (Law-give [])
-letters_law (suc n) = Law-iff _ (LettersParts (suc n)) (LettersText (suc n)) (letters_there (suc n)) (letters_back (suc n))
-    (Law-seq letter _ LetterText _ letter_law (λ m _ _. Law-seq (letters n) _ (LettersText n) _ (letters_law n) (λ ms _ _. Law-give (m ∷ ms))))
+letters_law zero = Law-iff (give []) (Known []) (SpellsLetters zero) (letters_there zero) (letters_back zero) (Law-give [])
+letters_law (suc n) = Law-iff _ (LettersParts (suc n)) (SpellsLetters (suc n)) (letters_there (suc n)) (letters_back (suc n))
+    (Law-seq letter _ SpellsLetter _ letter_law (λ m _ _. Law-seq (letters n) _ (SpellsLetters n) _ (letters_law n) (λ ms _ _. Law-give (m ∷ ms))))
 
-letters_open : (n : ℕ) → Opens (letters n) (LettersText n)
+letters_open : (n : ℕ) → Opens (letters n) (SpellsLetters n)
 unfolding letters
-letters_open zero = Opens-iff (give []) (Known []) (LettersText zero) (letters_there zero) (Opens-give [])
-letters_open (suc n) = Opens-iff _ (LettersParts (suc n)) (LettersText (suc n)) (letters_there (suc n))
-    (Opens-seq letter _ LetterText _ letter_law letter_opens (λ m _ _. Opens-seq (letters n) _ (LettersText n) _ (letters_law n) (letters_open n) (λ ms _ _. Opens-give (m ∷ ms))))
+letters_open zero = Opens-iff (give []) (Known []) (SpellsLetters zero) (letters_there zero) (Opens-give [])
+letters_open (suc n) = Opens-iff _ (LettersParts (suc n)) (SpellsLetters (suc n)) (letters_there (suc n))
+    (Opens-seq letter _ SpellsLetter _ letter_law letter_opens (λ m _ _. Opens-seq (letters n) _ (SpellsLetters n) _ (letters_law n) (letters_open n) (λ ms _ _. Opens-give (m ∷ ms))))
 
-pub record PlanText (moves : List Move) (text : List ℕ) : Type 0 where
-  pub within : IsWithinLimit (length moves)
-  pub is : text ≡ plan_text moves
-
-plan_there : (moves : List Move) (text : List ℕ) → Both NumberText LettersText moves text → PlanText moves text
+pub plan_there : (moves : List Move) (text : List ℕ) → Both SpellsNumber SpellsLetters moves text → SpellsPlan moves text
 plan_there moves text (n, s, t, p, q, e) = record {
   within = subst (λ (m : ℕ). IsWithinLimit m) (sym q.count) p.within;
   is = e ∙ (λ i. p.is i ++ q.is i) ∙ ap (λ (m : ℕ). number_text m ++ map letter_of moves) (sym q.count);
 }
 
-plan_back : (moves : List Move) (text : List ℕ) → PlanText moves text → Both NumberText LettersText moves text
+plan_back : (moves : List Move) (text : List ℕ) → SpellsPlan moves text → Both SpellsNumber SpellsLetters moves text
 plan_back moves text t = (length moves, number_text (length moves), map letter_of moves, record { within = t.within; is = refl }, record { count = refl; is = refl }, t.is)
 
-pub plan_law : Law plan PlanText
+pub plan_law : Law plan SpellsPlan
 unfolding plan
-plan_law = Law-iff _ (Both NumberText LettersText) PlanText plan_there plan_back (Law-seq number _ NumberText _ number_law (λ n _ _. letters_law n))
+plan_law = Law-iff _ (Both SpellsNumber SpellsLetters) SpellsPlan plan_there plan_back (Law-seq number _ SpellsNumber _ number_law (λ n _ _. letters_law n))
 
-pub plan_opens : Opens plan PlanText
+pub plan_opens : Opens plan SpellsPlan
 unfolding plan
-plan_opens = Opens-iff _ (Both NumberText LettersText) PlanText plan_there (Opens-seq number _ NumberText _ number_law number_opens (λ n _ _. letters_open n))
+plan_opens = Opens-iff _ (Both SpellsNumber SpellsLetters) SpellsPlan plan_there (Opens-seq number _ SpellsNumber _ number_law number_opens (λ n _ _. letters_open n))

@@ -40,10 +40,14 @@ pub record IsRow (grid : Grid) (row : Position × ℕ) : Type 0 where
   pub board : IsBoardOf grid row.0
   pub cost : IsWithinLimit row.1
 
--- the list of tiles of each row comes after that of the row before it, and that of the first after this board's, if there is one
+-- the board's list of tiles comes after that of the one before it, if there is one
+abbrev pub Follows : Option Position → Position → Type 0
+Follows before b = IfSome before (λ a. Precedes a.tiles b.tiles)
+
+-- each row's board follows that of the row before it, and the first row's follows this one, if there is one
 abbrev pub RiseAfter : Option Position → List (Position × ℕ) → Type 0
 RiseAfter before [] = ⊤
-RiseAfter before (row ∷ rows) = IfSome before (λ b. Precedes b.tiles row.0.tiles) × RiseAfter (Some row.0) rows
+RiseAfter before (row ∷ rows) = Follows before row.0 × RiseAfter (Some row.0) rows
 
 -- all boards are of one shape, the numbers are in their ranges, and the rows rise by their lists of tiles
 pub record IsCertificate (c : Statement) : Type 0 where

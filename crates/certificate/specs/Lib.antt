@@ -1,5 +1,6 @@
 pub mod Certificates
 pub mod Spellings
+pub mod Fields
 pub mod Readings
 pub mod Codes
 pub mod Sources

@@ -1,14 +1,14 @@
--- What a reader of fields takes from a source.
-use Rattle.std.specs.Prelude.{ℕ, ◌≡◌, ◌≢◌, ◌⊎◌, ◌<◌, Bool, true, false, List, [], ◌∷◌, ◌++◌, length, Option, Some, IfSome, Result, Ok, Err, ⊤}
-use Rattle.std.specs.Io.KnownBytes.{Consumes, Appends, IsAtEnd, Keeps}
-use Rattle.byte_streams.specs.Sink.{AppendsBeginning}
+-- What a reader of fields does to a source.
+use Rattle.std.specs.Prelude.{ℕ, ◌≡◌, ◌≢◌, ◌⊎◌, ◌<◌, ◌↔◌, Bool, true, false, List, [], ◌∷◌, ◌++◌, length, IfSome, IfOk, IfErr, Result, Ok, Err, ⊤}
+use Rattle.byte_streams.specs.Streams.{SourceState, Change}
+use Rattle.byte_streams.specs.Source.{Takes, ReadsOn}
 use Rattle.certificate.specs.declared.faults.FormatFault.{FormatFault}
 use Rattle.certificate.specs.declared.faults.FormatFault.TheVariants.{Truncated}
 use Rattle.certificate.specs.declared.faults.ReadFault.{ReadFault}
 use Rattle.certificate.specs.declared.faults.ReadFault.TheVariants.{Format, Failed, NoMemory}
 use Rattle.memory.specs.declared.OutOfMemory.{OutOfMemory}
 use Rattle.certificate.specs.Certificates.{Statement}
-use Rattle.certificate.specs.Spellings.{Spells}
+use Rattle.certificate.specs.Spellings.{Spells, spelling}
 use Rattle.certificate.specs.Readings.{Reader, IsFaultOf, IsCutOff, HasNoFault, IsFirstFault, certificate}
 
 -- what a fault of the bytes says; a failure of the source and a want of memory say nothing of them
@@ -23,52 +23,76 @@ is_failure (Format fault) = false
 is_failure Failed = true
 is_failure (NoMemory refused) = false
 
--- whether the answer is a failure of the source
-abbrev pub tells_failure : {X : Type 0} → Result X ReadFault → Bool
-tells_failure (Ok x) = false
-tells_failure (Err fault) = is_failure fault
+-- ---- bytes that are due
+
+-- fewer than n bytes were taken; and a fault of the bytes is that no more were left
+pub record EndsEarly (source : Change SourceState) (n : ℕ) (fault : ReadFault) : Type 0 where
+  pub seen : List ℕ
+  pub taken : Takes source seen
+  pub short : length seen < n
+  pub end : IfFormat fault (λ f. (f ≡ Truncated) × IfSome source.before.left (λ input. input ≡ seen))
+  pub failed : source.after.has_failed ≡ is_failure fault
+
+-- n bytes are due: they were taken, and are what is answered, or the input ended early
+abbrev pub TakesDue : {X : Type 0} → ℕ → (X → List ℕ) → Change SourceState → Result X ReadFault → Type 0
+TakesDue n text source (Ok x) = Takes source (text x) × ReadsOn source
+TakesDue n text source (Err fault) = EndsEarly source n fault
+
+-- ---- fields
+
+-- bytes that spell the value were taken
+pub record Finds {X : Type 0} (IsText : X → List ℕ → Type 0) (source : Change SourceState) (value : X) : Type 0 where
+  pub text : List ℕ
+  pub spells : IsText value text
+  pub taken : Takes source text
+  pub on : ReadsOn source
 
 -- The fault of the bytes that were taken is shown by them, and by no fewer: by the end, where they are all of the input and are cut off, and else by the last of them, before which no fault stands.
-pub record IsShown {X : Type 0} (reader : Reader X) (IsSound : List ℕ → Type 0) (old : Option (List ℕ)) (seen : List ℕ) (fault : FormatFault) : Type 0 where
-  pub is : IsFaultOf reader seen fault
-  pub at_end : fault ≡ Truncated → IfSome old (λ input. input ≡ seen)
+pub record IsShown (IsSound : List ℕ → Type 0) (source : Change SourceState) (seen : List ℕ) (fault : FormatFault) : Type 0 where
+  pub at_end : fault ≡ Truncated → IfSome source.before.left (λ input. input ≡ seen)
   pub at_byte : fault ≢ Truncated → (before : List ℕ) × (byte : ℕ) × (seen ≡ before ++ byte ∷ []) × IsSound before
 
 -- Where reading stops: at the byte that shows a fault, and for a failure of the source where no fault stands in what was taken.
-abbrev pub Stops : {X : Type 0} → Reader X → (List ℕ → Type 0) → Option (List ℕ) → List ℕ → ReadFault → Type 0
-Stops reader IsSound old seen (Format fault) = IsShown reader IsSound old seen fault
-Stops reader IsSound old seen Failed = IsSound seen
-Stops reader IsSound old seen (NoMemory refused) = ⊤
+abbrev pub Stops : (List ℕ → Type 0) → Change SourceState → List ℕ → ReadFault → Type 0
+Stops IsSound source seen (Format fault) = IsShown IsSound source seen fault
+Stops IsSound source seen Failed = IsSound seen
+Stops IsSound source seen (NoMemory refused) = ⊤
 
--- some of the bytes were taken, as far as the fault shows; and a fault of the bytes is the first of those that were left
-pub record RefusesAt {X : Type 0} (reader : Reader X) (IsSound : List ℕ → Type 0) (old new : Option (List ℕ)) (fault : ReadFault) : Type 0 where
+-- Some of the bytes were taken, as far as the fault shows; and a fault of the bytes is the first of them, and of all that were left. It is a failure exactly where the source has failed.
+pub record RefusesAt {X : Type 0} (reader : Reader X) (IsSound : List ℕ → Type 0) (source : Change SourceState) (fault : ReadFault) : Type 0 where
   pub seen : List ℕ
-  pub taken : Consumes old new seen
-  pub first : IfFormat fault (λ f. (input : List ℕ) → old ≡ Some input → IsFaultOf reader input f)
-  pub stops : Stops reader IsSound old seen fault
+  pub taken : Takes source seen
+  pub is : IfFormat fault (λ f. IsFaultOf reader seen f)
+  pub first : IfFormat fault (λ f. IfSome source.before.left (λ input. IsFaultOf reader input f))
+  pub stops : Stops IsSound source seen fault
+  pub failed : source.after.has_failed ≡ is_failure fault
 
 -- the reader has more to read as long as no fault shows
-abbrev pub Refuses : {X : Type 0} → Reader X → Option (List ℕ) → Option (List ℕ) → ReadFault → Type 0
-Refuses reader old new fault = RefusesAt reader (λ bytes. IsCutOff reader bytes) old new fault
+abbrev pub Refuses : {X : Type 0} → Reader X → Change SourceState → ReadFault → Type 0
+Refuses reader source fault = RefusesAt reader (λ bytes. IsCutOff reader bytes) source fault
+
+-- the reader of a field: it finds a value, or refuses
+abbrev pub Reads : {X Y : Type 0} → Reader Y → (X → List ℕ → Type 0) → Change SourceState → Result X ReadFault → Type 0
+Reads reader IsText source (Ok value) = Finds IsText source value
+Reads reader IsText source (Err fault) = Refuses reader source fault
+
+-- ---- the whole input
+
+-- bytes that spell the value were taken, and are all that was left
+pub record FindsAll {X : Type 0} (IsText : X → List ℕ → Type 0) (source : Change SourceState) (value : X) : Type 0 where
+  pub found : Finds IsText source value
+  pub whole : IfSome source.before.left (λ input. input ≡ found.text)
 
 -- the reader may have all that it reads, and looks for the end
-abbrev pub RefusesAtEnd : {X : Type 0} → Reader X → Option (List ℕ) → Option (List ℕ) → ReadFault → Type 0
-RefusesAtEnd reader old new fault = RefusesAt reader (λ bytes. HasNoFault reader bytes) old new fault
+abbrev pub RefusesAtEnd : {X : Type 0} → Reader X → Change SourceState → ReadFault → Type 0
+RefusesAtEnd reader source fault = RefusesAt reader (λ bytes. HasNoFault reader bytes) source fault
 
--- No more is taken of the source than shows the fault: a fault of the bytes is their first and shows with the last that was taken, or at the end; and a source fails where no fault stands in what it gave.
-abbrev pub StopsAtFault : Option (List ℕ) → Option (List ℕ) → ReadFault → Type 0
-StopsAtFault old new fault = (seen : List ℕ) × Consumes old new seen × Stops certificate (λ bytes. HasNoFault certificate bytes) old seen fault
+-- the reader of a whole input: it finds a value there, or refuses
+abbrev pub ReadsAll : {X Y : Type 0} → Reader Y → (X → List ℕ → Type 0) → Change SourceState → Result X ReadFault → Type 0
+ReadsAll reader IsText source (Ok value) = FindsAll IsText source value
+ReadsAll reader IsText source (Err fault) = RefusesAtEnd reader source fault
 
--- fewer than n bytes were taken; and a fault of the bytes is that no more were left
-pub record EndsEarly (old new : Option (List ℕ)) (n : ℕ) (fault : ReadFault) : Type 0 where
-  pub seen : List ℕ
-  pub taken : Consumes old new seen
-  pub short : length seen < n
-  pub end : IfFormat fault (λ f. (f ≡ Truncated) × IfSome old (λ input. input ≡ seen))
-
--- nothing was left, and nothing is
-abbrev pub EndsThere : Option (List ℕ) → Option (List ℕ) → Type 0
-EndsThere old new = IsAtEnd old × Keeps old new
+-- ---- a certificate
 
 -- what an answer says of the input: the certificate that it spells, or its first fault; a failure of the source and a want of memory say nothing of it
 abbrev pub Tells : Result Statement ReadFault → List ℕ → Type 0
@@ -84,7 +108,18 @@ pub record IsAnswerTo (result : Result Statement ReadFault) (input : List ℕ) :
   pub spelled : (c : Statement) → Spells c input → AnswersOrLacks result (Ok c)
   pub faulty : (fault : FormatFault) → IsFirstFault input fault → AnswersOrLacks result (Err (Format fault))
 
--- all of the text was written, or a beginning of it
-abbrev pub Writes : {E : Type 0} → Option (List ℕ) → Option (List ℕ) → List ℕ → Result (Unit {0}) E → Type 0
-Writes old new text (Ok done) = Appends old new text
-Writes old new text (Err fault) = AppendsBeginning old new text
+-- No more is taken of the source than shows the fault: a fault of the bytes is their first and shows with the last that was taken, or at the end; and a source fails where no fault stands in what it gave.
+pub record StopsAtFault (source : Change SourceState) (fault : ReadFault) : Type 0 where
+  pub seen : List ℕ
+  pub taken : Takes source seen
+  pub is : IfFormat fault (λ f. IsFirstFault seen f)
+  pub stops : Stops (λ bytes. HasNoFault certificate bytes) source seen fault
+
+-- A certificate is read: the answer tells of the input, it is a failure exactly where the source has failed, and no more is taken than the spelling or than shows the fault.
+pub record ReadsCertificate (source : Change SourceState) (result : Result Statement ReadFault) : Type 0 where
+  pub tells : IfSome source.before.left (Tells result)
+  pub answer : IfSome source.before.left (IsAnswerTo result)
+  pub failed : (result ≡ Err Failed) ↔ (source.after.has_failed ≡ true)
+  pub taken : IfOk result (λ c. Takes source (spelling c))
+  pub stops : IfErr result (StopsAtFault source)
+  pub given : (seen : List ℕ) × Takes source seen

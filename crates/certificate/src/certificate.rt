@@ -1,7 +1,10 @@
+//! A certificate, and whether fields have a spelling.
+
 ghost use Rattle.std.specs.Prelude.{◌≡◌, ◌↔◌, length, None, IsSome, IfSome, IsTrue};
 ghost use Rattle.std.specs.List.{AllByRecursion};
-ghost use Rattle.board.specs.Keys.{Precedes};
-ghost use Rattle.certificate.specs.Certificates.{Statement, statement_of, AreNamedCosts, IsBoardOf, IsWithinLimit, IsRow, RiseAfter, IsCertificate};
+ghost use Rattle.certificate.specs.Certificates.{Statement, statement_of, AreNamedCosts, IsBoardOf};
+ghost use Rattle.certificate.specs.Certificates.{IsWithinLimit, IsRow, Follows, RiseAfter};
+ghost use Rattle.certificate.specs.Certificates.{IsCertificate};
 ghost use Rattle.certificate.specs.Readings.{may_follow};
 
 use board::{Board, Move, Shape, Weights};
@@ -47,8 +50,8 @@ impl Model for Certificate {
 
 impl Certificate {
     /// The certificate with these fields, or None where they have no spelling: shapes that differ,
-    /// costs that are neither unit nor face costs, a cost or a plan's length above 1,048,575, or rows
-    /// of which one does not come after the row before it.
+    /// costs that are neither unit nor face costs, a cost or a plan's length above 1,048,575, or
+    /// rows of which one does not come after the row before it.
     pub fn new(parts: Parts) -> Option<Self>
         ensures accepted { IsSome result ↔ IsCertificate (statement_of parts) }
         ensures value { IfSome result (λ c. c ≡ statement_of parts) }
@@ -177,7 +180,7 @@ fn are_rows(shape: Shape, rows: &[(Board, u32)]) -> bool
 fn is_next_row(shape: Shape, before: Option<Board>, row: &(Board, u32)) -> bool
     requires { IfSome before (IsBoardOf shape) }
     ensures { IsTrue result
-        ↔ (IsRow shape row.now × IfSome before (λ b. Precedes b.tiles row.now.0.tiles)) }
+        ↔ (IsRow shape row.now × Follows before row.now.0) }
 {
     if !is_row(shape, row) {
         return false;

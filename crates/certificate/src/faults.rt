@@ -1,3 +1,5 @@
+//! What is wrong with bytes, why nothing was read or written, and the codes of these.
+
 ghost use Rattle.std.specs.Prelude.{◌≡◌};
 ghost use Rattle.certificate.specs.Codes.{format_code_of, read_code_of, write_code_of};
 

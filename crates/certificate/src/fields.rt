@@ -1,12 +1,15 @@
-ghost use Rattle.std.specs.Prelude.{◌≡◌, ◌<◌, ◌≤◌, ◌⊎◌, ◌^◌, ◌∷◌, [], ℕ, Some, None, true, false, IfOk, IfErr, OnOk, IfSome, length, codes};
-ghost use Rattle.std.specs.Io.KnownBytes.{Consumes};
+//! The fields of a certificate are read from a source, each judged as a whole.
+
+ghost use Rattle.std.specs.Prelude.{◌≡◌, ◌<◌, ◌∷◌, [], IfSome, length};
 ghost use Rattle.std.specs.Int.{w32, w64, from_le_bytes};
-ghost use Rattle.board.specs.Positions.{Position};
-ghost use Rattle.board.specs.Keys.{Precedes};
-ghost use Rattle.certificate.specs.Certificates.{IsBoardOf, IsWithinLimit, IsRow};
-ghost use Rattle.certificate.specs.Spellings.{letter_of, number_text, count_text, row_text};
-ghost use Rattle.certificate.specs.Readings.{magic, byte_within, number, count, board, letter, letter_in, row, end};
-ghost use Rattle.certificate.specs.Sources.{EndsEarly, Refuses, RefusesAtEnd, EndsThere, tells_failure};
+ghost use Rattle.byte_streams.specs.Streams.{change};
+ghost use Rattle.certificate.specs.Certificates.{IsBoardOf};
+ghost use Rattle.certificate.specs.Spellings.{number_text, count_text};
+ghost use Rattle.certificate.specs.Fields.{SpellsMagic, SpellsByte, SpellsNumber, SpellsCount};
+ghost use Rattle.certificate.specs.Fields.{SpellsBoard, SpellsLetter, SpellsRow};
+ghost use Rattle.certificate.specs.Readings.{magic, byte_within, number, count, board, letter};
+ghost use Rattle.certificate.specs.Readings.{letter_in, row, end};
+ghost use Rattle.certificate.specs.Sources.{TakesDue, Reads, ReadsAll};
 
 use crate::certificate::{LIMIT, comes_after};
 use crate::faults::{FormatFault, ReadFault};
@@ -15,9 +18,7 @@ use byte_streams::Source;
 
 // The next byte, which is due.
 fn next_due<S: Source>(source: &mut S) -> Result<u8, ReadFault>
-    ensures byte { IfOk result (λ byte. Consumes (S.left source.old) (S.left source.new) (byte ∷ [])) }
-    ensures early { IfErr result (EndsEarly (S.left source.old) (S.left source.new) 1) }
-    ensures fails { S.has_failed source.new ≡ tells_failure result }
+    ensures { TakesDue 1 (λ byte. byte ∷ []) (change S.state source.old source.new) result }
 {
     match source.next_byte() {
         Ok(Some(byte)) => Ok(byte),
@@ -28,10 +29,9 @@ fn next_due<S: Source>(source: &mut S) -> Result<u8, ReadFault>
 
 // The bytes of a field, as many as there is room for.
 fn fill<S: Source>(source: &mut S, text: &mut [u8]) -> Result<(), ReadFault>
-    ensures whole { OnOk result (Consumes (S.left source.old) (S.left source.new) text.new) }
-    ensures early { IfErr result (EndsEarly (S.left source.old) (S.left source.new) (length text.old)) }
-    ensures fails { (S.has_failed source.old ≡ false) ⊎ (0 < length text.old)
-        → S.has_failed source.new ≡ tells_failure result }
+    requires { 0 < length text.old }
+    ensures { TakesDue (length text.old) (λ _. text.new)
+        (change S.state source.old source.new) result }
 {
     'bytes: for place in 0..text.len() {
         text[place] = next_due(source)?;
@@ -41,9 +41,7 @@ fn fill<S: Source>(source: &mut S, text: &mut [u8]) -> Result<(), ReadFault>
 
 // The eight bytes that each certificate begins with.
 pub(crate) fn read_magic<S: Source>(source: &mut S) -> Result<(), ReadFault>
-    ensures taken { OnOk result (Consumes (S.left source.old) (S.left source.new) (codes "TILECRT1")) }
-    ensures refused { IfErr result (Refuses magic (S.left source.old) (S.left source.new)) }
-    ensures fails { S.has_failed source.new ≡ tells_failure result }
+    ensures { Reads magic SpellsMagic (change S.state source.old source.new) result }
 {
     let mut text = [0; 8];
     fill(source, &mut text)?;
@@ -55,11 +53,8 @@ pub(crate) fn read_magic<S: Source>(source: &mut S) -> Result<(), ReadFault>
 
 // One byte within a range.
 pub(crate) fn read_byte<S: Source>(source: &mut S, low: u8, high: u8) -> Result<u8, ReadFault>
-    ensures taken { IfOk result (λ byte. Consumes (S.left source.old) (S.left source.new) (byte ∷ [])) }
-    ensures low { IfOk result (λ byte. low ≤ byte) }
-    ensures high { IfOk result (λ byte. byte ≤ high) }
-    ensures refused { IfErr result (Refuses (byte_within low high) (S.left source.old) (S.left source.new)) }
-    ensures fails { S.has_failed source.new ≡ tells_failure result }
+    ensures { Reads (byte_within low high) (SpellsByte low high)
+        (change S.state source.old source.new) result }
 {
     let byte = next_due(source)?;
     if byte < low || high < byte {
@@ -70,10 +65,7 @@ pub(crate) fn read_byte<S: Source>(source: &mut S, low: u8, high: u8) -> Result<
 
 // A cost, or the length of a plan.
 pub(crate) fn read_number<S: Source>(source: &mut S) -> Result<u32, ReadFault>
-    ensures taken { IfOk result (λ n. Consumes (S.left source.old) (S.left source.new) (number_text n)) }
-    ensures within { IfOk result IsWithinLimit }
-    ensures refused { IfErr result (Refuses number (S.left source.old) (S.left source.new)) }
-    ensures fails { S.has_failed source.new ≡ tells_failure result }
+    ensures { Reads number SpellsNumber (change S.state source.old source.new) result }
 {
     let mut text = [0; 4];
     fill(source, &mut text)?;
@@ -102,10 +94,7 @@ fn count_from(text: [u8; 8]) -> u64
 
 // The number of rows, whatever it is.
 pub(crate) fn read_count<S: Source>(source: &mut S) -> Result<u64, ReadFault>
-    ensures taken { IfOk result (λ n. Consumes (S.left source.old) (S.left source.new) (count_text n)) }
-    ensures within { IfOk result (λ n. n < 2 ^ 64) }
-    ensures refused { IfErr result (Refuses count (S.left source.old) (S.left source.new)) }
-    ensures fails { S.has_failed source.new ≡ tells_failure result }
+    ensures { Reads count SpellsCount (change S.state source.old source.new) result }
 {
     let mut text = [0; 8];
     fill(source, &mut text)?;
@@ -114,10 +103,8 @@ pub(crate) fn read_count<S: Source>(source: &mut S) -> Result<u64, ReadFault>
 
 // A board of the shape.
 pub(crate) fn read_board<S: Source>(source: &mut S, shape: Shape) -> Result<Board, ReadFault>
-    ensures taken { IfOk result (λ b. Consumes (S.left source.old) (S.left source.new) b.tiles) }
-    ensures board { IfOk result (IsBoardOf shape) }
-    ensures refused { IfErr result (Refuses (board shape) (S.left source.old) (S.left source.new)) }
-    ensures fails { S.has_failed source.new ≡ tells_failure result }
+    ensures { Reads (board shape) (SpellsBoard shape)
+        (change S.state source.old source.new) result }
 {
     let mut text = [0; 25];
     let tiles = &mut text[..shape.cells()];
@@ -130,9 +117,7 @@ pub(crate) fn read_board<S: Source>(source: &mut S, shape: Shape) -> Result<Boar
 
 // The letter of a move.
 pub(crate) fn read_letter<S: Source>(source: &mut S) -> Result<Move, ReadFault>
-    ensures taken { IfOk result (λ m. Consumes (S.left source.old) (S.left source.new) (letter_of m ∷ [])) }
-    ensures refused { IfErr result (Refuses letter (S.left source.old) (S.left source.new)) }
-    ensures fails { S.has_failed source.new ≡ tells_failure result }
+    ensures { Reads letter SpellsLetter (change S.state source.old source.new) result }
 {
     let byte = next_due(source)?;
     match letter_move(byte) {
@@ -162,11 +147,8 @@ pub(crate) fn read_row<S: Source>(
     before: Option<Board>,
 ) -> Result<(Board, u32), ReadFault>
     requires { IfSome before (IsBoardOf shape) }
-    ensures taken { IfOk result (λ r. Consumes (S.left source.old) (S.left source.new) (row_text r)) }
-    ensures row { IfOk result (IsRow shape) }
-    ensures follows { IfOk result (λ r. IfSome before (λ b. Precedes b.tiles r.0.tiles)) }
-    ensures refused { IfErr result (Refuses (row shape before) (S.left source.old) (S.left source.new)) }
-    ensures fails { S.has_failed source.new ≡ tells_failure result }
+    ensures { Reads (row shape before) (SpellsRow shape before)
+        (change S.state source.old source.new) result }
 {
     let board = read_board(source, shape)?;
     let cost = read_number(source)?;
@@ -178,9 +160,7 @@ pub(crate) fn read_row<S: Source>(
 
 // Nothing is left.
 pub(crate) fn read_end<S: Source>(source: &mut S) -> Result<(), ReadFault>
-    ensures ended { OnOk result (EndsThere (S.left source.old) (S.left source.new)) }
-    ensures refused { IfErr result (RefusesAtEnd end (S.left source.old) (S.left source.new)) }
-    ensures fails { S.has_failed source.new ≡ tells_failure result }
+    ensures { ReadsAll end (λ _ text. text ≡ []) (change S.state source.old source.new) result }
 {
     match source.next_byte() {
         Ok(None) => Ok(()),

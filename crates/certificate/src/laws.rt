@@ -1,6 +1,8 @@
 //! The laws of the definitions: each is the contract of a function that does nothing.
 
-ghost use Rattle.certificate.specs.Laws.{ReadingIsSpelling, SpelledOrFaulty, NotBoth, OneFirstFault, FaultsComeFirst, NoneBeginsAnother, OneCertificate, OneSpelling};
+ghost use Rattle.certificate.specs.Laws.{ReadingIsSpelling, SpelledOrFaulty, NotBoth};
+ghost use Rattle.certificate.specs.Laws.{OneFirstFault, FaultsComeFirst, NoneBeginsAnother};
+ghost use Rattle.certificate.specs.Laws.{OneCertificate, OneSpelling};
 
 /// A certificate is read exactly where the bytes spell it. Else they have one first fault.
 pub fn reading_is_spelling()

@@ -1,8 +1,8 @@
 //! Certificates: answers written down so that any program can check them, with one spelling each.
 #![tactic(auto)]
 
-pub mod certificate;
-pub mod faults;
+mod certificate;
+mod faults;
 mod fields;
 pub mod laws;
 mod reading;

@@ -1,11 +1,14 @@
-ghost use Rattle.std.specs.Prelude.{◌≡◌, ◌≤◌, ◌<◌, ◌⊎◌, ◌↔◌, ◌^◌, ◌++◌, ℕ, List, [], Option, Some, None, Ok, Err, true, false, IfOk, IfErr, OnOk, IfSome, length, map};
-ghost use Rattle.std.specs.List.{flat_map, AllByRecursion};
-ghost use Rattle.std.specs.Io.KnownBytes.{Consumes};
-ghost use Rattle.certificate.specs.Certificates.{Statement, statement_of, AreNamedCosts, IsWithinLimit, IsRow, RiseAfter, IsCertificate};
-ghost use Rattle.certificate.specs.Spellings.{letter_of, opening_text, plan_text, count_text, row_text, front_text, spelling, Spells};
-ghost use Rattle.certificate.specs.Readings.{costs_of, opening, letters, plan, rows, all_rows, front, certificate};
-ghost use Rattle.certificate.specs.Sources.{Refuses, RefusesAtEnd, StopsAtFault, Tells, IsAnswerTo, tells_failure};
-ghost use Rattle.certificate.specs.declared.faults.ReadFault.TheVariants as ReadFault;
+//! A certificate is read from a source, part by part.
+
+ghost use Rattle.std.specs.Prelude.{◌≡◌, None, false};
+ghost use Rattle.byte_streams.specs.Streams.{change};
+ghost use Rattle.certificate.specs.Certificates.{statement_of};
+ghost use Rattle.certificate.specs.Spellings.{Spells};
+ghost use Rattle.certificate.specs.Fields.{SpellsOpening, SpellsLetters, SpellsPlan, SpellsRows};
+ghost use Rattle.certificate.specs.Fields.{SpellsAllRows, SpellsFront};
+ghost use Rattle.certificate.specs.Readings.{costs_of, opening, letters, plan, rows, all_rows};
+ghost use Rattle.certificate.specs.Readings.{front, certificate};
+ghost use Rattle.certificate.specs.Sources.{Reads, ReadsAll, ReadsCertificate};
 
 use crate::certificate::{Certificate, Parts};
 use crate::faults::ReadFault;
@@ -19,11 +22,7 @@ use std::alloc::Global;
 
 // What the input is, the sides of the boards, the kind of costs, and no groups.
 fn read_opening<S: Source>(source: &mut S) -> Result<Weights, ReadFault>
-    ensures taken { IfOk result
-        (λ costs. Consumes (S.left source.old) (S.left source.new) (opening_text costs)) }
-    ensures named { IfOk result (λ costs. AreNamedCosts costs.grid costs) }
-    ensures refused { IfErr result (Refuses opening (S.left source.old) (S.left source.new)) }
-    ensures fails { S.has_failed source.new ≡ tells_failure result }
+    ensures { Reads opening SpellsOpening (change S.state source.old source.new) result }
 {
     read_magic(source)?;
     let rows = read_byte(source, 2, 5)?;
@@ -46,11 +45,8 @@ fn named_costs(shape: Shape, kind: u8) -> Weights
 
 // The length of the plan, and a letter for each move.
 fn read_plan<S: Source>(alloc: Global, source: &mut S) -> Result<Vec<Move>, ReadFault>
-    ensures taken { IfOk result
-        (λ moves. Consumes (S.left source.old) (S.left source.new) (plan_text moves.items)) }
-    ensures within { IfOk result (λ moves. IsWithinLimit (length moves.items)) }
-    ensures refused { IfErr result (Refuses plan (S.left source.old) (S.left source.new)) }
-    ensures fails { S.has_failed source.new ≡ tells_failure result }
+    ensures { Reads plan (λ moves. SpellsPlan moves.items)
+        (change S.state source.old source.new) result }
 {
     let count = read_number(source)?;
     read_letters(alloc, source, count)
@@ -62,12 +58,9 @@ fn read_letters<S: Source>(
     source: &mut S,
     count: u32,
 ) -> Result<Vec<Move>, ReadFault>
-    ensures taken { IfOk result
-        (λ moves. Consumes (S.left source.old) (S.left source.new) (map letter_of moves.items)) }
-    ensures count { IfOk result (λ moves. length moves.items ≡ count) }
-    ensures refused { IfErr result (Refuses (letters count) (S.left source.old) (S.left source.new)) }
-    ensures fails { S.has_failed source.old ≡ false
-        → S.has_failed source.new ≡ tells_failure result }
+    requires { (S.state source.old).has_failed ≡ false }
+    ensures { Reads (letters count) (λ moves. SpellsLetters count moves.items)
+        (change S.state source.old source.new) result }
 {
     let mut moves = Vec::new(alloc);
     'letters: for _ in 0..count {
@@ -86,15 +79,9 @@ fn read_rows<S: Source>(
     shape: Shape,
     count: u64,
 ) -> Result<Vec<(Board, u32)>, ReadFault>
-    ensures taken { IfOk result
-        (λ read. Consumes (S.left source.old) (S.left source.new) (flat_map row_text read.items)) }
-    ensures count { IfOk result (λ read. length read.items ≡ count) }
-    ensures rows { IfOk result (λ read. AllByRecursion (IsRow shape) read.items) }
-    ensures rising { IfOk result (λ read. RiseAfter None read.items) }
-    ensures refused { IfErr result
-        (Refuses (rows shape None count) (S.left source.old) (S.left source.new)) }
-    ensures fails { S.has_failed source.old ≡ false
-        → S.has_failed source.new ≡ tells_failure result }
+    requires { (S.state source.old).has_failed ≡ false }
+    ensures { Reads (rows shape None count) (λ read. SpellsRows shape count read.items)
+        (change S.state source.old source.new) result }
 {
     let mut read = Vec::new(alloc);
     let mut before = None;
@@ -114,13 +101,8 @@ fn read_all_rows<S: Source>(
     source: &mut S,
     shape: Shape,
 ) -> Result<Vec<(Board, u32)>, ReadFault>
-    ensures taken { IfOk result (λ read. Consumes (S.left source.old) (S.left source.new)
-        (count_text (length read.items) ++ flat_map row_text read.items)) }
-    ensures count { IfOk result (λ read. length read.items < 2 ^ 64) }
-    ensures rows { IfOk result (λ read. AllByRecursion (IsRow shape) read.items) }
-    ensures rising { IfOk result (λ read. RiseAfter None read.items) }
-    ensures refused { IfErr result (Refuses (all_rows shape) (S.left source.old) (S.left source.new)) }
-    ensures fails { S.has_failed source.new ≡ tells_failure result }
+    ensures { Reads (all_rows shape) (λ read. SpellsAllRows shape read.items)
+        (change S.state source.old source.new) result }
 {
     let count = read_count(source)?;
     read_rows(alloc, source, shape, count)
@@ -128,12 +110,8 @@ fn read_all_rows<S: Source>(
 
 // The fields before the rows, with no rows.
 fn read_front<S: Source>(alloc: Global, source: &mut S) -> Result<Parts, ReadFault>
-    ensures taken { IfOk result
-        (λ parts. Consumes (S.left source.old) (S.left source.new) (front_text (statement_of parts))) }
-    ensures fits { IfOk result (λ parts. IsCertificate (statement_of parts)) }
-    ensures bare { IfOk result (λ parts. parts.rows.items ≡ []) }
-    ensures refused { IfErr result (Refuses front (S.left source.old) (S.left source.new)) }
-    ensures fails { S.has_failed source.new ≡ tells_failure result }
+    ensures { Reads front (λ parts. SpellsFront (statement_of parts))
+        (change S.state source.old source.new) result }
 {
     let costs = read_opening(source)?;
     let shape = costs.shape();
@@ -154,12 +132,7 @@ fn read_front<S: Source>(alloc: Global, source: &mut S) -> Result<Parts, ReadFau
 
 // A whole certificate.
 fn read_all<S: Source>(alloc: Global, source: &mut S) -> Result<Certificate, ReadFault>
-    ensures taken { IfOk result
-        (λ c. Consumes (S.left source.old) (S.left source.new) (spelling c)) }
-    ensures whole { IfOk result (λ c. IfSome (S.left source.old) (Spells c)) }
-    ensures refused { IfErr result
-        (RefusesAtEnd certificate (S.left source.old) (S.left source.new)) }
-    ensures fails { S.has_failed source.new ≡ tells_failure result }
+    ensures { ReadsAll certificate Spells (change S.state source.old source.new) result }
 {
     let mut parts = read_front(alloc, source)?;
     parts.rows = read_all_rows(alloc, source, parts.shape)?;
@@ -168,17 +141,11 @@ fn read_all<S: Source>(alloc: Global, source: &mut S) -> Result<Certificate, Rea
 }
 
 /// Reads a certificate, from front to back and up to its first fault: F1 to F5, F6 where the source
-/// fails, F7 for want of memory. Memory is taken for the moves and rows that are there, and not by their
-/// stated numbers. After a fault of the bytes the source has given them up to and with the one that shows
-/// it, and it fails only where none stands in what it gave.
+/// fails, F7 for want of memory. Memory is taken for the moves and rows that are there, and not by
+/// their stated numbers. After a fault of the bytes the source has given them up to and with the
+/// one that shows it, and it fails only where none stands in what it gave.
 pub fn read<S: Source>(alloc: Global, source: &mut S) -> Result<Certificate, ReadFault>
-    ensures tells { IfSome (S.left source.old) (Tells result) }
-    ensures answer { IfSome (S.left source.old) (IsAnswerTo result) }
-    ensures failed { (result ≡ Err ReadFault.Failed) ↔ (S.has_failed source.new ≡ true) }
-    ensures taken { IfOk result
-        (λ c. Consumes (S.left source.old) (S.left source.new) (spelling c)) }
-    ensures stops { IfErr result (StopsAtFault (S.left source.old) (S.left source.new)) }
-    ensures given { (seen : List ℕ) × Consumes (S.left source.old) (S.left source.new) seen }
+    ensures { ReadsCertificate (change S.state source.old source.new) result }
 {
     read_all(alloc, source)
 }

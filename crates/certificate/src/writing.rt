@@ -1,25 +1,24 @@
-ghost use Rattle.std.specs.Prelude.{◌≡◌, ◌++◌, false, OnOk, OnErr, is_err, length, map, take};
+//! Certificates are written to a sink, field by field.
+
+ghost use Rattle.std.specs.Prelude.{◌≡◌, ◌++◌, false, length, map, take};
 ghost use Rattle.std.specs.List.{flat_map};
-ghost use Rattle.std.specs.Io.KnownBytes.{Appends};
-ghost use Rattle.byte_streams.specs.Sink.{AppendsBeginning};
 ghost use Rattle.board.specs.Grids.{cell_count};
+ghost use Rattle.byte_streams.specs.Streams.{change};
+ghost use Rattle.byte_streams.specs.Sink.{Writes};
 ghost use Rattle.certificate.specs.Certificates.{IsWithinLimit, IsCertificate};
-ghost use Rattle.certificate.specs.Spellings.{kind_of, letter_of, opening_text, number_text, count_text, plan_text, row_text, front_text, spelling};
-ghost use Rattle.certificate.specs.Sources.{Writes};
+ghost use Rattle.certificate.specs.Spellings.{kind_of, letter_of, opening_text, number_text};
+ghost use Rattle.certificate.specs.Spellings.{count_text, plan_text, row_text, front_text};
+ghost use Rattle.certificate.specs.Spellings.{spelling};
 
 use crate::certificate::Certificate;
 use crate::faults::WriteFault;
 use board::{Board, Move, Weights};
 use byte_streams::{Sink, WriteFailed};
 
-/// Writes a certificate: the bytes of its spelling. F8 where the sink fails; what went out is then a
-/// beginning of them. The sink is not flushed. Nothing takes memory.
+/// Writes a certificate: the bytes of its spelling. F8 where the sink fails; what went out is then
+/// a beginning of them. The sink is not flushed. Nothing takes memory.
 pub fn write<K: Sink>(sink: &mut K, certificate: &Certificate) -> Result<(), WriteFault>
-    ensures all { OnOk result
-        (Appends (K.contents sink.old) (K.contents sink.new) (spelling certificate.now)) }
-    ensures begun { OnErr result
-        (AppendsBeginning (K.contents sink.old) (K.contents sink.new) (spelling certificate.now)) }
-    ensures failed { K.has_failed sink.new ≡ is_err result }
+    ensures { Writes (change K.state sink.old sink.new) (spelling certificate.now) result }
 {
     match write_all(sink, certificate) {
         Ok(()) => Ok(()),
@@ -28,8 +27,7 @@ pub fn write<K: Sink>(sink: &mut K, certificate: &Certificate) -> Result<(), Wri
 }
 
 fn write_all<K: Sink>(sink: &mut K, certificate: &Certificate) -> Result<(), WriteFailed>
-    ensures text { Writes (K.contents sink.old) (K.contents sink.new) (spelling certificate.now) result }
-    ensures fails { K.has_failed sink.new ≡ is_err result }
+    ensures { Writes (change K.state sink.old sink.new) (spelling certificate.now) result }
 {
     write_front(sink, certificate)?;
     write_rows(sink, certificate.rows())
@@ -37,8 +35,7 @@ fn write_all<K: Sink>(sink: &mut K, certificate: &Certificate) -> Result<(), Wri
 
 // All before the number of rows.
 fn write_front<K: Sink>(sink: &mut K, certificate: &Certificate) -> Result<(), WriteFailed>
-    ensures text { Writes (K.contents sink.old) (K.contents sink.new) (front_text certificate.now) result }
-    ensures fails { K.has_failed sink.new ≡ is_err result }
+    ensures { Writes (change K.state sink.old sink.new) (front_text certificate.now) result }
 {
     write_opening(sink, &certificate.costs())?;
     write_tiles(sink, &certificate.start())?;
@@ -49,8 +46,7 @@ fn write_front<K: Sink>(sink: &mut K, certificate: &Certificate) -> Result<(), W
 
 // What it is, the sides of the boards, the kind of costs, and no groups.
 fn write_opening<K: Sink>(sink: &mut K, costs: &Weights) -> Result<(), WriteFailed>
-    ensures text { Writes (K.contents sink.old) (K.contents sink.new) (opening_text costs.now) result }
-    ensures fails { K.has_failed sink.new ≡ is_err result }
+    ensures { Writes (change K.state sink.old sink.new) (opening_text costs.now) result }
 {
     let shape = costs.shape();
     sink.put(b"TILECRT1")?;
@@ -70,8 +66,7 @@ fn kind(costs: &Weights) -> u8
 
 // The tiles of a board.
 fn write_tiles<K: Sink>(sink: &mut K, board: &Board) -> Result<(), WriteFailed>
-    ensures text { Writes (K.contents sink.old) (K.contents sink.new) board.now.tiles result }
-    ensures fails { K.has_failed sink.new ≡ is_err result }
+    ensures { Writes (change K.state sink.old sink.new) board.now.tiles result }
 {
     let tiles = tiles_of(board);
     sink.put(&tiles[..board.shape().cells()])
@@ -90,8 +85,7 @@ fn tiles_of(board: &Board) -> [u8; 25]
 
 // A cost, or the length of a plan.
 fn write_number<K: Sink>(sink: &mut K, number: u32) -> Result<(), WriteFailed>
-    ensures text { Writes (K.contents sink.old) (K.contents sink.new) (number_text number) result }
-    ensures fails { K.has_failed sink.new ≡ is_err result }
+    ensures { Writes (change K.state sink.old sink.new) (number_text number) result }
 {
     sink.put(&number_bytes(number))
 }
@@ -107,8 +101,7 @@ fn number_bytes(number: u32) -> [u8; 4]
 // The length of the plan, and a letter for each move.
 fn write_plan<K: Sink>(sink: &mut K, plan: &[Move]) -> Result<(), WriteFailed>
     requires { IsWithinLimit (length plan.now) }
-    ensures text { Writes (K.contents sink.old) (K.contents sink.new) (plan_text plan.now) result }
-    ensures fails { K.has_failed sink.new ≡ is_err result }
+    ensures { Writes (change K.state sink.old sink.new) (plan_text plan.now) result }
 {
     write_number(sink, plan.len() as u32)?;
     write_letters(sink, plan)
@@ -116,8 +109,8 @@ fn write_plan<K: Sink>(sink: &mut K, plan: &[Move]) -> Result<(), WriteFailed>
 
 // A letter for each move.
 fn write_letters<K: Sink>(sink: &mut K, plan: &[Move]) -> Result<(), WriteFailed>
-    ensures text { Writes (K.contents sink.old) (K.contents sink.new) (map letter_of plan.now) result }
-    ensures fails { K.has_failed sink.old ≡ false → K.has_failed sink.new ≡ is_err result }
+    requires { (K.state sink.old).has_failed ≡ false }
+    ensures { Writes (change K.state sink.old sink.new) (map letter_of plan.now) result }
 {
     'letters: for direction in plan {
         sink.put(&[letter(*direction)])?;
@@ -139,9 +132,8 @@ fn letter(direction: Move) -> u8
 
 // The number of rows, and the rows.
 fn write_rows<K: Sink>(sink: &mut K, rows: &[(Board, u32)]) -> Result<(), WriteFailed>
-    ensures text { Writes (K.contents sink.old) (K.contents sink.new)
+    ensures { Writes (change K.state sink.old sink.new)
         (count_text (length rows.now) ++ flat_map row_text rows.now) result }
-    ensures fails { K.has_failed sink.new ≡ is_err result }
 {
     write_count(sink, rows.len() as u64)?;
     write_each_row(sink, rows)
@@ -149,8 +141,7 @@ fn write_rows<K: Sink>(sink: &mut K, rows: &[(Board, u32)]) -> Result<(), WriteF
 
 // The number of rows.
 fn write_count<K: Sink>(sink: &mut K, count: u64) -> Result<(), WriteFailed>
-    ensures text { Writes (K.contents sink.old) (K.contents sink.new) (count_text count) result }
-    ensures fails { K.has_failed sink.new ≡ is_err result }
+    ensures { Writes (change K.state sink.old sink.new) (count_text count) result }
 {
     sink.put(&count_bytes(count))
 }
@@ -165,8 +156,8 @@ fn count_bytes(count: u64) -> [u8; 8]
 
 // The rows, one after the other.
 fn write_each_row<K: Sink>(sink: &mut K, rows: &[(Board, u32)]) -> Result<(), WriteFailed>
-    ensures text { Writes (K.contents sink.old) (K.contents sink.new) (flat_map row_text rows.now) result }
-    ensures fails { K.has_failed sink.old ≡ false → K.has_failed sink.new ≡ is_err result }
+    requires { (K.state sink.old).has_failed ≡ false }
+    ensures { Writes (change K.state sink.old sink.new) (flat_map row_text rows.now) result }
 {
     'rows: for row in rows {
         write_row(sink, row)?;
@@ -176,8 +167,7 @@ fn write_each_row<K: Sink>(sink: &mut K, rows: &[(Board, u32)]) -> Result<(), Wr
 
 // The tiles of a row, and its cost.
 fn write_row<K: Sink>(sink: &mut K, row: &(Board, u32)) -> Result<(), WriteFailed>
-    ensures text { Writes (K.contents sink.old) (K.contents sink.new) (row_text row.now) result }
-    ensures fails { K.has_failed sink.new ≡ is_err result }
+    ensures { Writes (change K.state sink.old sink.new) (row_text row.now) result }
 {
     write_tiles(sink, &row.0)?;
     write_number(sink, row.1)

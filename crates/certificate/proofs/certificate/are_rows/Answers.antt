@@ -4,8 +4,7 @@ use Rattle.std.specs.List.{AllByRecursion}
 use Rattle.std.proofs.lemmas.Bool.{false≢true}
 use Rattle.std.proofs.lemmas.List.{take_more}
 use Rattle.board.specs.Positions.{Position}
-use Rattle.certificate.specs.Certificates.{IsBoardOf, IsRow, RiseAfter}
-use Rattle.certificate.proofs.RowLemmas.{Follows}
+use Rattle.certificate.specs.Certificates.{IsBoardOf, IsRow, Follows, RiseAfter}
 use Rattle.certificate.proofs.SourceLemmas.{last_of, last_is_board, last_pushed, rise_pushed, rows_pushed, row_there}
 use Rattle.certificate.proofs.certificate.are_rows.Goals as goal
 

@@ -1,10 +1,12 @@
-use Rattle.std.proofs.Common.{◌≡◌, ◌⊎◌, ◌<◌, false, length, take}
-use Rattle.std.specs.Io.KnownBytes.{Consumes}
+use Rattle.std.proofs.Common.{◌≡◌, ◌<◌, false, length, take}
+use Rattle.byte_streams.specs.Streams.{change}
+use Rattle.byte_streams.specs.Source.{Takes}
 use Rattle.certificate.proofs.fields.fill.Given as goal
 
 abbrev pub invariant-bytes : goal.invariant-bytes
 invariant-bytes g l = record {
-  taken : Consumes (g.S.Source.left l.fn.source) (g.S.Source.left l.source) (take l.place l.text);
+  taken : Takes (change g.S.Source.state l.fn.source l.source) (take l.place l.text);
   size : length l.text ≡ length l.fn.text;
-  fine : (g.S.Source.has_failed l.fn.source ≡ false) ⊎ (0 < l.place) → g.S.Source.has_failed l.source ≡ false;
+  before : (g.S.Source.state l.source).has_failed ≡ false → (g.S.Source.state l.fn.source).has_failed ≡ false;
+  after : 0 < l.place → (g.S.Source.state l.source).has_failed ≡ false;
 }

@@ -1,32 +1,42 @@
-use Rattle.std.proofs.Common.{sym, ◌∙◌, refl}
-use Rattle.certificate.specs.Sources.{Refuses}
+use Rattle.std.proofs.Common.{◌++◌, sym, ◌∙◌}
+use Rattle.byte_streams.specs.Streams.{change}
 use Rattle.certificate.specs.Readings.{row}
+use Rattle.certificate.specs.Fields.{SpellsRow}
 use Rattle.certificate.proofs.FieldLemmas.{passed}
 use Rattle.certificate.proofs.TextLemmas.{board_law}
 use Rattle.certificate.proofs.RowLemmas.{sides_of, follows_from_test}
-use Rattle.certificate.proofs.SourceLemmas.{first_refuses, then_refuses, as_one_refuses, row_refuses}
+use Rattle.certificate.proofs.SourceLemmas.{first_refuses, then_refuses, as_one_refuses, row_refuses, found_after}
 use Rattle.certificate.proofs.fields.read_row.Goals as goal
 
-pub returns-in_err-board-clause-refused : goal.returns-in_err-board-clause-refused
+pub returns-in_err-board : goal.returns-in_err-board
 unfolding row
-returns-in_err-board-clause-refused g c =
-    let left = g.S.Source.left in
-    passed c.from_residual.result c.in_err-board.field-0.0 (Refuses (row c.args.shape c.args.before) (left c.args.source.now) (left c.read_board.new.source)) c.from_residual.ensures.1
-    (as_one_refuses (first_refuses _ c.in_err-board.ensures.refused))
+returns-in_err-board g c =
+    let grid = c.args.shape in
+    let before = c.args.before in
+    passed (row grid before) (SpellsRow grid before) (change g.S.Source.state c.args.source.now c.read_board.new.source) c.from_residual.result c.in_err-board.field-0.0 c.from_residual.ensures.1
+    (as_one_refuses (first_refuses _ c.in_err-board.ensures))
 
-pub returns-in_err-cost-clause-refused : goal.returns-in_err-cost-clause-refused
+pub returns-in_err-cost : goal.returns-in_err-cost
 unfolding row
-returns-in_err-cost-clause-refused g c =
-    let left = g.S.Source.left in
-    let b = c.in_ok-board.board in
-    passed c.from_residual-in_err-cost.result c.in_err-cost.field-0.0 (Refuses (row c.args.shape c.args.before) (left c.args.source.now) (left c.read_number.new.source)) c.from_residual-in_err-cost.ensures.1
-    (as_one_refuses (then_refuses _ (board_law c.args.shape (sides_of c.args.shape b c.in_ok-board.ensures.board)) b b.tiles (record { board = c.in_ok-board.ensures.board; is = refl }) c.in_ok-board.ensures.taken (first_refuses _ c.in_err-cost.ensures.refused)))
+returns-in_err-cost g c =
+    let grid = c.args.shape in
+    let before = c.args.before in
+    passed (row grid before) (SpellsRow grid before) (change g.S.Source.state c.args.source.now c.read_number.new.source) c.from_residual-in_err-cost.result c.in_err-cost.field-0.0 c.from_residual-in_err-cost.ensures.1
+    (as_one_refuses (then_refuses _ (board_law grid (sides_of grid c.in_ok-board.board c.in_ok-board.ensures.spells.board)) c.in_ok-board.ensures (first_refuses _ c.in_err-cost.ensures)))
 
-pub returns-then-not-comes_after-clause-refused : goal.returns-then-not-comes_after-clause-refused
-returns-then-not-comes_after-clause-refused g c =
-    let left = g.S.Source.left in
-    row_refuses c.args.shape c.args.before c.in_ok-board.board c.in_ok-cost.cost (left c.args.source.now) (left c.read_board.new.source) (left c.read_number.new.source) c.in_ok-board.ensures.board c.in_ok-cost.ensures.within c.in_ok-board.ensures.taken c.in_ok-cost.ensures.taken
-    (sym c.comes_after.ensures ∙ c.if-not-comes_after.true)
+pub returns-then-not-comes_after : goal.returns-then-not-comes_after
+returns-then-not-comes_after g c =
+    let state = g.S.Source.state in
+    row_refuses c.args.shape c.args.before c.in_ok-board.board c.in_ok-cost.cost (state c.args.source.now) (state c.read_board.new.source) (state c.read_number.new.source) c.in_ok-board.ensures c.in_ok-cost.ensures (sym c.comes_after.ensures ∙ c.if-not-comes_after.true)
 
-pub returns-clause-follows : goal.returns-clause-follows
-returns-clause-follows g c = follows_from_test c.args.shape c.args.before c.in_ok-board.board c.requires c.in_ok-board.ensures.board (sym c.comes_after.ensures ∙ c.if-not-comes_after.false)
+pub returns : goal.returns
+returns g c =
+    let grid = c.args.shape in
+    let before = c.args.before in
+    found_after
+    (λ s t b n. record {
+      row = record { board = b.board; cost = n.within };
+      follows = follows_from_test grid before c.in_ok-board.board c.requires b.board (sym c.comes_after.ensures ∙ c.if-not-comes_after.false);
+      is = λ i. b.is i ++ n.is i;
+    })
+    c.in_ok-board.ensures c.in_ok-cost.ensures

@@ -1,19 +1,21 @@
 use Rattle.std.proofs.Common.{map, arith}
 use Rattle.std.proofs.KnownBytes.{Consumes-trans}
-use Rattle.certificate.specs.Sources.{Refuses}
+use Rattle.byte_streams.specs.Streams.{change}
 use Rattle.certificate.specs.Spellings.{letter_of}
 use Rattle.certificate.specs.Readings.{letters}
 use Rattle.certificate.proofs.FieldLemmas.{passed}
 use Rattle.certificate.proofs.SourceLemmas.{letters_refuse, lacks_memory}
 use Rattle.certificate.proofs.reading.read_letters.Goals as goal
 
-pub returns-in_err-direction-clause-refused : goal.returns-in_err-direction-clause-refused
-returns-in_err-direction-clause-refused g c =
-    let left = g.S.Source.left in
-    passed c.from_residual.result c.in_err-direction.field-0.0 (Refuses (letters c.args.count) (left c.args.source.now) (left c.read_letter.new.source)) c.from_residual.ensures.1
-    (letters_refuse c.letters.moves.items c.args.count (left c.args.source.now) (left c.letters.source) (left c.read_letter.new.source) c.in_err-direction.field-0.0 (omega (arith, c.letters.invariant.size, c.letters-test.true)) c.letters.invariant.taken c.in_err-direction.ensures.refused)
+pub returns-in_err-direction : goal.returns-in_err-direction
+returns-in_err-direction g c =
+    let state = g.S.Source.state in
+    let f = c.in_err-direction.field-0.0 in
+    passed (letters c.args.count) _ (change state c.args.source.now c.read_letter.new.source) c.from_residual.result f c.from_residual.ensures.1
+    (letters_refuse c.letters.moves.items c.args.count (state c.args.source.now) (state c.letters.source) (state c.read_letter.new.source) f (omega (arith, c.letters.invariant.size, c.letters-test.true)) c.letters.invariant.taken c.in_err-direction.ensures)
 
-pub returns-in-Err-clause-refused : goal.returns-in-Err-clause-refused
-returns-in-Err-clause-refused g c =
-    let left = g.S.Source.left in
-    lacks_memory (left c.args.source.now) (left c.read_letter.new.source) _ (Consumes-trans (left c.args.source.now) (left c.letters.source) (left c.read_letter.new.source) (map letter_of c.letters.moves.items) _ c.letters.invariant.taken c.in_ok-direction.ensures.taken) _
+pub returns-in-Err : goal.returns-in-Err
+returns-in-Err g c =
+    let state = g.S.Source.state in
+    let p = c.in_ok-direction.ensures in
+    lacks_memory (change state c.args.source.now c.read_letter.new.source) _ (Consumes-trans (state c.args.source.now).left (state c.letters.source).left (state c.read_letter.new.source).left (map letter_of c.letters.moves.items) p.text c.letters.invariant.taken p.taken) p.on.1 _

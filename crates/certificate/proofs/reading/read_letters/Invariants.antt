@@ -1,11 +1,12 @@
-use Rattle.std.proofs.Common.{◌≡◌, false, length, map}
-use Rattle.std.specs.Io.KnownBytes.{Consumes}
+use Rattle.std.proofs.Common.{◌≡◌, length, map}
+use Rattle.byte_streams.specs.Streams.{change}
+use Rattle.byte_streams.specs.Source.{Takes, ReadsOn}
 use Rattle.certificate.specs.Spellings.{letter_of}
 use Rattle.certificate.proofs.reading.read_letters.Given as goal
 
 abbrev pub invariant-letters : goal.invariant-letters
 invariant-letters g l = record {
-  taken : Consumes (g.S.Source.left l.fn.source) (g.S.Source.left l.source) (map letter_of l.moves.items);
+  taken : Takes (change g.S.Source.state l.fn.source l.source) (map letter_of l.moves.items);
   size : length l.moves.items ≡ l.counter;
-  fine : g.S.Source.has_failed l.fn.source ≡ false → g.S.Source.has_failed l.source ≡ false;
+  on : ReadsOn (change g.S.Source.state l.fn.source l.source);
 }

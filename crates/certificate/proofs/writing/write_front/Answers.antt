@@ -1,59 +1,59 @@
 use Rattle.std.proofs.Common.{◌++◌, List, ℕ, subst, sym, length}
-use Rattle.std.specs.Io.KnownBytes.{Appends}
-use Rattle.byte_streams.specs.Sink.{AppendsBeginning}
 use Rattle.board.specs.CostRules.{CostRule}
 use Rattle.board.specs.Positions.{Position}
 use Rattle.board.specs.declared.moves.Move.{Move}
+use Rattle.byte_streams.specs.Streams.{change}
+use Rattle.byte_streams.specs.Sink.{WritesAll, FailsWriting, Writes}
+use Rattle.byte_streams.proofs.SinkLemmas.{Writes-after}
 use Rattle.certificate.specs.Certificates.{IsWithinLimit}
 use Rattle.certificate.specs.Spellings.{opening_text, number_text, plan_text}
-use Rattle.certificate.specs.Sources.{Writes}
-use Rattle.certificate.proofs.SinkLemmas.{writes_stop, writes_then}
+use Rattle.certificate.proofs.SinkLemmas.{writes_stop}
 use Rattle.certificate.proofs.writing.write_front.Goals as goal
 
 pub write_plan-requires : goal.write_plan-requires
 write_plan-requires g c = subst (λ (plan : List Move). IsWithinLimit (length plan)) (sym c.plan.ensures.value) c.plan.ensures.within
 
-pub returns-in_err-write_opening-clause-text : goal.returns-in_err-write_opening-clause-text
-returns-in_err-write_opening-clause-text g c =
-    let contents = g.K.Sink.contents in
+pub returns-in_err-write_opening : goal.returns-in_err-write_opening
+returns-in_err-write_opening g c =
+    let state = g.K.Sink.state in
     let d = c.args.certificate.now in
     let r = c.from_residual.result in
-    writes_stop _ (contents c.args.sink.now) (contents c.write_opening.new.sink) (opening_text d.costs) (d.start.tiles ++ (d.goal.tiles ++ (number_text d.cost ++ plan_text d.plan))) r c.from_residual.ensures.1 (subst (λ (x : CostRule). AppendsBeginning (contents c.args.sink.now) (contents c.write_opening.new.sink) (opening_text x)) c.costs.ensures c.in_err-write_opening.ensures.text)
+    writes_stop _ (change state c.args.sink.now c.write_opening.new.sink) (opening_text d.costs) (d.start.tiles ++ (d.goal.tiles ++ (number_text d.cost ++ (plan_text d.plan)))) r c.from_residual.ensures.1 (subst (λ (x : CostRule). FailsWriting (change state c.args.sink.now c.write_opening.new.sink) (opening_text x)) c.costs.ensures c.in_err-write_opening.ensures)
 
-pub returns-in_err-write_tiles-clause-text : goal.returns-in_err-write_tiles-clause-text
-returns-in_err-write_tiles-clause-text g c =
-    let contents = g.K.Sink.contents in
+pub returns-in_err-write_tiles : goal.returns-in_err-write_tiles
+returns-in_err-write_tiles g c =
+    let state = g.K.Sink.state in
     let d = c.args.certificate.now in
     let r = c.from_residual-in_err-write_tiles.result in
-    writes_then (contents c.args.sink.now) (contents c.write_opening.new.sink) (contents c.write_tiles.new.sink) (opening_text d.costs) (d.start.tiles ++ (d.goal.tiles ++ (number_text d.cost ++ plan_text d.plan))) r (subst (λ (x : CostRule). Appends (contents c.args.sink.now) (contents c.write_opening.new.sink) (opening_text x)) c.costs.ensures c.in_ok-write_opening.ensures.text)
-    (writes_stop _ (contents c.write_opening.new.sink) (contents c.write_tiles.new.sink) (d.start.tiles) (d.goal.tiles ++ (number_text d.cost ++ plan_text d.plan)) r c.from_residual-in_err-write_tiles.ensures.1 (subst (λ (x : Position). AppendsBeginning (contents c.write_opening.new.sink) (contents c.write_tiles.new.sink) x.tiles) c.start.ensures c.in_err-write_tiles.ensures.text))
+    Writes-after (state c.args.sink.now) (state c.write_opening.new.sink) (state c.write_tiles.new.sink) (opening_text d.costs) (d.start.tiles ++ (d.goal.tiles ++ (number_text d.cost ++ (plan_text d.plan)))) r (subst (λ (x : CostRule). WritesAll (change state c.args.sink.now c.write_opening.new.sink) (opening_text x)) c.costs.ensures c.in_ok-write_opening.ensures)
+    (writes_stop _ (change state c.write_opening.new.sink c.write_tiles.new.sink) d.start.tiles (d.goal.tiles ++ (number_text d.cost ++ (plan_text d.plan))) r c.from_residual-in_err-write_tiles.ensures.1 (subst (λ (x : Position). FailsWriting (change state c.write_opening.new.sink c.write_tiles.new.sink) x.tiles) c.start.ensures c.in_err-write_tiles.ensures))
 
-pub returns-in_err-write_tiles-2-clause-text : goal.returns-in_err-write_tiles-2-clause-text
-returns-in_err-write_tiles-2-clause-text g c =
-    let contents = g.K.Sink.contents in
+pub returns-in_err-write_tiles-2 : goal.returns-in_err-write_tiles-2
+returns-in_err-write_tiles-2 g c =
+    let state = g.K.Sink.state in
     let d = c.args.certificate.now in
     let r = c.from_residual-in_err-write_tiles-2.result in
-    writes_then (contents c.args.sink.now) (contents c.write_opening.new.sink) (contents c.write_tiles-2.new.sink) (opening_text d.costs) (d.start.tiles ++ (d.goal.tiles ++ (number_text d.cost ++ plan_text d.plan))) r (subst (λ (x : CostRule). Appends (contents c.args.sink.now) (contents c.write_opening.new.sink) (opening_text x)) c.costs.ensures c.in_ok-write_opening.ensures.text)
-    (writes_then (contents c.write_opening.new.sink) (contents c.write_tiles.new.sink) (contents c.write_tiles-2.new.sink) (d.start.tiles) (d.goal.tiles ++ (number_text d.cost ++ plan_text d.plan)) r (subst (λ (x : Position). Appends (contents c.write_opening.new.sink) (contents c.write_tiles.new.sink) x.tiles) c.start.ensures c.in_ok-write_tiles.ensures.text)
-    (writes_stop _ (contents c.write_tiles.new.sink) (contents c.write_tiles-2.new.sink) (d.goal.tiles) (number_text d.cost ++ plan_text d.plan) r c.from_residual-in_err-write_tiles-2.ensures.1 (subst (λ (x : Position). AppendsBeginning (contents c.write_tiles.new.sink) (contents c.write_tiles-2.new.sink) x.tiles) c.goal.ensures c.in_err-write_tiles-2.ensures.text)))
+    Writes-after (state c.args.sink.now) (state c.write_opening.new.sink) (state c.write_tiles-2.new.sink) (opening_text d.costs) (d.start.tiles ++ (d.goal.tiles ++ (number_text d.cost ++ (plan_text d.plan)))) r (subst (λ (x : CostRule). WritesAll (change state c.args.sink.now c.write_opening.new.sink) (opening_text x)) c.costs.ensures c.in_ok-write_opening.ensures)
+    (Writes-after (state c.write_opening.new.sink) (state c.write_tiles.new.sink) (state c.write_tiles-2.new.sink) d.start.tiles (d.goal.tiles ++ (number_text d.cost ++ (plan_text d.plan))) r (subst (λ (x : Position). WritesAll (change state c.write_opening.new.sink c.write_tiles.new.sink) x.tiles) c.start.ensures c.in_ok-write_tiles.ensures)
+    (writes_stop _ (change state c.write_tiles.new.sink c.write_tiles-2.new.sink) d.goal.tiles (number_text d.cost ++ (plan_text d.plan)) r c.from_residual-in_err-write_tiles-2.ensures.1 (subst (λ (x : Position). FailsWriting (change state c.write_tiles.new.sink c.write_tiles-2.new.sink) x.tiles) c.goal.ensures c.in_err-write_tiles-2.ensures)))
 
-pub returns-in_err-write_number-clause-text : goal.returns-in_err-write_number-clause-text
-returns-in_err-write_number-clause-text g c =
-    let contents = g.K.Sink.contents in
+pub returns-in_err-write_number : goal.returns-in_err-write_number
+returns-in_err-write_number g c =
+    let state = g.K.Sink.state in
     let d = c.args.certificate.now in
     let r = c.from_residual-in_err-write_number.result in
-    writes_then (contents c.args.sink.now) (contents c.write_opening.new.sink) (contents c.write_number.new.sink) (opening_text d.costs) (d.start.tiles ++ (d.goal.tiles ++ (number_text d.cost ++ plan_text d.plan))) r (subst (λ (x : CostRule). Appends (contents c.args.sink.now) (contents c.write_opening.new.sink) (opening_text x)) c.costs.ensures c.in_ok-write_opening.ensures.text)
-    (writes_then (contents c.write_opening.new.sink) (contents c.write_tiles.new.sink) (contents c.write_number.new.sink) (d.start.tiles) (d.goal.tiles ++ (number_text d.cost ++ plan_text d.plan)) r (subst (λ (x : Position). Appends (contents c.write_opening.new.sink) (contents c.write_tiles.new.sink) x.tiles) c.start.ensures c.in_ok-write_tiles.ensures.text)
-    (writes_then (contents c.write_tiles.new.sink) (contents c.write_tiles-2.new.sink) (contents c.write_number.new.sink) (d.goal.tiles) (number_text d.cost ++ plan_text d.plan) r (subst (λ (x : Position). Appends (contents c.write_tiles.new.sink) (contents c.write_tiles-2.new.sink) x.tiles) c.goal.ensures c.in_ok-write_tiles-2.ensures.text)
-    (writes_stop _ (contents c.write_tiles-2.new.sink) (contents c.write_number.new.sink) (number_text d.cost) (plan_text d.plan) r c.from_residual-in_err-write_number.ensures.1 (subst (λ (x : ℕ). AppendsBeginning (contents c.write_tiles-2.new.sink) (contents c.write_number.new.sink) (number_text x)) c.cost.ensures c.in_err-write_number.ensures.text))))
+    Writes-after (state c.args.sink.now) (state c.write_opening.new.sink) (state c.write_number.new.sink) (opening_text d.costs) (d.start.tiles ++ (d.goal.tiles ++ (number_text d.cost ++ (plan_text d.plan)))) r (subst (λ (x : CostRule). WritesAll (change state c.args.sink.now c.write_opening.new.sink) (opening_text x)) c.costs.ensures c.in_ok-write_opening.ensures)
+    (Writes-after (state c.write_opening.new.sink) (state c.write_tiles.new.sink) (state c.write_number.new.sink) d.start.tiles (d.goal.tiles ++ (number_text d.cost ++ (plan_text d.plan))) r (subst (λ (x : Position). WritesAll (change state c.write_opening.new.sink c.write_tiles.new.sink) x.tiles) c.start.ensures c.in_ok-write_tiles.ensures)
+    (Writes-after (state c.write_tiles.new.sink) (state c.write_tiles-2.new.sink) (state c.write_number.new.sink) d.goal.tiles (number_text d.cost ++ (plan_text d.plan)) r (subst (λ (x : Position). WritesAll (change state c.write_tiles.new.sink c.write_tiles-2.new.sink) x.tiles) c.goal.ensures c.in_ok-write_tiles-2.ensures)
+    (writes_stop _ (change state c.write_tiles-2.new.sink c.write_number.new.sink) (number_text d.cost) (plan_text d.plan) r c.from_residual-in_err-write_number.ensures.1 (subst (λ (x : ℕ). FailsWriting (change state c.write_tiles-2.new.sink c.write_number.new.sink) (number_text x)) c.cost.ensures c.in_err-write_number.ensures))))
 
-pub returns-clause-text : goal.returns-clause-text
-returns-clause-text g c =
-    let contents = g.K.Sink.contents in
+pub returns : goal.returns
+returns g c =
+    let state = g.K.Sink.state in
     let d = c.args.certificate.now in
     let r = c.write_plan.result in
-    writes_then (contents c.args.sink.now) (contents c.write_opening.new.sink) (contents c.write_plan.new.sink) (opening_text d.costs) (d.start.tiles ++ (d.goal.tiles ++ (number_text d.cost ++ plan_text d.plan))) r (subst (λ (x : CostRule). Appends (contents c.args.sink.now) (contents c.write_opening.new.sink) (opening_text x)) c.costs.ensures c.in_ok-write_opening.ensures.text)
-    (writes_then (contents c.write_opening.new.sink) (contents c.write_tiles.new.sink) (contents c.write_plan.new.sink) (d.start.tiles) (d.goal.tiles ++ (number_text d.cost ++ plan_text d.plan)) r (subst (λ (x : Position). Appends (contents c.write_opening.new.sink) (contents c.write_tiles.new.sink) x.tiles) c.start.ensures c.in_ok-write_tiles.ensures.text)
-    (writes_then (contents c.write_tiles.new.sink) (contents c.write_tiles-2.new.sink) (contents c.write_plan.new.sink) (d.goal.tiles) (number_text d.cost ++ plan_text d.plan) r (subst (λ (x : Position). Appends (contents c.write_tiles.new.sink) (contents c.write_tiles-2.new.sink) x.tiles) c.goal.ensures c.in_ok-write_tiles-2.ensures.text)
-    (writes_then (contents c.write_tiles-2.new.sink) (contents c.write_number.new.sink) (contents c.write_plan.new.sink) (number_text d.cost) (plan_text d.plan) r (subst (λ (x : ℕ). Appends (contents c.write_tiles-2.new.sink) (contents c.write_number.new.sink) (number_text x)) c.cost.ensures c.in_ok-write_number.ensures.text)
-    (subst (λ (x : List Move). Writes (contents c.write_number.new.sink) (contents c.write_plan.new.sink) (plan_text x) r) c.plan.ensures.value c.write_plan.ensures.text))))
+    Writes-after (state c.args.sink.now) (state c.write_opening.new.sink) (state c.write_plan.new.sink) (opening_text d.costs) (d.start.tiles ++ (d.goal.tiles ++ (number_text d.cost ++ (plan_text d.plan)))) r (subst (λ (x : CostRule). WritesAll (change state c.args.sink.now c.write_opening.new.sink) (opening_text x)) c.costs.ensures c.in_ok-write_opening.ensures)
+    (Writes-after (state c.write_opening.new.sink) (state c.write_tiles.new.sink) (state c.write_plan.new.sink) d.start.tiles (d.goal.tiles ++ (number_text d.cost ++ (plan_text d.plan))) r (subst (λ (x : Position). WritesAll (change state c.write_opening.new.sink c.write_tiles.new.sink) x.tiles) c.start.ensures c.in_ok-write_tiles.ensures)
+    (Writes-after (state c.write_tiles.new.sink) (state c.write_tiles-2.new.sink) (state c.write_plan.new.sink) d.goal.tiles (number_text d.cost ++ (plan_text d.plan)) r (subst (λ (x : Position). WritesAll (change state c.write_tiles.new.sink c.write_tiles-2.new.sink) x.tiles) c.goal.ensures c.in_ok-write_tiles-2.ensures)
+    (Writes-after (state c.write_tiles-2.new.sink) (state c.write_number.new.sink) (state c.write_plan.new.sink) (number_text d.cost) (plan_text d.plan) r (subst (λ (x : ℕ). WritesAll (change state c.write_tiles-2.new.sink c.write_number.new.sink) (number_text x)) c.cost.ensures c.in_ok-write_number.ensures)
+    (subst (λ (x : List Move). Writes (change state c.write_number.new.sink c.write_plan.new.sink) (plan_text x) r) c.plan.ensures.value c.write_plan.ensures))))
