@@ -19,7 +19,7 @@ use Rattle.certificate.specs.Readings.{Reader, IsFaultOf, IsCutOff, field, numbe
 use Rattle.std.specs.Str.{bytes_eq}
 use Rattle.byte_streams.specs.Streams.{SourceState, Change}
 use Rattle.byte_streams.specs.Source.{Takes, ReadsOn}
-use Rattle.byte_streams.proofs.SinkLemmas.{from_to}
+use Rattle.byte_streams.specs.Streams.{from_to}
 use Rattle.certificate.specs.Sources.{IfFormat, EndsEarly, TakesDue, Finds, Stops, Refuses, Reads, RefusesAtEnd, ReadsAll}
 
 -- what a fault of the bytes says, said otherwise

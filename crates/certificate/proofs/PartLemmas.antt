@@ -5,7 +5,7 @@ use Rattle.board.specs.Positions.{Position}
 use Rattle.board.specs.CostRules.{CostRule}
 use Rattle.board.specs.declared.moves.Move.{Move}
 use Rattle.byte_streams.specs.Streams.{SourceState}
-use Rattle.byte_streams.proofs.SinkLemmas.{from_to}
+use Rattle.byte_streams.specs.Streams.{from_to}
 use Rattle.certificate.specs.Certificates.{Statement}
 use Rattle.certificate.specs.Spellings.{Spells, spelling, front_text}
 use Rattle.certificate.specs.Fields.{SpellsMagic, SpellsByte, SpellsNumber, SpellsBoard, SpellsOpening, SpellsPlan, SpellsAllRows, SpellsFront}

@@ -6,7 +6,8 @@ use Rattle.std.proofs.lemmas.List.{drop_more, take-append-drop, map-append}
 use Rattle.std.proofs.lemmas.List.Concat.{flat_map-cons, flat_map-append}
 use Rattle.byte_streams.specs.Streams.{SinkState, Change}
 use Rattle.byte_streams.specs.Sink.{WritesAll, FailsWriting, Writes}
-use Rattle.byte_streams.proofs.SinkLemmas.{from_to, Writes-after, FailsWriting-longer}
+use Rattle.byte_streams.proofs.SinkLemmas.{Writes-after, FailsWriting-longer}
+use Rattle.byte_streams.specs.Streams.{from_to}
 use Rattle.board.specs.declared.moves.Move.{Move}
 use Rattle.board.specs.Positions.{Position}
 use Rattle.certificate.specs.Spellings.{letter_of, row_text}

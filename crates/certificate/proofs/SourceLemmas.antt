@@ -19,7 +19,7 @@ use Rattle.certificate.specs.Spellings.{letter_of, number_text, row_text}
 use Rattle.certificate.specs.Readings.{Reader, ◌>>=◌, continued, give, as_one, blamed, IsFaultOf, IsCutOff, HasNoFault, board, number, number_in, may_follow, rising, letter, letters, row, rows, end}
 use Rattle.byte_streams.specs.Streams.{SourceState, Change}
 use Rattle.byte_streams.specs.Source.{Takes}
-use Rattle.byte_streams.proofs.SinkLemmas.{from_to}
+use Rattle.byte_streams.specs.Streams.{from_to}
 use Rattle.certificate.specs.Sources.{Finds, Stops, RefusesAt, Refuses, Reads, RefusesAtEnd}
 use Rattle.certificate.proofs.FieldLemmas.{if_begun, if_left, if_format, all_after, field_short, last_split, not_order}
 use Rattle.certificate.proofs.ReaderLemmas.{Law, fine, faulty, one_fails}
