@@ -1,2 +1,3 @@
 pub mod Outcomes
 pub mod Words
+pub mod Faults

@@ -1,6 +1,7 @@
 -- When an outcome answers a task.
 use Rattle.std.specs.Prelude.{ℕ, ◌≡◌, ◌≤◌, ◌<◌, ⊤, List, Option, None, Some, Vec, length, All, AllPairs}
 use Rattle.std.specs.declared.alloc.Global.{Global}
+use Rattle.board.specs.declared.costs.TheConstants.{GREATEST_COST, GREATEST_EXPANDED_COST}
 use Rattle.board.specs.declared.moves.Move.{Move}
 use Rattle.board.specs.Positions.{Position, IsBoard}
 use Rattle.board.specs.CostRules.{CostRule}
@@ -15,7 +16,7 @@ use Rattle.outcomes.specs.declared.outcome.Cause.TheVariants.{Limit, Memory, Sta
 use Rattle.outcomes.specs.declared.outcome.Outcome.{Outcome}
 use Rattle.outcomes.specs.declared.outcome.Outcome.TheVariants.{Optimal, Unsolvable, Bounded}
 
--- what is asked: the plans from the start to the goal under a cost rule, with a sum that guides the search
+-- what is asked: the plans from the start to the goal under a cost rule; sum is the heuristic that guides the search
 pub record Task : Type 0 where
   pub start : Position
   pub goal : Position
@@ -27,12 +28,12 @@ abbrev pub IsBestPlan : Task → ℕ → Option (ℕ × List Move) → Type 0
 IsBestPlan task bound None = ⊤
 IsBestPlan task bound (Some best) = Leads task.rule task.start best.1 task.goal best.0 × (bound < best.0)
 
--- The rows prove the cost, and rise by key. Each is a board with the sides of the goal, and its cost is at most 1,048,575.
+-- The rows prove the cost, and rise by key. Each is a board with the sides of the goal, and its cost is at most `GREATEST_COST`.
 pub record AreRowsOf (task : Task) (rows : List (Position × ℕ)) (cost : ℕ) : Type 0 where
   pub proves : Proves task.rule rows task.sum task.start task.goal cost
   pub rising : AllPairs (λ row later. key_of row.0 < key_of later.0) rows
   pub boards : All (λ row. IsBoard row.0 × (row.0.grid ≡ task.goal.grid)) rows
-  pub low : All (λ row. row.1 ≤ 1048575) rows
+  pub low : All (λ row. row.1 ≤ GREATEST_COST) rows
 
 -- parity is named only where the start isn't in the goal's class
 abbrev pub AllowsWhy : Task → Why → Type 0
@@ -44,7 +45,7 @@ abbrev pub AllowsCause : ℕ → Cause → Type 0
 AllowsCause bound Limit = ⊤
 AllowsCause bound (Memory want) = ⊤
 AllowsCause bound Start = ⊤
-AllowsCause bound Cost = 1048320 < bound
+AllowsCause bound Cost = GREATEST_EXPANDED_COST < bound
 AllowsCause bound Cut = ⊤
 
 -- the plan without its memory
@@ -53,10 +54,11 @@ best_of None = None
 best_of (Some best) = Some (best.0, best.1.items)
 
 -- What an outcome says is true: that its plan is least and its rows prove it, of which neither the cost nor the count of moves is
--- above 1,048,575; that no plan leads to the goal; or that no plan costs less than a bound, which is the sum of the start at least.
+-- above `GREATEST_COST`; that no plan leads to the goal; or that no plan costs less than a bound, which is at least the heuristic of
+-- the start.
 abbrev pub Answers : Task → Outcome → Type 0
 Answers task (Optimal cost plan rows) =
-    Leads task.rule task.start plan.items task.goal cost × IsLeast task.rule task.start task.goal cost × AreRowsOf task rows.items cost × (cost ≤ 1048575) × (length plan.items ≤ 1048575)
+    Leads task.rule task.start plan.items task.goal cost × IsLeast task.rule task.start task.goal cost × AreRowsOf task rows.items cost × (cost ≤ GREATEST_COST) × (length plan.items ≤ GREATEST_COST)
 Answers task (Unsolvable why) = ((plan : List Move) (cost : ℕ) → ¬ Leads task.rule task.start plan task.goal cost) × AllowsWhy task why
 Answers task (Bounded bound best cause) =
     NothingBelow task.rule task.start task.goal bound × (task.sum task.start ≤ bound) × IsBestPlan task bound (best_of best) × AllowsCause bound cause

@@ -1,6 +1,8 @@
-//! What a run answers, and why: the outcomes of a search.
+//! What a search answers, and why.
 #![tactic(auto)]
 
-pub mod outcome;
+mod faults;
+mod outcome;
 
-pub use outcome::{Cause, Outcome, SolveFault, Want, Why};
+pub use faults::SolveFault;
+pub use outcome::{Cause, Outcome, Want, Why};

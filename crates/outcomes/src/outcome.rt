@@ -1,9 +1,10 @@
+//! Outcomes, the reasons and causes that they name, and the words for these.
+
 ghost use Rattle.std.specs.Prelude.{◌≡◌};
-ghost use Rattle.outcomes.specs.Words.{why_word, cause_word, solve_code_of};
+ghost use Rattle.outcomes.specs.Words.{why_word, cause_word};
 
 use board::{Board, Move};
 use memory::OutOfMemory;
-use thiserror::Error;
 
 /// Why there is no plan.
 #[derive(Clone, Copy, Debug, PartialEq, Eq)]
@@ -84,23 +85,4 @@ pub enum Outcome {
         best: Option<(u32, Vec<Move>)>,
         cause: Cause,
     },
-}
-
-/// Why a board could not be answered at all.
-#[derive(Clone, Copy, Debug, PartialEq, Eq, Error)]
-pub enum SolveFault {
-    /// V3
-    #[error("no memory before the first step")]
-    Memory(OutOfMemory),
-}
-
-impl SolveFault {
-    /// The code that the fault is reported by: `V3`.
-    pub fn code(self) -> &'static str
-        ensures { result.now ≡ solve_code_of self }
-    {
-        match self {
-            SolveFault::Memory(_) => "V3",
-        }
-    }
 }

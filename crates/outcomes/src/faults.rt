@@ -1,0 +1,26 @@
+//! Why a board could not be answered at all.
+
+ghost use Rattle.std.specs.Prelude.{◌≡◌};
+ghost use Rattle.outcomes.specs.Faults.{solve_code};
+
+use memory::OutOfMemory;
+use thiserror::Error;
+
+/// Why a board could not be answered at all.
+#[derive(Clone, Copy, Debug, PartialEq, Eq, Error)]
+pub enum SolveFault {
+    /// V3
+    #[error("no memory before the first step")]
+    Memory(OutOfMemory),
+}
+
+impl SolveFault {
+    /// The code that the fault is reported by: `V3`.
+    pub fn code(self) -> &'static str
+        ensures { result.now ≡ solve_code self }
+    {
+        match self {
+            SolveFault::Memory(_) => "V3",
+        }
+    }
+}
