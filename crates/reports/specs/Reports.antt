@@ -3,18 +3,11 @@ use Rattle.std.specs.Prelude.{ℕ, List, [], ◌∷◌, ◌++◌, map, Option, N
 use Rattle.serde_json.specs.Data.{Data, number, unsigned, string, object, member, no_members, null}
 use Rattle.serde_json.specs.Written.{compact_text}
 use Rattle.board.specs.declared.moves.Move.{Move}
-use Rattle.board.specs.declared.moves.Move.TheVariants.{U, L, R, D}
+use Rattle.board.specs.Letters.{letter_of}
 use Rattle.outcomes.specs.Outcomes.{best_of}
 use Rattle.outcomes.specs.Words.{why_word, cause_word}
 use Rattle.outcomes.specs.declared.outcome.Outcome.{Outcome}
 use Rattle.outcomes.specs.declared.outcome.Outcome.TheVariants.{Optimal, Unsolvable, Bounded}
-
--- the letter of a move
-abbrev pub letter_of : Move → ℕ
-letter_of U = 85
-letter_of L = 76
-letter_of R = 82
-letter_of D = 68
 
 -- the letters of a plan
 abbrev pub letters_of : List Move → List ℕ

@@ -1,7 +1,7 @@
 //! The reports of outcomes, of refused lines and of certificates, as JSON.
 #![tactic(auto)]
 
-pub mod report;
+mod report;
 
 pub use report::{
     NoReport, accepted_report, outcome_report, refused_certificate_report, refused_report,

@@ -1,3 +1,5 @@
+//! The makers of reports: one JSON object on a line.
+
 ghost use Rattle.std.specs.Prelude.{◌≡◌, ℕ, IfOk, Some, Vec, false, string_bytes};
 ghost use Rattle.std.specs.declared.alloc.Global.{Global};
 ghost use Rattle.serde_json.specs.View.{view};
@@ -6,7 +8,8 @@ ghost use Rattle.board.specs.declared.moves.Move.{Move};
 ghost use Rattle.board.specs.declared.boards.Board.{Board};
 ghost use Rattle.outcomes.specs.Outcomes.{best_of};
 ghost use Rattle.outcomes.specs.declared.outcome.Outcome.TheVariants.{Optimal, Unsolvable, Bounded};
-ghost use Rattle.reports.specs.Reports.{letter_of, letters_of, best_data, outcome_data, refused_data, accepted_data, refused_certificate_data, report_text};
+ghost use Rattle.reports.specs.Reports.{letters_of, best_data, outcome_data, refused_data};
+ghost use Rattle.reports.specs.Reports.{accepted_data, refused_certificate_data, report_text};
 
 use board::Move;
 use memory::{OutOfMemory, json_text, push_char, put, text_value};
@@ -22,7 +25,8 @@ pub struct NoReport {
 
 /// The report of an outcome for a line with this id: one JSON object and a line feed.
 pub fn outcome_report(alloc: Global, id: &str, outcome: &Outcome) -> Result<String, NoReport>
-    ensures { IfOk result (λ text. string_bytes text ≡ report_text (outcome_data id.now outcome.now)) }
+    ensures { IfOk result (λ text.
+        string_bytes text ≡ report_text (outcome_data id.now outcome.now)) }
 {
     let value = match outcome_value(alloc, id, outcome) {
         Ok(value) => value,
@@ -42,7 +46,8 @@ pub fn refused_report(alloc: Global, code: &str, line: u64) -> Result<String, No
     json_line(alloc, &value)
 }
 
-/// The report of a certificate that is accepted: one JSON object and a line feed. The cost is the least.
+/// The report of a certificate that is accepted: one JSON object and a line feed. The cost is the
+/// least.
 pub fn accepted_report(alloc: Global, cost: u32) -> Result<String, NoReport>
     ensures { IfOk result (λ text. string_bytes text ≡ report_text (accepted_data cost)) }
 {
@@ -53,9 +58,11 @@ pub fn accepted_report(alloc: Global, cost: u32) -> Result<String, NoReport>
     json_line(alloc, &value)
 }
 
-/// The report of a certificate that is refused by a fault with this code: one JSON object and a line feed.
+/// The report of a certificate that is refused by a fault with this code: one JSON object and a
+/// line feed.
 pub fn refused_certificate_report(alloc: Global, code: &str) -> Result<String, NoReport>
-    ensures { IfOk result (λ text. string_bytes text ≡ report_text (refused_certificate_data code.now)) }
+    ensures { IfOk result (λ text.
+        string_bytes text ≡ report_text (refused_certificate_data code.now)) }
 {
     let value = match refused_certificate_value(alloc, code) {
         Ok(value) => value,
@@ -78,7 +85,8 @@ fn outcome_value(alloc: Global, id: &str, outcome: &Outcome) -> Result<Value, Ou
 
 // The object of a plan of least cost, whatever the rows that prove it.
 fn optimal_value(alloc: Global, id: &str, cost: u32, plan: &[Move]) -> Result<Value, OutOfMemory>
-    ensures value { (kept : Vec Move Global) (rows : Vec (Board × ℕ) Global) → kept.items ≡ plan.now →
+    ensures value { (kept : Vec Move Global) (rows : Vec (Board × ℕ) Global) →
+        kept.items ≡ plan.now →
         IfOk result (λ built. view built ≡ outcome_data id.now (Optimal cost kept rows)) }
     ensures no_float { IfOk result (λ built. has_float (view built) ≡ false) }
 {
@@ -115,7 +123,8 @@ fn bounded_value(
     best: &Option<(u32, Vec<Move>)>,
     cause: Cause,
 ) -> Result<Value, OutOfMemory>
-    ensures value { IfOk result (λ built. view built ≡ outcome_data id.now (Bounded bound best.now cause)) }
+    ensures value { IfOk result (λ built.
+        view built ≡ outcome_data id.now (Bounded bound best.now cause)) }
     ensures no_float { IfOk result (λ built. has_float (view built) ≡ false) }
 {
     let plan = best_value(alloc, best)?;
@@ -197,21 +206,9 @@ fn plan_letters(alloc: Global, plan: &[Move]) -> Result<String, OutOfMemory>
 {
     let mut text = String::new(alloc);
     for direction in plan {
-        push_char(&mut text, letter(*direction))?;
+        push_char(&mut text, direction.letter() as char)?;
     }
     Ok(text)
-}
-
-// The letter of a move.
-fn letter(direction: Move) -> char
-    ensures { result ≡ letter_of direction }
-{
-    match direction {
-        Move::U => 'U',
-        Move::L => 'L',
-        Move::R => 'R',
-        Move::D => 'D',
-    }
 }
 
 // A value without floats as compact JSON on a line of its own.
