@@ -1,5 +1,5 @@
 -- From an outcome to a certificate, and from a reply to what is written.
-use Rattle.std.proofs.Common.{◌≡◌, ◌≢◌, ℕ, suc, ◌+◌, ◌<◌, ◌^◌, List, [], ◌∷◌, Option, None, Some, Result, Ok, Err, Vec, All, AllPairs, length, codes, refl, sym, ap, subst, ◌∙◌, inl, inr, arith}
+use Rattle.std.proofs.Common.{◌≡◌, ◌≢◌, ℕ, suc, ◌+◌, ◌<◌, ◌^◌, List, [], ◌∷◌, None, Some, Result, Ok, Err, Vec, All, AllPairs, length, codes, refl, sym, ap, subst, ◌∙◌, inl, inr, arith}
 use Rattle.std.specs.List.{AllByRecursion}
 use Rattle.std.proofs.lemmas.List.Elements.{recursion_from_All}
 use Rattle.byte_streams.specs.Streams.{SourceState, SinkState, Change}
@@ -19,8 +19,11 @@ use Rattle.batch_lines.specs.declared.lines.Line.{Line}
 use Rattle.batch_lines.specs.declared.lines.LineKind.{LineKind}
 use Rattle.batch_lines.specs.declared.lines.LineKind.TheVariants.{PassedOver, Within, TooLong}
 use Rattle.certificate.specs.Certificates.{Statement, AreNamedCosts, IsBoardOf, IsRow, RiseAfter, IsCertificate}
-use Rattle.batch_runs.specs.Batches.Answer.{refused}
-use Rattle.batch_runs.specs.Batches.AnswersEntry.{by_fault, by_want}
+use Rattle.batch_runs.specs.Batches.Answer.{refused, answered}
+use Rattle.batch_runs.specs.Batches.{no_lines, with_outcome, status_of_counts}
+use Rattle.reports.specs.Reports.{outcome_data, report_text}
+use Rattle.outcomes.specs.declared.outcome.Outcome.{Outcome}
+use Rattle.batch_runs.specs.Batches.AnswersEntry.{by_fault, by_outcome, by_want}
 use Rattle.batch_runs.specs.Setups.{SetupState}
 use Rattle.batch_runs.specs.Solving.{MayAnswer, task_of, rules_of}
 use Rattle.certificate_runs.specs.declared.faults.CertifyFault.{CertifyFault}
@@ -28,7 +31,7 @@ use Rattle.batch_runs.proofs.BatchLemmas.{answer_is}
 use Rattle.certificate_runs.specs.declared.certifying.Reply.{Reply}
 use Rattle.certificate_runs.specs.declared.certifying.Reply.TheVariants.{Certified, Reported}
 use Rattle.certificate_runs.specs.Outputs.{Output}
-use Rattle.certificate_runs.specs.Certifying.{IsCertificateFor, IsReply, IsRefusal, FindsFirst, SeeksFirst, PutsReply, Replies, first_line, report_of, reply_output}
+use Rattle.certificate_runs.specs.Certifying.{IsCertificateFor, IsNotOptimal, ReportsLine, IsReply, IsRefusal, FindsFirst, SeeksFirst, PutsReply, Replies, first_line, report_of, reply_output}
 
 -- a line that is to be read
 abbrev pub within : ℕ → Line
@@ -67,6 +70,12 @@ refused_entry setup n bytes fault (Reported text status) first is = (refused (en
 pub refused_board : (setup : SetupState) (n : ℕ) (bytes id : List ℕ) (b : Position) (reply : Reply) → IsEntry setup.goal.grid bytes id b → MayAnswer setup b None → IsRefusal (codes "V3") n reply → IsReply setup (within n) bytes reply
 refused_board setup n bytes id b (Certified c) entry lacking is = absurd (no_refusal c (codes "V3") n is)
 refused_board setup n bytes id b (Reported text status) entry lacking is = (refused (codes "V3"), by_want id b entry lacking, tt, is)
+
+-- an outcome that names no least plan
+pub reported_entry : (setup : SetupState) (n : ℕ) (bytes id text : List ℕ) (b : Position) (outcome : Outcome) (status : ℕ) → IsEntry setup.goal.grid bytes id b → MayAnswer setup b (Some outcome) → IsNotOptimal (answered id outcome) → text ≡ report_text (outcome_data id outcome) → status ≡ status_of_counts (with_outcome no_lines outcome)
+    → ReportsLine setup (within n) bytes (record { text = text; status = status })
+reported_entry setup n bytes id text b outcome status entry allowed other written told =
+    (answered id outcome, by_outcome id b outcome entry allowed, other, λ i. record { text = written i; status = told i })
 
 -- a line that is too long
 pub refused_line : (setup : SetupState) (n : ℕ) (kind : LineKind) (bytes : List ℕ) (reply : Reply) → kind ≢ PassedOver → kind ≢ Within → IsRefusal (codes "E12") n reply → IsReply setup (record { number = n; kind = kind }) bytes reply

@@ -1,11 +1,13 @@
 -- From what was read to the verdict.
-use Rattle.std.proofs.Common.{◌≡◌, true, ℕ, List, Option, None, Some, Result, Ok, Err, IfSome, sym, subst, inl, inr}
+use Rattle.std.proofs.Common.{◌≡◌, ◌↔◌, true, ℕ, List, Option, None, Some, Result, Ok, Err, IfSome, sym, subst, inl, inr}
 use Rattle.byte_streams.specs.Streams.{SourceState, SinkState, Change}
 use Rattle.byte_streams.specs.Source.{Takes}
 use Rattle.certificate.specs.declared.faults.FormatFault.{FormatFault}
-use Rattle.certificate.specs.declared.faults.ReadFault.TheVariants.{Format}
+use Rattle.certificate.specs.declared.faults.ReadFault.{ReadFault}
+use Rattle.certificate.specs.declared.faults.ReadFault.TheVariants.{Format, Failed}
+use Rattle.std.proofs.lemmas.Bool.{false_from_ne_true}
 use Rattle.certificate.specs.Certificates.{Statement}
-use Rattle.certificate.specs.Codes.{format_code}
+use Rattle.certificate.specs.Codes.{format_code_of}
 use Rattle.certificate.specs.Sources.{Tells}
 use Rattle.batch_runs.specs.Batches.{IsReadable}
 use Rattle.certificate_runs.specs.Outputs.{Output}
@@ -18,9 +20,22 @@ judged None c output tells judgement = tt
 judged (Some input) c output tells judgement = inl (c, tells, judgement)
 
 -- a fault that was met in the bytes
-pub faulty : (left : Option (List ℕ)) (fault : FormatFault) (output : Output) → IfSome left (Tells (Err (Format fault))) → IsRefused (format_code fault) output → IfSome left (IsVerdict output)
+pub faulty : (left : Option (List ℕ)) (fault : FormatFault) (output : Output) → IfSome left (Tells (Err (Format fault))) → IsRefused (format_code_of fault) output → IfSome left (IsVerdict output)
 faulty None fault output tells refused = tt
 faulty (Some input) fault output tells refused = inr (fault, tells, refused)
+
+abbrev read_ok : Statement → Result Statement ReadFault
+read_ok c = Ok c
+
+abbrev read_err : FormatFault → Result Statement ReadFault
+read_err fault = Err (Format fault)
+
+-- a source of which a certificate, or a fault of the bytes, was read has not failed
+pub readable_certificate : (source : Change SourceState) (c : Statement) → ((read_ok c ≡ Err Failed) ↔ (source.after.has_failed ≡ true)) → IsReadable source
+readable_certificate source c failed = false_from_ne_true source.after.has_failed (λ is. let e = failed.1 is in absurd cc)
+
+pub readable_fault : (source : Change SourceState) (fault : FormatFault) → ((read_err fault ≡ Err Failed) ↔ (source.after.has_failed ≡ true)) → IsReadable source
+readable_fault source fault failed = false_from_ne_true source.after.has_failed (λ is. let e = failed.1 is in absurd cc)
 
 -- the verdict was written, or a beginning of it
 pub checked : (source : Change SourceState) (sink : Change SinkState) (output : Output) (result : Result ℕ CheckFault) → ((seen : List ℕ) × Takes source seen) → IsReadable source → JudgesSource source output → PutsVerdict sink output result → Checks source sink result

@@ -1,5 +1,6 @@
 -- What is written of a certificate that is checked, and the status of that.
-use Rattle.std.specs.Prelude.{ℕ, ◌≡◌, ◌⊎◌, true, List, Option, Result, Ok, Err, IfSome}
+use Rattle.std.specs.Prelude.{ℕ, ◌≡◌, ◌⊎◌, true, String, List, Result, Ok, Err, IfSome, string_bytes}
+use Rattle.std.specs.declared.alloc.Global.{Global}
 use Rattle.byte_streams.specs.Streams.{SourceState, SinkState, Change}
 use Rattle.byte_streams.specs.Source.{Takes}
 use Rattle.byte_streams.specs.Sink.{WritesAll, FailsWriting}
@@ -9,9 +10,9 @@ use Rattle.certificate.specs.declared.faults.FormatFault.{FormatFault}
 use Rattle.certificate.specs.Certificates.{Statement}
 use Rattle.certificate.specs.Spellings.{Spells}
 use Rattle.certificate.specs.Readings.{IsFirstFault}
-use Rattle.certificate.specs.Codes.{format_code}
+use Rattle.certificate.specs.Codes.{format_code_of}
 use Rattle.certificate_check.specs.declared.refusals.Refusal.{Refusal}
-use Rattle.certificate_check.specs.Refusals.{IsProved, IsFirstRefusal, refusal_code}
+use Rattle.certificate_check.specs.Refusals.{IsProved, IsFirstRefusal, code_of}
 use Rattle.batch_runs.specs.Batches.{IsReadable}
 use Rattle.certificate_runs.specs.Outputs.{Output, IsUntouched}
 use Rattle.certificate_runs.specs.declared.faults.CheckFault.{CheckFault}
@@ -29,12 +30,12 @@ IsRefused code output = output ≡ record { text = report_text (refused_certific
 
 -- a certificate is accepted, or refused for the first cause
 abbrev pub IsJudgement : Statement → Output → Type 0
-IsJudgement c output = IsAccepted c output ⊎ ((refusal : Refusal) × IsFirstRefusal c refusal × IsRefused (refusal_code refusal) output)
+IsJudgement c output = IsAccepted c output ⊎ ((refusal : Refusal) × IsFirstRefusal c refusal × IsRefused (code_of refusal) output)
 
 -- the bytes spell a certificate, which is judged; or they are refused for their first fault
 abbrev pub IsVerdict : Output → List ℕ → Type 0
 IsVerdict output input =
-    ((c : Statement) × Spells c input × IsJudgement c output) ⊎ ((fault : FormatFault) × IsFirstFault input fault × IsRefused (format_code fault) output)
+    ((c : Statement) × Spells c input × IsJudgement c output) ⊎ ((fault : FormatFault) × IsFirstFault input fault × IsRefused (format_code_of fault) output)
 
 -- a line and its status, as they are to be written
 abbrev pub verdict_output : String Global × ℕ → Output
