@@ -92,5 +92,5 @@ module _ (task : Task) (is : IsTask task) (known : Knowledge) where
   }
 
   -- where the goal is known, the bound may be given alone for want of memory
-  pub given_alone : (lowest : Option ℕ) (goal bound : ℕ) (stop : Stop) (outcome : Outcome) (refused : OutOfMemory) → lesser lowest (Some goal) ≡ Some bound → outcome ≡ Bounded bound None (Memory (Refused refused)) → IsGivenAt task known lowest (Some goal) stop outcome
-  given_alone lowest goal bound stop outcome refused least is = subst (IsGivenAt task known lowest (Some goal) stop) (sym is) (least, inr ((λ e. cc), (refused, refl)))
+  pub given_alone : (lowest : Option ℕ) (goal bound : ℕ) (stop : Stop) (outcome : Outcome) (refused : OutOfMemory) → lesser lowest (Some goal) ≡ Some bound → outcome ≡ Bounded bound None (Memory (Refused refused)) → IsGivenAt task (record { known = known; lowest = lowest; reached = Some goal; stop = stop }) outcome
+  given_alone lowest goal bound stop outcome refused least is = subst (IsGivenAt task (record { known = known; lowest = lowest; reached = Some goal; stop = stop })) (sym is) (least, inr ((λ e. cc), (refused, refl)))

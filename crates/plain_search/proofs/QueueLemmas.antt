@@ -18,7 +18,7 @@ use Rattle.board.specs.Positions.{Position}
 use Rattle.board.specs.CostRules.{CostRule}
 use Rattle.board.specs.Moves.{successor}
 use Rattle.plain_search.specs.declared.known.Known.{Known}
-use Rattle.plain_search.specs.Expansions.{as_expanded, marked_at, with_successors, lowered_next}
+use Rattle.plain_search.specs.Expansions.{closed_entry, closure_at, relaxations, successor_relaxation}
 use Rattle.plain_search.specs.Knowledge.{Knowledge}
 use Rattle.plain_search.specs.Queues.{Queue, queue_cmp, Waits, IsLive, EachWaits, OthersWait, NoneBelow}
 use Rattle.plain_search.proofs.SoundLemmas.{with_insert, self_alike}
@@ -96,25 +96,25 @@ none_in (x ∷ keys) test none e = none (omega arith)
 pub none_left : (queue : Queue) (known : Knowledge) (cost : ℕ) → EachWaits known queue → ¬ (0 < length queue.keys) → NoneBelow known cost
 none_left queue known cost each none key k live = absurd (none_in queue.keys (is_at (queue_cmp (k.cost, key))) none (each key k live))
 
--- what is known at a key when the board there is marked
-at_marked : (known : Knowledge) (key : ℕ) (o : Option Known) → map.get known key ≡ o → (k : Known) → ¬ IsLive (marked_at known key o) key k
-at_marked known key None is k live = none-some k (sym is ∙ live.0)
-at_marked known key (Some k') is k live =
-    let e : Some (as_expanded k') ≡ Some k = sym (map.get-insert nat_cmp_total known key (as_expanded k') key ∙ ap (λ b. cond b (Some (as_expanded k')) (map.get known key)) (self_alike key)) ∙ live.0 in
+-- what is known at a key when the board there is closed
+at_closed : (known : Knowledge) (key : ℕ) (o : Option Known) → map.get known key ≡ o → (k : Known) → ¬ IsLive (closure_at known key o) key k
+at_closed known key None is k live = none-some k (sym is ∙ live.0)
+at_closed known key (Some k') is k live =
+    let e : Some (closed_entry k') ≡ Some k = sym (map.get-insert nat_cmp_total known key (closed_entry k') key ∙ ap (λ b. cond b (Some (closed_entry k')) (map.get known key)) (self_alike key)) ∙ live.0 in
     true≢false (ap (λ (o : Option Known). (unwrap_or o k).expanded) e ∙ live.1)
 
 -- what is known at other keys
-beside_marked : (known : Knowledge) (key : ℕ) (o : Option Known) (at : ℕ) → at ≢ key → map.get (marked_at known key o) at ≡ map.get known at
-beside_marked known key None at other = refl
-beside_marked known key (Some k) at other = ⊎_elim (λ (old : map.get (map.insert known key (as_expanded k)) at ≡ map.get known at). old) (λ new. absurd (other new.0)) (with_insert known key at (as_expanded k))
+beside_closed : (known : Knowledge) (key : ℕ) (o : Option Known) (at : ℕ) → at ≢ key → map.get (closure_at known key o) at ≡ map.get known at
+beside_closed known key None at other = refl
+beside_closed known key (Some k) at other = ⊎_elim (λ (old : map.get (map.insert known key (closed_entry k)) at ≡ map.get known at). old) (λ new. absurd (other new.0)) (with_insert known key at (closed_entry k))
 
--- a board that is marked needn't wait
-pub waits_marked : (known : Knowledge) (queue : Queue) (key : ℕ) → OthersWait known queue key → EachWaits (marked_at known key (map.get known key)) queue
-waits_marked known queue key others at k live =
-    let other : at ≢ key = λ same. at_marked known key (map.get known key) refl k (subst (λ (x : ℕ). IsLive (marked_at known key (map.get known key)) x k) same live) in
-    others at k (sym (beside_marked known key (map.get known key) at other) ∙ live.0, live.1) other
+-- a board that is closed needn't wait
+pub waits_closed : (known : Knowledge) (queue : Queue) (key : ℕ) → OthersWait known queue key → EachWaits (closure_at known key (map.get known key)) queue
+waits_closed known queue key others at k live =
+    let other : at ≢ key = λ same. at_closed known key (map.get known key) refl k (subst (λ (x : ℕ). IsLive (closure_at known key (map.get known key)) x k) same live) in
+    others at k (sym (beside_closed known key (map.get known key) at other) ∙ live.0, live.1) other
 
 -- one successor more
-pub with_successors-push : (rule : CostRule) (b : Position) (cost : ℕ) (moves : List Move) (m : Move) (known : Knowledge) → with_successors rule b cost (moves ++ m ∷ []) known ≡ lowered_next (with_successors rule b cost moves known) cost m (successor rule b m)
-with_successors-push rule b cost [] m known = refl
-with_successors-push rule b cost (m' ∷ moves) m known = with_successors-push rule b cost moves m (lowered_next known cost m' (successor rule b m'))
+pub relaxations-push : (rule : CostRule) (b : Position) (cost : ℕ) (moves : List Move) (m : Move) (known : Knowledge) → relaxations rule b cost (moves ++ m ∷ []) known ≡ successor_relaxation (relaxations rule b cost moves known) cost m (successor rule b m)
+relaxations-push rule b cost [] m known = refl
+relaxations-push rule b cost (m' ∷ moves) m known = relaxations-push rule b cost moves m (successor_relaxation known cost m' (successor rule b m'))

@@ -5,6 +5,7 @@ use Rattle.std.specs.FinMap as map
 use Rattle.std.specs.declared.alloc.Global.{Global}
 use Rattle.std.proofs.lemmas.Bool.{cases_lt, cases_Bool, true_from_ne_false}
 use Rattle.std.proofs.lemmas.List.Elements.{All-weaker, All-contains_itself}
+use Rattle.board.specs.declared.costs.TheConstants.{GREATEST_COST, GREATEST_EXPANDED_COST}
 use Rattle.board.specs.declared.moves.Move.{Move}
 use Rattle.board.specs.Positions.{Position, IsBoard}
 use Rattle.board.specs.Plans.{Leads, NothingBelow}
@@ -126,23 +127,23 @@ IsGoalCost task known cost = (k : Known) × Knows task known task.goal k × (k.c
 abbrev HasNothingBelow : Task → Knowledge → Type 0
 HasNothingBelow task known = (b : Position) (k : Known) → IsOpen task known b k → limit_of task known ≤ k.cost
 
--- where the goal is unknown the limit is 1,048,321
-limit_unreached : (task : Task) (known : Knowledge) → IsTask task → IsReached task known None → (at : Option Known) → map.get known (key_of task.goal) ≡ at → limit_of task known ≡ 1048321
+-- where the goal is unknown the limit is the highest
+limit_unreached : (task : Task) (known : Knowledge) → IsTask task → IsReached task known None → (at : Option Known) → map.get known (key_of task.goal) ≡ at → limit_of task known ≡ GREATEST_EXPANDED_COST + 1
 limit_unreached task known is none None found = ap limit_from found
 limit_unreached task known is none (Some k) found = absurd (none k.cost (k, record { board = is.goal; sides = refl; found = found }, refl))
 
--- where the goal is known the limit is its cost, or 1,048,321 if that is less
-limit_reached : (task : Task) (known : Knowledge) (goal : ℕ) → IsReached task known (Some goal) → limit_of task known ≡ min goal 1048321
+-- where the goal is known the limit is its cost, or the highest if that is less
+limit_reached : (task : Task) (known : Knowledge) (goal : ℕ) → IsReached task known (Some goal) → limit_of task known ≡ min goal (GREATEST_EXPANDED_COST + 1)
 limit_reached task known goal is =
-    let limit : limit_of task known ≡ min is.0.0.cost 1048321 = ap limit_from is.0.1.found in
+    let limit : limit_of task known ≡ min is.0.0.cost (GREATEST_EXPANDED_COST + 1) = ap limit_from is.0.1.found in
     omega (arith, is.0.2)
 
 -- where no open board is below the limit, the lowest of them is not
 lowest_high : (task : Task) (known : Knowledge) (lowest : ℕ) → IsLowest task known (Some lowest) → HasNothingBelow task known → limit_of task known ≤ lowest
 lowest_high task known lowest is done = let le = done is.0.0 is.0.1 is.0.2 in omega (arith, is.0.3)
 
--- then without the goal the bound is above 1,048,320
-high_without : (task : Task) (known : Knowledge) (lowest : Option ℕ) (bound : ℕ) → IsTask task → IsLowest task known lowest → IsReached task known None → HasNothingBelow task known → lesser lowest None ≡ Some bound → 1048320 < bound
+-- then without the goal the bound is above `GREATEST_EXPANDED_COST`
+high_without : (task : Task) (known : Knowledge) (lowest : Option ℕ) (bound : ℕ) → IsTask task → IsLowest task known lowest → IsReached task known None → HasNothingBelow task known → lesser lowest None ≡ Some bound → GREATEST_EXPANDED_COST < bound
 high_without task known None bound is is_lowest none done least = cc
 high_without task known (Some l) bound is is_lowest none done least =
     let e : l ≡ bound = cc in
@@ -151,7 +152,7 @@ high_without task known (Some l) bound is is_lowest none done least =
     omega arith
 
 -- and with the goal it is so where the bound is below the goal's cost
-high_with : (task : Task) (known : Knowledge) (lowest : Option ℕ) (goal bound : ℕ) → IsLowest task known lowest → IsReached task known (Some goal) → HasNothingBelow task known → lesser lowest (Some goal) ≡ Some bound → bound < goal → 1048320 < bound
+high_with : (task : Task) (known : Knowledge) (lowest : Option ℕ) (goal bound : ℕ) → IsLowest task known lowest → IsReached task known (Some goal) → HasNothingBelow task known → lesser lowest (Some goal) ≡ Some bound → bound < goal → GREATEST_EXPANDED_COST < bound
 high_with task known None goal bound is_lowest is_reached done least below = let e : goal ≡ bound = cc in absurd (omega arith)
 high_with task known (Some l) goal bound is_lowest is_reached done least below =
     let e : min l goal ≡ bound = cc in
@@ -160,13 +161,13 @@ high_with task known (Some l) goal bound is_lowest is_reached done least below =
     omega arith
 
 -- a stop allows the cause that it names
-allowed : (task : Task) (known : Knowledge) (stop : Stop) (bound : ℕ) (cause : Cause) → cause ≡ cause_of stop → IsStoppedBy task stop known → (HasNothingBelow task known → 1048320 < bound) → AllowsCause bound cause
+allowed : (task : Task) (known : Knowledge) (stop : Stop) (bound : ℕ) (cause : Cause) → cause ≡ cause_of stop → IsStoppedBy task stop known → (HasNothingBelow task known → GREATEST_EXPANDED_COST < bound) → AllowsCause bound cause
 allowed task known Done bound cause is stopped high = subst (AllowsCause bound) (sym is) (high stopped.2)
 allowed task known Limit bound cause is stopped high = subst (AllowsCause bound) (sym is) tt
 allowed task known (Memory refused) bound cause is stopped high = subst (AllowsCause bound) (sym is) tt
 
 -- and excuses it
-excused : (task : Task) (known : Knowledge) (stop : Stop) (bound : ℕ) (best : Option (ℕ × Vec Move Global)) (cause : Cause) → cause ≡ cause_of stop → IsStoppedBy task stop known → (HasNothingBelow task known → 1048320 < bound) → IsExcused task (Bounded bound best cause)
+excused : (task : Task) (known : Knowledge) (stop : Stop) (bound : ℕ) (best : Option (ℕ × Vec Move Global)) (cause : Cause) → cause ≡ cause_of stop → IsStoppedBy task stop known → (HasNothingBelow task known → GREATEST_EXPANDED_COST < bound) → IsExcused task (Bounded bound best cause)
 excused task known Done bound best cause is stopped high = subst (λ (c : Cause). IsExcused task (Bounded bound best c)) (sym is) (high stopped.2)
 excused task known Limit bound best cause is stopped high = subst (λ (c : Cause). IsExcused task (Bounded bound best c)) (sym is) (known, stopped)
 excused task known (Memory refused) bound best cause is stopped high = subst (λ (c : Cause). IsExcused task (Bounded bound best c)) (sym is) tt
@@ -190,13 +191,13 @@ module _ (task : Task) (is_task : IsTask task) (known : Knowledge) (sound : IsSo
     boards = All-weaker (Contains rows) (λ row. IsBoard row.0 × (row.0.grid ≡ task.goal.grid))
         (λ row there. let has = (are.each row.0 row.1).0 there in (has.1.board, has.1.sides))
         rows (All-contains_itself rows);
-    low = All-weaker (Contains rows) (λ row. row.1 ≤ 1048575)
+    low = All-weaker (Contains rows) (λ row. row.1 ≤ GREATEST_COST)
         (λ row there. let has = (are.each row.0 row.1).0 there in omega (arith, low (key_of row.0) has.0 has.1.found, has.2))
         rows (All-contains_itself rows);
   }
 
-  -- a plan that is followed back costs no more than 1,048,575
-  followed_low : AreCostsLow known → (cost : ℕ) (plan : List Move) → IsFollowedBack task reached cost plan → cost ≤ 1048575
+  -- a plan that is followed back costs no more than `GREATEST_COST`
+  followed_low : AreCostsLow known → (cost : ℕ) (plan : List Move) → IsFollowedBack task reached cost plan → cost ≤ GREATEST_COST
   followed_low low cost plan followed =
       let at = subst (IsReached task known) followed.is is_reached in
       omega (arith, low (key_of task.goal) at.0.0 at.0.1.found, at.0.2, followed.within)
@@ -217,7 +218,7 @@ module _ (task : Task) (is_task : IsTask task) (known : Knowledge) (sound : IsSo
   above_bound bound cost plan least followed other = let le = bounds bound least plan cost followed.leads in omega arith
 
   -- without the goal the bound is high where no open board is below the limit
-  high_alone : (bound : ℕ) → lesser lowest reached ≡ Some bound → reached ≡ None → HasNothingBelow task known → 1048320 < bound
+  high_alone : (bound : ℕ) → lesser lowest reached ≡ Some bound → reached ≡ None → HasNothingBelow task known → GREATEST_EXPANDED_COST < bound
   high_alone bound least none done =
       high_without task known lowest bound is_task is_lowest
       (subst (IsReached task known) none is_reached)
@@ -225,7 +226,7 @@ module _ (task : Task) (is_task : IsTask task) (known : Knowledge) (sound : IsSo
       (subst (λ (r : Option ℕ). lesser lowest r ≡ Some bound) none least)
 
   -- so it is beside a plan that doesn't cost the bound
-  high_beside : (bound cost : ℕ) (plan : List Move) → lesser lowest reached ≡ Some bound → IsFollowedBack task reached cost plan → cost ≢ bound → HasNothingBelow task known → 1048320 < bound
+  high_beside : (bound cost : ℕ) (plan : List Move) → lesser lowest reached ≡ Some bound → IsFollowedBack task reached cost plan → cost ≢ bound → HasNothingBelow task known → GREATEST_EXPANDED_COST < bound
   high_beside bound cost plan least followed other done =
       let above = above_bound bound cost plan least followed other in
       high_with task known lowest followed.goal bound is_lowest
@@ -236,7 +237,7 @@ module _ (task : Task) (is_task : IsTask task) (known : Knowledge) (sound : IsSo
 
   module _ (stop : Stop) (stopped : IsStoppedBy task stop known) where
     -- each outcome that is given answers the task
-    answers_at : task.sum task.start ≡ 0 → (outcome : Outcome) → IsGivenAt task known lowest reached stop outcome → Answers task outcome
+    answers_at : task.sum task.start ≡ 0 → (outcome : Outcome) → IsGivenAt task (record { known = known; lowest = lowest; reached = reached; stop = stop }) outcome → Answers task outcome
     answers_at none (Optimal cost plan rows) given =
         let low = stopped_low task is_task stop known stopped in
         let cheap = followed_low low cost plan.items given.1 in
@@ -260,7 +261,7 @@ module _ (task : Task) (is_task : IsTask task) (known : Knowledge) (sound : IsSo
     )
 
     -- and each is excused
-    excused_at : (outcome : Outcome) → IsGivenAt task known lowest reached stop outcome → IsExcused task outcome
+    excused_at : (outcome : Outcome) → IsGivenAt task (record { known = known; lowest = lowest; reached = reached; stop = stop }) outcome → IsExcused task outcome
     excused_at (Optimal cost plan rows) given = tt
     excused_at (Unsolvable why) given = given.1
     excused_at (Bounded bound None cause) (least, inl given) =

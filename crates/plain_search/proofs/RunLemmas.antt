@@ -1,5 +1,5 @@
 -- A run of the search, one expansion after the other.
-use Rattle.std.proofs.Common.{◌≡◌, ℕ, ◌+◌, ◌-◌, ◌<◌, ◌≤◌, List, [], ◌∷◌, length, Option, None, Some, refl, sym, ap, ◌∙◌, arith}
+use Rattle.std.proofs.Common.{◌≡◌, ℕ, ◌+◌, ◌-◌, ◌^◌, ◌<◌, ◌≤◌, List, [], ◌∷◌, length, Option, None, Some, refl, sym, ap, ◌∙◌, arith}
 use Rattle.std.specs.Ordering.{nat_cmp}
 use Rattle.std.specs.FinMap as map
 use Rattle.board.specs.Positions.{Position}
@@ -7,7 +7,7 @@ use Rattle.board.specs.Keys.{key_of, HasKey}
 use Rattle.outcomes.specs.Outcomes.{Task}
 use Rattle.plain_search.specs.declared.known.Known.{Known}
 use Rattle.plain_search.specs.Knowledge.{Knowledge, IsOpen}
-use Rattle.plain_search.specs.Expansions.{after_expansion}
+use Rattle.plain_search.specs.Expansions.{expansion}
 use Rattle.plain_search.specs.Soundness.{IsTask}
 use Rattle.plain_search.specs.Runs.{opening, limit_from, limit_of, IsNext, IsRun}
 use Rattle.plain_search.specs.Queues.{Queue, IsLive, EachWaits, OthersWait, NoneBelow}
@@ -16,7 +16,7 @@ use Rattle.plain_search.specs.Queues.{Queue, IsLive, EachWaits, OthersWait, None
 pub record IsUnderWay (task : Task) (known : Knowledge) (queue : Queue) (left : ℕ) : Type 0 where
   pub run : List Position
   pub is : IsRun task run known
-  pub counted : length run + left ≡ 18446744073709551615
+  pub counted : length run + left ≡ 2 ^ 64 - 1
   pub waits : EachWaits known queue
 
 opening_run : (task : Task) (known : Knowledge) → known ≡ opening task → IsRun task [] known
@@ -31,15 +31,15 @@ all_wait known queue others key k live = others (key + 1) key k live (λ same. o
 pub none_wait : (queue : Queue) (but : ℕ) → OthersWait map.empty queue but
 none_wait queue but key k live other = let e : ◌≡◌ {A = Option Known} None (Some k) = sym (map.get-empty nat_cmp key) ∙ live.0 in cc
 
-pub started : (task : Task) (known : Knowledge) (queue : Queue) → known ≡ opening task → ((but : ℕ) → OthersWait known queue but) → IsUnderWay task known queue 18446744073709551615
+pub started : (task : Task) (known : Knowledge) (queue : Queue) → known ≡ opening task → ((but : ℕ) → OthersWait known queue but) → IsUnderWay task known queue (2 ^ 64 - 1)
 started task known queue is others = record { run = []; is = opening_run task known is; counted = refl; waits = all_wait known queue others }
 
-longer_run : (task : Task) (run : List Position) (known : Knowledge) (b : Position) (k : Known) (known' : Knowledge) → IsRun task run known → IsNext task known b k → known' ≡ after_expansion task.rule b k.cost known → IsRun task (b ∷ run) known'
+longer_run : (task : Task) (run : List Position) (known : Knowledge) (b : Position) (k : Known) (known' : Knowledge) → IsRun task run known → IsNext task known b k → known' ≡ expansion task.rule b k.cost known → IsRun task (b ∷ run) known'
 unfolding IsRun
 longer_run task run known b k known' is next after = (known, k, is, next, after)
 
 -- one expansion more
-pub one_expansion : (task : Task) (known : Knowledge) (queue : Queue) (left : ℕ) (b : Position) (k : Known) (known' : Knowledge) (queue' : Queue) → IsUnderWay task known queue left → 0 < left → IsNext task known b k → known' ≡ after_expansion task.rule b k.cost known → EachWaits known' queue' → IsUnderWay task known' queue' (left - 1)
+pub one_expansion : (task : Task) (known : Knowledge) (queue : Queue) (left : ℕ) (b : Position) (k : Known) (known' : Knowledge) (queue' : Queue) → IsUnderWay task known queue left → 0 < left → IsNext task known b k → known' ≡ expansion task.rule b k.cost known → EachWaits known' queue' → IsUnderWay task known' queue' (left - 1)
 one_expansion task known queue left b k known' queue' running some next after waits = record {
   run = b ∷ running.run;
   is = longer_run task running.run known b k known' running.is next after;

@@ -10,7 +10,7 @@ use Rattle.board.specs.declared.moves.Move.{Move}
 use Rattle.board.specs.declared.moves.Move.TheVariants.{U, L, R, D}
 use Rattle.board.specs.Positions.{Position, IsBoard}
 use Rattle.board.specs.CostRules.{CostRule}
-use Rattle.board.specs.Moves.{Moves, successor}
+use Rattle.board.specs.Moves.{all_moves, Moves, successor}
 use Rattle.board.specs.Keys.{key_of, HasKey}
 use Rattle.board.proofs.KeyLemmas.{same_board}
 use Rattle.board.proofs.MoveLemmas.{moved_board}
@@ -20,7 +20,7 @@ use Rattle.plain_search.specs.declared.known.Known.{Known}
 use Rattle.plain_search.specs.declared.run.Stop.{Stop}
 use Rattle.plain_search.specs.declared.run.Stop.TheVariants.{Done, Limit, Memory}
 use Rattle.plain_search.specs.Knowledge.{Knowledge, Knows, IsKnownWithin, IsOpen}
-use Rattle.plain_search.specs.Expansions.{is_news, lowered, lowered_next, with_successors, as_expanded, marked_at, marked, all_moves, after_expansion}
+use Rattle.plain_search.specs.Expansions.{is_news, relaxation, successor_relaxation, relaxations, closed_entry, closure_at, closure, expansion}
 use Rattle.plain_search.specs.Soundness.{IsTask, HasPredecessor, IsSound}
 use Rattle.plain_search.specs.Runs.{opening, IsRun, IsStoppedBy}
 
@@ -28,7 +28,7 @@ use Rattle.plain_search.specs.Runs.{opening, IsRun, IsStoppedBy}
 abbrev got : ℕ → Knowledge → Option Known
 got key known = map.get known key
 
--- the entry of a board that is lowered in
+-- the entry of a board that is relaxed
 abbrev pub entry : ℕ → Move → Known
 entry cost via = record { cost = cost; expanded = false; via = via }
 
@@ -66,9 +66,9 @@ no_news : (o : Option Known) (cost : ℕ) → is_news o cost ≡ false → (old 
 no_news None cost none = absurd (true≢false none)
 no_news (Some k) cost none = (k, refl, ltb-false cost k.cost none)
 
--- what is known at a key after a board is lowered in: what was known, or the new entry, which costs less
-pub lowered_by : (known : Knowledge) (b : Position) (cost : ℕ) (via : Move) (key : ℕ) → (map.get (lowered known b cost via) key ≡ map.get known key) ⊎ ((key ≡ key_of b) × (map.get (lowered known b cost via) key ≡ Some (entry cost via)) × ((old : Known) → map.get known key ≡ Some old → cost < old.cost))
-lowered_by known b cost via key =
+-- what is known at a key after a board is relaxed: what was known, or the new entry, which costs less
+pub relaxed_by : (known : Knowledge) (b : Position) (cost : ℕ) (via : Move) (key : ℕ) → (map.get (relaxation known b cost via) key ≡ map.get known key) ⊎ ((key ≡ key_of b) × (map.get (relaxation known b cost via) key ≡ Some (entry cost via)) × ((old : Known) → map.get known key ≡ Some old → cost < old.cost))
+relaxed_by known b cost via key =
     ⊎_elim
     (λ (news : is_news (map.get known (key_of b)) cost ≡ true).
     ⊎_elim (λ same. inl (ap (got key) (cond-true _ _ _ news) ∙ same))
@@ -77,9 +77,9 @@ lowered_by known b cost via key =
     (λ (none : is_news (map.get known (key_of b)) cost ≡ false). inl (ap (got key) (cond-false _ _ _ none)))
     (cases_Bool (is_news (map.get known (key_of b)) cost))
 
--- a board that is lowered in is known within that cost
-lowered_there : (known : Knowledge) (b : Position) (cost : ℕ) (via : Move) → (now : Known) × (map.get (lowered known b cost via) (key_of b) ≡ Some now) × (now.cost ≤ cost)
-lowered_there known b cost via =
+-- a board that is relaxed is known within that cost
+relaxed_there : (known : Knowledge) (b : Position) (cost : ℕ) (via : Move) → (now : Known) × (map.get (relaxation known b cost via) (key_of b) ≡ Some now) × (now.cost ≤ cost)
+relaxed_there known b cost via =
     ⊎_elim
     (λ (news : is_news (map.get known (key_of b)) cost ≡ true). (entry cost via, ap (got (key_of b)) (cond-true _ _ _ news) ∙ get_inserted known (key_of b) (entry cost via), omega arith))
     (λ (none : is_news (map.get known (key_of b)) cost ≡ false).
@@ -98,12 +98,12 @@ falls_on known known' known'' falls falls' key old at =
     let end = falls' key mid.0 mid.1 in
     (end.0, end.1, omega (arith, mid.2, end.2))
 
--- a board that is lowered in makes nothing that was known dearer
-lowered_falls : (known : Knowledge) (b : Position) (cost : ℕ) (via : Move) → Falls known (lowered known b cost via)
-lowered_falls known b cost via key old at =
+-- a board that is relaxed makes nothing that was known dearer
+relaxed_falls : (known : Knowledge) (b : Position) (cost : ℕ) (via : Move) → Falls known (relaxation known b cost via)
+relaxed_falls known b cost via key old at =
     ⊎_elim (λ same. (old, same ∙ at, omega arith))
     (λ new. (entry cost via, new.1, omega (arith, new.2 old at)))
-    (lowered_by known b cost via key)
+    (relaxed_by known b cost via key)
 
 -- nor does an entry that is written in place of one that costs no less
 inserted_falls : (known : Knowledge) (key : ℕ) (before after : Known) → map.get known key ≡ Some before → after.cost ≤ before.cost → Falls known (map.insert known key after)
@@ -115,12 +115,12 @@ inserted_falls known key before after is low at old found =
     (after, new.1, omega (arith, ap (λ (x : Known). x.cost) e')))
     (with_insert known key at after)
 
--- an entry that costs no more than what is lowered in stays
-lowered_keeps : (known : Knowledge) (b : Position) (cost : ℕ) (via : Move) (key : ℕ) (old : Known) → map.get known key ≡ Some old → old.cost ≤ cost → map.get (lowered known b cost via) key ≡ Some old
-lowered_keeps known b cost via key old at low =
+-- an entry that costs no more than what is relaxed stays
+relaxed_keeps : (known : Knowledge) (b : Position) (cost : ℕ) (via : Move) (key : ℕ) (old : Known) → map.get known key ≡ Some old → old.cost ≤ cost → map.get (relaxation known b cost via) key ≡ Some old
+relaxed_keeps known b cost via key old at low =
     ⊎_elim (λ same. same ∙ at)
     (λ new. absurd (omega (arith, new.2 old at)))
-    (lowered_by known b cost via key)
+    (relaxed_by known b cost via key)
 
 module _ (task : Task) where
   -- all successors of a board that is expanded at this cost are known
@@ -129,7 +129,7 @@ module _ (task : Task) where
 
   -- the entry is that of a board that was reached; and if it is expanded, its successors are known and it isn't the goal
   abbrev IsFounded : Knowledge → ℕ → Known → Type 0
-  IsFounded known key k = (b : Position) × HasKey task.goal.grid key b × HasPredecessor task known b k.cost k.via
+  IsFounded known key k = (b : Position) × HasKey task.goal.grid key b × HasPredecessor task known b k
       × (k.expanded ≡ true → (b ≢ task.goal) × HasSuccessors known b k.cost)
 
   -- what was known within a cost is so after a change that forgets nothing
@@ -139,9 +139,9 @@ module _ (task : Task) where
       (now.0, record { board = within.1.board; sides = within.1.sides; found = now.1 }, omega (arith, now.2, within.2))
 
   -- so is a predecessor
-  predecessor_kept : (known known' : Knowledge) → Falls known known' → (b : Position) (cost : ℕ) (via : Move) → HasPredecessor task known b cost via → HasPredecessor task known' b cost via
-  predecessor_kept known known' falls b cost via (inl start) = inl start
-  predecessor_kept known known' falls b cost via (inr has) =
+  predecessor_kept : (known known' : Knowledge) → Falls known known' → (b : Position) (k : Known) → HasPredecessor task known b k → HasPredecessor task known' b k
+  predecessor_kept known known' falls b k (inl start) = inl start
+  predecessor_kept known known' falls b k (inr has) =
       let now = within_kept known known' falls has.0 has.2.cost (has.2, has.4, omega arith) in
       inr (has.0, has.1, now.0, has.3, now.1, omega (arith, now.2, has.5))
 
@@ -150,7 +150,7 @@ module _ (task : Task) where
   founded_kept known known' falls key k is = (
     is.0,
     is.1,
-    predecessor_kept known known' falls is.0 k.cost k.via is.2,
+    predecessor_kept known known' falls is.0 k is.2,
     λ closed. ((is.3 closed).0, λ m b' c moves. within_kept known known' falls b' (k.cost + c) ((is.3 closed).1 m b' c moves)),
   )
 
@@ -176,7 +176,7 @@ module _ (task : Task) where
     successors = λ b k knows closed m b' c moves.
         let is = all (key_of b) k knows.found in
         (is.3 closed).1 m b' c (subst (λ x. Moves task.rule x m b' c) (sym (named b k knows)) moves);
-    reached = λ b k knows. subst (λ x. HasPredecessor task known x k.cost k.via) (named b k knows) (all (key_of b) k knows.found).2;
+    reached = λ b k knows. subst (λ x. HasPredecessor task known x k) (named b k knows) (all (key_of b) k knows.found).2;
     goal_kept = λ k knows. false_from_ne_true k.expanded (λ closed. ((all (key_of task.goal) k knows.found).3 closed).0 (named task.goal k knows));
   }
     where
@@ -193,21 +193,21 @@ module _ (task : Task) where
       (within_kept known known' falls task.start 0 sound.start)
 
   -- a new entry of a board that was reached is founded
-  entry_founded : (known : Knowledge) (key : ℕ) (b : Position) (cost : ℕ) (via : Move) → IsBoard b → b.grid ≡ task.goal.grid → HasPredecessor task known b cost via → key ≡ key_of b → (k : Known) → k ≡ entry cost via → IsFounded known key k
+  entry_founded : (known : Knowledge) (key : ℕ) (b : Position) (cost : ℕ) (via : Move) → IsBoard b → b.grid ≡ task.goal.grid → HasPredecessor task known b (entry cost via) → key ≡ key_of b → (k : Known) → k ≡ entry cost via → IsFounded known key k
   entry_founded known key b cost via board sides from at k is =
       subst (IsFounded known key) (sym is) (b, record { board = board; sides = sides; packed = sym at }, from, λ closed. absurd (true≢false (sym closed)))
 
-  -- what is known stays sound where a board that was reached is lowered in
-  lowered_sound : IsTask task → (known : Knowledge) → IsSound task known → (b : Position) (cost : ℕ) (via : Move) → IsBoard b → b.grid ≡ task.goal.grid → HasPredecessor task known b cost via → IsSound task (lowered known b cost via)
-  lowered_sound is known sound b cost via board sides from =
-      let falls = lowered_falls known b cost via in
-      sound_kept is known (lowered known b cost via) sound falls
+  -- what is known stays sound where a board that was reached is relaxed
+  relaxed_sound : IsTask task → (known : Knowledge) → IsSound task known → (b : Position) (cost : ℕ) (via : Move) → IsBoard b → b.grid ≡ task.goal.grid → HasPredecessor task known b (entry cost via) → IsSound task (relaxation known b cost via)
+  relaxed_sound is known sound b cost via board sides from =
+      let falls = relaxed_falls known b cost via in
+      sound_kept is known (relaxation known b cost via) sound falls
       (λ key k at.
       ⊎_elim (λ same. inl (sym same ∙ at))
       (λ new.
       let e : Some k ≡ Some (entry cost via) = sym at ∙ new.1 in
-      inr (entry_founded (lowered known b cost via) key b cost via board sides (predecessor_kept known (lowered known b cost via) falls b cost via from) new.0 k cc))
-      (lowered_by known b cost via key))
+      inr (entry_founded (relaxation known b cost via) key b cost via board sides (predecessor_kept known (relaxation known b cost via) falls b (entry cost via) from) new.0 k cc))
+      (relaxed_by known b cost via key))
 
 -- nothing is known before the opening
 pub none_before : (key : ℕ) (k : Known) → map.get {R = nat_cmp} map.empty key ≡ Some k → ⊥
@@ -216,25 +216,25 @@ none_before key k at = let e : ◌≡◌ {A = Option Known} None (Some k) = sym 
 -- what is known at the opening is sound
 pub opening_sound : (task : Task) → IsTask task → IsSound task (opening task)
 opening_sound task is =
-    let there = lowered_there map.empty task.start 0 U in
+    let there = relaxed_there map.empty task.start 0 U in
     sound_from task (opening task) is.goal
     (λ key k at.
     ⊎_elim (λ same. absurd (none_before key k (sym same ∙ at)))
     (λ new.
     let e : Some k ≡ Some (entry 0 U) = sym at ∙ new.1 in
     entry_founded task (opening task) key task.start 0 U is.start is.sides (inl (refl, refl)) new.0 k cc)
-    (lowered_by map.empty task.start 0 U key))
+    (relaxed_by map.empty task.start 0 U key))
     (there.0, record { board = is.start; sides = is.sides; found = there.1 }, there.2)
 
--- a successor that is lowered in makes nothing that was known dearer
-next_falls : (known : Knowledge) (cost : ℕ) (m : Move) (o : Option (Position × ℕ)) → Falls known (lowered_next known cost m o)
+-- a successor that is relaxed makes nothing that was known dearer
+next_falls : (known : Knowledge) (cost : ℕ) (m : Move) (o : Option (Position × ℕ)) → Falls known (successor_relaxation known cost m o)
 next_falls known cost m None = λ key old at. (old, at, omega arith)
-next_falls known cost m (Some next) = lowered_falls known next.0 (cost + next.1) m
+next_falls known cost m (Some next) = relaxed_falls known next.0 (cost + next.1) m
 
--- the entry of the board that is expanded stays where one successor is lowered in
-next_keeps : (known : Knowledge) (m : Move) (o : Option (Position × ℕ)) (key : ℕ) (k : Known) → map.get known key ≡ Some k → map.get (lowered_next known k.cost m o) key ≡ Some k
+-- the entry of the board that is expanded stays where one successor is relaxed
+next_keeps : (known : Knowledge) (m : Move) (o : Option (Position × ℕ)) (key : ℕ) (k : Known) → map.get known key ≡ Some k → map.get (successor_relaxation known k.cost m o) key ≡ Some k
 next_keeps known m None key k at = at
-next_keeps known m (Some next) key k at = lowered_keeps known next.0 (k.cost + next.1) m key k at (omega arith)
+next_keeps known m (Some next) key k at = relaxed_keeps known next.0 (k.cost + next.1) m key k at (omega arith)
 
 -- the move is one of these
 abbrev Among : List Move → Move → Type 0
@@ -249,83 +249,83 @@ each_move R = inr (inr (inl refl))
 each_move D = inr (inr (inr (inl refl)))
 
 module _ (rule : CostRule) (b : Position) where
-  -- successors that are lowered in make nothing that was known dearer
-  all_fall : (cost : ℕ) (moves : List Move) (known : Knowledge) → Falls known (with_successors rule b cost moves known)
+  -- successors that are relaxed make nothing that was known dearer
+  all_fall : (cost : ℕ) (moves : List Move) (known : Knowledge) → Falls known (relaxations rule b cost moves known)
   all_fall cost [] known = λ key old at. (old, at, omega arith)
   all_fall cost (m ∷ moves) known =
-      let next = lowered_next known cost m (successor rule b m) in
-      falls_on known next (with_successors rule b cost moves next) (next_falls known cost m (successor rule b m)) (all_fall cost moves next)
+      let next = successor_relaxation known cost m (successor rule b m) in
+      falls_on known next (relaxations rule b cost moves next) (next_falls known cost m (successor rule b m)) (all_fall cost moves next)
 
   -- the entry of the board that is expanded stays through all of them
-  all_keep : (moves : List Move) (known : Knowledge) (key : ℕ) (k : Known) → map.get known key ≡ Some k → map.get (with_successors rule b k.cost moves known) key ≡ Some k
+  all_keep : (moves : List Move) (known : Knowledge) (key : ℕ) (k : Known) → map.get known key ≡ Some k → map.get (relaxations rule b k.cost moves known) key ≡ Some k
   all_keep [] known key k at = at
-  all_keep (m ∷ moves) known key k at = all_keep moves (lowered_next known k.cost m (successor rule b m)) key k (next_keeps known m (successor rule b m) key k at)
+  all_keep (m ∷ moves) known key k at = all_keep moves (successor_relaxation known k.cost m (successor rule b m)) key k (next_keeps known m (successor rule b m) key k at)
 
   -- each successor by these moves is known afterwards
-  all_there : IsBoard b → (cost : ℕ) (moves : List Move) (known : Knowledge) (m : Move) → Among moves m → (b' : Position) (c : ℕ) → Moves rule b m b' c → (now : Known) × (map.get (with_successors rule b cost moves known) (key_of b') ≡ Some now) × (now.cost ≤ cost + c)
+  all_there : IsBoard b → (cost : ℕ) (moves : List Move) (known : Knowledge) (m : Move) → Among moves m → (b' : Position) (c : ℕ) → Moves rule b m b' c → (now : Known) × (map.get (relaxations rule b cost moves known) (key_of b') ≡ Some now) × (now.cost ≤ cost + c)
   all_there board cost [] known m among b' c is = absurd among
   all_there board cost (first ∷ moves) known m (inl same) b' c is =
       let e : successor rule b first ≡ Some (b', c) = ap (successor rule b) same ∙ (successor_moves rule b m b' c board).1 is in
-      let there = lowered_there known b' (cost + c) first in
-      let mid : map.get (lowered_next known cost first (successor rule b first)) (key_of b') ≡ Some there.0 = ap (λ o. map.get (lowered_next known cost first o) (key_of b')) e ∙ there.1 in
-      let end = all_fall cost moves (lowered_next known cost first (successor rule b first)) (key_of b') there.0 mid in
+      let there = relaxed_there known b' (cost + c) first in
+      let mid : map.get (successor_relaxation known cost first (successor rule b first)) (key_of b') ≡ Some there.0 = ap (λ o. map.get (successor_relaxation known cost first o) (key_of b')) e ∙ there.1 in
+      let end = all_fall cost moves (successor_relaxation known cost first (successor rule b first)) (key_of b') there.0 mid in
       (end.0, end.1, omega (arith, end.2, there.2))
-  all_there board cost (first ∷ moves) known m (inr later) b' c is = all_there board cost moves (lowered_next known cost first (successor rule b first)) m later b' c is
+  all_there board cost (first ∷ moves) known m (inr later) b' c is = all_there board cost moves (successor_relaxation known cost first (successor rule b first)) m later b' c is
 
 -- a move keeps the sides
 pub same_grid : (rule : CostRule) (b : Position) (m : Move) (b' : Position) (c : ℕ) → Moves rule b m b' c → b'.grid ≡ b.grid
 same_grid rule b m b' c is = ap (λ (p : Position). p.grid) is.after
 
 module _ (task : Task) (is : IsTask task) (b : Position) (k : Known) where
-  -- what is known stays sound where one successor is lowered in
-  next_sound : (known : Knowledge) → IsSound task known → Knows task known b k → (m : Move) (o : Option (Position × ℕ)) → successor task.rule b m ≡ o → IsSound task (lowered_next known k.cost m o)
+  -- what is known stays sound where one successor is relaxed
+  next_sound : (known : Knowledge) → IsSound task known → Knows task known b k → (m : Move) (o : Option (Position × ℕ)) → successor task.rule b m ≡ o → IsSound task (successor_relaxation known k.cost m o)
   next_sound known sound knows m None e = sound
   next_sound known sound knows m (Some next) e =
       let moves = (successor_moves task.rule b m next.0 next.1 knows.board).0 e in
-      lowered_sound task is known sound next.0 (k.cost + next.1) m (moved_board task.rule b knows.board m next.0 next.1 moves) (same_grid task.rule b m next.0 next.1 moves ∙ knows.sides)
+      relaxed_sound task is known sound next.0 (k.cost + next.1) m (moved_board task.rule b knows.board m next.0 next.1 moves) (same_grid task.rule b m next.0 next.1 moves ∙ knows.sides)
       (inr (b, next.1, k, moves, knows, omega arith))
 
   -- and where several are
-  all_sound : (moves : List Move) (known : Knowledge) → IsSound task known → Knows task known b k → IsSound task (with_successors task.rule b k.cost moves known)
+  all_sound : (moves : List Move) (known : Knowledge) → IsSound task known → Knows task known b k → IsSound task (relaxations task.rule b k.cost moves known)
   all_sound [] known sound knows = sound
   all_sound (m ∷ moves) known sound knows =
-      all_sound moves (lowered_next known k.cost m (successor task.rule b m)) (next_sound known sound knows m (successor task.rule b m) refl)
+      all_sound moves (successor_relaxation known k.cost m (successor task.rule b m)) (next_sound known sound knows m (successor task.rule b m) refl)
       (record { board = knows.board; sides = knows.sides; found = next_keeps known m (successor task.rule b m) (key_of b) k knows.found })
 
-  -- the entry of a board whose successors are known is founded when it is marked
-  mark_founded : (known : Knowledge) → IsSound task known → Knows task known b k → b ≢ task.goal → HasSuccessors task known b k.cost → (after : Knowledge) → Falls known after → (key : ℕ) → key ≡ key_of b → (x : Known) → x ≡ as_expanded k → IsFounded task after key x
-  mark_founded known sound knows no_goal successors after falls key at x same =
+  -- the entry of a board whose successors are known is founded when it is closed
+  closed_founded : (known : Knowledge) → IsSound task known → Knows task known b k → b ≢ task.goal → HasSuccessors task known b k.cost → (after : Knowledge) → Falls known after → (key : ℕ) → key ≡ key_of b → (x : Known) → x ≡ closed_entry k → IsFounded task after key x
+  closed_founded known sound knows no_goal successors after falls key at x same =
       subst (IsFounded task after key) (sym same) (
         b,
         record { board = knows.board; sides = knows.sides; packed = sym at },
-        predecessor_kept task known after falls b k.cost k.via (sound.reached b k knows),
+        predecessor_kept task known after falls b k (sound.reached b k knows),
         λ closed. (no_goal, λ m b' c moves. within_kept task known after falls b' (k.cost + c) (successors m b' c moves)),
       )
 
-  -- what is known stays sound where a board whose successors are known is marked
-  marked_sound : (known : Knowledge) → IsSound task known → Knows task known b k → b ≢ task.goal → HasSuccessors task known b k.cost → IsSound task (marked known b)
-  marked_sound known sound knows no_goal successors =
-      let after = map.insert known (key_of b) (as_expanded k) in
-      let falls = inserted_falls known (key_of b) k (as_expanded k) knows.found (omega arith) in
-      subst (IsSound task) (sym (ap (marked_at known (key_of b)) knows.found))
+  -- what is known stays sound where a board whose successors are known is closed
+  closed_sound : (known : Knowledge) → IsSound task known → Knows task known b k → b ≢ task.goal → HasSuccessors task known b k.cost → IsSound task (closure known b)
+  closed_sound known sound knows no_goal successors =
+      let after = map.insert known (key_of b) (closed_entry k) in
+      let falls = inserted_falls known (key_of b) k (closed_entry k) knows.found (omega arith) in
+      subst (IsSound task) (sym (ap (closure_at known (key_of b)) knows.found))
       (sound_kept task is known after sound falls
       (λ key x at.
       ⊎_elim (λ same. inl (sym same ∙ at))
       (λ new.
-      let e : Some x ≡ Some (as_expanded k) = sym at ∙ new.1 in
-      inr (mark_founded known sound knows no_goal successors after falls key new.0 x cc))
-      (with_insert known (key_of b) key (as_expanded k))))
+      let e : Some x ≡ Some (closed_entry k) = sym at ∙ new.1 in
+      inr (closed_founded known sound knows no_goal successors after falls key new.0 x cc))
+      (with_insert known (key_of b) key (closed_entry k))))
 
--- what is known stays sound where successors of an open board are lowered in
-pub partly_sound : (task : Task) → IsTask task → (known : Knowledge) → IsSound task known → (b : Position) (k : Known) → IsOpen task known b k → (moves : List Move) → IsSound task (with_successors task.rule b k.cost moves known)
+-- what is known stays sound where successors of an open board are relaxed
+pub partly_sound : (task : Task) → IsTask task → (known : Knowledge) → IsSound task known → (b : Position) (k : Known) → IsOpen task known b k → (moves : List Move) → IsSound task (relaxations task.rule b k.cost moves known)
 partly_sound task is known sound b k opens moves = all_sound task is b k moves known sound opens.knows
 
 -- an expansion keeps what is known sound
-pub expanded_sound : (task : Task) → IsTask task → (known : Knowledge) → IsSound task known → (b : Position) (k : Known) → IsOpen task known b k → IsSound task (after_expansion task.rule b k.cost known)
+pub expanded_sound : (task : Task) → IsTask task → (known : Knowledge) → IsSound task known → (b : Position) (k : Known) → IsOpen task known b k → IsSound task (expansion task.rule b k.cost known)
 expanded_sound task is known sound b k opens =
     let knows = opens.knows in
-    let after = with_successors task.rule b k.cost all_moves known in
-    marked_sound task is b k after (all_sound task is b k all_moves known sound knows)
+    let after = relaxations task.rule b k.cost all_moves known in
+    closed_sound task is b k after (all_sound task is b k all_moves known sound knows)
     (record { board = knows.board; sides = knows.sides; found = all_keep task.rule b all_moves known (key_of b) k knows.found })
     opens.no_goal
     (λ m b' c moves.

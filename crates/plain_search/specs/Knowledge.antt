@@ -1,5 +1,5 @@
--- What a search knows of boards: for the key of a board the least cost met so far, whether the board was expanded at
--- that cost, and the last move of the plan that was met at that cost.
+-- What a search knows of boards: for the key of a board the least cost met so far, whether the board is closed (was expanded at
+-- that cost), and the last move of the plan that was met at that cost.
 use Rattle.std.specs.Prelude.{ℕ, ◌≡◌, ◌≢◌, ◌≤◌, false, Option, None, Some}
 use Rattle.std.specs.Ordering.{nat_cmp}
 use Rattle.std.specs.FinMap as map
@@ -8,6 +8,7 @@ use Rattle.board.specs.Keys.{key_of}
 use Rattle.outcomes.specs.Outcomes.{Task}
 use Rattle.plain_search.specs.declared.known.Known.{Known}
 
+-- entries by the keys of their boards
 abbrev pub Knowledge : Type 0
 Knowledge = map.FinMap nat_cmp Known
 
@@ -21,7 +22,7 @@ pub record Knows (task : Task) (known : Knowledge) (b : Position) (k : Known) : 
 abbrev pub IsKnownWithin : Task → Knowledge → Position → ℕ → Type 0
 IsKnownWithin task known b cost = (k : Known) × Knows task known b k × (k.cost ≤ cost)
 
--- the board is open: it is known, is not expanded, and is not the goal
+-- the board is open: it is known, is not closed, and is not the goal
 pub record IsOpen (task : Task) (known : Knowledge) (b : Position) (k : Known) : Type 0 where
   pub knows : Knows task known b k
   pub unexpanded : k.expanded ≡ false

@@ -1,5 +1,6 @@
 -- Which outcome a search gives, by what it knows and why it stopped.
 use Rattle.std.specs.Prelude.{ℕ, ◌≡◌, ◌≢◌, ◌⊎◌, ◌≤◌, ◌<◌, ⊤, min, List, Option, None, Some}
+use Rattle.board.specs.declared.costs.TheConstants.{GREATEST_EXPANDED_COST}
 use Rattle.board.specs.declared.moves.Move.{Move}
 use Rattle.board.specs.Plans.{Leads}
 use Rattle.outcomes.specs.declared.outcome.Why.TheVariants.{Exhausted}
@@ -35,34 +36,47 @@ pub record IsFollowedBack (task : Task) (reached : Option ℕ) (cost : ℕ) (pla
   pub leads : Leads task.rule task.start plan task.goal cost
   pub within : cost ≤ goal
 
--- Neither an open board nor the goal is known: no plan. Else the bound is the smaller of the lowest open board's cost and the
--- goal's. Where the plan that is followed back costs just that, it is optimal, and the known boards below that cost are its rows.
--- Else the bound is given with the plan, if the goal is known. Where the plan or the rows find no memory, it is given alone.
-abbrev pub IsGivenAt : Task → Knowledge → Option ℕ → Option ℕ → Stop → Outcome → Type 0
-IsGivenAt task known lowest reached stop (Optimal cost plan rows) =
-    (lesser lowest reached ≡ Some cost) × IsFollowedBack task reached cost plan.items × AreRowsBelow task known cost rows.items
-IsGivenAt task known lowest reached stop (Unsolvable why) = (lesser lowest reached ≡ None) × (why ≡ Exhausted)
-IsGivenAt task known lowest reached stop (Bounded bound None cause) =
-    (lesser lowest reached ≡ Some bound) × (((reached ≡ None) × (cause ≡ cause_of stop)) ⊎ ((reached ≢ None) × ((refused : OutOfMemory) × (cause ≡ ForMemory (Refused refused)))))
-IsGivenAt task known lowest reached stop (Bounded bound (Some best) cause) =
-    (lesser lowest reached ≡ Some bound) × IsFollowedBack task reached best.0 best.1.items × (best.0 ≢ bound) × (cause ≡ cause_of stop)
+-- where a run stopped: what is known, the least cost of the open boards, the cost at which the goal is known, and why it stopped
+pub record End : Type 0 where
+  pub known : Knowledge
+  pub lowest : Option ℕ
+  pub reached : Option ℕ
+  pub stop : Stop
 
+-- the smaller of the two costs
+abbrev pub floor : End → Option ℕ
+floor end = lesser end.lowest end.reached
+
+-- Neither an open board nor the goal is known: no plan. Else the bound is the floor. Where the plan that is followed back costs just
+-- that, it is optimal, and the known boards below that cost are its rows. Else the bound is given with the plan, if the goal is known.
+-- Where the plan or the rows find no memory, it is given alone.
+abbrev pub IsGivenAt : Task → End → Outcome → Type 0
+IsGivenAt task end (Optimal cost plan rows) =
+    (floor end ≡ Some cost) × IsFollowedBack task end.reached cost plan.items × AreRowsBelow task end.known cost rows.items
+IsGivenAt task end (Unsolvable why) = (floor end ≡ None) × (why ≡ Exhausted)
+IsGivenAt task end (Bounded bound None cause) =
+    (floor end ≡ Some bound) × (((end.reached ≡ None) × (cause ≡ cause_of end.stop)) ⊎ ((end.reached ≢ None) × ((refused : OutOfMemory) × (cause ≡ ForMemory (Refused refused)))))
+IsGivenAt task end (Bounded bound (Some best) cause) =
+    (floor end ≡ Some bound) × IsFollowedBack task end.reached best.0 best.1.items × (best.0 ≢ bound) × (cause ≡ cause_of end.stop)
+
+-- the outcome is given where a run stopped so, knowing this
 abbrev pub IsGiven : Task → Knowledge → Stop → Outcome → Type 0
 IsGiven task known stop outcome =
-    (lowest : Option ℕ) × (reached : Option ℕ) × IsLowest task known lowest × IsReached task known reached × IsGivenAt task known lowest reached stop outcome
+    (lowest : Option ℕ) × (reached : Option ℕ) × IsLowest task known lowest × IsReached task known reached
+    × IsGivenAt task (record { known = known; lowest = lowest; reached = reached; stop = stop }) outcome
 
 -- the outcome is given by what a run knows where it stopped
 abbrev pub IsFound : Task → Outcome → Type 0
 IsFound task outcome = (stop : Stop) × (known : Knowledge) × IsStoppedBy task stop known × IsGiven task known stop outcome
 
--- A bound is given only where memory was refused, where each plan costs more than 1,048,320, or after the default limit of
+-- A bound is given only where memory was refused, where each plan costs more than `GREATEST_EXPANDED_COST`, or after 2^64 - 1
 -- expansions; and no plan only where the search met every board.
 abbrev pub IsExcused : Task → Outcome → Type 0
 IsExcused task (Optimal cost plan rows) = ⊤
 IsExcused task (Unsolvable why) = why ≡ Exhausted
 IsExcused task (Bounded bound best (ForMemory Stated)) = ⊥
 IsExcused task (Bounded bound best (ForMemory (Refused refused))) = ⊤
-IsExcused task (Bounded bound best ForCost) = 1048320 < bound
+IsExcused task (Bounded bound best ForCost) = GREATEST_EXPANDED_COST < bound
 IsExcused task (Bounded bound best ForLimit) = (known : Knowledge) × IsStoppedBy task Limit known
 IsExcused task (Bounded bound best ForStart) = ⊥
 IsExcused task (Bounded bound best ForCut) = ⊥

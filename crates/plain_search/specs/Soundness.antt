@@ -10,7 +10,7 @@ use Rattle.outcomes.specs.Outcomes.{Task}
 use Rattle.plain_search.specs.declared.known.Known.{Known}
 use Rattle.plain_search.specs.Knowledge.{Knowledge, Knows, IsKnownWithin}
 
--- the task of a search that no sum guides
+-- the task of a search that no heuristic guides
 abbrev pub unguided : Position → Position → CostRule → Task
 unguided start goal rule = record { start = start; goal = goal; rule = rule; sum = λ _. 0 }
 
@@ -22,17 +22,17 @@ pub record IsTask (task : Task) : Type 0 where
   pub rule : IsCostRule task.rule
   pub costs : task.rule.grid ≡ task.goal.grid
 
--- the board at this cost, with this last move, is the start at 0; or the board before is known, cheaper by the move's cost at least
-abbrev pub HasPredecessor : Task → Knowledge → Position → ℕ → Move → Type 0
-HasPredecessor task known b cost via =
-    ((b ≡ task.start) × (cost ≡ 0))
-    ⊎ ((before : Position) × (c : ℕ) × (k : Known) × Moves task.rule before via b c × Knows task known before k × (k.cost + c ≤ cost))
+-- the board with this entry is the start at 0; or the board before its last move is known, cheaper by the move's cost at least
+abbrev pub HasPredecessor : Task → Knowledge → Position → Known → Type 0
+HasPredecessor task known b k =
+    ((b ≡ task.start) × (k.cost ≡ 0))
+    ⊎ ((before : Position) × (c : ℕ) × (k' : Known) × Moves task.rule before k.via b c × Knows task known before k' × (k'.cost + c ≤ k.cost))
 
--- The keys are those of boards. The start is known at 0. Each successor of an expanded board is known at no more than that
--- board's cost and the move's. Each board was reached. The goal is not expanded.
+-- The keys are those of boards. The start is known at 0. Each successor of a closed board is known at no more than that board's
+-- cost and the move's. Each board was reached. The goal is not closed.
 pub record IsSound (task : Task) (known : Knowledge) : Type 0 where
   pub boards : (key : ℕ) (k : Known) → map.get known key ≡ Some k → (b : Position) × HasKey task.goal.grid key b
   pub start : IsKnownWithin task known task.start 0
   pub successors : (b : Position) (k : Known) → Knows task known b k → k.expanded ≡ true → (m : Move) (b' : Position) (c : ℕ) → Moves task.rule b m b' c → IsKnownWithin task known b' (k.cost + c)
-  pub reached : (b : Position) (k : Known) → Knows task known b k → HasPredecessor task known b k.cost k.via
+  pub reached : (b : Position) (k : Known) → Knows task known b k → HasPredecessor task known b k
   pub goal_kept : (k : Known) → Knows task known task.goal k → k.expanded ≡ false

@@ -1,10 +1,14 @@
-ghost use Rattle.std.specs.Prelude.{◌≡◌, ◌≢◌, ◌<◌, ◌≤◌, ◌↔◌, false, OnOk, OnErr, IfOk, ℕ, Some, [], ◌∷◌, ◌++◌, Contains, AllPairs};
+//! What is known of boards, and what is read of it in the end: the lowest cost of the boards that
+//! are not closed, and rows.
+
+ghost use Rattle.std.specs.Prelude.{◌≡◌, ◌≢◌, ◌<◌, ◌≤◌, ◌↔◌, ℕ, false, Some, [], ◌∷◌, ◌++◌};
+ghost use Rattle.std.specs.Prelude.{OnOk, OnErr, IfOk, Contains, AllPairs};
 ghost use Rattle.std.specs.FinMap as map;
 ghost use Rattle.board.specs.Positions.{Position};
 ghost use Rattle.board.specs.Keys.{key_of, HasKey};
 ghost use Rattle.plain_search.specs.declared.known.Known.{Known};
 ghost use Rattle.plain_search.specs.Knowledge.{IsLeastWith};
-ghost use Rattle.plain_search.specs.Expansions.{marked_at};
+ghost use Rattle.plain_search.specs.Expansions.{closure_at};
 ghost use Rattle.plain_search.specs.Lowest.{lowest_with};
 
 use board::{Board, Move, Shape};
@@ -18,7 +22,7 @@ use std::marker::Model;
 pub struct Known {
     /// The least cost of reaching it that was met so far.
     pub cost: u32,
-    /// Whether it was expanded at that cost.
+    /// Whether the board is closed: whether it was expanded at that cost.
     pub expanded: bool,
     /// The last move of the plan that was met at that cost.
     pub via: Move,
@@ -68,9 +72,9 @@ impl KnownBoards {
         Ok(())
     }
 
-    // Marks the board with this key as expanded, if it is known.
-    pub(crate) fn mark(&mut self, key: u128)
-        ensures { self.new ≡ marked_at self.old key (map.get self.old key) }
+    // Closes the board with this key, if it is known.
+    pub(crate) fn close(&mut self, key: u128)
+        ensures { self.new ≡ closure_at self.old key (map.get self.old key) }
     {
         let Some(known) = self.boards.get_mut(&key) else {
             return;
@@ -78,7 +82,7 @@ impl KnownBoards {
         known.expanded = true;
     }
 
-    // The least cost of a board that is not expanded, but for the board with this key.
+    // The least cost of a board that is not closed, but for the board with this key.
     pub(crate) fn lowest_but(&self, but: u128) -> Option<u32>
         ensures { IsLeastWith (λ cost. (key : ℕ) × (k : Known) × (map.get self.now key ≡ Some k)
             × (k.expanded ≡ false) × (key ≢ but) × (k.cost ≡ cost)) result }
@@ -90,8 +94,8 @@ impl KnownBoards {
         lowest
     }
 
-    // The boards that are known below a cost, each with the cost at which it is known, in rising order of
-    // key.
+    // The boards that are known below a cost, each with the cost at which it is known, in rising
+    // order of key.
     pub(crate) fn rows_below(
         &self,
         alloc: Global,

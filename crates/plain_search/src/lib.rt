@@ -1,5 +1,5 @@
-//! A search that is proved right: uniform-cost search in the calling thread, over an ordered map of known
-//! boards.
+//! A search that is proved right: uniform-cost search in the calling thread, over an ordered map of
+//! known boards.
 #![tactic(auto)]
 
 mod expansion;
@@ -19,12 +19,13 @@ use result::finish;
 use run::search;
 use std::alloc::Global;
 
-/// Searches for a plan of least cost from a board to a goal, by uniform cost: a board of least cost is
-/// expanded until no open board is below the best plan's cost and 1,048,321.
+/// Searches for a plan of least cost from a board to a goal, by uniform cost: an open board of
+/// least cost is expanded until each of them costs as much as the best plan, or more than
+/// `GREATEST_EXPANDED_COST`.
 ///
-/// Only a board that costs more than 1,048,320, want of memory, or 18,446,744,073,709,551,615 expansions
-/// lead to a bound. The error tells a want of memory for the start itself. The rows of a least plan are all
-/// boards that are known below its cost, in rising order of key.
+/// Only a board that costs more than `GREATEST_EXPANDED_COST`, want of memory, or 2^64 - 1
+/// expansions lead to a bound. The error tells a want of memory for the start itself. The rows of a
+/// least plan are all boards that are known below its cost, in rising order of key.
 pub fn solve(
     alloc: Global,
     start: &Board,

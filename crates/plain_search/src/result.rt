@@ -1,3 +1,5 @@
+//! The outcome of a search, with the plan followed back by last moves.
+
 ghost use Rattle.std.specs.Prelude.{◌≡◌, ◌≤◌, ◌+◌, ℕ, None, Some, IfOk};
 ghost use Rattle.std.specs.FinMap as map;
 ghost use Rattle.board.specs.Positions.{Position, IsBoard};
@@ -120,7 +122,8 @@ fn plan_back(
     Ok((cost, backwards))
 }
 
-// The board before one by its last move, the cost of that move, and what is known of the board before.
+// The board before one by its last move, the cost of that move, and what is known of the board
+// before.
 fn step_back(
     known: &KnownBoards,
     board: &Board,

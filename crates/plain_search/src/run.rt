@@ -1,3 +1,5 @@
+//! The loop of a search, and why it stops.
+
 ghost use Rattle.std.specs.Prelude.{◌≡◌, ◌<◌, ◌↔◌, Some, IsTrue, IfOk, IfSome, IfNone, false};
 ghost use Rattle.std.specs.FinMap as map;
 ghost use Rattle.plain_search.specs.declared.known.Known.{Known};
@@ -6,16 +8,16 @@ ghost use Rattle.plain_search.specs.Runs.{IsStoppedBy, limit_from};
 ghost use Rattle.plain_search.specs.Queues.{EachWaits, OthersWait, IsLive, NoneBelow};
 ghost use Rattle.plain_search.specs.Results.{cause_of};
 
-use crate::expansion::{Queue, expand, lower};
+use crate::expansion::{Queue, expand, relax};
 use crate::known::{Known, KnownBoards};
-use board::{Board, Move, Weights};
+use board::{Board, GREATEST_EXPANDED_COST, Move, Weights};
 use memory::OutOfMemory;
 use outcomes::{Cause, Want};
 use std::alloc::Global;
 use std::collections::BTreeSet;
 
 // No board that costs this much is expanded.
-const COST_LIMIT: u32 = 1_048_321;
+const COST_LIMIT: u32 = GREATEST_EXPANDED_COST + 1;
 
 /// Why a search stopped.
 #[derive(Clone, Copy, Debug)]
@@ -41,8 +43,8 @@ impl Stop {
     }
 }
 
-// Searches from the start until no open board is below the limit: what is known in the end, and why it
-// stopped. The error tells a want of memory for the start itself.
+// Searches from the start until no open board is below the limit: what is known in the end, and why
+// it stopped. The error tells a want of memory for the start itself.
 pub(crate) fn search(
     alloc: Global,
     start: &Board,
@@ -59,7 +61,7 @@ pub(crate) fn search(
     let mut queue = BTreeSet::new(alloc);
     let shape = weights.shape();
     let goal_key = goal.key();
-    lower(&mut known, &mut queue, start.key(), 0, Move::U)?;
+    relax(&mut known, &mut queue, start.key(), 0, Move::U)?;
     let mut left = u64::MAX;
     'expansions: loop {
         let limit = limit(known.get(goal_key));
@@ -87,11 +89,13 @@ fn limit(goal: Option<Known>) -> u32
     }
 }
 
-// Takes an unexpanded board of least cost out of the queue, where one is below the limit: its cost and key.
+// Takes a board of least cost that is not closed out of the queue, where one is below the limit:
+// its cost and key.
 fn take_next(known: &KnownBoards, queue: &mut Queue, limit: u32) -> Option<(u32, u128)>
     requires { EachWaits known.now queue.old }
     ensures none { IfNone result (NoneBelow known.now limit) }
-    ensures live { IfSome result (λ next. (k : Known) × IsLive known.now next.1 k × (k.cost ≡ next.0)) }
+    ensures live { IfSome result (λ next.
+        (k : Known) × IsLive known.now next.1 k × (k.cost ≡ next.0)) }
     ensures low { IfSome result (λ next. next.0 < limit) }
     ensures least { IfSome result (λ next. NoneBelow known.now next.0) }
     ensures waits { IfSome result (λ next. OthersWait known.now queue.new next.1) }
@@ -107,9 +111,10 @@ fn take_next(known: &KnownBoards, queue: &mut Queue, limit: u32) -> Option<(u32,
     None
 }
 
-// Whether a board is still known at a cost and is not expanded.
+// Whether a board is still known at a cost and is not closed.
 fn is_live(known: Option<Known>, cost: u32) -> bool
-    ensures { IsTrue result ↔ ((k : Known) × (known ≡ Some k) × (k.expanded ≡ false) × (k.cost ≡ cost)) }
+    ensures { IsTrue result ↔
+        ((k : Known) × (known ≡ Some k) × (k.expanded ≡ false) × (k.cost ≡ cost)) }
 {
     match known {
         Some(known) => !known.expanded && known.cost == cost,

@@ -2,7 +2,7 @@ use Rattle.std.proofs.Common.{refl, sym, subst, false}
 use Rattle.std.proofs.lemmas.Result.{on_ok_weaker}
 use Rattle.plain_search.specs.Queues.{OthersWait}
 use Rattle.plain_search.proofs.QueueLemmas.{waits_more}
-use Rattle.plain_search.proofs.expansion.lower.Goals as goal
+use Rattle.plain_search.proofs.expansion.relax.Goals as goal
 
 -- src/expansion.rt:63:1
 pub returns-clause-waits : goal.returns-clause-waits
