@@ -1,6 +1,8 @@
+//! What the search answers, beside the plain table and beside answers that are known.
+
 ghost use Rattle.std.specs.Prelude.{◌≡◌};
 
-use super::least_costs::{Costs, least_costs};
+use crate::least_costs::{Costs, least_costs};
 use board::{Board, Shape, Weights};
 use outcomes::Outcome;
 use plain_search::solve;
