@@ -1,12 +1,10 @@
 -- What was written when the run is over.
 use Rattle.std.proofs.Common.{ℕ, List, [], Option, None, Some, sym, ◌∙◌, append-nil}
-use Rattle.std.specs.Io.KnownBytes.{Keeps}
 use Rattle.std.proofs.KnownBytes.{Appends-kept}
-use Rattle.board.specs.Grids.{Grid}
-use Rattle.board.specs.Positions.{Position}
-use Rattle.outcomes.specs.declared.outcome.Outcome.{Outcome}
+use Rattle.byte_streams.specs.Streams.{SourceState, SinkState, Change, from_to}
+use Rattle.byte_streams.specs.Sink.{PutsNone}
 use Rattle.batch_runs.specs.declared.batch.Summary.{Summary}
-use Rattle.batch_runs.specs.Batches.{AreAll, AreFirst, WritesAll, WritesSome}
+use Rattle.batch_runs.specs.Batches.{Rules, AreAll, AreFirst, ReportsAll, ReportsSome, answers_text}
 
 -- all lines are the first lines
 AreFirst-all : (input : Option (List ℕ)) (lines : List (List ℕ)) → AreAll input lines → AreFirst input lines
@@ -14,12 +12,16 @@ AreFirst-all None lines all = tt
 AreFirst-all (Some input) lines all = ([], all ∙ sym (append-nil lines))
 
 -- where all reports are written, a beginning of them is
-pub WritesSome-all : (grid : Grid) (allows : Position → Option Outcome → Type 0) (input written written' written'' : Option (List ℕ)) (counts : Summary) → WritesAll grid allows input written written' counts → Keeps written' written'' → WritesSome grid allows input written written''
-WritesSome-all grid allows input written written' written'' counts all kept = record {
+pub ReportsSome-all : (rules : Rules) (source : Change SourceState) (a b c : SinkState) (counts : Summary) → ReportsAll rules source (from_to a b) counts → PutsNone (from_to b c) → ReportsSome rules source (from_to a c)
+ReportsSome-all rules source a b c counts all kept = record {
   lines = all.lines;
-  text = all.text;
-  counts = counts;
-  first = AreFirst-all input all.lines all.all;
-  batch = all.batch;
-  begun = record { sent = all.text; unsent = []; parts = sym (append-nil all.text); appended = Appends-kept written written' written'' all.text all.appended kept };
+  answers = all.answers;
+  first = AreFirst-all source.before.left all.lines all.all;
+  answered = all.answered;
+  begun = record {
+    sent = answers_text 1 all.answers;
+    unsent = [];
+    parts = sym (append-nil (answers_text 1 all.answers));
+    put = Appends-kept a.contents b.contents c.contents (answers_text 1 all.answers) all.written kept;
+  };
 }

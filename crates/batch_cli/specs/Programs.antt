@@ -1,5 +1,5 @@
 -- The program: how it ends, what it writes of that, and its status.
-use Rattle.std.specs.Prelude.{ℕ, ◌≡◌, ◌≢◌, ◌⊎◌, true, false, String, List, [], ◌∷◌, ◌++◌, Result, Ok, Err, codes}
+use Rattle.std.specs.Prelude.{ℕ, ◌≡◌, ◌≢◌, ◌⊎◌, true, false, List, [], ◌∷◌, ◌++◌, Result, Ok, Err, codes}
 use Rattle.byte_streams.specs.Streams.{SourceState, SinkState, Change}
 use Rattle.byte_streams.specs.Sink.{Puts, PutsBeginning}
 use Rattle.board.specs.Grids.{Grid}
@@ -77,6 +77,6 @@ ending_of (Ok counts) = Ran counts
 ending_of (Err fault) = Faulted (of_lines fault)
 
 -- how the program ends: without words by such a run, with words by its usage
-abbrev pub EndsBy : List String → Change SourceState → Change SinkState → Ending → Type 0
+abbrev pub EndsBy : {Word : Type 0} → List Word → Change SourceState → Change SinkState → Ending → Type 0
 EndsBy words source sink ending =
     ((words ≡ []) × ((run : Result Summary LinesFault) × EndsRun source sink run × (ending ≡ ending_of run))) ⊎ ((words ≢ []) × (ending ≡ Usage))

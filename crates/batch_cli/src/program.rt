@@ -116,9 +116,9 @@ fn run<S: Source, K: Sink>(
             return Err(fault);
         }
     };
-    if sink.flush().is_err() {
+    let Ok(()) = sink.flush() else {
         return Err(LinesFault::Write);
-    }
+    };
     Ok(counts)
 }
 
