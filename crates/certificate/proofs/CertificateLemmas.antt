@@ -9,8 +9,8 @@ use Rattle.certificate.specs.Fields.{SpellsAllRows, SpellsBoard, SpellsCount, Sp
 use Rattle.certificate.specs.declared.faults.FormatFault.{FormatFault}
 use Rattle.certificate.specs.declared.faults.FormatFault.TheVariants.{OutOfRange, BytesAfterEnd}
 use Rattle.certificate.specs.Certificates.{Statement, AreNamedCosts, IsBoardOf, IsRow, RiseAfter, IsCertificate}
-use Rattle.certificate.specs.Spellings.{opening_text, number_text, count_text, plan_text, row_text, front_text, announcing, spelling, Spells}
-use Rattle.certificate.specs.Readings.{◌>>=◌, continued, give, number, count, count_in, board, opening, plan, rows, all_rows, end, front, certificate, IsFaultAt}
+use Rattle.certificate.specs.Spellings.{opening_text, number_text, count_text, plan_text, row_text, front_text, announcement, spelling, Spells}
+use Rattle.certificate.specs.Readings.{◌>>=◌, next_reading, give, number, count, count_in, board, opening, plan, rows, all_rows, end, front, certificate, IsFaultAt}
 use Rattle.certificate.specs.Laws.{AreBytes, Begins}
 use Rattle.certificate.proofs.ReaderLemmas.{Law, Opens, Law-iff, Opens-iff, Both, Law-seq, Opens-seq, Known, Law-give, Opens-give, fine, faulty, both_ok, one_fails, field_from, AreBytes-rest}
 use Rattle.certificate.proofs.TextLemmas.{opening_law, opening_opens, board_law, board_opens, number_law, number_opens, plan_law, plan_opens, count_law}
@@ -138,14 +138,14 @@ abbrev rows_text : Statement → List ℕ
 rows_text c = count_text (length c.rows) ++ flat_map row_text c.rows
 
 -- after the spelling only the end is left to be judged
-pub read_again : (c : Statement) (rest : List ℕ) → IsCertificate c → certificate (spelling c ++ rest) ≡ continued (λ (u : Unit {0}). give c) (end rest)
+pub read_again : (c : Statement) (rest : List ℕ) → IsCertificate c → certificate (spelling c ++ rest) ≡ next_reading (λ (u : Unit {0}). give c) (end rest)
 unfolding certificate ◌>>=◌
 read_again c rest fits =
     let first : front (front_text c ++ (rows_text c ++ rest)) ≡ Ok (bare c, rows_text c ++ rest) = front_law.again (bare c) (front_text c) (rows_text c ++ rest) (record { fits = bare_fits c fits; bare = refl; is = refl }) in
     let second : all_rows c.grid (rows_text c ++ rest) ≡ Ok (c.rows, rest) = (all_rows_law c.grid fits.sides).again c.rows (rows_text c) rest (record { count = fits.count; rows = fits.rows; rising = fits.rising; is = refl }) in
     ap (λ (l : List ℕ). certificate l) (append_assoc (front_text c) (rows_text c) rest)
-    ∙ ap (continued (λ (d : Statement). all_rows d.grid >>= λ rs. end >>= λ u. give (record d { rows = rs }))) first
-    ∙ ap (continued (λ (rs : List (Position × ℕ)). end >>= λ u. give (record (bare c) { rows = rs }))) second
+    ∙ ap (next_reading (λ (d : Statement). all_rows d.grid >>= λ rs. end >>= λ u. give (record d { rows = rs }))) first
+    ∙ ap (next_reading (λ (rs : List (Position × ℕ)). end >>= λ u. give (record (bare c) { rows = rs }))) second
 
 -- all before the rows, and then the rows
 whole_text : (bytes s mid t rest : List ℕ) (d : Statement) (rs : List (Position × ℕ)) → bytes ≡ s ++ mid → s ≡ front_text d → mid ≡ t ++ rest → t ≡ count_text (length rs) ++ flat_map row_text rs → bytes ≡ spelling (record d { rows = rs }) ++ rest
@@ -203,7 +203,7 @@ pub record Precedent (bytes from : List ℕ) : Type 0 where
   pub c : Statement
   pub parts : bytes ≡ before ++ from
   pub fits : IsCertificate c
-  pub begins : Begins (spelling c) before ⊎ ((count : ℕ) × (length c.rows < count) × (count < 2 ^ 64) × (before ≡ announcing count c))
+  pub begins : Begins (spelling c) before ⊎ ((count : ℕ) × (length c.rows < count) × (count < 2 ^ 64) × (before ≡ announcement count c))
 
 -- within all before the rows
 before_front : (bytes : List ℕ) → AreBytes bytes → (fault : FormatFault) (from : List ℕ) → front bytes ≡ Err (fault, from) → Precedent bytes from
@@ -233,7 +233,7 @@ before_rows d fits none bytes all fault from e =
     let made : Statement = record d { rows = q.done } in
     let text : bytes ≡ (count_text r.0.0 ++ flat_map row_text q.done) ++ from = p.2 ∙ (λ i. p.1.is i ++ q.is i) ∙ sym (append_assoc (count_text r.0.0) (flat_map row_text q.done) from) in
     record {
-      before = announcing r.0.0 made;
+      before = announcement r.0.0 made;
       c = made;
       parts = ap (λ (l : List ℕ). front_text d ++ l) text ∙ sym (append_assoc (front_text d) (count_text r.0.0 ++ flat_map row_text q.done) from);
       fits = with_rows d q.done fits (omega (arith, q.fewer, p.1.within)) q.rows q.rising;

@@ -1,9 +1,9 @@
 -- A field of a source: what was taken of it, and what reading the bytes that were left gives.
-use Rattle.std.proofs.Common.{◌≡◌, ◌≢◌, ℕ, ◌+◌, ◌<◌, ◌≤◌, Bool, true, false, cond, eqb, ltb, leb, List, [], ◌∷◌, ◌++◌, length, get_or, Option, Some, None, Result, Ok, Err, refl, sym, ap, subst, ◌∙◌, append-nil, arith}
+use Rattle.std.proofs.Common.{◌≡◌, ◌≢◌, ℕ, ◌+◌, ◌<◌, ◌≤◌, Bool, true, false, ltb, leb, List, [], ◌∷◌, ◌++◌, length, get_or, Option, Some, None, Result, Ok, Err, refl, sym, ap, subst, ◌∙◌, append-nil, arith}
 use Rattle.std.specs.Prelude.{IfSome, IsErrAnd, not, codes}
 use Rattle.std.specs.Io.KnownBytes.{Consumes, IsAtEnd, Keeps}
 use Rattle.std.proofs.KnownBytes.{Consumes-trans, Consumes-nil, Consumes-kept}
-use Rattle.std.proofs.lemmas.Bool.{lt-ltb, le-ltb, lt-leb, eqb-true}
+use Rattle.std.proofs.lemmas.Bool.{lt-ltb, le-ltb, lt-leb}
 use Rattle.std.proofs.Math.Bool.{and-false}
 use Rattle.std.proofs.lemmas.List.{take_at, length-append}
 use Rattle.certificate.specs.declared.faults.ReadFault.{ReadFault}
@@ -12,10 +12,9 @@ use Rattle.certificate.specs.declared.faults.FormatFault.{FormatFault}
 use Rattle.certificate.specs.declared.faults.FormatFault.TheVariants.{OtherMagic, Truncated, OutOfRange, NotRising, BytesAfterEnd}
 use Rattle.std.specs.Int.{w32, w64, from_le_bytes}
 use Rattle.std.proofs.lemmas.Nat.{le_bytes_4, le_bytes_8}
-use Rattle.board.specs.declared.moves.Move.{Move}
-use Rattle.board.specs.declared.moves.Move.TheVariants.{U, L, R, D}
-use Rattle.certificate.specs.Spellings.{letter_of, number_text, count_text}
-use Rattle.certificate.specs.Readings.{Reader, IsFaultOf, IsCutOff, field, number_in, byte_in, letter_in, magic_in}
+use Rattle.board.specs.declared.costs.TheConstants.{GREATEST_COST}
+use Rattle.certificate.specs.Spellings.{number_text, count_text}
+use Rattle.certificate.specs.Readings.{Reader, IsFaultOf, IsCutOff, field, number_in, byte_in, magic_in}
 use Rattle.std.specs.Str.{bytes_eq}
 use Rattle.byte_streams.specs.Streams.{SourceState, Change}
 use Rattle.byte_streams.specs.Source.{Takes, ReadsOn}
@@ -164,9 +163,9 @@ pub count_back : (text : List ℕ) (n : ℕ) → length text ≡ 8 → ((i : ℕ
 unfolding count_text
 count_back text n len small is = le_bytes_8 text n len small is
 
-pub number_too_high : (text : List ℕ) (n : ℕ) → n ≡ from_le_bytes w32 text → 1048575 < n → number_in text ≡ None
+pub number_too_high : (text : List ℕ) (n : ℕ) → n ≡ from_le_bytes w32 text → GREATEST_COST < n → number_in text ≡ None
 unfolding number_in
-number_too_high text n is high = let past : leb n 1048575 ≡ false = lt-leb _ _ high in rw (← is, past) refl
+number_too_high text n is high = let past : leb n GREATEST_COST ≡ false = lt-leb _ _ high in rw (← is, past) refl
 
 pub below_range : (low high byte : ℕ) → byte < low → byte_in low high (byte ∷ []) ≡ None
 unfolding byte_in
@@ -175,21 +174,6 @@ below_range low high byte below = let past : leb low byte ≡ false = lt-leb _ _
 pub above_range : (low high byte : ℕ) → high < byte → byte_in low high (byte ∷ []) ≡ None
 unfolding byte_in
 above_range low high byte above = let past : leb byte high ≡ false = lt-leb _ _ above in rw (past, and-false (leb low byte)) refl
-
-some_move : (m m' : Move) → Some m ≡ Some m' → m ≡ m'
-some_move m m' e = cc
-
--- the letter of a move that was found
-pub letter_found : (byte : ℕ) (m : Move) → letter_in (byte ∷ []) ≡ Some m → byte ≡ letter_of m
-unfolding letter_in
-letter_found byte m found = by_letter (eqb byte 85) (eqb byte 76) (eqb byte 82) (eqb byte 68) refl refl refl refl found
-  where
-    by_letter : (u l r d : Bool) → eqb byte 85 ≡ u → eqb byte 76 ≡ l → eqb byte 82 ≡ r → eqb byte 68 ≡ d → cond u (Some U) (cond l (Some L) (cond r (Some R) (cond d (Some D) None))) ≡ Some m → byte ≡ letter_of m
-    by_letter true l r d u-is l-is r-is d-is e = eqb-true _ _ u-is ∙ ap letter_of (some_move U m e)
-    by_letter false true r d u-is l-is r-is d-is e = eqb-true _ _ l-is ∙ ap letter_of (some_move L m e)
-    by_letter false false true d u-is l-is r-is d-is e = eqb-true _ _ r-is ∙ ap letter_of (some_move R m e)
-    by_letter false false false true u-is l-is r-is d-is e = eqb-true _ _ d-is ∙ ap letter_of (some_move D m e)
-    by_letter false false false false u-is l-is r-is d-is e = absurd cc
 
 -- bytes that no certificate begins with
 pub other_magic : (text : List ℕ) → bytes_eq text (codes "TILECRT1") ≡ false → magic_in text ≡ None

@@ -8,7 +8,7 @@ use Rattle.certificate.specs.declared.faults.ReadFault.{ReadFault}
 use Rattle.certificate.specs.declared.faults.ReadFault.TheVariants.{Format, Failed, NoMemory}
 use Rattle.certificate.specs.Certificates.{Statement}
 use Rattle.certificate.specs.Spellings.{Spells, spelling}
-use Rattle.certificate.specs.Readings.{certificate, give, end, continued, IsFaultOf, IsFirstFault}
+use Rattle.certificate.specs.Readings.{Reading, certificate, give, end, next_reading, IsFaultOf, IsFirstFault}
 use Rattle.byte_streams.specs.Streams.{SourceState, Change}
 use Rattle.byte_streams.specs.Source.{Takes}
 use Rattle.certificate.specs.Sources.{IfFormat, is_failure, FindsAll, ReadsAll, Tells, IsAnswerTo, ReadsCertificate}
@@ -42,7 +42,7 @@ spelled_read bytes c s = ap certificate (s.1 ∙ sym (append-nil (spelling c))) 
 pub spelled_or_faulty : (bytes : List ℕ) → AreBytes bytes → ((c : Statement) × Spells c bytes) ⊎ ((fault : FormatFault) × IsFirstFault bytes fault)
 spelled_or_faulty bytes all = by_cases (certificate bytes) refl
   where
-    by_cases : (r : Result (Statement × List ℕ) (FormatFault × List ℕ)) → certificate bytes ≡ r → ((c : Statement) × Spells c bytes) ⊎ ((fault : FormatFault) × IsFirstFault bytes fault)
+    by_cases : (r : Reading Statement) → certificate bytes ≡ r → ((c : Statement) × Spells c bytes) ⊎ ((fault : FormatFault) × IsFirstFault bytes fault)
     by_cases (Ok p) e = inl (p.0, (read_takes bytes all p.0 p.1 e).0)
     by_cases (Err f) e = inr (f.0, (f.1, e))
 
@@ -59,7 +59,7 @@ pub none_begins_another : (c d : Statement) (bytes more : List ℕ) → Spells c
 unfolding end give
 none_begins_another c d bytes more s t = by_cases more (sym (ap (λ (l : List ℕ). certificate (l ++ more)) s.1 ∙ read_again c more s.0) ∙ spelled_read (bytes ++ more) d t)
   where
-    by_cases : (l : List ℕ) → continued (λ (u : Unit {0}). give c) (end l) ≡ fine d [] → (l ≡ []) × (d ≡ c)
+    by_cases : (l : List ℕ) → next_reading (λ (u : Unit {0}). give c) (end l) ≡ fine d [] → (l ≡ []) × (d ≡ c)
     by_cases [] e = (refl, same_value c d [] e)
     by_cases (b ∷ l) e = absurd (never d [] BytesAfterEnd (b ∷ l) (sym e))
 

@@ -1,10 +1,10 @@
 -- Readers: what spells a value is read as that value, and what is read was spelled so. What stands before a fault is the beginning of a text of the reader.
-use Rattle.std.proofs.Common.{◌≡◌, ◌⊎◌, inl, inr, ⊎_elim, ℕ, ◌≤◌, Bool, true, false, cond, ltb, List, [], ◌∷◌, ◌++◌, length, take, drop, Option, Some, None, Result, Ok, Err, refl, sym, ap, subst, ◌∙◌, append_assoc, arith}
+use Rattle.std.proofs.Common.{◌≡◌, ◌⊎◌, inl, inr, ⊎_elim, ℕ, ◌≤◌, Bool, true, false, cond, ltb, List, [], ◌∷◌, ◌++◌, length, take, drop, Option, Some, None, Ok, Err, refl, sym, ap, subst, ◌∙◌, append_assoc, arith}
 use Rattle.std.proofs.lemmas.Bool.{le-ltb, ltb-false}
 use Rattle.std.proofs.lemmas.List.{take_at, drop_at, take-append-drop, length-append, length-take}
 use Rattle.certificate.specs.declared.faults.FormatFault.{FormatFault}
 use Rattle.certificate.specs.declared.faults.FormatFault.TheVariants.{Truncated}
-use Rattle.certificate.specs.Readings.{Reader, ◌>>=◌, continued, give, field, judged, as_one, blamed}
+use Rattle.certificate.specs.Readings.{Reading, Reader, ◌>>=◌, next_reading, give, field, field_reading, as_one, whole_reading}
 use Rattle.certificate.specs.Laws.{AreBytes}
 
 pub AreBytes-front : (xs ys : List ℕ) → AreBytes (xs ++ ys) → AreBytes xs
@@ -46,11 +46,11 @@ abbrev pub Both : {X Y : Type 0} → (X → List ℕ → Type 0) → (X → Y �
 Both {X} {Y} A B y text = (x : X) × (s t : List ℕ) × A x s × B x y t × (text ≡ s ++ t)
 
 -- the first reader's value, where both succeed
-pub both_ok : {X Y : Type 0} (r : Result (X × List ℕ) (FormatFault × List ℕ)) (k : X → Reader Y) (y : Y × List ℕ) → continued k r ≡ Ok y → (p : X × List ℕ) × (r ≡ Ok p) × (k p.0 p.1 ≡ Ok y)
+pub both_ok : {X Y : Type 0} (r : Reading X) (k : X → Reader Y) (y : Y × List ℕ) → next_reading k r ≡ Ok y → (p : X × List ℕ) × (r ≡ Ok p) × (k p.0 p.1 ≡ Ok y)
 both_ok (Ok p) k y e = (p, refl, e)
 both_ok (Err f) k y e = absurd cc
 
-pub one_fails : {X Y : Type 0} (r : Result (X × List ℕ) (FormatFault × List ℕ)) (k : X → Reader Y) (f : FormatFault × List ℕ) → continued k r ≡ Err f
+pub one_fails : {X Y : Type 0} (r : Reading X) (k : X → Reader Y) (f : FormatFault × List ℕ) → next_reading k r ≡ Err f
     → (r ≡ Err f) ⊎ ((p : X × List ℕ) × (r ≡ Ok p) × (k p.0 p.1 ≡ Err f))
 one_fails (Ok p) k f e = inr (p, refl, e)
 one_fails (Err g) k f e = inl cc
@@ -60,7 +60,7 @@ unfolding ◌>>=◌
 Law-seq a k A B first next = record {
   again = λ y text rest p.
       let apart : text ++ rest ≡ p.1 ++ (p.2 ++ rest) = ap (λ (l : List ℕ). l ++ rest) p.5 ∙ append_assoc p.1 p.2 rest in
-      ap (λ (l : List ℕ). continued k (a l)) apart ∙ ap (continued k) (first.again p.0 p.1 (p.2 ++ rest) p.3) ∙ (next p.0 p.1 p.3).again y p.2 rest p.4;
+      ap (λ (l : List ℕ). next_reading k (a l)) apart ∙ ap (next_reading k) (first.again p.0 p.1 (p.2 ++ rest) p.3) ∙ (next p.0 p.1 p.3).again y p.2 rest p.4;
   takes = λ bytes all y rest e.
       let r = both_ok (a bytes) k (y, rest) e in
       let p = first.takes bytes all r.0.0 r.0.1 r.1 in
@@ -95,10 +95,10 @@ Opens-seq a k A B law first next = record {
 abbrev pub Known : {X : Type 0} → X → X → List ℕ → Type 0
 Known x y text = (y ≡ x) × (text ≡ [])
 
-abbrev pub fine : {X : Type 0} → X → List ℕ → Result (X × List ℕ) (FormatFault × List ℕ)
+abbrev pub fine : {X : Type 0} → X → List ℕ → Reading X
 fine x s = Ok (x, s)
 
-abbrev pub faulty : (X : Type 0) → FormatFault → List ℕ → Result (X × List ℕ) (FormatFault × List ℕ)
+abbrev pub faulty : (X : Type 0) → FormatFault → List ℕ → Reading X
 faulty X f s = Err (f, s)
 
 ok_is : {X : Type 0} (x y : X) (s t : List ℕ) → fine x s ≡ fine y t → (x ≡ y) × (s ≡ t)
@@ -135,7 +135,7 @@ Law-field {X = X} fault n value S there back = record {
 }
   where
     found : (bytes : List ℕ) → AreBytes bytes → (x : X) (rest : List ℕ) (short : Bool) (v : Option X) → ltb (length bytes) n ≡ short → value (take n bytes) ≡ v
-        → cond short (Err (Truncated, bytes)) (judged fault bytes (drop n bytes) v) ≡ Ok (x, rest) → (text : List ℕ) × S x text × (bytes ≡ text ++ rest)
+        → cond short (Err (Truncated, bytes)) (field_reading fault bytes (drop n bytes) v) ≡ Ok (x, rest) → (text : List ℕ) × S x text × (bytes ≡ text ++ rest)
     found bytes all x rest true v short-is v-is e = absurd cc
     found bytes all x rest false None short-is v-is e = absurd cc
     found bytes all x rest false (Some y) short-is v-is e =
@@ -156,7 +156,7 @@ pub field_from : {X : Type 0} (fault : FormatFault) (n : ℕ) (value : List ℕ 
 unfolding field
 field_from {X = X} fault n value bytes f from e = by_cases (ltb (length bytes) n) (value (take n bytes)) e
   where
-    by_cases : (short : Bool) (v : Option X) → cond short (Err (Truncated, bytes)) (judged fault bytes (drop n bytes) v) ≡ Err (f, from) → bytes ≡ from
+    by_cases : (short : Bool) (v : Option X) → cond short (Err (Truncated, bytes)) (field_reading fault bytes (drop n bytes) v) ≡ Err (f, from) → bytes ≡ from
     by_cases true v e = err_is X Truncated f bytes from e
     by_cases false None e = err_is X fault f bytes from e
     by_cases false (Some x) e = absurd cc
@@ -172,11 +172,11 @@ Opens-field fault n value S x text p = record {
 pub Law-as_one : {X : Type 0} (reader : Reader X) (S : X → List ℕ → Type 0) → Law reader S → Law (as_one reader) S
 unfolding as_one
 Law-as_one {X = X} reader S law = record {
-  again = λ x text rest p. ap (blamed (text ++ rest)) (law.again x text rest p);
+  again = λ x text rest p. ap (whole_reading (text ++ rest)) (law.again x text rest p);
   takes = λ bytes all x rest e. law.takes bytes all x rest (unblamed bytes (reader bytes) x rest e);
 }
   where
-    unblamed : (bytes : List ℕ) (r : Result (X × List ℕ) (FormatFault × List ℕ)) (x : X) (rest : List ℕ) → blamed bytes r ≡ Ok (x, rest) → r ≡ Ok (x, rest)
+    unblamed : (bytes : List ℕ) (r : Reading X) (x : X) (rest : List ℕ) → whole_reading bytes r ≡ Ok (x, rest) → r ≡ Ok (x, rest)
     unblamed bytes (Ok p) x rest e = e
     unblamed bytes (Err f) x rest e = absurd cc
 
@@ -184,6 +184,6 @@ pub as_one_from : {X : Type 0} (reader : Reader X) (bytes : List ℕ) (f : Forma
 unfolding as_one
 as_one_from {X = X} reader bytes f from e = at_front (reader bytes) e
   where
-    at_front : (r : Result (X × List ℕ) (FormatFault × List ℕ)) → blamed bytes r ≡ Err (f, from) → bytes ≡ from
+    at_front : (r : Reading X) → whole_reading bytes r ≡ Err (f, from) → bytes ≡ from
     at_front (Ok p) e = absurd cc
     at_front (Err g) e = err_is X g.0 f bytes from e

@@ -14,7 +14,7 @@ use Rattle.certificate.specs.declared.faults.FormatFault.{FormatFault}
 use Rattle.certificate.specs.declared.faults.FormatFault.TheVariants.{NotRising}
 use Rattle.certificate.specs.Certificates.{Follows, IsBoardOf, IsRow, RiseAfter}
 use Rattle.certificate.specs.Spellings.{number_text, row_text}
-use Rattle.certificate.specs.Readings.{◌>>=◌, give, number, board, may_follow, rising, row, rows}
+use Rattle.certificate.specs.Readings.{◌>>=◌, give, number, board, may_follow, row_order, row, rows}
 use Rattle.certificate.specs.Laws.{AreBytes}
 use Rattle.certificate.proofs.ReaderLemmas.{Law, Law-iff, Both, Law-seq, Known, Law-give, Law-as_one, as_one_from, fine, faulty, one_fails, AreBytes-rest}
 use Rattle.certificate.proofs.TextLemmas.{number_law, board_law}
@@ -39,19 +39,19 @@ sides_of grid b is = subst (λ (g : Grid). IsShape g) is.sides is.board.sides
 
 -- ---- one row
 
-pub record RisingText (before : Option Position) (r r' : Position × ℕ) (text : List ℕ) : Type 0 where
+pub record OrderText (before : Option Position) (r r' : Position × ℕ) (text : List ℕ) : Type 0 where
   pub passes : may_follow before r.0 ≡ true
   pub same : r' ≡ r
   pub nil : text ≡ []
 
-rising_law : (before : Option Position) (r : Position × ℕ) → Law (rising before r) (RisingText before r)
-unfolding rising
-rising_law before r = record {
+order_law : (before : Option Position) (r : Position × ℕ) → Law (row_order before r) (OrderText before r)
+unfolding row_order
+order_law before r = record {
   again = λ r' text rest p. ap (λ (b : Bool). cond b (fine r (text ++ rest)) (faulty (Position × ℕ) NotRising (text ++ rest))) p.passes ∙ (λ i. fine (sym p.same i) (p.nil i ++ rest));
   takes = λ bytes all r' rest e. by_test bytes r' rest (may_follow before r.0) refl e;
 }
   where
-    by_test : (bytes : List ℕ) (r' : Position × ℕ) (rest : List ℕ) (b : Bool) → may_follow before r.0 ≡ b → cond b (fine r bytes) (faulty (Position × ℕ) NotRising bytes) ≡ fine r' rest → (text : List ℕ) × RisingText before r r' text × (bytes ≡ text ++ rest)
+    by_test : (bytes : List ℕ) (r' : Position × ℕ) (rest : List ℕ) (b : Bool) → may_follow before r.0 ≡ b → cond b (fine r bytes) (faulty (Position × ℕ) NotRising bytes) ≡ fine r' rest → (text : List ℕ) × OrderText before r r' text × (bytes ≡ text ++ rest)
     by_test bytes r' rest false is e = absurd cc
     by_test bytes r' rest true is e =
         let p : (Position × ℕ) × List ℕ = (r, bytes) in
@@ -60,7 +60,7 @@ rising_law before r = record {
         ([], record { passes = is; same = ap (λ (z : (Position × ℕ) × List ℕ). z.0) (sym same); nil = refl }, ap (λ (z : (Position × ℕ) × List ℕ). z.1) same)
 
 abbrev RowParts : Grid → Option Position → Position × ℕ → List ℕ → Type 0
-RowParts grid before = Both (SpellsBoard grid) (λ b. Both SpellsNumber (λ g. RisingText before (b, g)))
+RowParts grid before = Both (SpellsBoard grid) (λ b. Both SpellsNumber (λ g. OrderText before (b, g)))
 
 row_there : (grid : Grid) (before : Option Position) → IsBefore grid before → (r : Position × ℕ) (text : List ℕ) → RowParts grid before r text → SpellsRow grid before r text
 row_there grid before is r text (b, s0, t0, p, (g, s1, t1, n, up, e1), e0) =
@@ -77,7 +77,7 @@ row_back grid before is r text t = (r.0, r.0.tiles, number_text r.1, record { bo
 pub row_law : (grid : Grid) (before : Option Position) → IsShape grid → IsBefore grid before → Law (row grid before) (SpellsRow grid before)
 unfolding row
 row_law grid before sides is = Law-as_one _ (SpellsRow grid before)
-    (Law-iff _ (RowParts grid before) (SpellsRow grid before) (row_there grid before is) (row_back grid before is) (Law-seq (board grid) _ (SpellsBoard grid) _ (board_law grid sides) (λ b _ _. Law-seq number _ SpellsNumber _ number_law (λ g _ _. rising_law before (b, g)))))
+    (Law-iff _ (RowParts grid before) (SpellsRow grid before) (row_there grid before is) (row_back grid before is) (Law-seq (board grid) _ (SpellsBoard grid) _ (board_law grid sides) (λ b _ _. Law-seq number _ SpellsNumber _ number_law (λ g _ _. order_law before (b, g)))))
 
 pub row_from : (grid : Grid) (before : Option Position) (bytes : List ℕ) (fault : FormatFault) (from : List ℕ) → row grid before bytes ≡ Err (fault, from) → bytes ≡ from
 unfolding row

@@ -10,7 +10,8 @@ use Rattle.byte_streams.proofs.SinkLemmas.{Writes-after, FailsWriting-longer}
 use Rattle.byte_streams.specs.Streams.{from_to}
 use Rattle.board.specs.declared.moves.Move.{Move}
 use Rattle.board.specs.Positions.{Position}
-use Rattle.certificate.specs.Spellings.{letter_of, row_text}
+use Rattle.board.specs.Letters.{letter_of}
+use Rattle.certificate.specs.Spellings.{row_text}
 
 -- the exit of a `?`, where more is due
 pub writes_stop : {E : Type 0} (Q : E → Type 0) (sink : Change SinkState) (s t : List ℕ) (r : Result (Unit {0}) E) → IsErrAnd r Q → FailsWriting sink s → Writes sink (s ++ t) r

@@ -15,8 +15,9 @@ use Rattle.memory.specs.declared.OutOfMemory.{OutOfMemory}
 use Rattle.certificate.specs.declared.faults.ReadFault.TheVariants.{Format, Failed, NoMemory}
 use Rattle.certificate.specs.declared.faults.FormatFault.TheVariants.{Truncated, OutOfRange, NotRising}
 use Rattle.certificate.specs.Certificates.{Follows, IsBoardOf, IsWithinLimit, IsRow, RiseAfter}
-use Rattle.certificate.specs.Spellings.{letter_of, number_text, row_text}
-use Rattle.certificate.specs.Readings.{Reader, ◌>>=◌, continued, give, as_one, blamed, IsFaultOf, IsCutOff, HasNoFault, board, number, number_in, may_follow, rising, letter, letters, row, rows, end}
+use Rattle.board.specs.Letters.{letter_of}
+use Rattle.certificate.specs.Spellings.{number_text, row_text}
+use Rattle.certificate.specs.Readings.{Reader, ◌>>=◌, next_reading, give, as_one, whole_reading, IsFaultOf, IsCutOff, HasNoFault, board, number, number_in, may_follow, row_order, letter, letters, row, rows, end}
 use Rattle.byte_streams.specs.Streams.{SourceState, Change}
 use Rattle.byte_streams.specs.Source.{Takes}
 use Rattle.byte_streams.specs.Streams.{from_to}
@@ -54,14 +55,14 @@ carried_cut r s text a b c f taken fault w = carried r s (λ bytes. IsCutOff r b
 
 first_fault : {X Y : Type 0} (a : Reader X) (k : X → Reader Y) (l : List ℕ) (g : FormatFault) → IsFaultOf a l g → IsFaultOf (a >>= k) l g
 unfolding ◌>>=◌
-first_fault a k l g p = (p.0, ap (continued k) p.1)
+first_fault a k l g p = (p.0, ap (next_reading k) p.1)
 
 pub first_refuses : {X Y : Type 0} {a : Reader X} (k : X → Reader Y) {source : Change SourceState} {f : ReadFault} → Refuses a source f → Refuses (a >>= k) source f
 first_refuses {a = a} k {source = source} {f = f} r = carried_cut a (a >>= k) [] source.before source.before source.after f (Consumes-nil source.before.left) (λ l g p. first_fault a k l g p) r
 
 again_at : {X Y : Type 0} (a : Reader X) (k : X → Reader Y) (A : X → List ℕ → Type 0) → Law a A → (x : X) (text : List ℕ) → A x text → (l : List ℕ) → (a >>= k) (text ++ l) ≡ k x l
 unfolding ◌>>=◌
-again_at a k A law x text t l = ap (continued k) (law.again x text l t)
+again_at a k A law x text t l = ap (next_reading k) (law.again x text l t)
 
 pub then_refuses : {X Y : Type 0} {a : Reader X} (k : X → Reader Y) {A : X → List ℕ → Type 0} {old mid new : SourceState} {f : ReadFault} {x : X} → Law a A → Finds A (from_to old mid) x → Refuses (k x) (from_to mid new) f → Refuses (a >>= k) (from_to old new) f
 then_refuses {a = a} k {A = A} {old = old} {mid = mid} {new = new} {f = f} {x = x} law p r = carried_cut (k x) (a >>= k) p.text old mid new f p.taken (λ l g q. (q.0, again_at a k A law x p.text p.spells l ∙ q.1)) r
@@ -71,7 +72,7 @@ unfolding as_one
 as_one_refuses {r = reader} {source = source} {f = f} r = carried_cut reader (as_one reader) [] source.before source.before source.after f (Consumes-nil source.before.left) (λ l g p. blamed_at l g p) r
   where
     blamed_at : (l : List ℕ) (g : FormatFault) → IsFaultOf reader l g → IsFaultOf (as_one reader) l g
-    blamed_at l g p = (l, ap (blamed l) p.1)
+    blamed_at l g p = (l, ap (whole_reading l) p.1)
 
 -- ---- what was found, said otherwise, and one after the other
 
@@ -128,22 +129,22 @@ end_refuses {Y = Y} value {source = source} {f = f} r =
 -- ---- a row that does not come after the one before it
 
 row_falls : (grid : Grid) (before : Option Position) → IsShape grid → (b : Position) (n : ℕ) → IsBoardOf grid b → IsWithinLimit n → may_follow before b ≡ false → (rest : List ℕ) → IsFaultOf (row grid before) (b.tiles ++ (number_text n ++ rest)) NotRising
-unfolding row rising as_one
+unfolding row row_order as_one
 row_falls grid before sides b n is within falls rest =
     let bytes = b.tiles ++ (number_text n ++ rest) in
-    let judged : rising before (b, n) rest ≡ faulty (Position × ℕ) NotRising rest = ap (λ (up : Bool). cond up (fine (b, n) rest) (faulty (Position × ℕ) NotRising rest)) falls in (
+    let late : row_order before (b, n) rest ≡ faulty (Position × ℕ) NotRising rest = ap (λ (up : Bool). cond up (fine (b, n) rest) (faulty (Position × ℕ) NotRising rest)) falls in (
       bytes,
-      ap (blamed bytes)
-          (again_at (board grid) (λ b. number >>= λ n. rising before (b, n)) (SpellsBoard grid) (board_law grid sides) b b.tiles (record { board = is; is = refl }) (number_text n ++ rest)
-          ∙ again_at number (λ n. rising before (b, n)) SpellsNumber number_law n (number_text n) (record { within = within; is = refl }) rest ∙ judged),
+      ap (whole_reading bytes)
+          (again_at (board grid) (λ b. number >>= λ n. row_order before (b, n)) (SpellsBoard grid) (board_law grid sides) b b.tiles (record { board = is; is = refl }) (number_text n ++ rest)
+          ∙ again_at number (λ n. row_order before (b, n)) SpellsNumber number_law n (number_text n) (record { within = within; is = refl }) rest ∙ late),
     )
 
 row_cut : (grid : Grid) (before : Option Position) → IsShape grid → (b : Position) → IsBoardOf grid b → (rest : List ℕ) → length rest < 4 → IsCutOff (row grid before) (b.tiles ++ rest)
 unfolding row as_one
 row_cut grid before sides b is rest few =
     let bytes = b.tiles ++ rest in
-    let cut = first_fault number (λ n. rising before (b, n)) rest Truncated (rest, field_short OutOfRange 4 number_in rest few) in
-    (bytes, ap (blamed bytes) (again_at (board grid) (λ b. number >>= λ n. rising before (b, n)) (SpellsBoard grid) (board_law grid sides) b b.tiles (record { board = is; is = refl }) rest ∙ cut.1))
+    let cut = first_fault number (λ n. row_order before (b, n)) rest Truncated (rest, field_short OutOfRange 4 number_in rest few) in
+    (bytes, ap (whole_reading bytes) (again_at (board grid) (λ b. number >>= λ n. row_order before (b, n)) (SpellsBoard grid) (board_law grid sides) b b.tiles (record { board = is; is = refl }) rest ∙ cut.1))
 
 pub row_refuses : (grid : Grid) (before : Option Position) (b : Position) (n : ℕ) (old mid new : SourceState) → Finds (SpellsBoard grid) (from_to old mid) b → Finds SpellsNumber (from_to mid new) n → may_follow before b ≡ false → Refuses (row grid before) (from_to old new) (Format NotRising)
 row_refuses grid before b n old mid new p q falls =
@@ -171,10 +172,10 @@ row_refuses grid before b n old mid new p q falls =
 letters_at : (done : List Move) (n : ℕ) (rest : List ℕ) (f : FormatFault × List ℕ) → length done < n → letter rest ≡ Err f → letters n (map letter_of done ++ rest) ≡ Err f
 unfolding letters ◌>>=◌
 letters_at done zero rest f fewer fails = absurd (omega (arith, fewer))
-letters_at [] (suc n) rest f fewer fails = ap (continued (λ m. letters n >>= λ ms. give (m ∷ ms))) fails
+letters_at [] (suc n) rest f fewer fails = ap (next_reading (λ m. letters n >>= λ ms. give (m ∷ ms))) fails
 letters_at (m ∷ done) (suc n) rest f fewer fails =
-    ap (continued (λ m. letters n >>= λ ms. give (m ∷ ms))) (letter_law.again m (letter_of m ∷ []) (map letter_of done ++ rest) refl)
-    ∙ ap (continued (λ ms. give (m ∷ ms))) (letters_at done n rest f (omega (arith, fewer)) fails)
+    ap (next_reading (λ m. letters n >>= λ ms. give (m ∷ ms))) (letter_law.again m (letter_of m ∷ []) (map letter_of done ++ rest) refl)
+    ∙ ap (next_reading (λ ms. give (m ∷ ms))) (letters_at done n rest f (omega (arith, fewer)) fails)
 
 pub letters_refuse : (done : List Move) (n : ℕ) (old mid new : SourceState) (f : ReadFault) → length done < n → Takes (from_to old mid) (map letter_of done) → Refuses letter (from_to mid new) f → Refuses (letters n) (from_to old new) f
 letters_refuse done n old mid new f fewer taken r = carried_cut letter (letters n) (map letter_of done) old mid new f taken (λ l g p. (p.0, letters_at done n l (g, p.0) fewer p.1)) r
@@ -206,13 +207,13 @@ rows_at : (grid : Grid) (before : Option Position) → IsBefore grid before → 
     → row grid (last_of before done) rest ≡ Err f → rows grid before n (flat_map row_text done ++ rest) ≡ Err f
 unfolding rows ◌>>=◌
 rows_at grid before is done zero rest f fewer all rise fails = absurd (omega (arith, fewer))
-rows_at grid before is [] (suc n) rest f fewer all rise fails = ap (continued (λ first. rows grid (Some first.0) n >>= λ others. give (first ∷ others))) fails
+rows_at grid before is [] (suc n) rest f fewer all rise fails = ap (next_reading (λ first. rows grid (Some first.0) n >>= λ others. give (first ∷ others))) fails
 rows_at grid before is (r ∷ done) (suc n) rest f fewer all rise fails =
     let text : flat_map row_text (r ∷ done) ++ rest ≡ row_text r ++ (flat_map row_text done ++ rest) = ap (λ (l : List ℕ). l ++ rest) (flat_map-cons row_text r done) ∙ append_assoc (row_text r) (flat_map row_text done) rest in
     let t : SpellsRow grid before r (row_text r) = record { row = all.0; follows = rise.0; is = refl } in
     ap (rows grid before (suc n)) text
-    ∙ ap (continued (λ first. rows grid (Some first.0) n >>= λ others. give (first ∷ others))) ((row_law grid before (sides_of grid r.0 all.0.board) is).again r (row_text r) (flat_map row_text done ++ rest) t)
-    ∙ ap (continued (λ others. give (r ∷ others))) (rows_at grid (Some r.0) all.0.board done n rest f (omega (arith, fewer)) all.1 rise.1 fails)
+    ∙ ap (next_reading (λ first. rows grid (Some first.0) n >>= λ others. give (first ∷ others))) ((row_law grid before (sides_of grid r.0 all.0.board) is).again r (row_text r) (flat_map row_text done ++ rest) t)
+    ∙ ap (next_reading (λ others. give (r ∷ others))) (rows_at grid (Some r.0) all.0.board done n rest f (omega (arith, fewer)) all.1 rise.1 fails)
 
 pub rows_refuse : (grid : Grid) (done : List (Position × ℕ)) (n : ℕ) (old mid new : SourceState) (f : ReadFault) → length done < n → AllByRecursion (IsRow grid) done → RiseAfter None done
     → Takes (from_to old mid) (flat_map row_text done) → Refuses (row grid (last_of None done)) (from_to mid new) f → Refuses (rows grid None n) (from_to old new) f

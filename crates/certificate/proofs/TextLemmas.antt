@@ -8,8 +8,9 @@ use Rattle.std.proofs.lemmas.List.{get_or-replicate}
 use Rattle.std.proofs.lemmas.List.FromFn.{get_or-range_with_len}
 use Rattle.std.proofs.lemmas.Nat.{from_le_bytes-to_le_bytes_4, from_le_bytes-to_le_bytes_8, mul-le}
 use Rattle.std.proofs.lemmas.Slice.Eq.{bytes_eq-Decides}
+use Rattle.board.specs.declared.costs.TheConstants.{GREATEST_COST}
 use Rattle.board.specs.declared.moves.Move.{Move}
-use Rattle.board.specs.declared.moves.Move.TheVariants.{U, L, R, D}
+use Rattle.board.specs.declared.moves.Move.TheVariants.{U}
 use Rattle.board.specs.Equality.{rules_Decide}
 use Rattle.board.specs.Grids.{Grid, IsShape, cell_count}
 use Rattle.board.specs.Positions.{Position, goal_of}
@@ -18,10 +19,12 @@ use Rattle.board.proofs.GoalLemmas.{goal_board}
 use Rattle.certificate.specs.Fields.{SpellsBoard, SpellsByte, SpellsCount, SpellsLetter, SpellsLetters, SpellsMagic, SpellsNumber, SpellsOpening, SpellsPlan}
 use Rattle.certificate.specs.declared.faults.FormatFault.TheVariants.{OtherMagic, OutOfRange}
 use Rattle.certificate.specs.Certificates.{AreNamedCosts, IsWithinLimit}
-use Rattle.certificate.specs.Spellings.{kind_of, opening_text, letter_of, number_text, count_text}
+use Rattle.board.specs.Letters.{letter_of, move_of_letter}
+use Rattle.board.proofs.LetterLemmas.{letter_reads}
+use Rattle.certificate.specs.Spellings.{kind_of, opening_text, number_text, count_text}
 use Rattle.certificate.specs.Readings.{give, magic, magic_in, byte_within, byte_in, number, number_in, count, count_in, board, board_in, letter, letter_in, grid_of, costs_of, opening, letters, plan, rows}
 use Rattle.certificate.specs.Laws.{AreBytes}
-use Rattle.certificate.proofs.FieldLemmas.{number_back, count_back, letter_found}
+use Rattle.certificate.proofs.FieldLemmas.{number_back, count_back}
 use Rattle.certificate.proofs.BoardLemmas.{not_true, board_back, board_found}
 use Rattle.certificate.proofs.ReaderLemmas.{Law, Opens, Law-iff, Opens-iff, Both, Law-seq, Opens-seq, Known, Law-give, Opens-give, Law-field, Opens-field}
 
@@ -109,17 +112,17 @@ number_there : (n : ℕ) (text : List ℕ) → SpellsNumber n text → (length t
 unfolding number_in
 number_there n text t =
     let value : from_le_bytes w32 text ≡ n = ap (from_le_bytes w32) t.is ∙ number_again n (omega (arith, t.within)) in
-    (ap (λ (l : List ℕ). length l) t.is ∙ four_bytes n, ap (λ (m : ℕ). cond (leb m 1048575) (Some m) None) value ∙ ap (λ (r : Bool). cond r (Some n) None) (le-leb n 1048575 t.within))
+    (ap (λ (l : List ℕ). length l) t.is ∙ four_bytes n, ap (λ (m : ℕ). cond (leb m GREATEST_COST) (Some m) None) value ∙ ap (λ (r : Bool). cond r (Some n) None) (le-leb n GREATEST_COST t.within))
 
 number_in_back : (n : ℕ) (text : List ℕ) → AreBytes text → length text ≡ 4 → number_in text ≡ Some n → SpellsNumber n text
 unfolding number_in
-number_in_back n text all len e = by_test (leb (from_le_bytes w32 text) 1048575) refl e
+number_in_back n text all len e = by_test (leb (from_le_bytes w32 text) GREATEST_COST) refl e
   where
-    by_test : (r : Bool) → leb (from_le_bytes w32 text) 1048575 ≡ r → cond r (Some (from_le_bytes w32 text)) None ≡ Some n → SpellsNumber n text
+    by_test : (r : Bool) → leb (from_le_bytes w32 text) GREATEST_COST ≡ r → cond r (Some (from_le_bytes w32 text)) None ≡ Some n → SpellsNumber n text
     by_test false is e = absurd cc
     by_test true is e =
         let same = some_number _ _ e in
-        record { within = subst (λ (m : ℕ). m ≤ 1048575) same (leb-true _ _ is); is = sym (number_back text n len (bytes_at text all) (sym same)) }
+        record { within = subst (λ (m : ℕ). m ≤ GREATEST_COST) same (leb-true _ _ is); is = sym (number_back text n len (bytes_at text all) (sym same)) }
 
 pub number_law : Law number SpellsNumber
 number_law = Law-field OutOfRange 4 number_in SpellsNumber number_there number_in_back
@@ -162,20 +165,13 @@ board_opens grid sides = Opens-field OutOfRange (cell_count grid) (board_in grid
 
 -- ---- letters
 
-letter_has : (m : Move) → letter_in (letter_of m ∷ []) ≡ Some m
-unfolding letter_in
-letter_has U = refl
-letter_has L = refl
-letter_has R = refl
-letter_has D = refl
-
 letter_there : (m : Move) (text : List ℕ) → SpellsLetter m text → (length text ≡ 1) × (letter_in text ≡ Some m)
-letter_there m text is = (ap (λ (l : List ℕ). length l) is, ap letter_in is ∙ letter_has m)
+unfolding letter_in
+letter_there m text is = (ap (λ (l : List ℕ). length l) is, ap (λ (l : List ℕ). move_of_letter (slice_index l 0)) is ∙ (letter_reads m (letter_of m)).1 refl)
 
 letter_back : (m : Move) (text : List ℕ) → AreBytes text → length text ≡ 1 → letter_in text ≡ Some m → SpellsLetter m text
-letter_back m text all len e =
-    let one = one_byte text len in
-    one ∙ ap (λ (b : ℕ). b ∷ []) (letter_found (slice_index text 0) m (sym (ap letter_in one) ∙ e))
+unfolding letter_in
+letter_back m text all len e = one_byte text len ∙ ap (λ (b : ℕ). b ∷ []) ((letter_reads m (slice_index text 0)).0 e)
 
 pub letter_law : Law letter SpellsLetter
 letter_law = Law-field OutOfRange 1 letter_in SpellsLetter letter_there letter_back

@@ -1,6 +1,7 @@
 -- What a certificate states, and when it has a spelling.
 use Rattle.std.specs.Prelude.{ℕ, ◌≡◌, ◌⊎◌, ◌≤◌, ◌<◌, ◌^◌, List, [], ◌∷◌, length, Option, None, Some, IfSome, ⊤}
 use Rattle.std.specs.List.{AllByRecursion}
+use Rattle.board.specs.declared.costs.TheConstants.{GREATEST_COST}
 use Rattle.board.specs.declared.moves.Move.{Move}
 use Rattle.board.specs.Grids.{Grid, IsShape}
 use Rattle.board.specs.Positions.{Position, IsBoard}
@@ -33,7 +34,7 @@ pub record IsBoardOf (grid : Grid) (b : Position) : Type 0 where
 
 -- the greatest cost, and the greatest length of a plan, that can be written
 abbrev pub IsWithinLimit : ℕ → Type 0
-IsWithinLimit n = n ≤ 1048575
+IsWithinLimit n = n ≤ GREATEST_COST
 
 -- a row: a board of the grid, and a cost
 pub record IsRow (grid : Grid) (row : Position × ℕ) : Type 0 where

@@ -6,7 +6,8 @@ use Rattle.board.specs.Grids.{Grid, IsShape}
 use Rattle.board.specs.Positions.{Position}
 use Rattle.board.specs.CostRules.{CostRule}
 use Rattle.certificate.specs.Certificates.{Statement, AreNamedCosts, IsBoardOf, IsWithinLimit, IsRow, Follows, RiseAfter, IsCertificate}
-use Rattle.certificate.specs.Spellings.{opening_text, letter_of, number_text, count_text, plan_text, row_text, front_text}
+use Rattle.board.specs.Letters.{letter_of}
+use Rattle.certificate.specs.Spellings.{opening_text, number_text, count_text, plan_text, row_text, front_text}
 
 -- what every certificate begins with
 abbrev pub SpellsMagic : Unit {0} → List ℕ → Type 0

@@ -2,13 +2,13 @@
 use Rattle.std.specs.Prelude.{ℕ, ◌≡◌, ◌⊎◌, ◌<◌, ◌^◌, ◌↔◌, List, [], ◌++◌, length, Ok}
 use Rattle.std.specs.List.{AllByRecursion}
 use Rattle.certificate.specs.Certificates.{Statement, IsCertificate}
-use Rattle.certificate.specs.Spellings.{Spells, spelling, announcing}
+use Rattle.certificate.specs.Spellings.{Spells, spelling, announcement}
 use Rattle.certificate.specs.Readings.{certificate, IsFaultAt, IsFirstFault}
 use Rattle.certificate.specs.declared.faults.FormatFault.{FormatFault}
 
 -- the numbers are bytes
 abbrev pub AreBytes : List ℕ → Type 0
-AreBytes bytes = AllByRecursion (λ b. b < 256) bytes
+AreBytes bytes = AllByRecursion (λ b. b < 2 ^ 8) bytes
 
 -- a certificate is read exactly where the bytes spell it
 abbrev pub ReadingIsSpelling : Type 0
@@ -34,7 +34,7 @@ Begins text before = (after : List ℕ) × (text ≡ before ++ after)
 abbrev pub FaultsComeFirst : Type 0
 FaultsComeFirst =
     (bytes : List ℕ) (fault : FormatFault) (from : List ℕ) → AreBytes bytes → IsFaultAt bytes fault from
-    → (before : List ℕ) × (c : Statement) × (bytes ≡ before ++ from) × IsCertificate c × (Begins (spelling c) before ⊎ ((count : ℕ) × (length c.rows < count) × (count < 2 ^ 64) × (before ≡ announcing count c)))
+    → (before : List ℕ) × (c : Statement) × (bytes ≡ before ++ from) × IsCertificate c × (Begins (spelling c) before ⊎ ((count : ℕ) × (length c.rows < count) × (count < 2 ^ 64) × (before ≡ announcement count c)))
 
 -- no spelling begins another one
 abbrev pub NoneBeginsAnother : Type 0

@@ -3,8 +3,9 @@ use Rattle.std.specs.Prelude.{ℕ, ◌≡◌, ◌==◌, ◌&&◌, zero, suc, Boo
 use Rattle.std.specs.List.{list_all}
 use Rattle.std.specs.Int.{w32, w64, from_le_bytes}
 use Rattle.std.specs.Str.{bytes_eq}
+use Rattle.board.specs.declared.costs.TheConstants.{GREATEST_COST}
 use Rattle.board.specs.declared.moves.Move.{Move}
-use Rattle.board.specs.declared.moves.Move.TheVariants.{U, L, R, D}
+use Rattle.board.specs.Letters.{move_of_letter}
 use Rattle.board.specs.Grids.{Grid, cell_count}
 use Rattle.board.specs.Positions.{Position}
 use Rattle.board.specs.CostRules.{CostRule, unit_rule, face_rule}
@@ -13,40 +14,43 @@ use Rattle.certificate.specs.Certificates.{Statement}
 use Rattle.certificate.specs.declared.faults.FormatFault.{FormatFault}
 use Rattle.certificate.specs.declared.faults.FormatFault.TheVariants.{OtherMagic, Truncated, OutOfRange, NotRising, BytesAfterEnd}
 
--- What is read from the front: a value and the bytes behind it, or a fault and the bytes from the faulty field on.
-abbrev pub Reader : Type 0 → Type 0
-Reader X = List ℕ → Result (X × List ℕ) (FormatFault × List ℕ)
+-- what is read from the front: a value and the bytes behind it, or a fault and the bytes from the faulty field on
+abbrev pub Reading : Type 0 → Type 0
+Reading X = Result (X × List ℕ) (FormatFault × List ℕ)
 
--- what is done with the outcome of a field: the next field is read behind it
-abbrev pub continued : {X Y : Type 0} → (X → Reader Y) → Result (X × List ℕ) (FormatFault × List ℕ) → Result (Y × List ℕ) (FormatFault × List ℕ)
-continued next (Ok found) = next found.0 found.1
-continued next (Err fault) = Err fault
+abbrev pub Reader : Type 0 → Type 0
+Reader X = List ℕ → Reading X
+
+-- the next field is read behind one that was found
+abbrev pub next_reading : {X Y : Type 0} → (X → Reader Y) → Reading X → Reading Y
+next_reading next (Ok found) = next found.0 found.1
+next_reading next (Err fault) = Err fault
 
 -- one after the other
 infixl 10 ◌>>=◌
 unfoldable pub ◌>>=◌ : {X Y : Type 0} → Reader X → (X → Reader Y) → Reader Y
-(first >>= next) bytes = continued next (first bytes)
+(first >>= next) bytes = next_reading next (first bytes)
 
 -- nothing is read, and the value is known
 unfoldable pub give : {X : Type 0} → X → Reader X
 give x bytes = Ok (x, bytes)
 
 -- the value of a field that was found, or a fault where it has none
-abbrev pub judged : {X : Type 0} → FormatFault → List ℕ → List ℕ → Option X → Result (X × List ℕ) (FormatFault × List ℕ)
-judged fault bytes rest None = Err (fault, bytes)
-judged fault bytes rest (Some x) = Ok (x, rest)
+abbrev pub field_reading : {X : Type 0} → FormatFault → List ℕ → List ℕ → Option X → Reading X
+field_reading fault bytes rest None = Err (fault, bytes)
+field_reading fault bytes rest (Some x) = Ok (x, rest)
 
 -- a field of n bytes
 unfoldable pub field : {X : Type 0} → FormatFault → ℕ → (List ℕ → Option X) → Reader X
-field fault n value bytes = if nat_lt (length bytes) n then Err (Truncated, bytes) else judged fault bytes (drop n bytes) (value (take n bytes))
+field fault n value bytes = if nat_lt (length bytes) n then Err (Truncated, bytes) else field_reading fault bytes (drop n bytes) (value (take n bytes))
 
--- a fault within counts from here
-abbrev pub blamed : {X : Type 0} → List ℕ → Result (X × List ℕ) (FormatFault × List ℕ) → Result (X × List ℕ) (FormatFault × List ℕ)
-blamed bytes (Ok found) = Ok found
-blamed bytes (Err fault) = Err (fault.0, bytes)
+-- what is read as one field: a fault within counts from its beginning
+abbrev pub whole_reading : {X : Type 0} → List ℕ → Reading X → Reading X
+whole_reading bytes (Ok found) = Ok found
+whole_reading bytes (Err fault) = Err (fault.0, bytes)
 
 unfoldable pub as_one : {X : Type 0} → Reader X → Reader X
-as_one reader bytes = blamed bytes (reader bytes)
+as_one reader bytes = whole_reading bytes (reader bytes)
 
 -- ---- the fields
 
@@ -65,7 +69,7 @@ byte_within low high = field OutOfRange 1 (byte_in low high)
 
 -- a cost, or the length of a plan
 unfoldable pub number_in : List ℕ → Option ℕ
-number_in text = if nat_le (from_le_bytes w32 text) 1048575 then Some (from_le_bytes w32 text) else None
+number_in text = if nat_le (from_le_bytes w32 text) GREATEST_COST then Some (from_le_bytes w32 text) else None
 
 abbrev pub number : Reader ℕ
 number = field OutOfRange 4 number_in
@@ -90,8 +94,7 @@ abbrev pub board : Grid → Reader Position
 board grid = field OutOfRange (cell_count grid) (board_in grid)
 
 unfoldable pub letter_in : List ℕ → Option Move
-letter_in text =
-    if slice_index text 0 == 85 then Some U else if slice_index text 0 == 76 then Some L else if slice_index text 0 == 82 then Some R else if slice_index text 0 == 68 then Some D else None
+letter_in text = move_of_letter (slice_index text 0)
 
 abbrev pub letter : Reader Move
 letter = field OutOfRange 1 letter_in
@@ -132,15 +135,15 @@ abbrev pub may_follow : Option Position → Position → Bool
 may_follow None b = true
 may_follow (Some before) b = nat_lt (key_of before) (key_of b)
 
-unfoldable pub rising : Option Position → Position × ℕ → Reader (Position × ℕ)
-rising before row bytes = if may_follow before row.0 then Ok (row, bytes) else Err (NotRising, bytes)
+unfoldable pub row_order : Option Position → Position × ℕ → Reader (Position × ℕ)
+row_order before row bytes = if may_follow before row.0 then Ok (row, bytes) else Err (NotRising, bytes)
 
 -- a row is at fault as a whole, and its order is judged last
 unfoldable pub row : Grid → Option Position → Reader (Position × ℕ)
 row grid before = as_one (do
   b ← board grid
   g ← number
-  rising before (b, g))
+  row_order before (b, g))
 
 unfoldable pub rows : Grid → Option Position → ℕ → Reader (List (Position × ℕ))
 rows grid before zero = give []

@@ -3,7 +3,7 @@ use Rattle.std.specs.Prelude.{ℕ, ◌≡◌, List, [], ◌∷◌, ◌++◌, len
 use Rattle.std.specs.List.{flat_map}
 use Rattle.std.specs.Int.{w32, w64, to_le_bytes}
 use Rattle.board.specs.declared.moves.Move.{Move}
-use Rattle.board.specs.declared.moves.Move.TheVariants.{U, L, R, D}
+use Rattle.board.specs.Letters.{letter_of}
 use Rattle.board.specs.Equality.{rule_eq}
 use Rattle.board.specs.Positions.{Position}
 use Rattle.board.specs.CostRules.{CostRule, unit_rule}
@@ -16,13 +16,6 @@ kind_of costs = if rule_eq costs (unit_rule costs.grid) then 0 else 1
 -- what it is, the sides of the boards, the kind of costs, and no groups of tiles
 unfoldable pub opening_text : CostRule → List ℕ
 opening_text costs = codes "TILECRT1" ++ costs.grid.rows ∷ costs.grid.cols ∷ kind_of costs ∷ 0 ∷ []
-
--- the letter of a move
-abbrev pub letter_of : Move → ℕ
-letter_of U = 85
-letter_of L = 76
-letter_of R = 82
-letter_of D = 68
 
 -- a cost, or the length of a plan: four bytes
 unfoldable pub number_text : ℕ → List ℕ
@@ -45,12 +38,12 @@ abbrev pub front_text : Statement → List ℕ
 front_text c = opening_text c.costs ++ (c.start.tiles ++ (c.goal.tiles ++ (number_text c.cost ++ plan_text c.plan)))
 
 -- the spelling, but for the number of rows, which is given
-abbrev pub announcing : ℕ → Statement → List ℕ
-announcing count c = front_text c ++ (count_text count ++ flat_map row_text c.rows)
+abbrev pub announcement : ℕ → Statement → List ℕ
+announcement count c = front_text c ++ (count_text count ++ flat_map row_text c.rows)
 
 -- the fields in order, and nothing after them
 abbrev pub spelling : Statement → List ℕ
-spelling c = announcing (length c.rows) c
+spelling c = announcement (length c.rows) c
 
 -- these bytes spell this certificate
 abbrev pub Spells : Statement → List ℕ → Type 0

@@ -3,15 +3,12 @@
 ghost use Rattle.std.specs.Prelude.{◌≡◌, ◌↔◌, length, None, IsSome, IfSome, IsTrue};
 ghost use Rattle.std.specs.List.{AllByRecursion};
 ghost use Rattle.certificate.specs.Certificates.{Statement, statement_of, AreNamedCosts, IsBoardOf};
-ghost use Rattle.certificate.specs.Certificates.{IsWithinLimit, IsRow, Follows, RiseAfter};
-ghost use Rattle.certificate.specs.Certificates.{IsCertificate};
+ghost use Rattle.certificate.specs.Certificates.{IsWithinLimit, IsRow, Follows};
+ghost use Rattle.certificate.specs.Certificates.{RiseAfter, IsCertificate};
 ghost use Rattle.certificate.specs.Readings.{may_follow};
 
-use board::{Board, Move, Shape, Weights};
+use board::{Board, GREATEST_COST, Move, Shape, Weights};
 use std::marker::Model;
-
-/// The greatest cost that a certificate can state, and the greatest length of its plan.
-pub const LIMIT: u32 = 1_048_575;
 
 /// The fields of a certificate.
 #[derive(Debug, Drop)]
@@ -31,8 +28,8 @@ pub struct Parts {
 }
 
 /// An answer that any program can check. It has a spelling: all boards are of one shape, the costs
-/// are unit or face costs, no cost is above 1,048,575 and the plan is no longer than that, and the
-/// rows rise by their lists of tiles.
+/// are unit or face costs, no cost is above `GREATEST_COST` and the plan is no longer than that,
+/// and the rows rise by their lists of tiles.
 #[derive(Debug, Drop)]
 pub struct Certificate {
     parts: Parts,
@@ -50,8 +47,8 @@ impl Model for Certificate {
 
 impl Certificate {
     /// The certificate with these fields, or None where they have no spelling: shapes that differ,
-    /// costs that are neither unit nor face costs, a cost or a plan's length above 1,048,575, or
-    /// rows of which one does not come after the row before it.
+    /// costs that are neither unit nor face costs, a cost or a plan's length above `GREATEST_COST`,
+    /// or rows of which one does not come after the row before it.
     pub fn new(parts: Parts) -> Option<Self>
         ensures accepted { IsSome result ↔ IsCertificate (statement_of parts) }
         ensures value { IfSome result (λ c. c ≡ statement_of parts) }
@@ -142,7 +139,7 @@ fn has_spelling(parts: &Parts) -> bool
     if !is_board_of(shape, &parts.start) || !is_board_of(shape, &parts.goal) {
         return false;
     }
-    if parts.cost > LIMIT || parts.plan.len() > LIMIT as usize {
+    if parts.cost > GREATEST_COST || parts.plan.len() > GREATEST_COST as usize {
         return false;
     }
     are_rows(shape, parts.rows.as_slice())
@@ -192,7 +189,7 @@ fn is_next_row(shape: Shape, before: Option<Board>, row: &(Board, u32)) -> bool
 fn is_row(shape: Shape, row: &(Board, u32)) -> bool
     ensures { IsTrue result ↔ IsRow shape row.now }
 {
-    is_board_of(shape, &row.0) && row.1 <= LIMIT
+    is_board_of(shape, &row.0) && row.1 <= GREATEST_COST
 }
 
 // Whether the tiles of a board come after those of the one before it, if there is one.

@@ -1,7 +1,7 @@
 //! What is wrong with bytes, why nothing was read or written, and the codes of these.
 
 ghost use Rattle.std.specs.Prelude.{◌≡◌};
-ghost use Rattle.certificate.specs.Codes.{format_code_of, read_code_of, write_code_of};
+ghost use Rattle.certificate.specs.Codes.{format_code, read_code, write_code};
 
 use memory::OutOfMemory;
 use thiserror::Error;
@@ -29,7 +29,7 @@ pub enum FormatFault {
 impl FormatFault {
     /// The code that the fault is reported by: `F1` to `F5`.
     pub fn code(self) -> &'static str
-        ensures { result.now ≡ format_code_of self }
+        ensures { result.now ≡ format_code self }
     {
         match self {
             FormatFault::OtherMagic => "F1",
@@ -58,7 +58,7 @@ pub enum ReadFault {
 impl ReadFault {
     /// The code that the fault is reported by: `F1` to `F7`.
     pub fn code(self) -> &'static str
-        ensures { result.now ≡ read_code_of self }
+        ensures { result.now ≡ read_code self }
     {
         match self {
             ReadFault::Format(fault) => fault.code(),
@@ -79,7 +79,7 @@ pub enum WriteFault {
 impl WriteFault {
     /// The code that the fault is reported by: `F8`.
     pub fn code(self) -> &'static str
-        ensures { result.now ≡ write_code_of self }
+        ensures { result.now ≡ write_code self }
     {
         match self {
             WriteFault::Failed => "F8",

@@ -7,13 +7,13 @@ ghost use Rattle.certificate.specs.Certificates.{IsBoardOf};
 ghost use Rattle.certificate.specs.Spellings.{number_text, count_text};
 ghost use Rattle.certificate.specs.Fields.{SpellsMagic, SpellsByte, SpellsNumber, SpellsCount};
 ghost use Rattle.certificate.specs.Fields.{SpellsBoard, SpellsLetter, SpellsRow};
-ghost use Rattle.certificate.specs.Readings.{magic, byte_within, number, count, board, letter};
-ghost use Rattle.certificate.specs.Readings.{letter_in, row, end};
+ghost use Rattle.certificate.specs.Readings.{magic, byte_within, number, count};
+ghost use Rattle.certificate.specs.Readings.{board, letter, row, end};
 ghost use Rattle.certificate.specs.Sources.{TakesDue, Reads, ReadsAll};
 
-use crate::certificate::{LIMIT, comes_after};
+use crate::certificate::comes_after;
 use crate::faults::{FormatFault, ReadFault};
-use board::{Board, Move, Shape};
+use board::{Board, GREATEST_COST, Move, Shape};
 use byte_streams::Source;
 
 // The next byte, which is due.
@@ -70,7 +70,7 @@ pub(crate) fn read_number<S: Source>(source: &mut S) -> Result<u32, ReadFault>
     let mut text = [0; 4];
     fill(source, &mut text)?;
     let number = number_from(text);
-    if number > LIMIT {
+    if number > GREATEST_COST {
         return Err(ReadFault::Format(FormatFault::OutOfRange));
     }
     Ok(number)
@@ -120,23 +120,9 @@ pub(crate) fn read_letter<S: Source>(source: &mut S) -> Result<Move, ReadFault>
     ensures { Reads letter SpellsLetter (change S.state source.old source.new) result }
 {
     let byte = next_due(source)?;
-    match letter_move(byte) {
+    match Move::from_letter(byte) {
         Some(direction) => Ok(direction),
         None => Err(ReadFault::Format(FormatFault::OutOfRange)),
-    }
-}
-
-// The move with a letter.
-#[tactic(auto, unfolding(crate::specs::Readings::letter_in))]
-fn letter_move(byte: u8) -> Option<Move>
-    ensures { result ≡ letter_in (byte ∷ []) }
-{
-    match byte {
-        b'U' => Some(Move::U),
-        b'L' => Some(Move::L),
-        b'R' => Some(Move::R),
-        b'D' => Some(Move::D),
-        _ => None,
     }
 }
 

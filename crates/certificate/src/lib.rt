@@ -8,7 +8,7 @@ pub mod laws;
 mod reading;
 mod writing;
 
-pub use certificate::{Certificate, LIMIT, Parts};
+pub use certificate::{Certificate, Parts};
 pub use faults::{FormatFault, ReadFault, WriteFault};
 pub use reading::read;
 pub use writing::write;

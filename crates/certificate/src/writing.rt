@@ -1,14 +1,13 @@
 //! Certificates are written to a sink, field by field.
 
-ghost use Rattle.std.specs.Prelude.{◌≡◌, ◌++◌, false, length, map, take};
+ghost use Rattle.std.specs.Prelude.{◌≡◌, ◌++◌, false, length, map};
 ghost use Rattle.std.specs.List.{flat_map};
-ghost use Rattle.board.specs.Grids.{cell_count};
+ghost use Rattle.board.specs.Letters.{letter_of};
 ghost use Rattle.byte_streams.specs.Streams.{change};
 ghost use Rattle.byte_streams.specs.Sink.{Writes};
-ghost use Rattle.certificate.specs.Certificates.{IsWithinLimit, IsCertificate};
-ghost use Rattle.certificate.specs.Spellings.{kind_of, letter_of, opening_text, number_text};
-ghost use Rattle.certificate.specs.Spellings.{count_text, plan_text, row_text, front_text};
-ghost use Rattle.certificate.specs.Spellings.{spelling};
+ghost use Rattle.certificate.specs.Certificates.{IsWithinLimit};
+ghost use Rattle.certificate.specs.Spellings.{kind_of, opening_text, number_text, count_text};
+ghost use Rattle.certificate.specs.Spellings.{plan_text, row_text, front_text, spelling};
 
 use crate::certificate::Certificate;
 use crate::faults::WriteFault;
@@ -68,19 +67,7 @@ fn kind(costs: &Weights) -> u8
 fn write_tiles<K: Sink>(sink: &mut K, board: &Board) -> Result<(), WriteFailed>
     ensures { Writes (change K.state sink.old sink.new) board.now.tiles result }
 {
-    let tiles = tiles_of(board);
-    sink.put(&tiles[..board.shape().cells()])
-}
-
-// The tiles of a board, and whatever behind them.
-fn tiles_of(board: &Board) -> [u8; 25]
-    ensures { take (cell_count board.now.grid) result ≡ board.now.tiles }
-{
-    let mut tiles = [0; 25];
-    'cells: for cell in 0..board.shape().cells() {
-        tiles[cell] = board.tile(cell);
-    }
-    tiles
+    sink.put(board.tiles())
 }
 
 // A cost, or the length of a plan.
@@ -113,21 +100,9 @@ fn write_letters<K: Sink>(sink: &mut K, plan: &[Move]) -> Result<(), WriteFailed
     ensures { Writes (change K.state sink.old sink.new) (map letter_of plan.now) result }
 {
     'letters: for direction in plan {
-        sink.put(&[letter(*direction)])?;
+        sink.put(&[direction.letter()])?;
     }
     Ok(())
-}
-
-// The letter of a move.
-fn letter(direction: Move) -> u8
-    ensures { result ≡ letter_of direction }
-{
-    match direction {
-        Move::U => b'U',
-        Move::L => b'L',
-        Move::R => b'R',
-        Move::D => b'D',
-    }
 }
 
 // The number of rows, and the rows.

@@ -1,9 +1,9 @@
-//! The format: certificates byte for byte, written and read, and each fault.
+//! Certificates by their fields and by their bytes.
 
 use crate::vectors::{FOUR_LETTERS, GOAL, ONE_MOVE};
-use board::{Board, Move, Shape, Weights};
+use board::{Board, GREATEST_COST, Move, Shape, Weights};
 use byte_streams::{ByteSink, ByteSource};
-use certificate::{Certificate, LIMIT, Parts, read, write};
+use certificate::{Certificate, Parts, read, write};
 use std::alloc::Global;
 use std::test::Fail;
 
@@ -89,7 +89,10 @@ fn written_and_read(rt: HostRuntime) -> Result<(), Fail> {
             start: &[1, 2, 0, 3, 4, 5],
             cost: 0x03_0201,
             plan: &[U, L, R, D],
-            rows: &[(&[0, 1, 2, 3, 4, 5], 0x0102), (&[1, 2, 0, 3, 4, 5], LIMIT)],
+            rows: &[
+                (&[0, 1, 2, 3, 4, 5], 0x0102),
+                (&[1, 2, 0, 3, 4, 5], GREATEST_COST),
+            ],
             bytes: &FOUR_LETTERS,
         },
     ];

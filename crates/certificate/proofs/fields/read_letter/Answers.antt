@@ -1,10 +1,11 @@
 use Rattle.std.proofs.Common.{arith, refl, [], ◌∷◌, sym, ◌∙◌, ap}
 use Rattle.std.specs.Prelude.{ℕ}
 use Rattle.byte_streams.specs.Streams.{change}
+use Rattle.board.proofs.LetterLemmas.{letter_reads}
 use Rattle.certificate.specs.Readings.{letter, letter_in}
 use Rattle.certificate.specs.Fields.{SpellsLetter}
 use Rattle.certificate.specs.declared.faults.FormatFault.TheVariants.{OutOfRange}
-use Rattle.certificate.proofs.FieldLemmas.{passed, cut_short, refused, found, not_range, letter_found}
+use Rattle.certificate.proofs.FieldLemmas.{passed, cut_short, refused, found, not_range}
 use Rattle.certificate.proofs.fields.read_letter.Goals as goal
 
 pub returns-in_err-byte : goal.returns-in_err-byte
@@ -17,9 +18,10 @@ pub returns-in-Some : goal.returns-in-Some
 returns-in-Some g c =
     let source = change g.S.Source.state c.args.source.now c.next_due.new.source in
     let byte = c.in_ok-byte.byte in
-    found SpellsLetter source c.in-Some.direction (byte ∷ []) c.in_ok-byte.ensures (ap (λ (b : ℕ). b ∷ []) (letter_found byte c.in-Some.direction (sym c.letter_move.ensures ∙ c.in-Some.is)))
+    found SpellsLetter source c.in-Some.direction (byte ∷ []) c.in_ok-byte.ensures (ap (λ (b : ℕ). b ∷ []) ((letter_reads c.in-Some.direction byte).0 (sym c.from_letter.ensures ∙ c.in-Some.is)))
 
 pub returns-in-None : goal.returns-in-None
+unfolding letter_in
 returns-in-None g c =
     let source = change g.S.Source.state c.args.source.now c.next_due.new.source in
-    refused OutOfRange not_range 1 (omega arith) letter_in source (c.in_ok-byte.byte ∷ []) c.in_ok-byte.ensures refl (sym c.letter_move.ensures ∙ c.in-None.is)
+    refused OutOfRange not_range 1 (omega arith) letter_in source (c.in_ok-byte.byte ∷ []) c.in_ok-byte.ensures refl (sym c.from_letter.ensures ∙ c.in-None.is)

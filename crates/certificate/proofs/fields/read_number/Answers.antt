@@ -12,7 +12,7 @@ returns-in_err-fill g c =
     let f = c.in_err-fill.field-0.0 in
     passed number SpellsNumber source c.from_residual.result f c.from_residual.ensures.1 (cut_short OutOfRange 4 number_in source f c.in_err-fill.ensures)
 
-pub returns-then-number-gt-LIMIT : goal.returns-then-number-gt-LIMIT
-returns-then-number-gt-LIMIT g c =
+pub returns-then-number-gt-GREATEST_COST : goal.returns-then-number-gt-GREATEST_COST
+returns-then-number-gt-GREATEST_COST g c =
     let source = change g.S.Source.state c.args.source.now c.fill.new.source in
-    refused OutOfRange not_range 4 (omega arith) number_in source c.fill.new.text c.in_ok-fill.ensures (search rules) (number_too_high c.fill.new.text c.number_from-number.result c.number_from-number.ensures.value c.if-number-gt-LIMIT.true)
+    refused OutOfRange not_range 4 (omega arith) number_in source c.fill.new.text c.in_ok-fill.ensures (search rules) (number_too_high c.fill.new.text c.number_from-number.result c.number_from-number.ensures.value c.if-number-gt-GREATEST_COST.true)

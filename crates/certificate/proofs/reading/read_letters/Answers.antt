@@ -1,7 +1,7 @@
 use Rattle.std.proofs.Common.{map, arith}
 use Rattle.std.proofs.KnownBytes.{Consumes-trans}
 use Rattle.byte_streams.specs.Streams.{change}
-use Rattle.certificate.specs.Spellings.{letter_of}
+use Rattle.board.specs.Letters.{letter_of}
 use Rattle.certificate.specs.Readings.{letters}
 use Rattle.certificate.proofs.FieldLemmas.{passed}
 use Rattle.certificate.proofs.SourceLemmas.{letters_refuse, lacks_memory}

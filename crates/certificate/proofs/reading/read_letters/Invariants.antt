@@ -1,7 +1,7 @@
 use Rattle.std.proofs.Common.{◌≡◌, length, map}
 use Rattle.byte_streams.specs.Streams.{change}
 use Rattle.byte_streams.specs.Source.{Takes, ReadsOn}
-use Rattle.certificate.specs.Spellings.{letter_of}
+use Rattle.board.specs.Letters.{letter_of}
 use Rattle.certificate.proofs.reading.read_letters.Given as goal
 
 abbrev pub invariant-letters : goal.invariant-letters

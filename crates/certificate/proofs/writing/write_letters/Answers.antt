@@ -2,7 +2,7 @@ use Rattle.std.proofs.Common.{◌+◌, ◌∷◌, [], map, take, drop, get_or, �
 use Rattle.byte_streams.specs.Streams.{change}
 use Rattle.byte_streams.specs.Sink.{FailsWriting}
 use Rattle.board.specs.declared.moves.Move.TheVariants.{U}
-use Rattle.certificate.specs.Spellings.{letter_of}
+use Rattle.board.specs.Letters.{letter_of}
 use Rattle.certificate.proofs.SinkLemmas.{writes_within, letters_cut}
 use Rattle.certificate.proofs.writing.write_letters.Goals as goal
 

@@ -1,7 +1,7 @@
 use Rattle.std.proofs.Common.{map, take}
 use Rattle.byte_streams.specs.Streams.{change}
 use Rattle.byte_streams.specs.Sink.{WritesAll}
-use Rattle.certificate.specs.Spellings.{letter_of}
+use Rattle.board.specs.Letters.{letter_of}
 use Rattle.certificate.proofs.writing.write_letters.Given as goal
 
 abbrev pub invariant-letters : goal.invariant-letters

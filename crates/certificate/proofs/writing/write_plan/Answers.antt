@@ -1,7 +1,8 @@
 use Rattle.std.proofs.Common.{length, map}
 use Rattle.byte_streams.specs.Streams.{change}
 use Rattle.byte_streams.proofs.SinkLemmas.{Writes-after}
-use Rattle.certificate.specs.Spellings.{number_text, letter_of}
+use Rattle.board.specs.Letters.{letter_of}
+use Rattle.certificate.specs.Spellings.{number_text}
 use Rattle.certificate.proofs.SinkLemmas.{writes_stop}
 use Rattle.certificate.proofs.writing.write_plan.Goals as goal
 
