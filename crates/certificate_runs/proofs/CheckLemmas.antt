@@ -7,7 +7,7 @@ use Rattle.certificate.specs.declared.faults.ReadFault.{ReadFault}
 use Rattle.certificate.specs.declared.faults.ReadFault.TheVariants.{Format, Failed}
 use Rattle.std.proofs.lemmas.Bool.{false_from_ne_true}
 use Rattle.certificate.specs.Certificates.{Statement}
-use Rattle.certificate.specs.Codes.{format_code_of}
+use Rattle.certificate.specs.Codes.{format_code}
 use Rattle.certificate.specs.Sources.{Tells}
 use Rattle.batch_runs.specs.Batches.{IsReadable}
 use Rattle.certificate_runs.specs.Outputs.{Output}
@@ -20,7 +20,7 @@ judged None c output tells judgement = tt
 judged (Some input) c output tells judgement = inl (c, tells, judgement)
 
 -- a fault that was met in the bytes
-pub faulty : (left : Option (List ℕ)) (fault : FormatFault) (output : Output) → IfSome left (Tells (Err (Format fault))) → IsRefused (format_code_of fault) output → IfSome left (IsVerdict output)
+pub faulty : (left : Option (List ℕ)) (fault : FormatFault) (output : Output) → IfSome left (Tells (Err (Format fault))) → IsRefused (format_code fault) output → IfSome left (IsVerdict output)
 faulty None fault output tells refused = tt
 faulty (Some input) fault output tells refused = inr (fault, tells, refused)
 

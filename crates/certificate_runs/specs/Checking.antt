@@ -10,7 +10,7 @@ use Rattle.certificate.specs.declared.faults.FormatFault.{FormatFault}
 use Rattle.certificate.specs.Certificates.{Statement}
 use Rattle.certificate.specs.Spellings.{Spells}
 use Rattle.certificate.specs.Readings.{IsFirstFault}
-use Rattle.certificate.specs.Codes.{format_code_of}
+use Rattle.certificate.specs.Codes.{format_code}
 use Rattle.certificate_check.specs.declared.refusals.Refusal.{Refusal}
 use Rattle.certificate_check.specs.Refusals.{IsProved, IsFirstRefusal, code_of}
 use Rattle.batch_runs.specs.Batches.{IsReadable}
@@ -35,7 +35,7 @@ IsJudgement c output = IsAccepted c output ⊎ ((refusal : Refusal) × IsFirstRe
 -- the bytes spell a certificate, which is judged; or they are refused for their first fault
 abbrev pub IsVerdict : Output → List ℕ → Type 0
 IsVerdict output input =
-    ((c : Statement) × Spells c input × IsJudgement c output) ⊎ ((fault : FormatFault) × IsFirstFault input fault × IsRefused (format_code_of fault) output)
+    ((c : Statement) × Spells c input × IsJudgement c output) ⊎ ((fault : FormatFault) × IsFirstFault input fault × IsRefused (format_code fault) output)
 
 -- a line and its status, as they are to be written
 abbrev pub verdict_output : String Global × ℕ → Output
