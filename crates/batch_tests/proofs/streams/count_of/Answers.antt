@@ -5,8 +5,8 @@ use Rattle.batch_tests.proofs.streams.count_of.Goals as goal
 
 pub returns : goal.returns
 returns c =
-    let writes = rw c.unwrap.ensures at c.put.ensures.writes in
-    let flushed = rw c.unwrap-2.ensures at c.flush.ensures.flushed in
+    let writes = rw c.unwrap.ensures at c.put.ensures.taken in
+    let flushed = rw c.unwrap-2.ensures at c.flush.ensures.last in
     let given_back = ap (λ (w : Counter). w.count) c.into_inner.ensures in
     let counts = counted (λ (w : Counter). w.count) _ _ c.args.bytes.now writes (omega (arith, c.requires.empty, c.requires.short)) in
     omega (arith, c.requires.empty, counts, flushed, given_back)
