@@ -2,6 +2,6 @@ pub mod Certificates
 pub mod Spellings
 pub mod Fields
 pub mod Readings
-pub mod Codes
+pub mod Faults
 pub mod Sources
 pub mod Laws

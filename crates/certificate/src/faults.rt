@@ -1,7 +1,7 @@
 //! What is wrong with bytes, why nothing was read or written, and the codes of these.
 
 ghost use Rattle.std.specs.Prelude.{◌≡◌};
-ghost use Rattle.certificate.specs.Codes.{format_code, read_code, write_code};
+ghost use Rattle.certificate.specs.Faults.{format_code, read_code, write_code};
 
 use memory::OutOfMemory;
 use thiserror::Error;
