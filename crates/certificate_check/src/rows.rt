@@ -1,4 +1,7 @@
-ghost use Rattle.std.specs.Prelude.{◌≡◌, ◌<◌, ◌≤◌, ◌⊎◌, ◌↔◌, ℕ, IsTrue, IsNone, IfSome, Some, length};
+//! The rows of a certificate, which are looked up by halves, and what they leave open.
+
+ghost use Rattle.std.specs.Prelude.{◌≡◌, ◌<◌, ◌≤◌, ◌⊎◌, ◌↔◌, ℕ, length};
+ghost use Rattle.std.specs.Prelude.{IsTrue, IsNone, IfSome, Some};
 ghost use Rattle.std.specs.List.Sorted.{IsNonDecreasingBy, IsPartitionPoint};
 ghost use Rattle.board.specs.declared.moves.Move.{Move};
 ghost use Rattle.board.specs.Equality.{number_of};
@@ -10,10 +13,12 @@ ghost use Rattle.certificate_check.specs.Refusals.{HasRowAt, LeavesOpen, LeavesO
 use board::{Board, Move};
 use certificate::Certificate;
 
-// The first place from which on no key is below this one: the rows are halved until one place is left.
+// The first place from which on no key is below this one: the rows are halved until one place is
+// left.
 fn first_from(rows: &[(Board, u32)], key: u128) -> usize
     requires { IsNonDecreasingBy (λ row. key_of row.0) rows.now }
-    ensures { IsPartitionPoint (λ row. key_of row.0 < key) (λ row. key ≤ key_of row.0) rows.now result }
+    ensures { IsPartitionPoint (λ row. key_of row.0 < key) (λ row. key ≤ key_of row.0)
+        rows.now result }
 {
     rows.partition_point(|row| row.0.key() < key)
 }
@@ -49,7 +54,8 @@ fn has_row(certificate: &Certificate, board: &Board, cost: u32) -> bool
 // Whether the start has a row at 0, where the cost is above 0.
 pub(crate) fn is_start_proved(certificate: &Certificate) -> bool
     requires { IsCertificate certificate.now }
-    ensures { IsTrue result ↔ (HasRow certificate.now.rows certificate.now.start 0 ⊎ (certificate.now.cost ≤ 0)) }
+    ensures { IsTrue result
+        ↔ (HasRow certificate.now.rows certificate.now.start 0 ⊎ (certificate.now.cost ≤ 0)) }
 {
     certificate.cost() == 0 || has_row(certificate, &certificate.start(), 0)
 }
@@ -73,10 +79,11 @@ fn open_move(certificate: &Certificate, row: &(Board, u32)) -> Option<Move>
     requires certificate { IsCertificate certificate.now }
     requires row { IsRow certificate.now.grid row.now }
     ensures leaves { IfSome result (LeavesOpen certificate.now row.now) }
-    ensures first { IfSome result (λ m. (m' : Move) → number_of m' < number_of m → ¬ LeavesOpen certificate.now row.now m') }
+    ensures first { IfSome result (λ m. (m' : Move) →
+        number_of m' < number_of m → ¬ LeavesOpen certificate.now row.now m') }
     ensures none { IsNone result → (m : Move) → ¬ LeavesOpen certificate.now row.now m }
 {
-    'moves: for direction in [Move::U, Move::L, Move::R, Move::D] {
+    'moves: for direction in Move::ALL {
         if leaves_open(certificate, row, direction) {
             return Some(direction);
         }
@@ -84,8 +91,8 @@ fn open_move(certificate: &Certificate, row: &(Board, u32)) -> Option<Move>
     None
 }
 
-// Whether a move leads from a row to a board that is below the cost and has no row with at most the cost
-// of going there.
+// Whether a move leads from a row to a board that is below the cost and has no row with at most the
+// cost of going there.
 fn leaves_open(certificate: &Certificate, row: &(Board, u32), direction: Move) -> bool
     requires certificate { IsCertificate certificate.now }
     requires row { IsRow certificate.now.grid row.now }
