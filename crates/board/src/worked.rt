@@ -1,7 +1,10 @@
 //! Worked rows that the definitions meet: each is the contract of a function that does nothing.
 
+ghost use Rattle.std.specs.Prelude.{◌≡◌};
 ghost use Rattle.board.specs.Worked.{TwoLeft, SixRound, OneUp, FourSuccessors};
 ghost use Rattle.board.specs.Worked.{TwoClasses, TwoKeys, OneRow};
+
+use crate::costs::{GREATEST_COST, GREATEST_EXPANDED_COST};
 
 /// Two moves to the left, at both cost rules.
 pub fn two_left()
@@ -31,6 +34,12 @@ pub fn two_classes()
 /// The keys of two boards.
 pub fn two_keys()
     ensures { TwoKeys }
+{}
+
+/// The greatest costs, in figures.
+pub fn greatest_costs()
+    ensures handled { GREATEST_COST ≡ 1048575 }
+    ensures expanded { GREATEST_EXPANDED_COST ≡ 1048320 }
 {}
 
 /// A row that proves a cost of 1.
