@@ -15,21 +15,25 @@ use Rattle.board.specs.CostStorage as cost
 use Rattle.board.specs.declared.boards.Board.TheInside as board
 use Rattle.board.specs.declared.costs.Weights.TheInside as weights
 
--- the tiles in memory are equal exactly where the boards are, given that the shapes are
-pub same_board : (a b : board.Inside) (r : Bool) → IsStored a → IsStored b → grid_eq a.shape b.shape ≡ true → r ≡ bytes_eq a.tiles b.tiles → Decides r (position_in a ≡ position_in b)
-same_board a b r stored stored' shapes answer =
-    let grids : a.shape ≡ b.shape = (grids_Decide a.shape b.shape).0 shapes in
-    let there : a.tiles ≡ b.tiles → position_in a ≡ position_in b = λ e i. record { grid = grids i; tiles = take (cell_count (grids i)) (e i) } in
-    let back : position_in a ≡ position_in b → a.tiles ≡ b.tiles = λ e. ap (λ (x : board.Inside). x.tiles) (sym (storage_of-position_in a stored) ∙ ap storage_of e ∙ storage_of-position_in b stored') in
-    Decides-at r (bytes_eq a.tiles b.tiles) answer (Decides-like (bytes_eq a.tiles b.tiles) there back (bytes_eq-Decides a.tiles b.tiles))
+-- arrays in memory are equal exactly where what readers see is the same, given that the rest is
+pub same_stored : {Value Inside : Type 0} (view : Inside → Value) (storage : Value → Inside) (array : Inside → List ℕ) (a b : Inside) (r : Bool) → storage (view a) ≡ a → storage (view b) ≡ b → (array a ≡ array b → view a ≡ view b) → r ≡ bytes_eq (array a) (array b) → Decides r (view a ≡ view b)
+same_stored view storage array a b r whole_a whole_b there answer =
+    let back : view a ≡ view b → array a ≡ array b = λ e. ap array (sym whole_a ∙ ap storage e ∙ whole_b) in
+    Decides-at r (bytes_eq (array a) (array b)) answer (Decides-like (bytes_eq (array a) (array b)) there back (bytes_eq-Decides (array a) (array b)))
 
--- and likewise the weights
-pub same_rule : (a b : weights.Inside) (r : Bool) → cost.IsStored a → cost.IsStored b → grid_eq a.shape b.shape ≡ true → r ≡ bytes_eq a.weights b.weights → Decides r (rule_in a ≡ rule_in b)
-same_rule a b r stored stored' shapes answer =
+-- so it is with the tiles of boards
+pub same_board : (a b : board.Inside) (r : Bool) → IsStored a → IsStored b → grid_eq a.shape b.shape ≡ true → r ≡ bytes_eq a.tiles b.tiles → Decides r (position_in a ≡ position_in b)
+same_board a b r stored stored' shapes =
     let grids : a.shape ≡ b.shape = (grids_Decide a.shape b.shape).0 shapes in
-    let there : a.weights ≡ b.weights → rule_in a ≡ rule_in b = λ e i. record { grid = grids i; weights = take (cell_count (grids i)) (e i) } in
-    let back : rule_in a ≡ rule_in b → a.weights ≡ b.weights = λ e. ap (λ (x : weights.Inside). x.weights) (sym (cost.storage_of-rule_in a stored) ∙ ap cost.storage_of e ∙ cost.storage_of-rule_in b stored') in
-    Decides-at r (bytes_eq a.weights b.weights) answer (Decides-like (bytes_eq a.weights b.weights) there back (bytes_eq-Decides a.weights b.weights))
+    same_stored position_in storage_of (λ (x : board.Inside). x.tiles) a b r (storage_of-position_in a stored) (storage_of-position_in b stored')
+    (λ e i. record { grid = grids i; tiles = take (cell_count (grids i)) (e i) })
+
+-- and with the weights of cost rules
+pub same_rule : (a b : weights.Inside) (r : Bool) → cost.IsStored a → cost.IsStored b → grid_eq a.shape b.shape ≡ true → r ≡ bytes_eq a.weights b.weights → Decides r (rule_in a ≡ rule_in b)
+same_rule a b r stored stored' shapes =
+    let grids : a.shape ≡ b.shape = (grids_Decide a.shape b.shape).0 shapes in
+    same_stored rule_in cost.storage_of (λ (x : weights.Inside). x.weights) a b r (cost.storage_of-rule_in a stored) (cost.storage_of-rule_in b stored')
+    (λ e i. record { grid = grids i; weights = take (cell_count (grids i)) (e i) })
 
 -- the next number of an array that was filled up to k
 pub filled_more : (n k : ℕ) (front : List ℕ) (v : ℕ) → length front ≡ k → k < n → set (front ++ replicate (n - k) 0) k v ≡ (front ++ v ∷ []) ++ replicate (n - (k + 1)) 0

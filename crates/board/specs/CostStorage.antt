@@ -1,8 +1,9 @@
 -- How weights lie in memory: those of the numbers of a board, and zeros behind them.
-use Rattle.std.specs.Prelude.{ℕ, ◌≡◌, ◌-◌, List, ◌++◌, take, drop, replicate}
-use Rattle.std.proofs.Common.{sym, ◌∙◌, ap, take-append-drop}
+use Rattle.std.specs.Prelude.{ℕ, ◌≡◌, List, take}
+use Rattle.std.proofs.Common.{ap}
 use Rattle.board.specs.Grids.{cell_count}
 use Rattle.board.specs.CostRules.{CostRule, IsCostRule}
+use Rattle.board.specs.Padding.{array_of, IsPadded, array_of-take}
 use Rattle.board.specs.declared.costs.Weights.TheInside.{Inside}
 
 -- what readers see of the memory
@@ -11,16 +12,15 @@ rule_in inside = record { grid = inside.shape; weights = take (cell_count inside
 
 -- the memory of a cost rule
 abbrev pub storage_of : CostRule → Inside
-storage_of rule = record { shape = rule.grid; weights = rule.weights ++ replicate (25 - cell_count rule.grid) 0 }
+storage_of rule = record { shape = rule.grid; weights = array_of 25 rule.weights }
 
 -- the memory holds a cost rule, and the entries that it doesn't use are 0
 pub record IsStored (inside : Inside) : Type 0 where
   pub rule : IsCostRule (rule_in inside)
-  pub unused : drop (cell_count inside.shape) inside.weights ≡ replicate (25 - cell_count inside.shape) 0
+  pub unused : IsPadded 25 (cell_count inside.shape) inside.weights
 
 -- nothing is lost
 pub storage_of-rule_in : (inside : Inside) → IsStored inside → storage_of (rule_in inside) ≡ inside
 storage_of-rule_in inside stored =
-    let count : ℕ = cell_count inside.shape in
     let with_weights : List ℕ → Inside = λ (weights : List ℕ). record { shape = inside.shape; weights = weights } in
-    ap with_weights (ap (λ (rest : List ℕ). take count inside.weights ++ rest) (sym stored.unused) ∙ take-append-drop count inside.weights)
+    ap with_weights (array_of-take 25 (cell_count inside.shape) inside.weights stored.rule.one_each stored.unused)

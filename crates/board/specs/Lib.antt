@@ -11,6 +11,7 @@ pub mod Keys
 pub mod Faults
 pub mod Equality
 pub mod Digits
+pub mod Padding
 pub mod Storage
 pub mod CostStorage
 pub mod Laws

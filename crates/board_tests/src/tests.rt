@@ -1,3 +1,5 @@
+//! Plans, keys, classes and faults in tables, and each other call once.
+
 use board::Move::{D, L, R, U};
 use board::{Board, BoardFault, Move, Shape, TilesFault, Weights, follow, same_class};
 use std::test::Fail;

@@ -1,6 +1,6 @@
 -- Ranks that are put into buckets and taken out.
 use Rattle.std.proofs.Common.{◌≡◌, ◌≢◌, ◌⊎◌, ℕ, zero, suc, ◌+◌, ◌<◌, ◌≤◌, List, [], ◌∷◌, ◌++◌, length, set, get_or, refl, sym, ap, ◌∙◌, subst, inl, inr, ⊎_elim, arith, Option, Some, None}
-use Rattle.std.specs.Prelude.{Vec, slice_get, slice_index, Contains, IsSome, MatchOption}
+use Rattle.std.specs.Prelude.{Vec, slice_get, slice_index, sum, Contains, IsSome, MatchOption}
 use Rattle.std.specs.Option.{option_to_list}
 use Rattle.std.specs.declared.alloc.Global.{Global}
 use Rattle.std.proofs.lemmas.Bool.{cases_eq, cases_lt, false≢true}
@@ -8,7 +8,10 @@ use Rattle.std.proofs.lemmas.List.{length-set, length-append, get_or-set_same, g
 use Rattle.std.proofs.lemmas.List.Elements.{Contains-append_left, Contains-push, Contains-push_cases}
 use Rattle.std.proofs.lemmas.List.Sums.{sum_by-set}
 use Rattle.std.proofs.lemmas.Option.{slice_get_read, slice_get_past, slice_get_within}
-use Rattle.database_build.specs.Buckets.{Buckets, Waits, count_in, waiting, IsGrown, IsPut, IsTaken, IsLowered}
+use Rattle.database_build.specs.Buckets.{Buckets, Waits, count_in, waiting, IsGrown, IsPut, IsTaken}
+use Rattle.database_build.specs.Searches.{IsLowered}
+use Rattle.database_build.specs.declared.search.Search.{Search}
+use Rattle.database_build.specs.declared.table.TheConstants.{NO_VALUE}
 
 get_set_same : {X : Type 0} (xs : List X) (i : ℕ) (x : X) → i < length xs → slice_get (set xs i x) i ≡ Some x
 get_set_same [] i x i_in = absurd (omega arith)
@@ -126,8 +129,10 @@ module _ (b : Buckets) (cost rank : ℕ) (old now : Vec ℕ Global) (inside : co
 
 -- ---- a value lowered
 
-pub lowered_none : (rank cost : ℕ) (values : List ℕ) (b : Buckets) → slice_index values rank ≤ cost → IsLowered rank cost values values b b
-lowered_none rank cost values b low = record {
+pub lowered_none : (rank cost : ℕ) (s : Search) → slice_index s.values.items rank ≤ cost → IsLowered rank cost s s
+lowered_none rank cost s low = record {
+  group = refl;
+  weights = refl;
   same_length = refl;
   falls = λ k. omega arith;
   low = low;
@@ -139,20 +144,27 @@ lowered_none rank cost values b low = record {
   work = λ at. omega arith;
 }
 
-pub lowered_put : (rank cost : ℕ) (values : List ℕ) (b b₁ b₂ : Buckets) → rank < length values → cost < slice_index values rank → IsGrown b b₁ → (length b ≤ 65535 → length b₁ ≤ 65535) → IsPut cost rank b₁ b₂ → IsLowered rank cost values (set values rank cost) b b₂
-lowered_put rank cost values b b₁ b₂ inside less grown few is_put = record {
-  same_length = length-set values rank cost;
-  falls = λ k. ⊎_elim (λ (e : k ≡ rank). let f : get_or (set values rank cost) k 0 ≡ cost = ap (λ j. get_or (set values rank cost) j 0) e ∙ get_or-set_same values rank cost 0 inside in let g : get_or values k 0 ≡ get_or values rank 0 = ap (λ j. get_or values j 0) e in omega arith)
-      (λ (ne : k ≢ rank). let f = get_or-set_other values rank k cost 0 ne in omega arith) (cases_eq k rank);
-  low = let f = get_or-set_same values rank cost 0 inside in omega arith;
-  cases = λ k. ⊎_elim (λ (e : k ≡ rank). inr (e, ap (λ j. get_or (set values rank cost) j 0) e ∙ get_or-set_same values rank cost 0 inside, is_put.here))
-      (λ (ne : k ≢ rank). inl (get_or-set_other values rank k cost 0 ne)) (cases_eq k rank);
+pub lowered_put : (rank cost : ℕ) (s s' : Search) (b : Buckets) → s'.group ≡ s.group → s'.weights ≡ s.weights → s'.values.items ≡ set s.values.items rank cost → rank < length s.values.items → cost < slice_index s.values.items rank → IsGrown s.buckets.items b → (length s.buckets.items ≤ NO_VALUE → length b ≤ NO_VALUE) → IsPut cost rank b s'.buckets.items → IsLowered rank cost s s'
+lowered_put rank cost s s' b group weights is inside less grown few is_put = record {
+  group = group;
+  weights = weights;
+  same_length = ap length is ∙ length-set s.values.items rank cost;
+  falls = λ k. ⊎_elim (λ (e : k ≡ rank). let f = at_rank k e in let g : get_or s.values.items k 0 ≡ get_or s.values.items rank 0 = ap (λ j. get_or s.values.items j 0) e in omega arith)
+      (λ (ne : k ≢ rank). let f = elsewhere k ne in omega arith) (cases_eq k rank);
+  low = let f = at_rank rank refl in omega arith;
+  cases = λ k. ⊎_elim (λ (e : k ≡ rank). inr (e, at_rank k e, is_put.here)) (λ (ne : k ≢ rank). inl (elsewhere k ne)) (cases_eq k rank);
   waits = λ at k w. is_put.waits at k (grown.waits at k w);
   only = λ at k w. ⊎_elim (λ old. inl (grown.only at k old)) (λ new. inr new) (is_put.only at k w);
   few = λ h. let f = few h in let s = is_put.same_length in omega arith;
   wide = let s = is_put.same_length in let w = grown.wide in omega arith;
-  work = λ at. let s = sum_by-set (λ x. x) values rank cost 0 inside in let c = is_put.count at in let g = grown.same at in omega arith;
+  work = λ at. let t = sum_by-set (λ x. x) s.values.items rank cost 0 inside in let u : sum s'.values.items ≡ sum (set s.values.items rank cost) = ap sum is in let c = is_put.count at in let g = grown.same at in omega arith;
 }
+  where
+    at_rank : (k : ℕ) → k ≡ rank → get_or s'.values.items k 0 ≡ cost
+    at_rank k e = (λ i. get_or (is i) (e i) 0) ∙ get_or-set_same s.values.items rank cost 0 inside
+
+    elsewhere : (k : ℕ) → k ≢ rank → get_or s'.values.items k 0 ≡ get_or s.values.items k 0
+    elsewhere k ne = ap (λ (xs : List ℕ). get_or xs k 0) is ∙ get_or-set_other s.values.items rank k cost 0 ne
 
 -- ---- a rank less in a bucket
 

@@ -1,5 +1,5 @@
 -- When the entries of a table are a potential.
-use Rattle.std.proofs.Common.{◌≡◌, ℕ, ◌+◌, ◌<◌, ◌≤◌, List, [], ◌∷◌, refl, sym, ap, ◌∙◌, subst, ⊎_elim, arith, Option, Some, None, Bool, true, false, not}
+use Rattle.std.proofs.Common.{◌≡◌, ℕ, ◌+◌, ◌<◌, ◌≤◌, List, [], ◌∷◌, refl, sym, ap, ◌∙◌, subst, ⊎_elim, arith, Option, Some, None, Bool, true, false, not, get_or, lit<}
 use Rattle.std.specs.Prelude.{slice_index, IsTrue, ◌↔◌}
 use Rattle.std.proofs.lemmas.Bool.{cases_lt, false≢true}
 use Rattle.board.specs.Grids.{Grid}
@@ -7,23 +7,29 @@ use Rattle.board.specs.declared.moves.Move.{Move}
 use Rattle.board.specs.declared.moves.Move.TheVariants.{U, L, R, D}
 use Rattle.board.specs.Positions.{Position, IsBoard}
 use Rattle.board.specs.CostRules.{CostRule}
-use Rattle.pattern_index.specs.Views.{Sight, IsView, ViewMoves, ViewLeads, view_of}
-use Rattle.pattern_index.specs.Selections.{Selection, IsGroup, IsSelection, size_of, rank_in, sight_successor}
+use Rattle.board.specs.Moves.{all_moves}
+use Rattle.pattern_index.specs.Views.{Sight, IsView, Abstraction, ViewMoves, ViewLeads, view_of}
+use Rattle.pattern_index.specs.Selections.{Selection, IsGroup, IsSelection, size_of, rank_in, abstraction_of, sight_successor}
 use Rattle.pattern_index.specs.Equality.{selection_eq, selections_Decide}
 use Rattle.pattern_index.proofs.SightLemmas.{sight_below, sight_from_rank}
 use Rattle.pattern_index.proofs.ViewMoveLemmas.{successor_of_sight, moved_view, blank_inside, board_view}
 use Rattle.database_build.specs.Values.{IsPotential}
 use Rattle.database_build.specs.Tables.{Lookup, HoldsValues, value_in}
+use Rattle.database_build.specs.declared.table.TheConstants.{NO_VALUE}
 use Rattle.database_build.specs.Falls.{FallsTo, FallsSlowlyAt}
 
+-- the puzzle as these tiles see it on the goal's boards
+abbrev pub at_goal : CostRule → List ℕ → Position → Abstraction
+at_goal rule tiles goal = record { grid = goal.grid; rule = rule; tiles = tiles }
+
 -- a potential falls by no more than the plan costs, and ends at 0
-pub potential_below : (rule : CostRule) (tiles : List ℕ) (goal : Position) (value : Sight → ℕ) → IsPotential rule tiles goal value → (v : Sight) (plan : List Move) (j : ℕ) → IsView goal.grid tiles v → ViewLeads goal.grid rule tiles v plan (view_of tiles goal) j → value v ≤ j
+pub potential_below : (rule : CostRule) (tiles : List ℕ) (goal : Position) (value : Sight → ℕ) → IsPotential rule tiles goal value → (v : Sight) (plan : List Move) (j : ℕ) → IsView goal.grid tiles v → ViewLeads (at_goal rule tiles goal) v plan (view_of tiles goal) j → value v ≤ j
 potential_below rule tiles goal value potential v [] j view leads =
     let same : value (view_of tiles goal) ≡ value v = ap value leads.0 in
     let none = potential.at_goal in
     omega arith
 potential_below rule tiles goal value potential v (m ∷ plan) j view leads =
-    let view' = moved_view goal.grid rule tiles v m leads.0 leads.1 view leads.3 in
+    let view' = moved_view (at_goal rule tiles goal) v m leads.0 leads.1 view leads.3 in
     let rest = potential_below rule tiles goal value potential leads.0 plan leads.2 view' leads.4 in
     let falls = potential.falls_slowly v m leads.0 leads.1 view leads.3 in
     omega (arith, leads.5)
@@ -32,15 +38,15 @@ potential_below rule tiles goal value potential v (m ∷ plan) j view leads =
 
 module _ (table : Lookup) (rule : CostRule) (goal : Position) (holds : HoldsValues table rule goal) where
   -- a move and the plan that follows it are a plan
-  values_fall_slowly : (v : Sight) (m : Move) (v' : Sight) (c : ℕ) → IsView table.selection.grid table.selection.tiles v → ViewMoves table.selection.grid rule table.selection.tiles v m v' c → value_in table v ≤ c + value_in table v'
+  values_fall_slowly : (v : Sight) (m : Move) (v' : Sight) (c : ℕ) → IsView table.selection.grid table.selection.tiles v → ViewMoves (abstraction_of table.selection rule) v m v' c → value_in table v ≤ c + value_in table v'
   values_fall_slowly v m v' c view moves =
       let here = holds v view in
-      let there = holds v' (moved_view table.selection.grid rule table.selection.tiles v m v' c view moves) in
+      let there = holds v' (moved_view (abstraction_of table.selection rule) v m v' c view moves) in
       let cap = here.capped in
       ⊎_elim
-      (λ (low : value_in table v' < 65535). let way = there.reached low in here.none_below (m ∷ way.0) (c + value_in table v') (v', c, value_in table v', moves, way.1, refl))
-      (λ (high : 65535 ≤ value_in table v'). omega arith)
-      (cases_lt (value_in table v') 65535)
+      (λ (low : value_in table v' < NO_VALUE). let way = there.reached low in here.none_below (m ∷ way.0) (c + value_in table v') (v', c, value_in table v', moves, way.1, refl))
+      (λ (high : NO_VALUE ≤ value_in table v'). omega arith)
+      (cases_lt (value_in table v') NO_VALUE)
 
   pub values_potential : IsSelection table.selection → IsBoard goal → goal.grid ≡ table.selection.grid → IsPotential rule table.selection.tiles goal (value_in table)
   values_potential group board same =
@@ -50,7 +56,7 @@ module _ (table : Lookup) (rule : CostRule) (goal : Position) (holds : HoldsValu
         at_goal = let low = home.none_below [] 0 (refl, refl) in omega arith;
         falls_slowly = λ v m v' c is_view moves.
             values_fall_slowly v m v' c (subst (λ (g : Grid). IsView g table.selection.tiles v) same is_view)
-            (subst (λ (g : Grid). ViewMoves g rule table.selection.tiles v m v' c) same moves);
+            (subst (λ (g : Grid). ViewMoves (record { grid = g; rule = rule; tiles = table.selection.tiles }) v m v' c) same moves);
       }
 
 -- ---- the test
@@ -61,11 +67,11 @@ module _ (table : Lookup) (rule : CostRule) where
   IsIn v = IsView table.selection.grid table.selection.tiles v
 
   next : Sight → Move → Option (Sight × ℕ)
-  next v m = sight_successor table.selection.grid rule table.selection.tiles v m
+  next v m = sight_successor (abstraction_of table.selection rule) v m
 
-  next_goes : (v : Sight) (m : Move) (v' : Sight) (c : ℕ) → IsIn v → (next v m ≡ Some (v', c)) ↔ ViewMoves table.selection.grid rule table.selection.tiles v m v' c
+  next_goes : (v : Sight) (m : Move) (v' : Sight) (c : ℕ) → IsIn v → (next v m ≡ Some (v', c)) ↔ ViewMoves (abstraction_of table.selection rule) v m v' c
   unfolding IsIn next
-  next_goes v m v' c view = successor_of_sight table.selection.grid rule table.selection.tiles v m v' c (blank_inside table.selection.grid table.selection.tiles v view)
+  next_goes v m v' c view = successor_of_sight (abstraction_of table.selection rule) v m v' c (blank_inside table.selection.grid table.selection.tiles v view)
 
   -- the entries fall slowly at each rank, so they do from each view
   pub potential_from_ranks : (goal : Position) → goal.grid ≡ table.selection.grid → value_in table (view_of table.selection.tiles goal) ≡ 0 → ((k : ℕ) → k < size_of table.selection → FallsSlowlyAt table rule k) → IsPotential rule table.selection.tiles goal (value_in table)
@@ -74,7 +80,7 @@ module _ (table : Lookup) (rule : CostRule) where
     at_goal = none;
     falls_slowly = λ v m v' c is_view moves.
         let view : IsIn v = subst (λ (g : Grid). IsView g table.selection.tiles v) same is_view in
-        let is : next v m ≡ Some (v', c) = (next_goes v m v' c view).1 (subst (λ (g : Grid). ViewMoves g rule table.selection.tiles v m v' c) same moves) in
+        let is : next v m ≡ Some (v', c) = (next_goes v m v' c view).1 (subst (λ (g : Grid). ViewMoves (record { grid = g; rule = rule; tiles = table.selection.tiles }) v m v' c) same moves) in
         subst (λ (o : Option (Sight × ℕ)). FallsTo table (value_in table v) o) is (falls (rank_in table.selection.grid v) (sight_below table.selection.grid table.selection.tiles v view) v view refl m);
   }
 
@@ -86,13 +92,13 @@ module _ (table : Lookup) (rule : CostRule) where
       each None e = tt
       each (Some moved) e =
           potential.falls_slowly v m moved.0 moved.1 (subst (λ (g : Grid). IsView g table.selection.tiles v) (sym same) view)
-          (subst (λ (g : Grid). ViewMoves g rule table.selection.tiles v m moved.0 moved.1) (sym same) ((next_goes v m moved.0 moved.1 view).0 e))
+          (subst (λ (g : Grid). ViewMoves (record { grid = g; rule = rule; tiles = table.selection.tiles }) v m moved.0 moved.1) (sym same) ((next_goes v m moved.0 moved.1 view).0 e))
 
 -- the tests of the four moves, of the view of a rank
 module _ (table : Lookup) (rule : CostRule) (rank : ℕ) (g : Selection) (v : Sight) (n : ℕ) (same : g ≡ table.selection) (view : IsView g.grid g.tiles v) (at : rank_in g.grid v ≡ rank) (value : n ≡ slice_index table.values rank) where
   -- what the test of a move says
   Falls : Move → Type 0
-  Falls m = FallsTo table n (sight_successor table.selection.grid rule table.selection.tiles v m)
+  Falls m = FallsTo table n (sight_successor (abstraction_of table.selection rule) v m)
 
   view' : IsView table.selection.grid table.selection.tiles v
   view' = subst (λ (s : Selection). IsView s.grid s.tiles v) same view
@@ -105,38 +111,32 @@ module _ (table : Lookup) (rule : CostRule) (rank : ℕ) (g : Selection) (v : Si
 
   falls_one : FallsSlowlyAt table rule rank → (m : Move) → Falls m
   unfolding Falls
-  falls_one falls m = subst (λ k. FallsTo table k (sight_successor table.selection.grid rule table.selection.tiles v m)) (sym entry) (falls v view' at' m)
+  falls_one falls m = subst (λ k. FallsTo table k (sight_successor (abstraction_of table.selection rule) v m)) (sym entry) (falls v view' at' m)
 
   -- there is one view of the rank, and four moves are all
-  falls_four : Falls U → Falls L → Falls R → Falls D → FallsSlowlyAt table rule rank
+  falls_all : ((k : ℕ) → k < 4 → Falls (get_or all_moves k U)) → FallsSlowlyAt table rule rank
   unfolding Falls
-  falls_four up left right down w is_view w_at m =
-      subst (λ (x : Sight). FallsTo table (value_in table x) (sight_successor table.selection.grid rule table.selection.tiles x m))
+  falls_all falls w is_view w_at m =
+      subst (λ (x : Sight). FallsTo table (value_in table x) (sight_successor (abstraction_of table.selection rule) x m))
       (sight_from_rank table.selection.grid table.selection.tiles v w view' is_view (at' ∙ sym w_at))
-      (subst (λ k. FallsTo table k (sight_successor table.selection.grid rule table.selection.tiles v m)) entry (each m))
+      (subst (λ k. FallsTo table k (sight_successor (abstraction_of table.selection rule) v m)) entry (each m))
     where
       each : (m : Move) → Falls m
-      each U = up
-      each L = left
-      each R = right
-      each D = down
+      each U = falls 0 (lit< tt)
+      each L = falls 1 (lit< tt)
+      each R = falls 2 (lit< tt)
+      each D = falls 3 (lit< tt)
 
-  pub fails : (m : Move) (b : Bool) → b ≡ false → (IsTrue b ↔ FallsTo table n (sight_successor table.selection.grid rule table.selection.tiles v m)) → IsTrue false ↔ FallsSlowlyAt table rule rank
+  pub fails : (m : Move) (b : Bool) → b ≡ false → (IsTrue b ↔ FallsTo table n (sight_successor (abstraction_of table.selection rule) v m)) → IsTrue false ↔ FallsSlowlyAt table rule rank
   unfolding Falls
   fails m b e test = (
     (λ h. absurd (false≢true h)),
     (λ all. let t : b ≡ true = test.1 (falls_one all m) in sym e ∙ t),
   )
 
-  pub passes : (up left right down : Bool) → up ≡ true → left ≡ true → right ≡ true
-      → (IsTrue up ↔ FallsTo table n (sight_successor table.selection.grid rule table.selection.tiles v U)) → (IsTrue left ↔ FallsTo table n (sight_successor table.selection.grid rule table.selection.tiles v L))
-      → (IsTrue right ↔ FallsTo table n (sight_successor table.selection.grid rule table.selection.tiles v R)) → (IsTrue down ↔ FallsTo table n (sight_successor table.selection.grid rule table.selection.tiles v D))
-      → IsTrue down ↔ FallsSlowlyAt table rule rank
+  pub passes : ((k : ℕ) → k < 4 → FallsTo table n (sight_successor (abstraction_of table.selection rule) v (get_or all_moves k U))) → IsTrue true ↔ FallsSlowlyAt table rule rank
   unfolding Falls
-  passes up left right down u l r test_u test_l test_r test_d = (
-    (λ d. falls_four (test_u.0 u) (test_l.0 l) (test_r.0 r) (test_d.0 d)),
-    (λ all. test_d.1 (falls_one all D)),
-  )
+  passes falls = ((λ h. falls_all falls), (λ h. refl))
 
 -- ---- the table's group
 

@@ -1,5 +1,5 @@
 -- Ranks that wait in buckets of cost.
-use Rattle.std.specs.Prelude.{ℕ, ◌≡◌, ◌⊎◌, ◌+◌, ◌*◌, ◌≤◌, List, Vec, length, Contains, Option, Some, None, slice_get, slice_index, sum}
+use Rattle.std.specs.Prelude.{ℕ, ◌≡◌, ◌⊎◌, ◌+◌, ◌≤◌, List, Vec, length, Contains, Option, Some, None, slice_get}
 use Rattle.std.specs.declared.alloc.Global.{Global}
 
 -- the bucket of each cost, from 0 on
@@ -41,15 +41,3 @@ pub record IsTaken (cost rank : ℕ) (b b' : Buckets) : Type 0 where
   pub only : (at k : ℕ) → Waits b' at k → Waits b at k
   pub count : waiting b' cost + 1 ≡ waiting b cost
   pub same_length : length b' ≡ length b
-
--- The value of a rank becomes no more than a cost. Where it was more, the rank waits in that bucket.
-pub record IsLowered (rank cost : ℕ) (values values' : List ℕ) (b b' : Buckets) : Type 0 where
-  pub same_length : length values' ≡ length values
-  pub falls : (k : ℕ) → slice_index values' k ≤ slice_index values k
-  pub low : slice_index values' rank ≤ cost
-  pub cases : (k : ℕ) → (slice_index values' k ≡ slice_index values k) ⊎ ((k ≡ rank) × (slice_index values' k ≡ cost) × Waits b' cost rank)
-  pub waits : (at k : ℕ) → Waits b at k → Waits b' at k
-  pub only : (at k : ℕ) → Waits b' at k → Waits b at k ⊎ (k ≡ rank)
-  pub few : length b ≤ 65535 → length b' ≤ 65535
-  pub wide : length b ≤ length b'
-  pub work : (at : ℕ) → 2 * sum values' + waiting b' at ≤ 2 * sum values + waiting b at

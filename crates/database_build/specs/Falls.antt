@@ -3,7 +3,7 @@ use Rattle.std.specs.Prelude.{ℕ, ◌≡◌, ◌+◌, ◌≤◌, Option, None, 
 use Rattle.board.specs.declared.moves.Move.{Move}
 use Rattle.board.specs.CostRules.{CostRule}
 use Rattle.pattern_index.specs.Views.{Sight, IsView}
-use Rattle.pattern_index.specs.Selections.{rank_in, sight_successor}
+use Rattle.pattern_index.specs.Selections.{rank_in, abstraction_of, sight_successor}
 use Rattle.database_build.specs.Tables.{Lookup, value_in}
 
 -- n is no more than the cost of a move and the entry of the view that it leads to, if there is one
@@ -18,4 +18,4 @@ FallsSlowlyAt table rule rank =
     → IsView table.selection.grid table.selection.tiles v
     → rank_in table.selection.grid v ≡ rank
     → (m : Move)
-    → FallsTo table (value_in table v) (sight_successor table.selection.grid rule table.selection.tiles v m)
+    → FallsTo table (value_in table v) (sight_successor (abstraction_of table.selection rule) v m)

@@ -18,12 +18,12 @@ ValuesArePotentials =
     → HoldsValues table rule goal
     → IsPotential rule table.selection.tiles goal (value_in table)
 
--- a potential is never above the cost of a view plan to the goal's view
+-- a potential is never above the cost of a view plan to the goal's view: it is admissible
 abbrev pub PotentialsAreLowerBounds : Type 0
 PotentialsAreLowerBounds =
     (rule : CostRule) (tiles : List ℕ) (goal : Position) (value : Sight → ℕ)
     → IsPotential rule tiles goal value
     → (v : Sight) (plan : List Move) (j : ℕ)
     → IsView goal.grid tiles v
-    → ViewLeads goal.grid rule tiles v plan (view_of tiles goal) j
+    → ViewLeads (record { grid = goal.grid; rule = rule; tiles = tiles }) v plan (view_of tiles goal) j
     → value v ≤ j

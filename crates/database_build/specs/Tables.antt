@@ -3,7 +3,7 @@ use Rattle.std.specs.Prelude.{ℕ, List, slice_index}
 use Rattle.board.specs.Positions.{Position}
 use Rattle.board.specs.CostRules.{CostRule}
 use Rattle.pattern_index.specs.Views.{Sight, IsView, view_of}
-use Rattle.pattern_index.specs.Selections.{Selection, rank_in}
+use Rattle.pattern_index.specs.Selections.{Selection, rank_in, abstraction_of}
 use Rattle.database_build.specs.Values.{IsValue}
 
 -- A group, and the entry of each of its views, by rank.
@@ -20,4 +20,4 @@ abbrev pub HoldsValues : Lookup → CostRule → Position → Type 0
 HoldsValues table rule goal =
     (v : Sight)
     → IsView table.selection.grid table.selection.tiles v
-    → IsValue table.selection.grid rule table.selection.tiles (view_of table.selection.tiles goal) v (value_in table v)
+    → IsValue (abstraction_of table.selection rule) (view_of table.selection.tiles goal) v (value_in table v)

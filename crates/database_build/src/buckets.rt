@@ -1,17 +1,23 @@
 //! Ranks that wait in buckets of cost.
 
-ghost use Rattle.std.specs.Prelude.{ℕ, ◌≡◌, ◌+◌, ◌^◌, ◌<◌, ◌≤◌, length, OnOk, MatchOption};
-ghost use Rattle.database_build.specs.Buckets.{IsGrown, IsPut, IsTaken, IsLowered, waiting};
+ghost use Rattle.std.specs.Prelude.{ℕ, ◌≡◌, ◌+◌, ◌<◌, ◌≤◌, length, OnOk, MatchOption};
+ghost use Rattle.database_build.specs.Buckets.{IsGrown, IsPut, IsTaken, waiting};
 
+use crate::table::NO_VALUE;
 use memory::{OutOfMemory, push};
 use std::alloc::Global;
 
 // Makes the buckets up to that of a cost.
-fn grow(alloc: Global, buckets: &mut Vec<Vec<u32>>, cost: usize) -> Result<(), OutOfMemory>
-    requires { cost < 65535 }
+pub(crate) fn grow(
+    alloc: Global,
+    buckets: &mut Vec<Vec<u32>>,
+    cost: usize,
+) -> Result<(), OutOfMemory>
+    requires { cost < NO_VALUE }
     ensures grown { OnOk result (IsGrown buckets.old.items buckets.new.items) }
     ensures there { OnOk result (cost < length buckets.new.items) }
-    ensures few { OnOk result (length buckets.old.items ≤ 65535 → length buckets.new.items ≤ 65535) }
+    ensures few { OnOk result
+        (length buckets.old.items ≤ NO_VALUE → length buckets.new.items ≤ NO_VALUE) }
 {
     'costs: while buckets.len() <= cost {
         push(buckets, Vec::new(alloc))?;
@@ -20,7 +26,7 @@ fn grow(alloc: Global, buckets: &mut Vec<Vec<u32>>, cost: usize) -> Result<(), O
 }
 
 // Lets a rank wait in the bucket of a cost.
-fn put(buckets: &mut Vec<Vec<u32>>, cost: usize, rank: u32) -> Result<(), OutOfMemory>
+pub(crate) fn put(buckets: &mut Vec<Vec<u32>>, cost: usize, rank: u32) -> Result<(), OutOfMemory>
     requires { cost < length buckets.old.items }
     ensures { OnOk result (IsPut cost rank buckets.old.items buckets.new.items) }
 {
@@ -28,32 +34,12 @@ fn put(buckets: &mut Vec<Vec<u32>>, cost: usize, rank: u32) -> Result<(), OutOfM
     Ok(())
 }
 
-// Lowers the value of a rank to a cost where it is more. The rank then waits in that bucket, so a cost of
-// 65,535 or more is never written.
-pub(crate) fn lower(
-    alloc: Global,
-    values: &mut [u16],
-    buckets: &mut Vec<Vec<u32>>,
-    rank: usize,
-    cost: usize,
-) -> Result<(), OutOfMemory>
-    requires inside { rank < length values.old }
-    requires small { rank < 2 ^ 32 }
-    ensures { OnOk result (IsLowered rank cost values.old values.new buckets.old.items buckets.new.items) }
-{
-    if values[rank] as usize <= cost {
-        return Ok(());
-    }
-    grow(alloc, buckets, cost)?;
-    put(buckets, cost, rank as u32)?;
-    values[rank] = cost as u16;
-    Ok(())
-}
-
 // Takes a rank out of the bucket of a cost.
 pub(crate) fn take(buckets: &mut Vec<Vec<u32>>, cost: usize) -> Option<u32>
     requires { cost < length buckets.old.items }
-    ensures { MatchOption result ((waiting buckets.old.items cost ≡ 0) × (buckets.new.items ≡ buckets.old.items)) (λ rank. IsTaken cost rank buckets.old.items buckets.new.items) }
+    ensures { MatchOption result
+        ((waiting buckets.old.items cost ≡ 0) × (buckets.new.items ≡ buckets.old.items))
+        (λ rank. IsTaken cost rank buckets.old.items buckets.new.items) }
 {
     let left = buckets[cost].len();
     if left == 0 {

@@ -1,13 +1,21 @@
 //! The laws of the definitions: each is the contract of a function that does nothing.
 
+ghost use Rattle.std.specs.Prelude.{◌≡◌};
 ghost use Rattle.database_build.specs.Laws.{ValuesArePotentials, PotentialsAreLowerBounds};
 
-/// The values of a built table are a potential.
+use crate::table::NO_VALUE;
+
+/// The value that stands for no plan is the greatest of 16 bits.
+pub fn no_value_is_greatest()
+    ensures { NO_VALUE ≡ u16.MAX }
+{}
+
+/// The values of a built table are a potential: they are consistent.
 pub fn values_are_potentials()
     ensures { ValuesArePotentials }
 {}
 
-/// A potential is never above the cost of a view plan to the goal's view.
+/// A potential is admissible: never above the cost of a view plan to the goal's view.
 pub fn potentials_are_lower_bounds()
     ensures { PotentialsAreLowerBounds }
 {}

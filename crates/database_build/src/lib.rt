@@ -1,18 +1,19 @@
-//! Tables of the values of views: for each placement of a group's tiles and of the blank, what bringing
-//! them home costs at least.
+//! Tables of the values of views: for each placement of a group's tiles and of the blank, what
+//! bringing them home costs at least.
 //!
-//! An additive pattern database (Korf, Felner 2002) is made of such tables. Only moves of the group's tiles
-//! count, so the values of groups that share no tile may be added.
+//! An additive pattern database (Korf, Felner 2002) is made of such tables. Only moves of the
+//! group's tiles count, so the values of groups that share no tile may be added.
 #![tactic(auto)]
 
 mod buckets;
-pub mod building;
-pub mod fault;
+mod building;
+mod faults;
 pub mod laws;
-pub mod potential;
-pub mod table;
+mod potential;
+mod search;
+mod table;
 
 pub use building::build;
-pub use fault::TableFault;
+pub use faults::TableFault;
 pub use potential::is_potential;
 pub use table::{NO_VALUE, Table};

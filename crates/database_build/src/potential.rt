@@ -2,21 +2,22 @@
 
 ghost use Rattle.std.specs.Prelude.{ℕ, ◌≡◌, ◌↔◌, ◌<◌, ◌≤◌, IsTrue};
 ghost use Rattle.pattern_index.specs.Views.{IsView, view_of};
-ghost use Rattle.pattern_index.specs.Selections.{size_of, sight_successor};
+ghost use Rattle.pattern_index.specs.Selections.{size_of, abstraction_of, sight_successor};
 ghost use Rattle.database_build.specs.Values.{IsPotential};
 ghost use Rattle.database_build.specs.Tables.{value_in};
 ghost use Rattle.database_build.specs.Falls.{FallsTo, FallsSlowlyAt};
 
-use super::table::Table;
+use crate::table::Table;
 use board::{Board, Move, Weights};
 use pattern_index::{Group, View};
 
-/// Whether the table is one of this group, and its values are a potential: the goal's view has 0, and no
-/// view move lowers the value by more than its cost.
+/// Whether the table is one of this group, and its values are a potential: the goal's view has 0,
+/// and no view move lowers the value by more than its cost. Such a heuristic is called consistent.
 pub fn is_potential(table: &Table, group: &Group, goal: &Board, weights: &Weights) -> bool
     requires grid { goal.now.grid ≡ group.now.grid }
     requires weights { weights.now.grid ≡ group.now.grid }
-    ensures { IsTrue result ↔ (table.now.selection ≡ group.now) × IsPotential weights.now group.now.tiles goal.now (value_in table.now) }
+    ensures { IsTrue result ↔ (table.now.selection ≡ group.now)
+        × IsPotential weights.now group.now.tiles goal.now (value_in table.now) }
 {
     if table.group() != group {
         return false;
@@ -28,7 +29,8 @@ pub fn is_potential(table: &Table, group: &Group, goal: &Board, weights: &Weight
 fn falls_home(table: &Table, goal: &Board, weights: &Weights) -> bool
     requires grid { goal.now.grid ≡ table.now.selection.grid }
     requires weights { weights.now.grid ≡ table.now.selection.grid }
-    ensures { IsTrue result ↔ IsPotential weights.now table.now.selection.tiles goal.now (value_in table.now) }
+    ensures { IsTrue result
+        ↔ IsPotential weights.now table.now.selection.tiles goal.now (value_in table.now) }
 {
     if !is_zero_at_goal(table, goal) {
         return false;
@@ -45,7 +47,8 @@ fn falls_home(table: &Table, goal: &Board, weights: &Weights) -> bool
 // Whether the goal's view has 0.
 fn is_zero_at_goal(table: &Table, goal: &Board) -> bool
     requires { goal.now.grid ≡ table.now.selection.grid }
-    ensures { IsTrue result ↔ (value_in table.now (view_of table.now.selection.tiles goal.now) ≡ 0) }
+    ensures { IsTrue result
+        ↔ (value_in table.now (view_of table.now.selection.tiles goal.now) ≡ 0) }
 {
     let view = table.group().view(goal);
     table.value(&view) == 0
@@ -59,26 +62,20 @@ fn falls_slowly(table: &Table, weights: &Weights, rank: usize) -> bool
 {
     let view = table.group().unrank(rank);
     let value = table.values()[rank];
-    let up = falls_to(table, weights, &view, value, Move::U);
-    if !up {
-        return false;
+    'moves: for direction in Move::ALL {
+        if !falls_to(table, weights, &view, value, direction) {
+            return false;
+        }
     }
-    let left = falls_to(table, weights, &view, value, Move::L);
-    if !left {
-        return false;
-    }
-    let right = falls_to(table, weights, &view, value, Move::R);
-    if !right {
-        return false;
-    }
-    falls_to(table, weights, &view, value, Move::D)
+    true
 }
 
 // Whether a value is no more than the cost of a move and the value that it leads to.
 fn falls_to(table: &Table, weights: &Weights, view: &View, value: u16, direction: Move) -> bool
     requires weights { weights.now.grid ≡ table.now.selection.grid }
     requires view { IsView table.now.selection.grid table.now.selection.tiles view.now }
-    ensures { IsTrue result ↔ FallsTo table.now value (sight_successor table.now.selection.grid weights.now table.now.selection.tiles view.now direction) }
+    ensures { IsTrue result ↔ FallsTo table.now value
+        (sight_successor (abstraction_of table.now.selection weights.now) view.now direction) }
 {
     let Some(moved) = table.group().step(view, direction, weights) else {
         return true;

@@ -4,13 +4,14 @@ ghost use Rattle.std.specs.Prelude.{ℕ, ◌≡◌, ◌≢◌, ◌↔◌, length
 ghost use Rattle.pattern_index.specs.Views.{IsView};
 ghost use Rattle.pattern_index.specs.Selections.{IsSelection, size_of};
 ghost use Rattle.database_build.specs.Tables.{value_in};
-ghost use Rattle.database_build.specs.declared.fault.TableFault.{TableFault};
+ghost use Rattle.database_build.specs.declared.faults.TableFault.{TableFault};
 
-use super::fault::TableFault;
+use crate::faults::TableFault;
 use pattern_index::{Group, View};
 use std::marker::Model;
 
-/// The value of a view from which the goal's isn't reached below this cost.
+/// The value of a view from which the goal's isn't reached below this cost: the greatest of 16
+/// bits.
 pub const NO_VALUE: u16 = 65_535;
 
 /// A number for each view of a group.
@@ -44,12 +45,14 @@ impl Table {
         }
     }
 
-    /// The table of these values, which it keeps by rank; or E11 where there aren't as many as the group has
-    /// views.
+    /// The table of these values, which it keeps by rank; or E11 where there aren't as many as the
+    /// group has views.
     pub fn from_values(group: &Group, values: Vec<u16>) -> Result<Self, TableFault>
         ensures accepted { IsOk result ↔ (length values.items ≡ size_of group.now) }
-        ensures value { IfOk result (λ t. t ≡ record { selection = group.now; values = values.items }) }
-        ensures fault { (fault : TableFault) → IsErrOf result fault ↔ ((fault ≡ TableFault.WrongCount) × (length values.items ≢ size_of group.now)) }
+        ensures value { IfOk result
+            (λ t. t ≡ record { selection = group.now; values = values.items }) }
+        ensures fault { (fault : TableFault) → IsErrOf result fault
+            ↔ ((fault ≡ TableFault.WrongCount) × (length values.items ≢ size_of group.now)) }
     {
         if values.len() != group.size() {
             return Err(TableFault::WrongCount);

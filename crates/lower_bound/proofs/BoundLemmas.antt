@@ -64,7 +64,7 @@ module _ (rule : CostRule) (goal b : Position) (board : IsBoard b) (same : b.gri
       let group : IsGroup b.grid part.tiles = subst (λ (g : Grid). IsGroup g part.tiles) (sym same) is_group in
       let view = subst (λ (g : Grid). IsView g part.tiles (view_of part.tiles b)) same (board_view part.tiles b board group) in
       let step = seen_move rule part.tiles b m b' c board group moves in
-      let step' = subst (λ (g : Grid). ViewMoves g rule part.tiles (view_of part.tiles b) m (view_of part.tiles b') step.0) same step.1 in
+      let step' = subst (λ (g : Grid). ViewMoves (record { grid = g; rule = rule; tiles = part.tiles }) (view_of part.tiles b) m (view_of part.tiles b') step.0) same step.1 in
       (step.0, slow.falls_slowly (view_of part.tiles b) m (view_of part.tiles b') step.0 view step', step.2, step.3)
 
   -- where no group has the tile, the sum doesn't fall

@@ -12,7 +12,7 @@ pub record Part : Type 0 where
   pub tiles : List ℕ
   pub value : Sight → ℕ
 
--- the sum of a board: the values of its views, added over the groups
+-- the sum of a board, which is the heuristic: the values of its views, added over the groups
 abbrev pub sum_of : List Part → Position → ℕ
 sum_of parts b = sum_by (λ part. part.value (view_of part.tiles b)) parts
 

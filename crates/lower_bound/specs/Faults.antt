@@ -1,23 +1,23 @@
 -- The faults of groups, partitions and tables in one.
 use Rattle.std.specs.Prelude.{ℕ, List, codes}
-use Rattle.pattern_index.specs.declared.fault.GroupFault.{GroupFault}
-use Rattle.pattern_index.specs.declared.fault.GroupFault.TheVariants as group
-use Rattle.pattern_index.specs.declared.fault.PartitionFault.{PartitionFault}
-use Rattle.pattern_index.specs.declared.fault.PartitionFault.TheVariants as partition
-use Rattle.database_build.specs.declared.fault.TableFault.{TableFault}
-use Rattle.database_build.specs.declared.fault.TableFault.TheVariants as table
-use Rattle.lower_bound.specs.declared.fault.PatternFault.{PatternFault}
-use Rattle.lower_bound.specs.declared.fault.PatternFault.TheVariants.{Empty, NotATile, Repeated, TooManyViews, SharedTile, TooManyGroups, WrongCount}
+use Rattle.pattern_index.specs.declared.faults.GroupFault.{GroupFault}
+use Rattle.pattern_index.specs.declared.faults.GroupFault.TheVariants as group
+use Rattle.pattern_index.specs.declared.faults.PartitionFault.{PartitionFault}
+use Rattle.pattern_index.specs.declared.faults.PartitionFault.TheVariants as partition
+use Rattle.database_build.specs.declared.faults.TableFault.{TableFault}
+use Rattle.database_build.specs.declared.faults.TableFault.TheVariants as table
+use Rattle.lower_bound.specs.declared.faults.PatternFault.{PatternFault}
+use Rattle.lower_bound.specs.declared.faults.PatternFault.TheVariants.{Empty, NotATile, Repeated, TooManyViews, SharedTile, TooManyGroups, WrongCount}
 
 -- the code that a fault is reported by
-abbrev pub pattern_code_of : PatternFault → List ℕ
-pattern_code_of Empty = codes "E5"
-pattern_code_of NotATile = codes "E6"
-pattern_code_of Repeated = codes "E7"
-pattern_code_of TooManyViews = codes "E8"
-pattern_code_of SharedTile = codes "E9"
-pattern_code_of TooManyGroups = codes "E10"
-pattern_code_of WrongCount = codes "E11"
+abbrev pub pattern_code : PatternFault → List ℕ
+pattern_code Empty = codes "E5"
+pattern_code NotATile = codes "E6"
+pattern_code Repeated = codes "E7"
+pattern_code TooManyViews = codes "E8"
+pattern_code SharedTile = codes "E9"
+pattern_code TooManyGroups = codes "E10"
+pattern_code WrongCount = codes "E11"
 
 -- the same fault, of a group
 abbrev pub of_group : GroupFault → PatternFault

@@ -6,7 +6,7 @@ use Rattle.board.specs.Rows.{IsLowerBound}
 use Rattle.lower_bound.specs.Bounds.{Part, IsBound, sum_of}
 use Rattle.lower_bound.specs.Tables.{Tables, IsTables, ArePotentials, parts_of}
 
--- a sum of potentials of groups that share no tile is never above the cost of a plan
+-- a sum of potentials of groups that share no tile is admissible: never above the cost of a plan
 abbrev pub SumsAreLowerBounds : Type 0
 SumsAreLowerBounds = (rule : CostRule) (goal : Position) (parts : List Part) → IsBound rule goal parts → IsLowerBound rule (sum_of parts) goal
 

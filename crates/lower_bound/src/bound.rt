@@ -1,17 +1,18 @@
 //! Tables for the groups of a partition, whose values are added.
 
-ghost use Rattle.std.specs.Prelude.{◌≡◌, ◌↔◌, ◌*◌, ◌<◌, ◌≤◌, length, slice_get, All, IsTrue, IsOk, IsErrOf, IfOk, MatchOption, Some, sum_by};
+ghost use Rattle.std.specs.Prelude.{◌≡◌, ◌↔◌, ◌*◌, ◌<◌, ◌≤◌, length, slice_get, All, Some, sum_by};
+ghost use Rattle.std.specs.Prelude.{IsTrue, IsOk, IsErrOf, IfOk, MatchOption};
 ghost use Rattle.board.specs.Positions.{Position};
 ghost use Rattle.board.specs.CostRules.{CostRule};
 ghost use Rattle.board.specs.Plans.{NothingBelow};
 ghost use Rattle.pattern_index.specs.Views.{view_of};
 ghost use Rattle.database_build.specs.Tables.{value_in};
-ghost use Rattle.database_build.specs.declared.fault.TableFault.{TableFault};
+ghost use Rattle.database_build.specs.declared.faults.TableFault.{TableFault};
 ghost use Rattle.lower_bound.specs.Bounds.{sum_of};
 ghost use Rattle.lower_bound.specs.Tables.{IsTables, AreTablesOf, ArePotentials, parts_of};
 
 use board::Board;
-use database_build::{Table, TableFault};
+use database_build::{NO_VALUE, Table, TableFault};
 use pattern_index::{Group, Partition};
 use std::marker::Model;
 
@@ -33,12 +34,14 @@ impl Model for Bound {
 }
 
 impl Bound {
-    /// The bound of a partition by these tables, the first for the first group and so on; or E11 where there
-    /// are more tables or fewer, or one is of another group.
+    /// The bound of a partition by these tables, the first for the first group and so on; or E11
+    /// where there are more tables or fewer, or one is of another group.
     pub fn new(partition: Partition, tables: Vec<Table>) -> Result<Self, TableFault>
         ensures accepted { IsOk result ↔ AreTablesOf partition.groups tables.items }
-        ensures value { IfOk result (λ b. b ≡ record { split = partition; lookups = tables.items }) }
-        ensures fault { (fault : TableFault) → IsErrOf result fault ↔ ((fault ≡ TableFault.WrongCount) × (¬ AreTablesOf partition.groups tables.items)) }
+        ensures value { IfOk result
+            (λ b. b ≡ record { split = partition; lookups = tables.items }) }
+        ensures fault { (fault : TableFault) → IsErrOf result fault
+            ↔ ((fault ≡ TableFault.WrongCount) × (¬ AreTablesOf partition.groups tables.items)) }
     {
         if !are_tables_of(partition.groups(), &tables) {
             return Err(TableFault::WrongCount);
@@ -46,13 +49,15 @@ impl Bound {
         Ok(Bound { partition, tables })
     }
 
-    /// The sum of a board: the values of its views, added over the groups. Where each table is a potential
-    /// for a goal and weights, no plan from the board to that goal costs less.
+    /// The sum of a board: the values of its views, added over the groups. Where each table is a
+    /// potential for a goal and weights, no plan from the board to that goal costs less: the sum is
+    /// an admissible heuristic.
     pub fn of(&self, board: &Board) -> u32
         requires { board.now.grid ≡ self.now.split.grid }
         ensures value { result ≡ sum_of (parts_of self.now) board.now }
-        ensures high { result ≤ 1572840 }
-        ensures nothing_below { (rule : CostRule) (goal : Position) → ArePotentials rule goal self.now → NothingBelow rule board.now goal result }
+        ensures high { result ≤ 24 * NO_VALUE }
+        ensures nothing_below { (rule : CostRule) (goal : Position) →
+            ArePotentials rule goal self.now → NothingBelow rule board.now goal result }
     {
         // What the last clause needs of the board, that it is one, is told by this call.
         let _ = board.shape();
@@ -96,8 +101,9 @@ fn are_tables_of(groups: &[Group], tables: &[Table]) -> bool
 fn sum_values(tables: &[Table], board: &Board) -> u32
     requires few { length tables.now ≤ 24 }
     requires grid { All (λ table. table.selection.grid ≡ board.now.grid) tables.now }
-    ensures value { result ≡ sum_by (λ table. value_in table (view_of table.selection.tiles board.now)) tables.now }
-    ensures high { result ≤ 65535 * length tables.now }
+    ensures value { result
+        ≡ sum_by (λ table. value_in table (view_of table.selection.tiles board.now)) tables.now }
+    ensures high { result ≤ NO_VALUE * length tables.now }
 {
     let mut sum = 0;
     'tables: for table in tables {

@@ -1,11 +1,11 @@
-//! Lower bounds on the costs of plans: the values of a board's views, added over groups of tiles that share
-//! no tile (Korf, Felner 2002).
+//! Lower bounds on the costs of plans: the values of a board's views, added over groups that share
+//! no tile (Korf, Felner 2002). As a heuristic such a sum is admissible.
 #![tactic(auto)]
 
-pub mod bound;
-pub mod fault;
+mod bound;
+mod faults;
 pub mod laws;
 
 pub use bound::Bound;
 pub use database_build::{TableFault, is_potential};
-pub use fault::PatternFault;
+pub use faults::PatternFault;

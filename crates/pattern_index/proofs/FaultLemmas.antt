@@ -4,13 +4,14 @@ use Rattle.std.specs.Prelude.{Contains}
 use Rattle.std.proofs.lemmas.Bool.{cases_order}
 use Rattle.std.proofs.lemmas.List.{get_or-take, get_or_default, length-take-le}
 use Rattle.board.specs.Grids.{Grid}
-use Rattle.pattern_index.specs.Selections.{Selection, IsTile, IsGroup, size_of, max_size}
+use Rattle.pattern_index.specs.declared.group.TheConstants.{MAX_SIZE}
+use Rattle.pattern_index.specs.Selections.{Selection, IsTile, IsGroup, size_of}
 use Rattle.pattern_index.specs.Splits.{AreApart, IsSplitFault}
 use Rattle.pattern_index.specs.Faults.{IsFirstPlace, IsFirstFault}
-use Rattle.pattern_index.specs.declared.fault.GroupFault.{GroupFault}
-use Rattle.pattern_index.specs.declared.fault.GroupFault.TheVariants.{Empty, NotATile, Repeated, TooManyViews}
-use Rattle.pattern_index.specs.declared.fault.PartitionFault.{PartitionFault}
-use Rattle.pattern_index.specs.declared.fault.PartitionFault.TheVariants.{SharedTile, TooManyGroups}
+use Rattle.pattern_index.specs.declared.faults.GroupFault.{GroupFault}
+use Rattle.pattern_index.specs.declared.faults.GroupFault.TheVariants.{Empty, NotATile, Repeated, TooManyViews}
+use Rattle.pattern_index.specs.declared.faults.PartitionFault.{PartitionFault}
+use Rattle.pattern_index.specs.declared.faults.PartitionFault.TheVariants.{SharedTile, TooManyGroups}
 
 -- a group has no number that is no tile
 all_tiles : (grid : Grid) (xs : List ℕ) (place : ℕ) → IsGroup grid xs → place < length xs → ¬ IsTile grid (get_or xs place 0) → ⊥
@@ -51,7 +52,7 @@ tile_or_repeated grid numbers first second =
     (cases_order p q)
 
 -- numbers that make a group have no fault
-pub no_fault : (grid : Grid) (numbers : List ℕ) → 0 < length numbers → IsGroup grid numbers → size_of (record { grid = grid; tiles = numbers }) ≤ max_size → (fault : GroupFault) → IsFirstFault grid numbers fault → ⊥
+pub no_fault : (grid : Grid) (numbers : List ℕ) → 0 < length numbers → IsGroup grid numbers → size_of (record { grid = grid; tiles = numbers }) ≤ MAX_SIZE → (fault : GroupFault) → IsFirstFault grid numbers fault → ⊥
 no_fault grid numbers some group small Empty first = let e = ap length first in omega arith
 no_fault grid numbers some group small NotATile first = all_tiles grid numbers first.0 group first.1.within first.2
 no_fault grid numbers some group small Repeated first = none_repeated grid numbers first.0 group first.1.within first.3

@@ -20,7 +20,8 @@ use Rattle.board.proofs.NeighbourLemmas.{cells_above}
 use Rattle.pattern_index.specs.Packing.{IsStoredGroup}
 use Rattle.pattern_index.specs.Ranks.{ways}
 use Rattle.pattern_index.specs.Laws.{factorial}
-use Rattle.pattern_index.specs.Selections.{Selection, IsTile, IsGroup, IsSelection, size_of, max_size}
+use Rattle.pattern_index.specs.declared.group.TheConstants.{MAX_SIZE}
+use Rattle.pattern_index.specs.Selections.{Selection, IsTile, IsGroup, IsSelection, size_of}
 use Rattle.pattern_index.proofs.RankLemmas.{ways-suc, ways_some}
 
 pub group_none : (grid : Grid) → IsGroup grid []
@@ -95,7 +96,7 @@ many_ways r many =
     omega arith
 
 -- eleven places have too many views, but for those of 11 cells
-pub few_places : (n r : ℕ) → r ≤ n → n ≢ 11 → ways n r ≤ max_size → r ≤ 10
+pub few_places : (n r : ℕ) → r ≤ n → n ≢ 11 → ways n r ≤ MAX_SIZE → r ≤ 10
 few_places n r le other small =
     ⊎_elim (λ (lt : r < 11). omega arith)
     (λ (many : 11 ≤ r).
@@ -132,7 +133,7 @@ not_eleven grid sides is =
     five x low high a b c = grind (arith, nat_tests)
 
 -- a group's places, one for the blank, are 10 at most, and no more than the cells
-pub places_few : (grid : Grid) (numbers : List ℕ) → IsShape grid → IsGroup grid numbers → ways (cell_count grid) (suc (length numbers)) ≤ max_size → suc (length numbers) ≤ 10
+pub places_few : (grid : Grid) (numbers : List ℕ) → IsShape grid → IsGroup grid numbers → ways (cell_count grid) (suc (length numbers)) ≤ MAX_SIZE → suc (length numbers) ≤ 10
 places_few grid numbers sides group small =
     few_places (cell_count grid) (suc (length numbers)) (group_room grid numbers (cells_above grid sides) group) (not_eleven grid sides) small
 
@@ -145,7 +146,7 @@ eqb_comm : (x y : ℕ) → eqb x y ≡ eqb y x
 eqb_comm x y = grind (arith, nat_tests)
 
 -- the numbers in rising order are the tiles of a group
-pub selection_is : (grid : Grid) (numbers tiles : List ℕ) → IsShape grid → 0 < length numbers → IsGroup grid numbers → ways (cell_count grid) (suc (length numbers)) ≤ max_size → IsPermutation numbers tiles → IsNonDecreasing tiles → IsSelection (record { grid = grid; tiles = tiles })
+pub selection_is : (grid : Grid) (numbers tiles : List ℕ) → IsShape grid → 0 < length numbers → IsGroup grid numbers → ways (cell_count grid) (suc (length numbers)) ≤ MAX_SIZE → IsPermutation numbers tiles → IsNonDecreasing tiles → IsSelection (record { grid = grid; tiles = tiles })
 selection_is grid numbers tiles sides any group small moved rising =
     let long = length_permutation numbers tiles moved in
     let distinct : IsDistinct eqb tiles = IsDistinct-IsPermutation eqb eqb_comm numbers tiles moved (IsDistinct-from_AllPairs Decides-eqb numbers group.different) in
@@ -154,7 +155,7 @@ selection_is grid numbers tiles sides any group small moved rising =
       group = record { tiles = All-permutation (IsTile grid) numbers tiles moved group.tiles; different = AllPairs-from_IsDistinct Decides-eqb tiles distinct };
       rising = IsStrictlyIncreasing-from_distinct tiles rising distinct;
       some = omega arith;
-      small = subst (λ n. ways (cell_count grid) (suc n) ≤ max_size) (sym long) small;
+      small = subst (λ n. ways (cell_count grid) (suc n) ≤ MAX_SIZE) (sym long) small;
     }
 
 -- a count of ways, by the cells of a grid
@@ -164,7 +165,7 @@ counted grid numbers cells size e is = is ∙ (λ i. ways (e i) (add-one (length
 both : (n : ℕ) → n ≤ 9 → n + (9 - n) ≡ 9
 both n le = omega arith
 
-module _ (grid : Grid) (numbers : List ℕ) (cells size : ℕ) (sides : IsShape grid) (group : IsGroup grid numbers) (e : cells ≡ cell_count grid) (is : (size ≡ ways cells (length numbers + 1)) × (size ≤ max_size)) where
+module _ (grid : Grid) (numbers : List ℕ) (cells size : ℕ) (sides : IsShape grid) (group : IsGroup grid numbers) (e : cells ≡ cell_count grid) (is : (size ≡ ways cells (length numbers + 1)) × (size ≤ MAX_SIZE)) where
   -- the numbers fit the array
   pub numbers_few : length numbers ≤ 9
   numbers_few =
@@ -173,7 +174,7 @@ module _ (grid : Grid) (numbers : List ℕ) (cells size : ℕ) (sides : IsShape 
       omega arith
 
   -- and have no more views than a group may have
-  pub numbers_small : ways (cell_count grid) (suc (length numbers)) ≤ max_size
+  pub numbers_small : ways (cell_count grid) (suc (length numbers)) ≤ MAX_SIZE
   numbers_small = let whole = counted grid numbers cells size e is.0 in omega (arith, is.1)
 
   -- a group lies in memory

@@ -1,34 +1,33 @@
 -- What lies in memory, and `==` of it.
 use Rattle.std.proofs.Common.{◌≡◌, ◌≢◌, ℕ, suc, ◌+◌, ◌-◌, ◌<◌, ◌≤◌, Bool, List, [], ◌∷◌, ◌++◌, length, map, set, drop, take, replicate, get_or, refl, sym, ap, ◌∙◌, ⊎_elim, arith, add-one}
-use Rattle.std.specs.Prelude.{slice_get, slice_index, Some}
+use Rattle.std.specs.Prelude.{slice_index}
 use Rattle.std.specs.Bool.{Decides}
 use Rattle.std.specs.List.{AllByRecursion}
 use Rattle.std.specs.Str.{bytes_eq}
 use Rattle.std.proofs.lemmas.Bool.{cases_eq, cases_lt}
-use Rattle.std.proofs.lemmas.Bool.Decides.{Decides-at, Decides-like}
 use Rattle.std.proofs.lemmas.List.{get_or-set_same, get_or-set_other, length-append, length-replicate, drop-replicate, take_at, drop_at}
-use Rattle.std.proofs.lemmas.Option.{get_or_from_slice_get}
-use Rattle.std.proofs.lemmas.Slice.Eq.{bytes_eq-Decides}
 use Rattle.board.specs.Grids.{cell_count}
 use Rattle.board.specs.Positions.{Position, IsBoard, cell_of}
 use Rattle.board.proofs.TileLemmas.{cell_is, has_cell}
+use Rattle.board.proofs.StorageLemmas.{same_stored}
 use Rattle.pattern_index.specs.Packing.{sight_in, view_storage, IsStoredView, view_storage-sight_in}
 use Rattle.pattern_index.specs.declared.view.View.TheInside as view
 
 -- the places in memory are equal exactly where the views are, given that the counts are
 pub same_view : (a b : view.Inside) (r : Bool) → IsStoredView a → IsStoredView b → a.count ≡ b.count → r ≡ bytes_eq a.places b.places → Decides r (sight_in a ≡ sight_in b)
-same_view a b r stored stored' counts answer =
-    let there : a.places ≡ b.places → sight_in a ≡ sight_in b = λ e i. record { blank = slice_index (e i) 0; cells = drop 1 (take (counts i) (e i)) } in
-    let back : sight_in a ≡ sight_in b → a.places ≡ b.places = λ e. ap (λ (x : view.Inside). x.places) (sym (view_storage-sight_in a stored) ∙ ap view_storage e ∙ view_storage-sight_in b stored') in
-    Decides-at r (bytes_eq a.places b.places) answer (Decides-like (bytes_eq a.places b.places) there back (bytes_eq-Decides a.places b.places))
+same_view a b r stored stored' counts =
+    same_stored sight_in view_storage (λ (x : view.Inside). x.places) a b r (view_storage-sight_in a stored) (view_storage-sight_in b stored')
+    (λ e i. record { blank = slice_index (e i) 0; cells = drop 1 (take (counts i) (e i)) })
 
 -- the cell of one more number is known
-pub met_more : (b : Position) (cells : List ℕ) (cell tile : ℕ) → IsBoard b → cell < cell_count b.grid → slice_get b.tiles cell ≡ Some tile → tile < length cells → ((number : ℕ) → number < cell_count b.grid → cell_of b number < cell → get_or cells number 0 ≡ cell_of b number) → (number : ℕ) → number < cell_count b.grid → cell_of b number < cell + 1 → get_or (set cells tile cell) number 0 ≡ cell_of b number
-met_more b cells cell tile board cell_in there room met number number_in low =
-    let e = board.one_each in
-    let holds : get_or b.tiles cell 0 ≡ tile = get_or_from_slice_get b.tiles cell tile 0 there in
-    let at : cell_of b tile ≡ cell = cell_is b board.different cell tile (omega arith) holds in
-    ⊎_elim (λ (same : number ≡ tile). ap (λ (n : ℕ). get_or (set cells tile cell) n 0) same ∙ get_or-set_same cells tile cell 0 room ∙ sym at ∙ ap (cell_of b) (sym same))
+pub met_more : (b : Position) (tiles cells : List ℕ) (cell : ℕ) → IsBoard b → tiles ≡ b.tiles → cell < length tiles → cell_count b.grid ≤ length cells → ((number : ℕ) → number < cell_count b.grid → cell_of b number < cell → get_or cells number 0 ≡ cell_of b number) → (number : ℕ) → number < cell_count b.grid → cell_of b number < cell + 1 → get_or (set cells (get_or tiles cell 0) cell) number 0 ≡ cell_of b number
+met_more b tiles cells cell board is cell_in room met number number_in low =
+    let tile : ℕ = get_or tiles cell 0 in
+    let holds : get_or b.tiles cell 0 ≡ tile = ap (λ (ts : List ℕ). get_or ts cell 0) (sym is) in
+    let within : cell < length b.tiles = rw is at cell_in in
+    let small = board.in_range cell 0 within in
+    let at : cell_of b tile ≡ cell = cell_is b board.different cell tile within holds in
+    ⊎_elim (λ (same : number ≡ tile). ap (λ (n : ℕ). get_or (set cells tile cell) n 0) same ∙ get_or-set_same cells tile cell 0 (omega arith) ∙ sym at ∙ ap (cell_of b) (sym same))
     (λ (other : number ≢ tile).
     let apart : cell_of b number ≢ cell = λ same. other (sym (has_cell b board number number_in).1 ∙ ap (λ (k : ℕ). get_or b.tiles k 0) same ∙ holds) in
     get_or-set_other cells tile number cell 0 other ∙ met number number_in (less (cell_of b number) cell low apart))

@@ -16,33 +16,33 @@ use Rattle.board.specs.Moves.{Moves}
 use Rattle.board.proofs.TileLemmas.{same_place, all_differ, cell_is, has_cell}
 use Rattle.board.proofs.MoveLemmas.{exchange, cell_of-exchange, blank_after, other_cell, cell_below}
 use Rattle.board.proofs.NeighbourLemmas.{neighbour_lies, cells_above}
-use Rattle.pattern_index.specs.Views.{Sight, IsView, ViewMoves, view_of, weight_on}
-use Rattle.pattern_index.specs.Selections.{IsTile, IsGroup, sight_moved_to, sight_successor}
+use Rattle.pattern_index.specs.Views.{Sight, IsView, Abstraction, ViewMoves, view_of, weight_on}
+use Rattle.pattern_index.specs.Selections.{IsTile, IsGroup, sight_successor_at, sight_successor}
 use Rattle.pattern_index.proofs.RankLemmas.{Below, Differ, Other, pairs_from_differ, differ_from_pairs}
 use Rattle.pattern_index.proofs.SightLemmas.{cells_of}
 
-some_move : (rule : CostRule) (group : List ℕ) (v : Sight) (o : Option ℕ) (v' : Sight) (c : ℕ) → option_map (sight_moved_to rule group v) o ≡ Some (v', c) → (cell : ℕ) × (o ≡ Some cell) × (sight_moved_to rule group v cell ≡ (v', c))
-some_move rule group v None v' c is = cc
-some_move rule group v (Some cell) v' c is = (cell, refl, cc)
+some_move : (a : Abstraction) (v : Sight) (o : Option ℕ) (v' : Sight) (c : ℕ) → option_map (sight_successor_at a v) o ≡ Some (v', c) → (cell : ℕ) × (o ≡ Some cell) × (sight_successor_at a v cell ≡ (v', c))
+some_move a v None v' c is = cc
+some_move a v (Some cell) v' c is = (cell, refl, cc)
 
 -- what is computed of a view's move is what it does
-pub successor_of_sight : (grid : Grid) (rule : CostRule) (group : List ℕ) (v : Sight) (m : Move) (v' : Sight) (c : ℕ) → v.blank < cell_count grid → (sight_successor grid rule group v m ≡ Some (v', c)) ↔ ViewMoves grid rule group v m v' c
-successor_of_sight grid rule group v m v' c inside = (
+pub successor_of_sight : (a : Abstraction) (v : Sight) (m : Move) (v' : Sight) (c : ℕ) → v.blank < cell_count a.grid → (sight_successor a v m ≡ Some (v', c)) ↔ ViewMoves a v m v' c
+successor_of_sight a v m v' c inside = (
   (λ is.
-      let h = some_move rule group v (neighbour grid m v.blank) v' c is in
+      let h = some_move a v (neighbour a.grid m v.blank) v' c is in
       let at : h.0 ≡ v'.blank = ap (λ p. p.0.blank) h.2 in
       record {
-        towards = subst (λ to. LiesTowards grid m v.blank to) at ((neighbour_lies grid m v.blank h.0 inside).0 h.1);
+        towards = subst (λ to. LiesTowards a.grid m v.blank to) at ((neighbour_lies a.grid m v.blank h.0 inside).0 h.1);
         exchanged = subst (λ to. v'.cells ≡ map (λ cell. if cell == to then v.blank else cell) v.cells) at (sym (ap (λ p. p.0.cells) h.2));
-        cost = subst (λ to. c ≡ weight_on rule group v.cells to) at (sym (ap (λ p. p.1) h.2));
+        cost = subst (λ to. c ≡ weight_on a.rule a.tiles v.cells to) at (sym (ap (λ p. p.1) h.2));
       }),
-  (λ moves. rw ((neighbour_lies grid m v.blank v'.blank inside).1 moves.towards) (λ i. Some (record { blank = v'.blank; cells = sym moves.exchanged i }, sym moves.cost i))),
+  (λ moves. rw ((neighbour_lies a.grid m v.blank v'.blank inside).1 moves.towards) (λ i. Some (record { blank = v'.blank; cells = sym moves.exchanged i }, sym moves.cost i))),
 )
 
 -- and so an answer that is the move computed
-pub sight_moves_from : (grid : Grid) (rule : CostRule) (group : List ℕ) (v : Sight) (m : Move) (answer : Option (Sight × ℕ)) → v.blank < cell_count grid → answer ≡ sight_successor grid rule group v m → (v' : Sight) (c : ℕ) → (answer ≡ Some (v', c)) ↔ ViewMoves grid rule group v m v' c
-sight_moves_from grid rule group v m answer inside is v' c =
-    let moves = successor_of_sight grid rule group v m v' c inside in ((λ e. moves.0 (sym is ∙ e)), (λ h. is ∙ moves.1 h))
+pub sight_moves_from : (a : Abstraction) (v : Sight) (m : Move) (answer : Option (Sight × ℕ)) → v.blank < cell_count a.grid → answer ≡ sight_successor a v m → (v' : Sight) (c : ℕ) → (answer ≡ Some (v', c)) ↔ ViewMoves a v m v' c
+sight_moves_from a v m answer inside is v' c =
+    let moves = successor_of_sight a v m v' c inside in ((λ e. moves.0 (sym is ∙ e)), (λ h. is ∙ moves.1 h))
 
 -- the other way round
 pub lies_back : (grid : Grid) (m : Move) (from to : ℕ) → from < cell_count grid → LiesTowards grid m from to → LiesTowards grid (opposite m) to from
@@ -106,22 +106,22 @@ weight_put rule (tile ∷ group) (x ∷ cells) from to other =
 pub blank_inside : (grid : Grid) (group : List ℕ) (v : Sight) → IsView grid group v → v.blank < cell_count grid
 blank_inside grid group v view = view.in_range 0 0 (omega arith)
 
-module _ (grid : Grid) (rule : CostRule) (group : List ℕ) (v : Sight) (m : Move) (v' : Sight) (c : ℕ) (view : IsView grid group v) (moves : ViewMoves grid rule group v m v' c) where
+module _ (a : Abstraction) (v : Sight) (m : Move) (v' : Sight) (c : ℕ) (view : IsView a.grid a.tiles v) (moves : ViewMoves a v m v' c) where
   differ : Differ (cells_of v)
   differ = differ_from_pairs (cells_of v) view.different
 
-  below : Below (cell_count grid) (cells_of v)
-  below = recursion_from_All (λ cell. cell < cell_count grid) (cells_of v) view.in_range
+  below : Below (cell_count a.grid) (cells_of v)
+  below = recursion_from_All (λ cell. cell < cell_count a.grid) (cells_of v) view.in_range
 
   -- a view's move leads to a view
-  pub moved_view : IsView grid group v'
+  pub moved_view : IsView a.grid a.tiles v'
   unfolding put
   moved_view =
-      let n = cell_count grid in
+      let n = cell_count a.grid in
       let cells : v'.cells ≡ map (put v.blank v'.blank) v.cells = moves.exchanged in
-      let other = other_cell grid m v.blank v'.blank moves.towards in
+      let other = other_cell a.grid m v.blank v'.blank moves.towards in
       let apart : Differ (cells_of v') = subst (λ xs. Differ (v'.blank ∷ xs)) (sym cells) (all_put_other v.blank v'.blank v.cells other, all_put_differ v.blank v'.blank v.cells differ.0 differ.1) in
-      let low : Below n (cells_of v') = subst (λ xs. Below n (v'.blank ∷ xs)) (sym cells) (cell_below grid m v.blank v'.blank moves.towards, all_put_below n v.blank v'.blank v.cells below.0 below.1) in
+      let low : Below n (cells_of v') = subst (λ xs. Below n (v'.blank ∷ xs)) (sym cells) (cell_below a.grid m v.blank v'.blank moves.towards, all_put_below n v.blank v'.blank v.cells below.0 below.1) in
       record {
         one_each = ap length cells ∙ length-map v.cells (put v.blank v'.blank) ∙ view.one_each;
         in_range = All-from_recursion (λ cell. cell < n) (cells_of v') low;
@@ -129,14 +129,14 @@ module _ (grid : Grid) (rule : CostRule) (group : List ℕ) (v : Sight) (m : Mov
       }
 
   -- a view's move can be taken back, at the same cost
-  pub moved_back : ViewMoves grid rule group v' (opposite m) v c
+  pub moved_back : ViewMoves a v' (opposite m) v c
   unfolding put
   moved_back =
       let cells : v'.cells ≡ map (put v.blank v'.blank) v.cells = moves.exchanged in
       record {
-        towards = lies_back grid m v.blank v'.blank (blank_inside grid group v view) moves.towards;
+        towards = lies_back a.grid m v.blank v'.blank (blank_inside a.grid a.tiles v view) moves.towards;
         exchanged = sym (ap (map (put v'.blank v.blank)) cells ∙ all_put_back v.blank v'.blank v.cells differ.0);
-        cost = moves.cost ∙ sym (ap (λ xs. weight_on rule group xs v.blank) cells ∙ weight_put rule group v.cells v.blank v'.blank differ.0);
+        cost = moves.cost ∙ sym (ap (λ xs. weight_on a.rule a.tiles xs v.blank) cells ∙ weight_put a.rule a.tiles v.cells v.blank v'.blank differ.0);
       }
 
 -- ---- views of boards
@@ -230,7 +230,7 @@ module _ (rule : CostRule) (b : Position) (board : IsBoard b) (to : ℕ) (to_bel
       (cases_Bool (eqb (cell_of b t) to))
 
 -- a move of a board is a view move of what a group sees
-pub seen_move : (rule : CostRule) (group : List ℕ) (b : Position) (m : Move) (b' : Position) (c : ℕ) → IsBoard b → IsGroup b.grid group → Moves rule b m b' c → (seen : ℕ) × ViewMoves b.grid rule group (view_of group b) m (view_of group b') seen × (Contains group (get_or b.tiles (blank_of b') 0) → seen ≡ c) × (¬ Contains group (get_or b.tiles (blank_of b') 0) → seen ≡ 0)
+pub seen_move : (rule : CostRule) (group : List ℕ) (b : Position) (m : Move) (b' : Position) (c : ℕ) → IsBoard b → IsGroup b.grid group → Moves rule b m b' c → (seen : ℕ) × ViewMoves (record { grid = b.grid; rule = rule; tiles = group }) (view_of group b) m (view_of group b') seen × (Contains group (get_or b.tiles (blank_of b') 0) → seen ≡ c) × (¬ Contains group (get_or b.tiles (blank_of b') 0) → seen ≡ 0)
 seen_move rule group b m b' c board is_group moves =
     let to = moves.cell in
     let tiles = recursion_from_All (IsTile b.grid) group is_group.tiles in

@@ -1,11 +1,12 @@
 -- Why numbers make no group, and the codes of the faults of groups and of partitions.
 use Rattle.std.specs.Prelude.{ℕ, ◌≡◌, ◌≢◌, ◌<◌, List, [], length, take, Contains, slice_index, codes}
 use Rattle.board.specs.Grids.{Grid}
-use Rattle.pattern_index.specs.Selections.{IsTile, IsGroup, size_of, max_size}
-use Rattle.pattern_index.specs.declared.fault.GroupFault.{GroupFault}
-use Rattle.pattern_index.specs.declared.fault.GroupFault.TheVariants.{Empty, NotATile, Repeated, TooManyViews}
-use Rattle.pattern_index.specs.declared.fault.PartitionFault.{PartitionFault}
-use Rattle.pattern_index.specs.declared.fault.PartitionFault.TheVariants.{SharedTile, TooManyGroups}
+use Rattle.pattern_index.specs.declared.group.TheConstants.{MAX_SIZE}
+use Rattle.pattern_index.specs.Selections.{IsTile, IsGroup, size_of}
+use Rattle.pattern_index.specs.declared.faults.GroupFault.{GroupFault}
+use Rattle.pattern_index.specs.declared.faults.GroupFault.TheVariants.{Empty, NotATile, Repeated, TooManyViews}
+use Rattle.pattern_index.specs.declared.faults.PartitionFault.{PartitionFault}
+use Rattle.pattern_index.specs.declared.faults.PartitionFault.TheVariants.{SharedTile, TooManyGroups}
 
 -- there is a number at this place, and none before it is at fault
 pub record IsFirstPlace (grid : Grid) (numbers : List ℕ) (place : ℕ) : Type 0 where
@@ -19,16 +20,16 @@ IsFirstFault grid numbers Empty = numbers ≡ []
 IsFirstFault grid numbers NotATile = (place : ℕ) × IsFirstPlace grid numbers place × (¬ IsTile grid (slice_index numbers place))
 IsFirstFault grid numbers Repeated =
     (place : ℕ) × IsFirstPlace grid numbers place × IsTile grid (slice_index numbers place) × Contains (take place numbers) (slice_index numbers place)
-IsFirstFault grid numbers TooManyViews = (numbers ≢ []) × IsGroup grid numbers × (max_size < size_of (record { grid = grid; tiles = numbers }))
+IsFirstFault grid numbers TooManyViews = (numbers ≢ []) × IsGroup grid numbers × (MAX_SIZE < size_of (record { grid = grid; tiles = numbers }))
 
 -- the code that a fault of a group is reported by
-abbrev pub group_code_of : GroupFault → List ℕ
-group_code_of Empty = codes "E5"
-group_code_of NotATile = codes "E6"
-group_code_of Repeated = codes "E7"
-group_code_of TooManyViews = codes "E8"
+abbrev pub group_code : GroupFault → List ℕ
+group_code Empty = codes "E5"
+group_code NotATile = codes "E6"
+group_code Repeated = codes "E7"
+group_code TooManyViews = codes "E8"
 
 -- of a partition
-abbrev pub partition_code_of : PartitionFault → List ℕ
-partition_code_of SharedTile = codes "E9"
-partition_code_of TooManyGroups = codes "E10"
+abbrev pub partition_code : PartitionFault → List ℕ
+partition_code SharedTile = codes "E9"
+partition_code TooManyGroups = codes "E10"

@@ -1,14 +1,14 @@
 -- The laws of the definitions. Each is the contract of a function that does nothing.
 use Rattle.std.specs.Prelude.{ℕ, zero, suc, ◌≡◌, ◌↔◌, ◌-◌, ◌*◌, ◌/◌, ◌<◌, ◌≤◌, List, length, Some, Contains, slice_index}
 use Rattle.board.specs.declared.moves.Move.{Move}
-use Rattle.board.specs.Grids.{Grid, cell_count}
+use Rattle.board.specs.Grids.{cell_count}
 use Rattle.board.specs.Neighbours.{opposite}
 use Rattle.board.specs.Positions.{Position, IsBoard, blank_of}
 use Rattle.board.specs.CostRules.{CostRule}
 use Rattle.board.specs.Keys.{Precedes}
 use Rattle.board.specs.Moves.{Moves}
 use Rattle.pattern_index.specs.Ranks.{ways, IsListing, rank_of}
-use Rattle.pattern_index.specs.Views.{Sight, IsView, ViewMoves, view_of}
+use Rattle.pattern_index.specs.Views.{Sight, IsView, Abstraction, ViewMoves, view_of}
 use Rattle.pattern_index.specs.Selections.{Selection, IsSelection, IsGroup, rank_in, size_of, sight_successor}
 
 -- n!, the numbers from 1 to n multiplied
@@ -53,7 +53,7 @@ ViewRanksDiffer = (g : Selection) (v w : Sight) → IsView g.grid g.tiles v → 
 abbrev pub ViewRanksFill : Type 0
 ViewRanksFill = (g : Selection) (k : ℕ) → IsSelection g → k < size_of g → (v : Sight) × IsView g.grid g.tiles v × (rank_in g.grid v ≡ k)
 
--- what a group sees of a board is a view
+-- what a group sees of a board, its abstraction, is a view
 abbrev pub BoardsHaveViews : Type 0
 BoardsHaveViews = (tiles : List ℕ) (b : Position) → IsBoard b → IsGroup b.grid tiles → IsView b.grid tiles (view_of tiles b)
 
@@ -65,29 +65,23 @@ MovesAreViewMoves =
     → IsGroup b.grid tiles
     → Moves rule b m b' c
     → (seen : ℕ)
-    × ViewMoves b.grid rule tiles (view_of tiles b) m (view_of tiles b') seen
+    × ViewMoves (record { grid = b.grid; rule = rule; tiles = tiles }) (view_of tiles b) m (view_of tiles b') seen
     × (Contains tiles (slice_index b.tiles (blank_of b')) → seen ≡ c)
     × (¬ Contains tiles (slice_index b.tiles (blank_of b')) → seen ≡ 0)
 
 -- what is computed of a view's move is what it does
 abbrev pub SuccessorsAreViewMoves : Type 0
 SuccessorsAreViewMoves =
-    (grid : Grid) (rule : CostRule) (tiles : List ℕ) (v : Sight) (m : Move) (v' : Sight) (c : ℕ)
-    → IsView grid tiles v
-    → (sight_successor grid rule tiles v m ≡ Some (v', c)) ↔ ViewMoves grid rule tiles v m v' c
+    (a : Abstraction) (v : Sight) (m : Move) (v' : Sight) (c : ℕ)
+    → IsView a.grid a.tiles v
+    → (sight_successor a v m ≡ Some (v', c)) ↔ ViewMoves a v m v' c
 
 -- a view's move leads to a view
 abbrev pub ViewMovesKeepViews : Type 0
 ViewMovesKeepViews =
-    (grid : Grid) (rule : CostRule) (tiles : List ℕ) (v : Sight) (m : Move) (v' : Sight) (c : ℕ)
-    → IsView grid tiles v
-    → ViewMoves grid rule tiles v m v' c
-    → IsView grid tiles v'
+    (a : Abstraction) (v : Sight) (m : Move) (v' : Sight) (c : ℕ) → IsView a.grid a.tiles v → ViewMoves a v m v' c → IsView a.grid a.tiles v'
 
 -- the opposite move takes a view's move back, at the same cost
 abbrev pub ViewMovesAreTakenBack : Type 0
 ViewMovesAreTakenBack =
-    (grid : Grid) (rule : CostRule) (tiles : List ℕ) (v : Sight) (m : Move) (v' : Sight) (c : ℕ)
-    → IsView grid tiles v
-    → ViewMoves grid rule tiles v m v' c
-    → ViewMoves grid rule tiles v' (opposite m) v c
+    (a : Abstraction) (v : Sight) (m : Move) (v' : Sight) (c : ℕ) → IsView a.grid a.tiles v → ViewMoves a v m v' c → ViewMoves a v' (opposite m) v c

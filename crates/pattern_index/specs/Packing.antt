@@ -1,29 +1,22 @@
 -- How views and groups lie in memory: their numbers, and zeros behind them.
-use Rattle.std.specs.Prelude.{◌≡◌, ℕ, zero, suc, ◌-◌, ◌<◌, ◌≤◌, List, [], ◌∷◌, ◌++◌, length, take, drop, replicate, slice_index}
+use Rattle.std.specs.Prelude.{◌≡◌, ℕ, zero, suc, ◌<◌, ◌≤◌, List, [], ◌∷◌, length, take, drop, slice_index}
 use Rattle.std.proofs.Common.{refl, sym, ap, ◌∙◌, arith}
-use Rattle.std.proofs.lemmas.List.{take-append-drop, length-take-le}
+use Rattle.std.proofs.lemmas.List.{length-take-le}
+use Rattle.board.specs.Padding.{array_of, IsPadded, array_of-take}
 use Rattle.pattern_index.specs.Views.{Sight}
 use Rattle.pattern_index.specs.Selections.{Selection, IsSelection, size_of}
 use Rattle.pattern_index.specs.declared.view.View.TheInside as view
 use Rattle.pattern_index.specs.declared.group.Group.TheInside as group
 
--- the numbers that are used fit, and those behind them are 0
-pub record IsPadded (most count : ℕ) (numbers : List ℕ) : Type 0 where
+-- so many numbers of the array are used, and those behind them are 0
+pub record IsFilled (most count : ℕ) (array : List ℕ) : Type 0 where
   pub few : count ≤ most
-  pub all : length numbers ≡ most
-  pub unused : drop count numbers ≡ replicate (most - count) 0
+  pub all : length array ≡ most
+  pub unused : IsPadded most count array
 
--- the numbers that are used, with zeros behind them
-abbrev pub padded : ℕ → List ℕ → List ℕ
-padded most numbers = numbers ++ replicate (most - length numbers) 0
-
--- nothing is lost of padded numbers
-pub padded_back : (most count : ℕ) (numbers : List ℕ) → IsPadded most count numbers → padded most (take count numbers) ≡ numbers
-padded_back most count numbers is =
-    let all = is.all in
-    let few = is.few in
-    let used : length (take count numbers) ≡ count = length-take-le count numbers (omega arith) in
-    ap (λ k. take count numbers ++ replicate (most - k) 0) used ∙ ap (λ ys. take count numbers ++ ys) (sym is.unused) ∙ take-append-drop count numbers
+-- as many are read as are used
+pub length_used : (most count : ℕ) (array : List ℕ) → IsFilled most count array → length (take count array) ≡ count
+length_used most count array filled = let few = filled.few in let all = filled.all in length-take-le count array (omega arith)
 
 -- ---- views
 
@@ -33,12 +26,12 @@ sight_in inside = record { blank = slice_index inside.places 0; cells = drop 1 (
 
 -- the memory of a view
 abbrev pub view_storage : Sight → view.Inside
-view_storage v = record { count = suc (length v.cells); places = padded 10 (v.blank ∷ v.cells) }
+view_storage v = record { count = suc (length v.cells); places = array_of 10 (v.blank ∷ v.cells) }
 
 -- the memory holds the blank's cell at least
 pub record IsStoredView (inside : view.Inside) : Type 0 where
   pub some : 0 < inside.count
-  pub places : IsPadded 10 inside.count inside.places
+  pub places : IsFilled 10 inside.count inside.places
 
 take_first : (count : ℕ) (places : List ℕ) → 0 < count → count ≤ length places → slice_index places 0 ∷ drop 1 (take count places) ≡ take count places
 take_first count [] some le = absurd (omega arith)
@@ -49,10 +42,10 @@ pub view_storage-sight_in : (inside : view.Inside) → IsStoredView inside → v
 view_storage-sight_in inside stored =
     let all = stored.places.all in
     let few = stored.places.few in
-    let used : length (take inside.count inside.places) ≡ inside.count = length-take-le inside.count inside.places (omega arith) in
+    let used : length (take inside.count inside.places) ≡ inside.count = length_used 10 inside.count inside.places stored.places in
     let first : slice_index inside.places 0 ∷ drop 1 (take inside.count inside.places) ≡ take inside.count inside.places = take_first inside.count inside.places stored.some (omega arith) in
-    let back : padded 10 (take inside.count inside.places) ≡ inside.places = padded_back 10 inside.count inside.places stored.places in
-    λ i. record { count = (ap length first ∙ used) i; places = (ap (padded 10) first ∙ back) i }
+    let back : array_of 10 (take inside.count inside.places) ≡ inside.places = array_of-take 10 inside.count inside.places used stored.places.unused in
+    λ i. record { count = (ap length first ∙ used) i; places = (ap (array_of 10) first ∙ back) i }
 
 -- ---- groups
 
@@ -62,18 +55,16 @@ selection_in inside = record { grid = inside.shape; tiles = take inside.count in
 
 -- the memory of a group
 abbrev pub group_storage : Selection → group.Inside
-group_storage g = record { shape = g.grid; count = length g.tiles; tiles = padded 9 g.tiles; size = size_of g }
+group_storage g = record { shape = g.grid; count = length g.tiles; tiles = array_of 9 g.tiles; size = size_of g }
 
 -- the memory holds a group and its size
 pub record IsStoredGroup (inside : group.Inside) : Type 0 where
   pub selection : IsSelection (selection_in inside)
-  pub tiles : IsPadded 9 inside.count inside.tiles
+  pub tiles : IsFilled 9 inside.count inside.tiles
   pub size : inside.size ≡ size_of (selection_in inside)
 
 pub group_storage-selection_in : (inside : group.Inside) → IsStoredGroup inside → group_storage (selection_in inside) ≡ inside
 group_storage-selection_in inside stored =
-    let all = stored.tiles.all in
-    let few = stored.tiles.few in
-    let used : length (take inside.count inside.tiles) ≡ inside.count = length-take-le inside.count inside.tiles (omega arith) in
-    let tiles : padded 9 (take inside.count inside.tiles) ≡ inside.tiles = padded_back 9 inside.count inside.tiles stored.tiles in
+    let used : length (take inside.count inside.tiles) ≡ inside.count = length_used 9 inside.count inside.tiles stored.tiles in
+    let tiles : array_of 9 (take inside.count inside.tiles) ≡ inside.tiles = array_of-take 9 inside.count inside.tiles used stored.tiles.unused in
     λ i. record { shape = inside.shape; count = used i; tiles = tiles i; size = sym stored.size i }

@@ -5,7 +5,8 @@ use Rattle.board.specs.Grids.{Grid, IsShape, cell_count}
 use Rattle.board.specs.declared.moves.Move.{Move}
 use Rattle.board.specs.Neighbours.{neighbour}
 use Rattle.board.specs.CostRules.{CostRule}
-use Rattle.pattern_index.specs.Views.{Sight, weight_on}
+use Rattle.pattern_index.specs.declared.group.TheConstants.{MAX_SIZE}
+use Rattle.pattern_index.specs.Views.{Sight, Abstraction, weight_on}
 use Rattle.pattern_index.specs.Ranks.{ways, rank_of}
 
 -- Some tiles of the boards of a grid.
@@ -26,26 +27,26 @@ pub record IsGroup (grid : Grid) (numbers : List ℕ) : Type 0 where
 abbrev pub size_of : Selection → ℕ
 size_of g = ways (cell_count g.grid) (suc (length g.tiles))
 
--- the greatest number of views that a group may have, 2^26
-abbrev pub max_size : ℕ
-max_size = 67108864
-
 -- some tiles in rising order, with no more views than a group may have
 pub record IsSelection (g : Selection) : Type 0 where
   pub sides : IsShape g.grid
   pub group : IsGroup g.grid g.tiles
   pub rising : IsStrictlyIncreasing g.tiles
   pub some : 0 < length g.tiles
-  pub small : size_of g ≤ max_size
+  pub small : size_of g ≤ MAX_SIZE
 
 -- the rank of a view: that of its cells, the blank's first
 abbrev pub rank_in : Grid → Sight → ℕ
 rank_in grid v = rank_of (cell_count grid) (v.blank ∷ v.cells)
 
+-- the puzzle with all tiles but the group's left out
+abbrev pub abstraction_of : Selection → CostRule → Abstraction
+abstraction_of g rule = record { grid = g.grid; rule = rule; tiles = g.tiles }
+
 -- the view after the blank goes to a cell, and what that costs
-abbrev pub sight_moved_to : CostRule → List ℕ → Sight → ℕ → Sight × ℕ
-sight_moved_to rule tiles v to = (record { blank = to; cells = map (λ cell. if cell == to then v.blank else cell) v.cells }, weight_on rule tiles v.cells to)
+abbrev pub sight_successor_at : Abstraction → Sight → ℕ → Sight × ℕ
+sight_successor_at a v to = (record { blank = to; cells = map (λ cell. if cell == to then v.blank else cell) v.cells }, weight_on a.rule a.tiles v.cells to)
 
 -- the view move computed: the view after it and its cost, where the blank stays on the board
-abbrev pub sight_successor : Grid → CostRule → List ℕ → Sight → Move → Option (Sight × ℕ)
-sight_successor grid rule tiles v m = option_map (sight_moved_to rule tiles v) (neighbour grid m v.blank)
+abbrev pub sight_successor : Abstraction → Sight → Move → Option (Sight × ℕ)
+sight_successor a v m = option_map (sight_successor_at a v) (neighbour a.grid m v.blank)

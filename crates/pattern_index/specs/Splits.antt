@@ -2,8 +2,8 @@
 use Rattle.std.specs.Prelude.{ℕ, ◌≡◌, ◌<◌, ◌≤◌, List, length, All, AllPairs, Contains}
 use Rattle.board.specs.Grids.{Grid}
 use Rattle.pattern_index.specs.Selections.{Selection, IsSelection}
-use Rattle.pattern_index.specs.declared.fault.PartitionFault.{PartitionFault}
-use Rattle.pattern_index.specs.declared.fault.PartitionFault.TheVariants.{SharedTile, TooManyGroups}
+use Rattle.pattern_index.specs.declared.faults.PartitionFault.{PartitionFault}
+use Rattle.pattern_index.specs.declared.faults.PartitionFault.TheVariants.{SharedTile, TooManyGroups}
 
 -- Groups of tiles of the boards of a grid.
 pub record Split : Type 0 where

@@ -11,7 +11,7 @@ pub record Sight : Type 0 where
   pub blank : ℕ
   pub cells : List ℕ
 
--- what the tiles see of a board
+-- what the tiles see of a board: its abstraction, in which all other tiles are left out
 abbrev pub view_of : List ℕ → Position → Sight
 view_of tiles b = record { blank = blank_of b; cells = map (cell_of b) tiles }
 
@@ -27,15 +27,21 @@ weight_on rule [] cells cell = 0
 weight_on rule (tile ∷ tiles) [] cell = 0
 weight_on rule (tile ∷ tiles) (x ∷ cells) cell = if x == cell then weight_of rule tile else weight_on rule tiles cells cell
 
+-- The puzzle with all tiles but these left out: an abstraction of it, whose states are the views.
+pub record Abstraction : Type 0 where
+  pub grid : Grid
+  pub rule : CostRule
+  pub tiles : List ℕ
+
 -- The blank goes to its neighbour in the direction m. A tile of the group that stands there goes to where
 -- the blank was, at its weight. A move of any other tile, which isn't seen, costs nothing.
-pub record ViewMoves (grid : Grid) (rule : CostRule) (tiles : List ℕ) (v : Sight) (m : Move) (v' : Sight) (c : ℕ) : Type 0 where
-  pub towards : LiesTowards grid m v.blank v'.blank
+pub record ViewMoves (a : Abstraction) (v : Sight) (m : Move) (v' : Sight) (c : ℕ) : Type 0 where
+  pub towards : LiesTowards a.grid m v.blank v'.blank
   pub exchanged : v'.cells ≡ map (λ cell. if cell == v'.blank then v.blank else cell) v.cells
-  pub cost : c ≡ weight_on rule tiles v.cells v'.blank
+  pub cost : c ≡ weight_on a.rule a.tiles v.cells v'.blank
 
 -- the moves of the plan take v to w, and their costs add up to k
-abbrev pub ViewLeads : Grid → CostRule → List ℕ → Sight → List Move → Sight → ℕ → Type 0
-ViewLeads grid rule tiles v [] w k = (w ≡ v) × (k ≡ 0)
-ViewLeads grid rule tiles v (m ∷ plan) w k =
-    (next : Sight) × (c rest : ℕ) × ViewMoves grid rule tiles v m next c × ViewLeads grid rule tiles next plan w rest × (k ≡ c + rest)
+abbrev pub ViewLeads : Abstraction → Sight → List Move → Sight → ℕ → Type 0
+ViewLeads a v [] w k = (w ≡ v) × (k ≡ 0)
+ViewLeads a v (m ∷ plan) w k =
+    (next : Sight) × (c rest : ℕ) × ViewMoves a v m next c × ViewLeads a next plan w rest × (k ≡ c + rest)

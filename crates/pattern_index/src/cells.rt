@@ -1,16 +1,18 @@
 //! Ranks of lists of cells.
 
-ghost use Rattle.std.specs.Prelude.{ℕ, ◌≡◌, ◌+◌, ◌-◌, ◌*◌, ◌%◌, ◌^◌, ◌<◌, ◌≤◌, length, map, All, bit_or, count_ones};
+ghost use Rattle.std.specs.Prelude.{ℕ, ◌≡◌, ◌+◌, ◌-◌, ◌*◌, ◌%◌, ◌^◌, ◌<◌, ◌≤◌};
+ghost use Rattle.std.specs.Prelude.{length, map, All, bit_or, count_ones};
 ghost use Rattle.pattern_index.specs.Ranks.{ways, IsListing, rank_of, spread, list_at};
-ghost use Rattle.pattern_index.specs.Selections.{max_size};
 
-// The rank of a list of different cells, of so many cells. It is made from the front, and each cell counts
-// without the smaller ones that were seen.
+use crate::group::MAX_SIZE;
+
+// The rank of a list of different cells, of so many cells. It is made from the front, and each cell
+// counts without the smaller ones that were seen.
 pub(crate) fn rank_cells(cells: usize, list: &[u8]) -> usize
     requires few { cells ≤ 25 }
     requires listing { IsListing cells list.now }
     requires fits { length list.now ≤ cells }
-    requires small { ways cells (length list.now) ≤ max_size }
+    requires small { ways cells (length list.now) ≤ MAX_SIZE }
     ensures { result ≡ rank_of cells list.now }
 {
     let mut rank = 0;
@@ -42,8 +44,8 @@ fn with_bit(mask: u32, cell: u8) -> u32
     mask | (1u32 << cell)
 }
 
-// Writes the list of different cells that has a rank, from its end: each cell taken out before those that
-// are written moves them up past itself.
+// Writes the list of different cells that has a rank, from its end: each cell taken out before
+// those that are written moves them up past itself.
 pub(crate) fn list_cells(cells: usize, rank: usize, list: &mut [u8])
     requires few { cells ≤ 25 }
     requires fits { length list.old ≤ cells }

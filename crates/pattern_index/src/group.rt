@@ -1,25 +1,29 @@
 //! Groups of tiles.
 
-ghost use Rattle.std.specs.Prelude.{ℕ, suc, ◌≡◌, ◌↔◌, ◌+◌, ◌-◌, ◌/◌, ◌<◌, ◌≤◌, length, All, IsTrue, IsOk, IsErrOf, IfOk, IfErr, IfSome, OnOk, OnSome, MatchOption, IsPermutation, Some};
+ghost use Rattle.std.specs.Prelude.{ℕ, suc, ◌≡◌, ◌↔◌, ◌+◌, ◌-◌, ◌/◌, ◌<◌, ◌≤◌, Some};
+ghost use Rattle.std.specs.Prelude.{IsTrue, IsOk, IsErrOf, IfOk, IfErr, IfSome, OnOk, OnSome};
+ghost use Rattle.std.specs.Prelude.{MatchOption, IsPermutation, length, All};
 ghost use Rattle.std.specs.List.Sorted.{IsNonDecreasing};
 ghost use Rattle.board.specs.Grids.{cell_count};
 ghost use Rattle.pattern_index.specs.Views.{Sight, IsView, ViewMoves, view_of, weight_on};
 ghost use Rattle.pattern_index.specs.Ranks.{ways};
-ghost use Rattle.pattern_index.specs.Selections.{Selection, IsTile, IsGroup, IsSelection, size_of, max_size, rank_in, sight_successor};
+ghost use Rattle.pattern_index.specs.Selections.{Selection, IsTile, IsGroup, IsSelection};
+ghost use Rattle.pattern_index.specs.Selections.{size_of, rank_in, abstraction_of};
+ghost use Rattle.pattern_index.specs.Selections.{sight_successor};
 ghost use Rattle.pattern_index.specs.Laws.{factorial};
 ghost use Rattle.pattern_index.specs.Faults.{IsFirstFault};
-ghost use Rattle.pattern_index.specs.declared.fault.GroupFault.{GroupFault};
+ghost use Rattle.pattern_index.specs.declared.faults.GroupFault.{GroupFault};
 
-use super::cells::rank_cells;
-use super::fault::GroupFault;
-use super::view::View;
+use crate::cells::rank_cells;
+use crate::faults::GroupFault;
+use crate::view::View;
 use board::{Board, Move, Shape, Weights};
 use std::marker::Model;
 
 /// The greatest number of views that a group may have, 2^26.
 pub const MAX_SIZE: usize = 67_108_864;
 
-/// Some tiles in rising order, 9 at most, with no more than 67,108,864 views.
+/// Some tiles in rising order, 9 at most, with no more than `MAX_SIZE` views.
 #[derive(Clone, Copy, Debug)]
 pub struct Group {
     shape: Shape,
@@ -33,7 +37,8 @@ impl Model for Group {
 
     ghost Value = { Selection };
 
-    ghost use Rattle.pattern_index.specs.Packing.{selection_in, group_storage, IsStoredGroup, group_storage-selection_in};
+    ghost use Rattle.pattern_index.specs.Packing.{selection_in, group_storage, IsStoredGroup};
+    ghost use Rattle.pattern_index.specs.Packing.{group_storage-selection_in};
 
     ghost view = { selection_in };
 
@@ -68,16 +73,18 @@ impl Eq for Group {
 }
 
 impl Group {
-    /// The group of these tiles, or the first fault: E5 where there is none, else by place E6 where a number
-    /// is no tile of the shape's boards, E7 where it stood before, else E8 where there are more than
-    /// 67,108,864 views.
+    /// The group of these tiles, or the first fault: E5 where there is none, else by place E6 where
+    /// a number is no tile of the shape's boards, E7 where it stood before, else E8 where there are
+    /// more than `MAX_SIZE` views.
     pub fn new(shape: Shape, numbers: &[u8]) -> Result<Self, GroupFault>
         ensures accepted { IsOk result ↔
-            (0 < length numbers.now) × IsGroup shape numbers.now × (size_of (record { grid = shape; tiles = numbers.now }) ≤ max_size) }
+            (0 < length numbers.now) × IsGroup shape numbers.now
+            × (size_of (record { grid = shape; tiles = numbers.now }) ≤ MAX_SIZE) }
         ensures grid { IfOk result (λ g. g.grid ≡ shape) }
         ensures tiles { IfOk result (λ g. IsPermutation numbers.now g.tiles) }
         ensures group { IfOk result IsSelection }
-        ensures fault { (fault : GroupFault) → IsErrOf result fault ↔ IsFirstFault shape numbers.now fault }
+        ensures fault { (fault : GroupFault) →
+            IsErrOf result fault ↔ IsFirstFault shape numbers.now fault }
     {
         if let Err(fault) = check_tiles(shape, numbers) {
             return Err(fault);
@@ -117,14 +124,15 @@ impl Group {
     /// How many views it has: N! / (N - k - 1)! for k tiles and N cells.
     pub fn size(&self) -> usize
         ensures value { result ≡ size_of self.now }
-        ensures quotient { result ≡ factorial (cell_count self.now.grid) / factorial (cell_count self.now.grid - suc (length self.now.tiles)) }
+        ensures quotient { result ≡ factorial (cell_count self.now.grid)
+            / factorial (cell_count self.now.grid - suc (length self.now.tiles)) }
         ensures low { 1 ≤ result }
-        ensures high { result ≤ max_size }
+        ensures high { result ≤ MAX_SIZE }
     {
         self.size
     }
 
-    /// What it sees of a board.
+    /// What it sees of a board: the board's abstraction for the group.
     pub fn view(&self, board: &Board) -> View
         requires { board.now.grid ≡ self.now.grid }
         ensures value { result ≡ view_of self.now.tiles board.now }
@@ -138,7 +146,7 @@ impl Group {
         requires { IsView self.now.grid self.now.tiles view.now }
         ensures value { result ≡ rank_in self.now.grid view.now }
         ensures below { result < size_of self.now }
-        ensures high { result < max_size }
+        ensures high { result < MAX_SIZE }
     {
         rank_cells(self.shape().cells(), view.cells())
     }
@@ -148,19 +156,22 @@ impl Group {
         requires { rank < size_of self.now }
         ensures view { IsView self.now.grid self.now.tiles result }
         ensures rank { rank_in self.now.grid result ≡ rank }
-        ensures one { (v : Sight) → IsView self.now.grid self.now.tiles v → rank_in self.now.grid v ≡ rank → v ≡ result }
+        ensures one { (v : Sight) → IsView self.now.grid self.now.tiles v
+            → rank_in self.now.grid v ≡ rank → v ≡ result }
     {
         View::of_rank(self.shape().cells(), self.tiles().len() + 1, rank)
     }
 
-    /// The view after a move of the blank, and the weight of the tile moved where it is the group's, else 0;
-    /// or None where the blank would leave the board.
+    /// The view after a move of the blank, and the weight of the tile moved where it is the
+    /// group's, else 0; or None where the blank would leave the board.
     pub fn step(&self, view: &View, direction: Move, weights: &Weights) -> Option<(View, u32)>
         requires grid { weights.now.grid ≡ self.now.grid }
         requires view { IsView self.now.grid self.now.tiles view.now }
         ensures moves { (v : Sight) (cost : ℕ) →
-            (result ≡ Some (v, cost)) ↔ ViewMoves self.now.grid weights.now self.now.tiles view.now direction v cost }
-        ensures value { result ≡ sight_successor self.now.grid weights.now self.now.tiles view.now direction }
+            (result ≡ Some (v, cost))
+            ↔ ViewMoves (abstraction_of self.now weights.now) view.now direction v cost }
+        ensures value { result
+            ≡ sight_successor (abstraction_of self.now weights.now) view.now direction }
         ensures view { IfSome result (λ moved. IsView self.now.grid self.now.tiles moved.0) }
         ensures high { IfSome result (λ moved. moved.1 ≤ 255) }
     {
@@ -200,7 +211,8 @@ fn check_tiles(shape: Shape, numbers: &[u8]) -> Result<(), GroupFault>
 fn count_ways(cells: usize, places: usize) -> Option<usize>
     requires few { cells ≤ 25 }
     requires room { places ≤ cells }
-    ensures { MatchOption result (max_size < ways cells places) (λ n. (n ≡ ways cells places) × (n ≤ max_size)) }
+    ensures { MatchOption result (MAX_SIZE < ways cells places)
+        (λ n. (n ≡ ways cells places) × (n ≤ MAX_SIZE)) }
 {
     let mut ways = 1;
     'places: for place in 0..places {

@@ -1,14 +1,22 @@
 //! The laws of the definitions: each is the contract of a function that does nothing.
 
-ghost use Rattle.pattern_index.specs.Laws.{WaysAreFactorials, RanksAreBelow, RanksDiffer, RanksFill, RanksAreInOrder, GroupsAreSmall, ViewRanksAreBelow, ViewRanksDiffer, ViewRanksFill, BoardsHaveViews, MovesAreViewMoves, SuccessorsAreViewMoves, ViewMovesKeepViews, ViewMovesAreTakenBack};
+ghost use Rattle.std.specs.Prelude.{◌≡◌, ◌^◌};
+ghost use Rattle.pattern_index.specs.Laws.{WaysAreFactorials, RanksAreBelow, RanksDiffer};
+ghost use Rattle.pattern_index.specs.Laws.{RanksFill, RanksAreInOrder, GroupsAreSmall};
+ghost use Rattle.pattern_index.specs.Laws.{ViewRanksAreBelow, ViewRanksDiffer, ViewRanksFill};
+ghost use Rattle.pattern_index.specs.Laws.{BoardsHaveViews, MovesAreViewMoves};
+ghost use Rattle.pattern_index.specs.Laws.{SuccessorsAreViewMoves, ViewMovesKeepViews};
+ghost use Rattle.pattern_index.specs.Laws.{ViewMovesAreTakenBack};
+
+use crate::group::MAX_SIZE;
 
 /// The ways to list different cells are a quotient of factorials.
 pub fn ways_are_factorials()
     ensures { WaysAreFactorials }
 {}
 
-/// A rank is a place in lexicographic order: the ranks of lists of one length are the numbers below the
-/// count of ways, no two lists share one, and the earlier list has the smaller one.
+/// A rank is a place in lexicographic order: the ranks of lists of one length are the numbers below
+/// the count of ways, no two lists share one, and the earlier list has the smaller one.
 pub fn ranks_are_places()
     ensures below { RanksAreBelow }
     ensures differ { RanksDiffer }
@@ -16,9 +24,10 @@ pub fn ranks_are_places()
     ensures order { RanksAreInOrder }
 {}
 
-/// A group has 9 tiles at most.
+/// A group has 2^26 views at most, and 9 tiles at most.
 pub fn groups_are_small()
-    ensures { GroupsAreSmall }
+    ensures views { MAX_SIZE ≡ 2 ^ 26 }
+    ensures tiles { GroupsAreSmall }
 {}
 
 /// The ranks of a group's views are the numbers below its size, and no two views share one.
@@ -28,13 +37,13 @@ pub fn views_are_ranked()
     ensures fill { ViewRanksFill }
 {}
 
-/// What a group sees of a board is a view.
+/// What a group sees of a board, its abstraction, is a view.
 pub fn boards_have_views()
     ensures { BoardsHaveViews }
 {}
 
-/// A move of a board is a view move of what each group sees, at the move's cost where the tile moved is
-/// the group's, else at 0.
+/// A move of a board is a view move of what each group sees, at the move's cost where the tile
+/// moved is the group's, else at 0.
 pub fn moves_are_view_moves()
     ensures { MovesAreViewMoves }
 {}

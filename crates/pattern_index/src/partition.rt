@@ -3,10 +3,10 @@
 ghost use Rattle.std.specs.Prelude.{◌≡◌, ◌↔◌, ◌<◌, ◌≤◌, length, All, IsOk, IsErrOf, IfOk, IsTrue};
 ghost use Rattle.pattern_index.specs.Selections.{IsSelection};
 ghost use Rattle.pattern_index.specs.Splits.{Split, IsSplit, IsSplitFault, AreApart, ShareNoTile};
-ghost use Rattle.pattern_index.specs.declared.fault.PartitionFault.{PartitionFault};
+ghost use Rattle.pattern_index.specs.declared.faults.PartitionFault.{PartitionFault};
 
-use super::fault::PartitionFault;
-use super::group::Group;
+use crate::faults::PartitionFault;
+use crate::group::Group;
 use board::Shape;
 use memory::{OutOfMemory, copy_of};
 use std::alloc::Global;
@@ -30,13 +30,14 @@ impl Model for Partition {
 }
 
 impl Partition {
-    /// The partition of these groups, which are of this shape, or its fault: E10 where there are more than
-    /// 24, else E9 where two share a tile.
+    /// The partition of these groups, which are of this shape, or its fault: E10 where there are
+    /// more than 24, else E9 where two share a tile.
     pub fn new(shape: Shape, groups: Vec<Group>) -> Result<Self, PartitionFault>
         requires { All (λ g. g.grid ≡ shape) groups.items }
         ensures accepted { IsOk result ↔ (length groups.items ≤ 24) × AreApart groups.items }
         ensures value { IfOk result (λ p. p ≡ record { grid = shape; groups = groups.items }) }
-        ensures fault { (fault : PartitionFault) → IsErrOf result fault ↔ IsSplitFault groups.items fault }
+        ensures fault { (fault : PartitionFault) →
+            IsErrOf result fault ↔ IsSplitFault groups.items fault }
     {
         if groups.len() > 24 {
             return Err(PartitionFault::TooManyGroups);

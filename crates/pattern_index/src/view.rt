@@ -1,17 +1,18 @@
 //! Views: the cells of the blank and of a group's tiles.
 
-ghost use Rattle.std.specs.Prelude.{ℕ, suc, ◌≡◌, ◌↔◌, ◌==◌, ◌<◌, ◌≤◌, ◌∷◌, length, slice_index, map, if◌then◌else◌, All, IsTrue};
+ghost use Rattle.std.specs.Prelude.{ℕ, suc, ◌≡◌, ◌↔◌, ◌==◌, ◌<◌, ◌≤◌, ◌∷◌, if◌then◌else◌};
+ghost use Rattle.std.specs.Prelude.{length, slice_index, map, All, IsTrue};
 ghost use Rattle.board.specs.Grids.{cell_count};
 ghost use Rattle.board.specs.Positions.{IsBoard, cell_of};
 ghost use Rattle.pattern_index.specs.Ranks.{ways, list_at};
 ghost use Rattle.pattern_index.specs.Views.{Sight, view_of};
 
-use super::cells::list_cells;
+use crate::cells::list_cells;
 use board::Board;
 use std::marker::Model;
 
-/// What a group sees of a board: the cell of the blank, and those of the group's tiles in rising order of
-/// tile.
+/// What a group sees of a board, the board's abstraction for that group: the cell of the blank, and
+/// those of the group's tiles in rising order of tile.
 #[derive(Clone, Copy, Debug)]
 pub struct View {
     count: u8,
@@ -23,7 +24,8 @@ impl Model for View {
 
     ghost Value = { Sight };
 
-    ghost use Rattle.pattern_index.specs.Packing.{sight_in, view_storage, IsStoredView, view_storage-sight_in};
+    ghost use Rattle.pattern_index.specs.Packing.{sight_in, view_storage, IsStoredView};
+    ghost use Rattle.pattern_index.specs.Packing.{view_storage-sight_in};
 
     ghost view = { sight_in };
 
@@ -109,7 +111,10 @@ impl View {
 
     // The view after the blank goes to a cell, from which a tile goes to where the blank was.
     pub(crate) fn moved_to(&self, to: u8) -> Self
-        ensures { result ≡ record { blank = to; cells = map (λ cell. if cell == to then self.now.blank else cell) self.now.cells } }
+        ensures { result ≡ record {
+          blank = to;
+          cells = map (λ cell. if cell == to then self.now.blank else cell) self.now.cells;
+        } }
     {
         let count = self.count as usize;
         let mut places = self.places;
@@ -127,11 +132,12 @@ impl View {
 fn cells_of(board: &Board) -> [u8; 25]
     ensures board { IsBoard board.now }
     ensures few { cell_count board.now.grid ≤ 25 }
-    ensures cells { (number : ℕ) → number < cell_count board.now.grid → slice_index result number ≡ cell_of board.now number }
+    ensures cells { (number : ℕ) → number < cell_count board.now.grid
+        → slice_index result number ≡ cell_of board.now number }
 {
     let mut cells = [0; 25];
-    'cells: for cell in 0..board.shape().cells() {
-        cells[board.tile(cell) as usize] = cell as u8;
+    'cells: for (cell, tile) in board.tiles().iter().enumerate() {
+        cells[*tile as usize] = cell as u8;
     }
     cells
 }

@@ -1,3 +1,5 @@
+//! The fault of each call, carried to the sum of all of them by `?`.
+
 ghost use Rattle.std.specs.Prelude.{◌≡◌, IfOk, All};
 
 use board::Shape;
@@ -7,8 +9,9 @@ use pattern_index::{Group, Partition};
 use std::alloc::Global;
 use std::test::Fail;
 
-// What is asked for on 4 by 4: a group of these numbers, a partition of so many groups of tile 1, its bound without
-// any table, and a table of so many values of tile 1; and the code of the first fault.
+// What is asked for on 4 by 4: a group of these numbers, a partition of so many groups of tile 1,
+// its bound without any table, and a table of so many values of tile 1; and the code of the first
+// fault.
 struct Asked {
     numbers: &'static [u8],
     groups: usize,

@@ -1,3 +1,5 @@
+//! Sizes and ranks of groups, moves of views, and partitions.
+
 use board::Move::{L, U};
 use board::{Board, Shape, Weights};
 use pattern_index::{Group, MAX_SIZE, Partition};
@@ -99,8 +101,8 @@ fn stated_ranks(rt: HostRuntime) -> Result<(), Fail> {
     Ok(())
 }
 
-// The blank goes from cell 2 of a board of 3 by 3 to cell 1, from which tile 2 comes. The move counts in a group of
-// that tile alone, and a move up leaves the board.
+// The blank goes from cell 2 of a board of 3 by 3 to cell 1, from which tile 2 comes. The move
+// counts in a group of that tile alone, and a move up leaves the board.
 #[test]
 fn view_moves(rt: HostRuntime) -> Result<(), Fail> {
     let shape = Shape::new(3, 3)?;

@@ -1,3 +1,5 @@
+//! Sums of boards, beside the costs that a search finds.
+
 ghost use Rattle.std.specs.Prelude.{◌≡◌, IfOk};
 
 use board::{Board, Shape, Weights, same_class};
@@ -75,7 +77,8 @@ fn digits(number: u32) -> [u8; 6] {
     digits
 }
 
-// The cost of a least plan, or 65,535 where the boards are of two classes. A board of the goal's class has a plan.
+// The cost of a least plan, or `NO_VALUE` where the boards are of two classes. A board of the
+// goal's class has a plan.
 fn least_cost(alloc: Global, start: &Board, goal: &Board, weights: &Weights) -> Result<u32, Fail>
     requires start { start.now.grid ≡ goal.now.grid }
     requires weights { weights.now.grid ≡ goal.now.grid }
@@ -96,8 +99,9 @@ const PARTITIONS: [&[&[u8]]; 3] = [
     &[&[1, 2, 3, 4, 5]],
 ];
 
-// Compares the sum of each board of 2 by 3 with the least cost, and counts the boards that have a plan. No sum is above
-// the cost, that of a group of all tiles is the cost itself, and only the goal's is 0.
+// Compares the sum of each board of 2 by 3 with the least cost, and counts the boards that have a
+// plan. No sum is above the cost, that of a group of all tiles is the cost itself, and only the
+// goal's is 0.
 fn compare_with_search(
     rt: &(impl Abort + AllocGlobal),
     goal: &Board,

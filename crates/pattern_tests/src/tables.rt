@@ -1,3 +1,5 @@
+//! Tables that were worked by hand.
+
 ghost use Rattle.std.specs.Prelude.{◌≡◌};
 
 use board::{Board, Shape, Weights};
@@ -6,8 +8,8 @@ use pattern_index::Group;
 use std::alloc::Global;
 use std::test::Fail;
 
-// The values of tile 1 on 2 by 2 at unit cost, by rank: the blank on cell 0 and the tile on 1, 2, 3; the blank on 1 and
-// the tile on 0, 2, 3; and so on.
+// The values of tile 1 on 2 by 2 at unit cost, by rank: the blank on cell 0 and the tile on 1, 2,
+// 3; the blank on 1 and the tile on 0, 2, 3; and so on.
 const TILE_ONE: [u16; 12] = [0, 2, 1, 1, 2, 1, 1, 0, 1, 1, 0, 2];
 
 // Values of tile 1 on 2 by 2, and whether they are a potential.

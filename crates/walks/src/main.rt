@@ -1,9 +1,11 @@
-//! Walks over boards, views and tables, by pseudo-random numbers or over all of a table, each of which prints what
-//! it came to. The scripts of `bench/` time each beside the same walk in plain Rust.
+//! Walks over boards, views and tables, by pseudo-random numbers or over all of a table, each of
+//! which prints what it came to. The scripts of `bench/` time each beside the same walk in plain
+//! Rust.
 //!
 //!     walks step SIDE STEPS          steps of a board
-//!     walks rank SIDE TILES RANKS    ranks of views of a group, whose tiles are the first ones
-//!     walks table ROWS COLS COUNT..  tables: the first group has the first tiles, and each takes the next
+//!     walks rank SIDE TILES RANKS    ranks of views of a group of the first tiles
+//!     walks table ROWS COLS COUNT..  tables: the first group has the first tiles, and each
+//!                                    takes the next
 //!
 //! Without a word it makes a small walk of each kind.
 #![tactic(auto)]

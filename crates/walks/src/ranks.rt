@@ -1,13 +1,18 @@
+//! Walks over the views of a group.
+
 ghost use Rattle.std.specs.Prelude.{◌≡◌, ◌≤◌, ◌*◌, length, All};
 ghost use Rattle.pattern_index.specs.Views.{IsView};
 ghost use Rattle.pattern_index.specs.Selections.{IsSelection};
 
 use crate::states::next_state;
-use pattern_index::{Group, View};
+use pattern_index::{Group, MAX_SIZE, View};
 
-/// What the ranks of so many views of a group add up to. The views are drawn from 1,024 of them.
+// How many views are drawn of a group: as many as 10 bits number.
+const DRAWN: usize = 1024;
+
+/// What the ranks of so many views of a group add up to. They are drawn from `DRAWN` of its views.
 pub fn sum_of_ranks(group: &Group, ranks: u32) -> u64
-    ensures { result ≤ 67108864 * ranks }
+    ensures { result ≤ MAX_SIZE * ranks }
 {
     let drawn = draw_views(group);
     let views = &drawn[..];
@@ -20,15 +25,15 @@ pub fn sum_of_ranks(group: &Group, ranks: u32) -> u64
     sum
 }
 
-// 1,024 views of a group.
-fn draw_views(group: &Group) -> [View; 1024]
-    ensures count { length result ≡ 1024 }
+// Some views of a group.
+fn draw_views(group: &Group) -> [View; DRAWN]
+    ensures count { length result ≡ DRAWN }
     ensures views { All (λ view. IsView group.now.grid group.now.tiles view) result }
 {
     let size = group.size() as u64;
-    let mut views = [group.unrank(0); 1024];
+    let mut views = [group.unrank(0); DRAWN];
     let mut state = 2;
-    'views: for place in 0..1024 {
+    'views: for place in 0..DRAWN {
         state = next_state(state);
         views[place] = group.unrank((state % size) as usize);
     }

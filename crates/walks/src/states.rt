@@ -1,3 +1,5 @@
+//! Pseudo-random numbers.
+
 /// The next state of a linear congruential generator modulo 2^64 (Knuth's MMIX).
 pub fn next_state(state: u64) -> u64 {
     state

@@ -1,3 +1,5 @@
+//! Walks over boards.
+
 ghost use Rattle.std.specs.Prelude.{◌≡◌, ◌≤◌, ◌*◌};
 
 use crate::states::next_state;
@@ -11,8 +13,8 @@ pub struct Walk {
     pub cost: u64,
 }
 
-/// The walk of so many moves from the goal of a shape, where moving a tile costs its number. A move that
-/// would leave the board is passed over.
+/// The walk of so many moves from the goal of a shape, where moving a tile costs its number. A move
+/// that would leave the board is passed over.
 pub fn walk_from_goal(shape: Shape, steps: u32) -> Walk
     ensures accepted { result.accepted ≤ steps }
     ensures cost { result.cost ≤ 255 * result.accepted }
@@ -35,12 +37,8 @@ pub fn walk_from_goal(shape: Shape, steps: u32) -> Walk
     walk
 }
 
-// The move that the two highest bits of a state stand for. The lower bits of such states repeat sooner.
+// The move that the two highest bits of a state stand for. The lower bits of such states repeat
+// sooner.
 fn direction_of(state: u64) -> Move {
-    match state >> 62 {
-        0 => Move::U,
-        1 => Move::L,
-        2 => Move::R,
-        _ => Move::D,
-    }
+    Move::ALL[(state >> 62) as usize]
 }

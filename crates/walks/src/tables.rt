@@ -1,3 +1,5 @@
+//! Tables, and what they come to.
+
 ghost use Rattle.std.specs.Prelude.{◌≡◌, length};
 
 use board::{Board, Weights};
@@ -21,8 +23,8 @@ pub fn table_of(alloc: Global, group: &Group) -> Result<Table, OutOfMemory> {
     build(alloc, group, &Board::goal(shape), &Weights::unit(shape))
 }
 
-/// The count of values, the highest of those that stand for a cost, their sum, and a number into which all
-/// of them are mixed in order (FNV-1a with a value in place of a byte).
+/// The count of values, the highest of those that stand for a cost, their sum, and a number into
+/// which all of them are mixed in order (FNV-1a with a value in place of a byte).
 pub fn summary_of(values: &[u16]) -> Summary
     ensures { result.views ≡ length values.now }
 {

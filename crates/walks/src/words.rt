@@ -1,3 +1,5 @@
+//! The walks that words name.
+
 use board::Shape;
 use pattern_index::Group;
 use std::alloc::Global;

@@ -1,20 +1,18 @@
-use Rattle.std.proofs.Common.{◌≡◌, ◌<◌, ap, ◌∙◌, arith}
+use Rattle.std.proofs.Common.{◌≡◌, ◌∙◌, length, get_or, ap, arith}
 use Rattle.std.proofs.lemmas.List.{length-set}
-use Rattle.board.specs.Grids.{cell_count}
 use Rattle.board.proofs.TileLemmas.{has_cell}
+use Rattle.pattern_index.proofs.GroupLemmas.{cells_high}
 use Rattle.pattern_index.proofs.StorageLemmas.{met_more}
 use Rattle.pattern_index.proofs.view.cells_of.Goals as goal
 
 pub cells-preserved : goal.cells-preserved
-cells-preserved c =
-    let end : c.cells-cell-end.result ≡ cell_count c.args.board.now.grid = c.cells-cell-end.ensures.value ∙ ap cell_count c.shape.ensures.value in
-    let within : c.cells.cell < cell_count c.args.board.now.grid = omega (arith, c.cells-test.true) in (
-      length-set c.cells.cells c.tile.result c.cells.cell ∙ c.cells.invariant.0,
-      met_more c.args.board.now c.cells.cells c.cells.cell c.tile.result c.shape.ensures.board within c.tile.ensures.value (omega (arith, c.tile.ensures.within, c.cells.invariant.0, c.cells-cell-end.ensures.high)) c.cells.invariant.1,
-    )
+cells-preserved c = (
+  length-set c.cells.cells (get_or c.tiles-tile-items.result.now c.cells.cell 0) c.cells.cell ∙ c.cells.invariant.0,
+  met_more c.args.board.now c.tiles-tile-items.result.now c.cells.cells c.cells.cell c.tiles-tile-items.ensures.board c.tiles-tile-items.ensures.value c.cells-test.true (omega (arith, c.cells.invariant.0, cells_high c.args.board.now.grid c.tiles-tile-items.ensures.board.sides)) c.cells.invariant.1,
+)
 
 pub returns-clause-cells : goal.returns-clause-cells
 returns-clause-cells c = λ number low.
-    let end : c.cells-cell-end.result ≡ cell_count c.args.board.now.grid = c.cells-cell-end.ensures.value ∙ ap cell_count c.shape.ensures.value in
-    let found = has_cell c.args.board.now c.shape.ensures.board number low in
-    c.cells.invariant.1 number low (omega (arith, found.0, c.cells-test.false))
+    let found = has_cell c.args.board.now c.tiles-tile-items.ensures.board number low in
+    let all : length c.tiles-tile-items.result.now ≡ length c.args.board.now.tiles = ap length c.tiles-tile-items.ensures.value in
+    c.cells.invariant.1 number low (omega (arith, found.0, c.cells-test.false, c.tiles-tile-items.ensures.board.one_each))

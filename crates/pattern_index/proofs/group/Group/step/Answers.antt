@@ -5,7 +5,7 @@ use Rattle.board.specs.Grids.{cell_count}
 use Rattle.board.specs.Neighbours.{neighbour}
 use Rattle.board.proofs.MoveLemmas.{cell_below}
 use Rattle.pattern_index.specs.Views.{weight_on}
-use Rattle.pattern_index.specs.Selections.{sight_moved_to}
+use Rattle.pattern_index.specs.Selections.{sight_successor_at, abstraction_of}
 use Rattle.pattern_index.proofs.ViewMoveLemmas.{moved_view, blank_inside, sight_moves_from}
 use Rattle.pattern_index.proofs.GroupLemmas.{cells_high}
 use Rattle.pattern_index.proofs.group.Group.step.Goals as goal
@@ -26,12 +26,12 @@ returns-clause-value c =
     ∙ (λ i. weight_on c.args.weights.now (c.tiles.ensures.value i) (take_rest c.cells.result.now 1 i) c.in_ok-to.to)
     ∙ ap (λ xs. weight_on c.args.weights.now c.args.self.now.tiles (drop 1 xs) c.in_ok-to.to) c.cells.ensures
     in
-    sym (ap (option_map (sight_moved_to c.args.weights.now c.args.self.now.tiles c.args.view.now)) there ∙ (λ i. Some (sym c.moved_to.ensures i, sym cost i)))
+    sym (ap (option_map (sight_successor_at (abstraction_of c.args.self.now c.args.weights.now) c.args.view.now)) there ∙ (λ i. Some (sym c.moved_to.ensures i, sym cost i)))
 
 pub returns-clause-moves : goal.returns-clause-moves
 returns-clause-moves c =
-    sight_moves_from c.args.self.now.grid c.args.weights.now c.args.self.now.tiles c.args.view.now c.args.direction _ (blank_inside c.args.self.now.grid c.args.self.now.tiles c.args.view.now c.requires.view) (returns-clause-value c)
+    sight_moves_from (abstraction_of c.args.self.now c.args.weights.now) c.args.view.now c.args.direction _ (blank_inside c.args.self.now.grid c.args.self.now.tiles c.args.view.now c.requires.view) (returns-clause-value c)
 
 pub returns-clause-view : goal.returns-clause-view
 returns-clause-view c =
-    moved_view c.args.self.now.grid c.args.weights.now c.args.self.now.tiles c.args.view.now c.args.direction c.moved_to.result c.weight_on-cost.result c.requires.view ((returns-clause-moves c c.moved_to.result c.weight_on-cost.result).0 refl)
+    moved_view (abstraction_of c.args.self.now c.args.weights.now) c.args.view.now c.args.direction c.moved_to.result c.weight_on-cost.result c.requires.view ((returns-clause-moves c c.moved_to.result c.weight_on-cost.result).0 refl)

@@ -3,7 +3,7 @@ use Rattle.std.specs.Prelude.{All}
 use Rattle.std.proofs.lemmas.Bool.{false≢true}
 use Rattle.pattern_index.specs.Selections.{Selection, IsSelection}
 use Rattle.pattern_index.specs.Splits.{AreApart, IsSplitFault}
-use Rattle.pattern_index.specs.declared.fault.PartitionFault.TheVariants.{SharedTile}
+use Rattle.pattern_index.specs.declared.faults.PartitionFault.TheVariants.{SharedTile}
 use Rattle.pattern_index.proofs.SplitLemmas.{not_so, of_items}
 use Rattle.pattern_index.proofs.FaultLemmas.{no_split_fault, one_split_fault}
 use Rattle.pattern_index.proofs.partition.Partition.new.Goals as goal

@@ -1,5 +1,7 @@
+//! The faults of groups, partitions and tables in one.
+
 ghost use Rattle.std.specs.Prelude.{◌≡◌};
-ghost use Rattle.lower_bound.specs.Faults.{pattern_code_of};
+ghost use Rattle.lower_bound.specs.Faults.{pattern_code};
 
 use database_build::TableFault;
 use pattern_index::{GroupFault, PartitionFault};
@@ -34,7 +36,7 @@ pub enum PatternFault {
 impl PatternFault {
     /// The code that the fault is reported by: `E5` to `E11`.
     pub fn code(self) -> &'static str
-        ensures { result.now ≡ pattern_code_of self }
+        ensures { result.now ≡ pattern_code self }
     {
         match self {
             PatternFault::Empty => "E5",
@@ -50,14 +52,14 @@ impl PatternFault {
 
 impl From<GroupFault> for PatternFault {
     ghost use Rattle.std.specs.Prelude.{◌≡◌};
-    ghost use Rattle.pattern_index.specs.Faults.{group_code_of};
-    ghost use Rattle.lower_bound.specs.Faults.{pattern_code_of, of_group};
+    ghost use Rattle.pattern_index.specs.Faults.{group_code};
+    ghost use Rattle.lower_bound.specs.Faults.{pattern_code, of_group};
 
     ghost from_gives = { λ fault sum. sum ≡ of_group fault };
 
     fn from(fault: GroupFault) -> PatternFault
         ensures given { result ≡ of_group fault }
-        ensures code { pattern_code_of result ≡ group_code_of fault }
+        ensures code { pattern_code result ≡ group_code fault }
     {
         match fault {
             GroupFault::Empty => PatternFault::Empty,
@@ -70,14 +72,14 @@ impl From<GroupFault> for PatternFault {
 
 impl From<PartitionFault> for PatternFault {
     ghost use Rattle.std.specs.Prelude.{◌≡◌};
-    ghost use Rattle.pattern_index.specs.Faults.{partition_code_of};
-    ghost use Rattle.lower_bound.specs.Faults.{pattern_code_of, of_partition};
+    ghost use Rattle.pattern_index.specs.Faults.{partition_code};
+    ghost use Rattle.lower_bound.specs.Faults.{pattern_code, of_partition};
 
     ghost from_gives = { λ fault sum. sum ≡ of_partition fault };
 
     fn from(fault: PartitionFault) -> PatternFault
         ensures given { result ≡ of_partition fault }
-        ensures code { pattern_code_of result ≡ partition_code_of fault }
+        ensures code { pattern_code result ≡ partition_code fault }
     {
         match fault {
             PartitionFault::SharedTile => PatternFault::SharedTile,
@@ -88,14 +90,14 @@ impl From<PartitionFault> for PatternFault {
 
 impl From<TableFault> for PatternFault {
     ghost use Rattle.std.specs.Prelude.{◌≡◌};
-    ghost use Rattle.database_build.specs.Faults.{table_code_of};
-    ghost use Rattle.lower_bound.specs.Faults.{pattern_code_of, of_table};
+    ghost use Rattle.database_build.specs.Faults.{table_code};
+    ghost use Rattle.lower_bound.specs.Faults.{pattern_code, of_table};
 
     ghost from_gives = { λ fault sum. sum ≡ of_table fault };
 
     fn from(fault: TableFault) -> PatternFault
         ensures given { result ≡ of_table fault }
-        ensures code { pattern_code_of result ≡ table_code_of fault }
+        ensures code { pattern_code result ≡ table_code fault }
     {
         match fault {
             TableFault::WrongCount => PatternFault::WrongCount,

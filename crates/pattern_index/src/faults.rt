@@ -1,5 +1,7 @@
+//! Why numbers are no group, and groups no partition.
+
 ghost use Rattle.std.specs.Prelude.{◌≡◌};
-ghost use Rattle.pattern_index.specs.Faults.{group_code_of, partition_code_of};
+ghost use Rattle.pattern_index.specs.Faults.{group_code, partition_code};
 
 use thiserror::Error;
 
@@ -23,7 +25,7 @@ pub enum GroupFault {
 impl GroupFault {
     /// The code that the fault is reported by: `E5` to `E8`.
     pub fn code(self) -> &'static str
-        ensures { result.now ≡ group_code_of self }
+        ensures { result.now ≡ group_code self }
     {
         match self {
             GroupFault::Empty => "E5",
@@ -48,7 +50,7 @@ pub enum PartitionFault {
 impl PartitionFault {
     /// The code that the fault is reported by: `E9` or `E10`.
     pub fn code(self) -> &'static str
-        ensures { result.now ≡ partition_code_of self }
+        ensures { result.now ≡ partition_code self }
     {
         match self {
             PartitionFault::SharedTile => "E9",

@@ -1,5 +1,7 @@
+//! Why values are no table, and tables not those of a partition.
+
 ghost use Rattle.std.specs.Prelude.{◌≡◌};
-ghost use Rattle.database_build.specs.Faults.{table_code_of};
+ghost use Rattle.database_build.specs.Faults.{table_code};
 
 use thiserror::Error;
 
@@ -14,7 +16,7 @@ pub enum TableFault {
 impl TableFault {
     /// The code that the fault is reported by: `E11`.
     pub fn code(self) -> &'static str
-        ensures { result.now ≡ table_code_of self }
+        ensures { result.now ≡ table_code self }
     {
         match self {
             TableFault::WrongCount => "E11",
