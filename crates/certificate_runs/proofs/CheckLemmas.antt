@@ -7,7 +7,7 @@ use Rattle.certificate.specs.declared.faults.ReadFault.{ReadFault}
 use Rattle.certificate.specs.declared.faults.ReadFault.TheVariants.{Format, Failed}
 use Rattle.std.proofs.lemmas.Bool.{false_from_ne_true}
 use Rattle.certificate.specs.Certificates.{Statement}
-use Rattle.certificate.specs.Codes.{format_code}
+use Rattle.certificate.specs.Faults.{format_code}
 use Rattle.certificate.specs.Sources.{Tells}
 use Rattle.batch_runs.specs.Batches.{IsReadable}
 use Rattle.certificate_runs.specs.Outputs.{Output}

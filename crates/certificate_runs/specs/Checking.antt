@@ -10,9 +10,9 @@ use Rattle.certificate.specs.declared.faults.FormatFault.{FormatFault}
 use Rattle.certificate.specs.Certificates.{Statement}
 use Rattle.certificate.specs.Spellings.{Spells}
 use Rattle.certificate.specs.Readings.{IsFirstFault}
-use Rattle.certificate.specs.Codes.{format_code}
+use Rattle.certificate.specs.Faults.{format_code}
 use Rattle.certificate_check.specs.declared.refusals.Refusal.{Refusal}
-use Rattle.certificate_check.specs.Refusals.{IsProved, IsFirstRefusal, code_of}
+use Rattle.certificate_check.specs.Refusals.{IsProved, IsFirstRefusal, refusal_code}
 use Rattle.batch_runs.specs.Batches.{IsReadable}
 use Rattle.certificate_runs.specs.Outputs.{Output, IsUntouched}
 use Rattle.certificate_runs.specs.declared.faults.CheckFault.{CheckFault}
@@ -30,7 +30,7 @@ IsRefused code output = output ≡ record { text = report_text (refused_certific
 
 -- a certificate is accepted, or refused for the first cause
 abbrev pub IsJudgement : Statement → Output → Type 0
-IsJudgement c output = IsAccepted c output ⊎ ((refusal : Refusal) × IsFirstRefusal c refusal × IsRefused (code_of refusal) output)
+IsJudgement c output = IsAccepted c output ⊎ ((refusal : Refusal) × IsFirstRefusal c refusal × IsRefused (refusal_code refusal) output)
 
 -- the bytes spell a certificate, which is judged; or they are refused for their first fault
 abbrev pub IsVerdict : Output → List ℕ → Type 0
