@@ -12,7 +12,7 @@ use Rattle.batch_cli.specs.declared.faults.BatchFault.TheVariants.{Read, Write, 
 use Rattle.batch_cli.specs.declared.program.Ending.{Ending}
 use Rattle.batch_cli.specs.declared.program.Ending.TheVariants.{Usage, NoBuffers, Ran, Faulted}
 use Rattle.batch_cli.specs.Faults.{of_lines}
-use Rattle.batch_runs.specs.Batches.{Rules, ReportsAll, ReportsWhole, ReportsSome, IsReadable, status_of_counts}
+use Rattle.batch_runs.specs.Batches.{Rules, ReportsAll, ReportsWhole, ReportsFirst, ReportsSome, IsReadable, status_of_counts}
 use Rattle.batch_runs.specs.Setups.{SetupState}
 use Rattle.batch_runs.specs.Solving.{rules_of}
 
@@ -64,12 +64,12 @@ HasFailed sink = sink.has_failed ≡ true
 abbrev pub default_rules : Rules
 default_rules = rules_of default_setup
 
--- How a run over lines ends that flushes its sink: all lines are reported; or reading failed, and the lines before are reported; or writing or memory failed, and a beginning of the reports is written.
+-- How a run over lines ends that flushes its sink: all lines are reported; or reading failed, and the lines before are reported; or writing failed, and a beginning of the reports is written; or memory was wanting for a report, and those before it are written.
 abbrev pub EndsRun : Change SourceState → Change SinkState → Result Summary LinesFault → Type 0
 EndsRun source sink (Ok counts) = ReportsAll default_rules source sink counts × IsReadable source × (sink.after.has_failed ≡ false)
 EndsRun source sink (Err lines.Read) = ReportsWhole default_rules source sink
 EndsRun source sink (Err lines.Write) = ReportsSome default_rules source sink × IsReadable source × HasFailed sink.after
-EndsRun source sink (Err (lines.Memory lacking)) = ReportsSome default_rules source sink × IsReadable source
+EndsRun source sink (Err (lines.Memory lacking)) = ReportsFirst default_rules source sink × IsReadable source
 
 -- how the program ends after a run over lines
 abbrev pub ending_of : Result Summary LinesFault → Ending

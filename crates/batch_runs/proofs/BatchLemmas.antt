@@ -1,12 +1,12 @@
 -- The reports of lines, one line after the other.
-use Rattle.std.proofs.Common.{◌≡◌, ℕ, suc, ◌+◌, ◌≤◌, List, [], ◌∷◌, ◌++◌, Option, None, Some, length, refl, sym, ap, ◌∙◌, subst, arith, append_assoc, append-nil, length-append}
-use Rattle.std.proofs.KnownBytes.{Appends-nil, Appends-trans}
+use Rattle.std.proofs.Common.{◌≡◌, ◌⊎◌, ℕ, suc, ◌+◌, ◌≤◌, List, [], ◌∷◌, ◌++◌, Option, None, Some, length, refl, sym, ap, ◌∙◌, subst, inl, inr, arith, append_assoc, append-nil, length-append}
+use Rattle.std.proofs.KnownBytes.{Appends-nil, Appends-trans, Consumes-nil, Consumes-trans}
 use Rattle.byte_streams.specs.Streams.{SourceState, SinkState, Change, from_to}
 use Rattle.byte_streams.specs.Sink.{Puts, PutsBeginning}
 use Rattle.byte_streams.proofs.SinkLemmas.{PutsBeginning-after}
 use Rattle.batch_lines.specs.Lines.{lines_of, without_return}
 use Rattle.batch_lines.specs.Readings.{TakesKnown, TakesLine, CountsKnown, IsJudged}
-use Rattle.batch_runs.specs.Batches.{Rules, Answer, AnswersEntry, AnswersKind, AnswersLine, AnswersLines, answer_text, answers_text, with_answer, with_answers, no_lines, AreRead, AreFirst, ReportsSome}
+use Rattle.batch_runs.specs.Batches.{Rules, Answer, AnswersEntry, AnswersKind, AnswersLine, AnswersLines, answer_text, answers_text, with_answer, with_answers, no_lines, AreRead, AreFirst, TakesSome, ReportsFirst, ReportsSome}
 use Rattle.batch_runs.specs.Batches.Answer.{passed_over, refused, answered}
 use Rattle.batch_lines.specs.declared.lines.LineKind.{LineKind}
 use Rattle.batch_lines.specs.declared.lines.LineKind.TheVariants.{PassedOver, Within, TooLong}
@@ -74,11 +74,27 @@ AreFirst-read None now lines read = tt
 AreFirst-read (Some bytes) None lines read = absurd read
 AreFirst-read (Some bytes) (Some left) lines read = (lines_of left, read)
 
+-- whoever takes a line takes its bytes
+takes_some : (old new : Option (List ℕ)) (line : List ℕ) → TakesKnown old new line → (seen : List ℕ) × Consumes old new seen
+takes_some None new line taken = ([], tt)
+takes_some (Some input) None line taken = absurd taken
+takes_some (Some input) (Some rest) line taken = of_known taken.whole
+  where
+    of_known : (input ≡ line ++ 10 ∷ rest) ⊎ ((input ≡ line) × (rest ≡ [])) → (seen : List ℕ) × Consumes (Some input) (Some rest) seen
+    of_known (inl fed) = (line ++ 10 ∷ [], fed ∙ sym (append_assoc line (10 ∷ []) rest))
+    of_known (inr (ended, none)) = (line, ended ∙ append-nil line ∙ ap (λ (l : List ℕ). line ++ l) (sym none))
+
+pub TakesSome-line : (a b c : SourceState) (line : List ℕ) → TakesSome (from_to a b) → TakesLine (from_to b c) line → TakesSome (from_to a c)
+TakesSome-line a b c line before taken =
+    let now = takes_some b.left c.left line taken in
+    (before.0 ++ now.0, Consumes-trans a.left b.left c.left before.0 now.0 before.1 now.1)
+
 -- the reports of the lines that were read are written
 pub record IsRunning (rules : Rules) (source : Change SourceState) (sink : Change SinkState) (numbered : ℕ) (counts : Summary) : Type 0 where
   pub lines : List (List ℕ)
   pub answers : List Answer
   pub read : AreRead source.before.left source.after.left lines
+  pub taken : TakesSome source
   pub answered : AnswersLines rules lines answers
   pub written : Puts sink (answers_text 1 answers)
   pub counted : counts ≡ with_answers no_lines answers
@@ -91,6 +107,7 @@ IsRunning-none rules a x = record {
   lines = [];
   answers = [];
   read = none a.left;
+  taken = ([], Consumes-nil a.left);
   answered = tt;
   written = Appends-nil x.contents;
   counted = refl;
@@ -124,6 +141,7 @@ IsRunning-more rules a b c x y z numbered n counts answer running next put =
       lines = running.lines ++ next.line ∷ [];
       answers = running.answers ++ answer ∷ [];
       read = AreRead-more a.left b.left c.left running.lines next.line running.read next.taken;
+      taken = TakesSome-line a b c next.line running.taken next.taken;
       answered = AnswersLines-more rules running.lines running.answers next.line answer running.answered (answer_is rules next.line next.kind next.kept answer next.judged next.is);
       written = subst (λ (l : List ℕ). Puts (from_to x z) l) text (Appends-trans x.contents y.contents z.contents (answers_text 1 running.answers) (answer_text n answer) running.written put);
       counted = ap (λ (s : Summary). with_answer s answer) running.counted ∙ sym (with_answers-more no_lines running.answers answer);
@@ -147,13 +165,13 @@ reports_part rules a b c x y z numbered n counts answer running next begun =
     }
 
 -- nothing of the next line is written
-pub reports_so_far : (rules : Rules) (a b : SourceState) (x y : SinkState) (numbered : ℕ) (counts : Summary) → IsRunning rules (from_to a b) (from_to x y) numbered counts → (c : SourceState) → ReportsSome rules (from_to a c) (from_to x y)
-reports_so_far rules a b x y numbered counts running c = record {
+pub reports_so_far : (rules : Rules) (a b c : SourceState) (x y : SinkState) (numbered : ℕ) (counts : Summary) → IsRunning rules (from_to a b) (from_to x y) numbered counts → ReportsFirst rules (from_to a c) (from_to x y)
+reports_so_far rules a b c x y numbered counts running = record {
   lines = running.lines;
   answers = running.answers;
   first = AreFirst-read a.left b.left running.lines running.read;
   answered = running.answered;
-  begun = record { sent = answers_text 1 running.answers; unsent = []; parts = sym (append-nil (answers_text 1 running.answers)); put = running.written };
+  written = running.written;
 }
 
 -- what was taken is counted on

@@ -3,6 +3,7 @@ use Rattle.std.specs.Prelude.{ℕ, ◌≡◌, ◌⊎◌, ◌+◌, ◌-◌, ◌<�
 use Rattle.board.specs.Grids.{Grid}
 use Rattle.board.specs.Positions.{Position}
 use Rattle.byte_streams.specs.Streams.{SourceState, SinkState, Change, from_to}
+use Rattle.byte_streams.specs.Source.{Takes}
 use Rattle.byte_streams.specs.Sink.{Puts, PutsBeginning}
 use Rattle.batch_lines.specs.Lines.{lines_of, without_return, kind_of}
 use Rattle.batch_lines.specs.Readings.{TakesNoLine, CountsTaken}
@@ -126,9 +127,14 @@ abbrev pub IsTooLong : Option (List ℕ) → Type 0
 IsTooLong None = ⊤
 IsTooLong (Some input) = INPUT_LIMIT < length input
 
+-- some bytes were taken, from the front
+abbrev pub TakesSome : Change SourceState → Type 0
+TakesSome source = (seen : List ℕ) × Takes source seen
+
 -- these lines were read whole, and what was taken after them, within the limit, has no whole line in it: the source failed, or the input is too long
 pub record LosesLine (source : Change SourceState) (lines : List (List ℕ)) : Type 0 where
   pub between : SourceState
+  pub first : TakesSome (from_to source.before between)
   pub taken : ℕ
   pub whole : AreRead source.before.left between.left lines
   pub counted : CountsTaken (from_to source.before between) (from_to 0 taken)
@@ -152,6 +158,14 @@ pub record ReportsWhole (rules : Rules) (source : Change SourceState) (sink : Ch
   pub answered : AnswersLines rules lines answers
   pub written : Puts sink (answers_text 1 answers)
 
+-- the reports of the first lines were written, and nothing of the next
+pub record ReportsFirst (rules : Rules) (source : Change SourceState) (sink : Change SinkState) : Type 0 where
+  pub lines : List (List ℕ)
+  pub answers : List Answer
+  pub first : AreFirst source.before.left lines
+  pub answered : AnswersLines rules lines answers
+  pub written : Puts sink (answers_text 1 answers)
+
 -- a beginning of the reports of the first lines was written
 pub record ReportsSome (rules : Rules) (source : Change SourceState) (sink : Change SinkState) : Type 0 where
   pub lines : List (List ℕ)
@@ -168,9 +182,9 @@ IsReadable source = source.after.has_failed ≡ false
 abbrev pub KeepsFailure : Change SinkState → Type 0
 KeepsFailure sink = sink.after.has_failed ≡ sink.before.has_failed
 
--- How a run over lines ends: all lines are reported; or reading failed, and the lines before are reported; or writing or memory failed, and a beginning of the reports is written.
+-- How a run over lines ends: all lines are reported; or reading failed, and the lines before are reported; or writing failed, and a beginning of the reports is written; or memory was wanting for a report, and those before it are written.
 abbrev pub ReportsLines : Rules → Change SourceState → Change SinkState → Result Summary LinesFault → Type 0
 ReportsLines rules source sink (Ok counts) = ReportsAll rules source sink counts × IsReadable source × KeepsFailure sink
 ReportsLines rules source sink (Err Read) = ReportsWhole rules source sink × KeepsFailure sink
 ReportsLines rules source sink (Err Write) = ReportsSome rules source sink × IsReadable source × (sink.after.has_failed ≡ true)
-ReportsLines rules source sink (Err (Memory lacking)) = ReportsSome rules source sink × IsReadable source × KeepsFailure sink
+ReportsLines rules source sink (Err (Memory lacking)) = ReportsFirst rules source sink × IsReadable source × KeepsFailure sink

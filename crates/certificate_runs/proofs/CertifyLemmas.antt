@@ -31,7 +31,7 @@ use Rattle.batch_runs.proofs.BatchLemmas.{answer_is}
 use Rattle.certificate_runs.specs.declared.certifying.Reply.{Reply}
 use Rattle.certificate_runs.specs.declared.certifying.Reply.TheVariants.{Certified, Reported}
 use Rattle.certificate_runs.specs.Outputs.{Output}
-use Rattle.certificate_runs.specs.Certifying.{IsCertificateFor, IsNotOptimal, ReportsLine, IsReply, IsRefusal, FindsFirst, SeeksFirst, PutsReply, Replies, first_line, report_of, reply_output}
+use Rattle.certificate_runs.specs.Certifying.{IsCertificateFor, IsNotOptimal, ReportsLine, IsReply, IsRefusal, FindsFirst, FindsLine, PutsReply, EndsReplying, first_line, report_of, reply_output}
 
 -- a line that is to be read
 abbrev pub within : ℕ → Line
@@ -92,19 +92,19 @@ reply_is setup source first line kept (Reported text status) judged at (answer, 
     (answer, answer_is (rules_of setup) first.line line.kind kept answer judged is, other, output ∙ ap (λ (n : ℕ). report_of n answer) at)
 
 -- a reply to the line that was found is written, or a beginning of it
-pub replied : (setup : SetupState) (source : Change SourceState) (sink : Change SinkState) (line : Line) (kept : List ℕ) (reply : Reply) (result : Result ℕ CertifyFault) → SeeksFirst source kept (Ok (Some line)) → IsReply setup line kept reply → PutsReply sink reply result → Replies setup source sink result
+pub replied : (setup : SetupState) (source : Change SourceState) (sink : Change SinkState) (line : Line) (kept : List ℕ) (reply : Reply) (result : Result ℕ CertifyFault) → FindsLine source kept (Ok (Some line)) → IsReply setup line kept reply → PutsReply sink reply result → EndsReplying setup source sink result
 replied setup source sink line kept (Certified c) (Ok status) (readable, (first, judged, at)) reply put =
     let named = reply_is setup source first line kept (Certified c) judged at reply in
     (readable, inr (reply_output (Certified c), (first, inl (named.0, (c, named.1, refl))), put.0, put.1))
 replied setup source sink line kept (Certified c) (Err fault) (readable, (first, judged, at)) reply put =
     let named = reply_is setup source first line kept (Certified c) judged at reply in
-    subst (λ (f : CertifyFault). Replies setup source sink (Err f)) (sym put.1) (readable, (reply_output (Certified c), (first, named.0, (c, named.1, refl)), put.0))
+    subst (λ (f : CertifyFault). EndsReplying setup source sink (Err f)) (sym put.1) (readable, (reply_output (Certified c), (first, named.0, (c, named.1, refl)), put.0))
 replied setup source sink line kept (Reported text told) (Ok status) (readable, (first, judged, at)) reply put =
     let reported = reply_is setup source first line kept (Reported text told) judged at reply in
     (readable, inr (reply_output (Reported text told), (first, inr reported), put.0, put.1))
 replied setup source sink line kept (Reported text told) (Err fault) (readable, (first, judged, at)) reply put =
     let reported = reply_is setup source first line kept (Reported text told) judged at reply in
-    subst (λ (f : CertifyFault). Replies setup source sink (Err f)) (sym put.1) (readable, (reply_output (Reported text told), (first, reported), put.0))
+    subst (λ (f : CertifyFault). EndsReplying setup source sink (Err f)) (sym put.1) (readable, (reply_output (Reported text told), (first, reported), put.0))
 
 -- an outcome that names a plan of least cost has a certificate
 pub certificate_is : (order : KeysAreInOrder) (setup : SetupState) (b : Position) (cost : ℕ) (plan : Vec Move Global) (rows : Vec (Position × ℕ) Global) → IsBoard setup.goal → IsBoardOf setup.goal.grid b → AreNamedCosts setup.goal.grid setup.rule → length rows.items < 2 ^ 64 → Answers (task_of setup b) (Optimal cost plan rows) → IsCertificate (record { grid = setup.goal.grid; costs = setup.rule; start = b; goal = setup.goal; cost = cost; plan = plan.items; rows = rows.items })

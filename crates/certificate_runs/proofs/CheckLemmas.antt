@@ -1,7 +1,6 @@
 -- From what was read to the verdict.
 use Rattle.std.proofs.Common.{◌≡◌, ◌↔◌, true, ℕ, List, Option, None, Some, Result, Ok, Err, IfSome, sym, subst, inl, inr}
 use Rattle.byte_streams.specs.Streams.{SourceState, SinkState, Change}
-use Rattle.byte_streams.specs.Source.{Takes}
 use Rattle.certificate.specs.declared.faults.FormatFault.{FormatFault}
 use Rattle.certificate.specs.declared.faults.ReadFault.{ReadFault}
 use Rattle.certificate.specs.declared.faults.ReadFault.TheVariants.{Format, Failed}
@@ -9,20 +8,26 @@ use Rattle.std.proofs.lemmas.Bool.{false_from_ne_true}
 use Rattle.certificate.specs.Certificates.{Statement}
 use Rattle.certificate.specs.Faults.{format_code}
 use Rattle.certificate.specs.Sources.{Tells}
-use Rattle.batch_runs.specs.Batches.{IsReadable}
+use Rattle.batch_runs.specs.Batches.{TakesSome, IsReadable}
 use Rattle.certificate_runs.specs.Outputs.{Output}
 use Rattle.certificate_runs.specs.declared.faults.CheckFault.{CheckFault}
 use Rattle.certificate_runs.specs.Checking.{IsJudgement, IsRefused, IsVerdict, JudgesSource, PutsVerdict, EndsCheck, Checks}
 
 -- a certificate that was read and judged
-pub judged : (left : Option (List ℕ)) (c : Statement) (output : Output) → IfSome left (Tells (Ok c)) → IsJudgement c output → IfSome left (IsVerdict output)
-judged None c output tells judgement = tt
-judged (Some input) c output tells judgement = inl (c, tells, judgement)
+pub judged : (source : Change SourceState) (c : Statement) (output : Output) → IfSome source.before.left (Tells (Ok c)) → IsJudgement c output → JudgesSource source output
+judged source c output tells judgement = (inl (c, judgement), of_known source.before.left tells)
+  where
+    of_known : (left : Option (List ℕ)) → IfSome left (Tells (Ok c)) → IfSome left (IsVerdict output)
+    of_known None tells = tt
+    of_known (Some input) tells = inl (c, tells, judgement)
 
 -- a fault that was met in the bytes
-pub faulty : (left : Option (List ℕ)) (fault : FormatFault) (output : Output) → IfSome left (Tells (Err (Format fault))) → IsRefused (format_code fault) output → IfSome left (IsVerdict output)
-faulty None fault output tells refused = tt
-faulty (Some input) fault output tells refused = inr (fault, tells, refused)
+pub faulty : (source : Change SourceState) (fault : FormatFault) (output : Output) → IfSome source.before.left (Tells (Err (Format fault))) → IsRefused (format_code fault) output → JudgesSource source output
+faulty source fault output tells refused = (inr (fault, refused), of_known source.before.left tells)
+  where
+    of_known : (left : Option (List ℕ)) → IfSome left (Tells (Err (Format fault))) → IfSome left (IsVerdict output)
+    of_known None tells = tt
+    of_known (Some input) tells = inr (fault, tells, refused)
 
 abbrev read_ok : Statement → Result Statement ReadFault
 read_ok c = Ok c
@@ -38,6 +43,6 @@ pub readable_fault : (source : Change SourceState) (fault : FormatFault) → ((r
 readable_fault source fault failed = false_from_ne_true source.after.has_failed (λ is. let e = failed.1 is in absurd cc)
 
 -- the verdict was written, or a beginning of it
-pub checked : (source : Change SourceState) (sink : Change SinkState) (output : Output) (result : Result ℕ CheckFault) → ((seen : List ℕ) × Takes source seen) → IsReadable source → JudgesSource source output → PutsVerdict sink output result → Checks source sink result
+pub checked : (source : Change SourceState) (sink : Change SinkState) (output : Output) (result : Result ℕ CheckFault) → TakesSome source → IsReadable source → JudgesSource source output → PutsVerdict sink output result → Checks source sink result
 checked source sink output (Ok status) given readable verdict put = (given, (readable, (output, verdict, put.0, put.1)))
 checked source sink output (Err fault) given readable verdict put = (given, subst (λ (f : CheckFault). EndsCheck source sink (Err f)) (sym put.1) (readable, (output, verdict, put.0)))

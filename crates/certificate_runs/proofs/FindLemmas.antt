@@ -1,9 +1,13 @@
 -- The lines that are passed over before the first other one.
 use Rattle.std.proofs.Common.{◌≡◌, ℕ, ◌+◌, List, [], ◌∷◌, ◌++◌, Option, None, Some, All, length, refl, sym, ◌∙◌, arith, length-append}
-use Rattle.batch_lines.specs.Readings.{TakesKnown, IsJudged}
+use Rattle.batch_lines.specs.Readings.{TakesKnown, TakesNoLine, IsJudged}
 use Rattle.batch_lines.specs.declared.lines.LineKind.{LineKind}
 use Rattle.batch_lines.specs.declared.lines.LineKind.TheVariants.{PassedOver}
-use Rattle.batch_runs.specs.Batches.{AreRead}
+use Rattle.std.proofs.KnownBytes.{Consumes-trans}
+use Rattle.byte_streams.specs.Streams.{SourceState, Change, from_to}
+use Rattle.byte_streams.specs.Source.{IsEnded}
+use Rattle.batch_lines.proofs.LineLemmas.{kept_consumes}
+use Rattle.batch_runs.specs.Batches.{AreRead, TakesSome}
 use Rattle.batch_runs.proofs.BatchLemmas.{AreRead-more}
 use Rattle.certificate_runs.specs.Certifying.{IsPassedOver}
 use Rattle.std.proofs.lemmas.List.Elements.{All-nil, All-cons, All-append}
@@ -32,3 +36,11 @@ searching_on input now new n m bytes kept kind searching taken judged passed nex
       passed = All-append IsPassedOver searching.lines (bytes ∷ []) searching.passed (All-cons IsPassedOver bytes [] (sym judged.judged ∙ passed) (All-nil IsPassedOver));
       counted = omega (arith, next, searching.counted, longer);
     }
+
+-- what was taken, and then of a line that was lost
+pub TakesSome-lost : (a b c : SourceState) (room : ℕ) → TakesSome (from_to a b) → TakesNoLine (from_to b c) room → TakesSome (from_to a c)
+TakesSome-lost a b c room before (seen, taken, none) = (before.0 ++ seen, Consumes-trans a.left b.left c.left before.0 seen before.1 taken)
+
+-- what was taken, and then the end
+pub TakesSome-ended : (a b c : SourceState) → TakesSome (from_to a b) → IsEnded (from_to b c) → TakesSome (from_to a c)
+TakesSome-ended a b c before (ended, kept) = (before.0 ++ [], Consumes-trans a.left b.left c.left before.0 [] before.1 (kept_consumes b.left c.left kept))

@@ -13,7 +13,7 @@ use Rattle.certificate.specs.Certificates.{Statement, IsCertificate}
 use Rattle.certificate.specs.Spellings.{spelling}
 use Rattle.certificate_check.specs.Refusals.{IsProved}
 use Rattle.outcomes.specs.declared.outcome.Outcome.TheVariants.{Optimal, Unsolvable, Bounded}
-use Rattle.batch_runs.specs.Batches.{Answer, AnswersKind, AreRead, AreAll, LosesLine, IsReadable, answer_text, with_answer, no_lines, status_of_counts}
+use Rattle.batch_runs.specs.Batches.{Answer, AnswersKind, AreRead, AreAll, TakesSome, LosesLine, IsReadable, answer_text, with_answer, no_lines, status_of_counts}
 use Rattle.batch_runs.specs.Batches.Answer.{passed_over, refused, answered}
 use Rattle.batch_runs.specs.Setups.{SetupState}
 use Rattle.batch_runs.specs.Solving.{rules_of}
@@ -112,10 +112,14 @@ abbrev pub LosesFirst : Change SourceState → Type 0
 LosesFirst source = (passed : List (List ℕ)) × All IsPassedOver passed × LosesLine source passed
 
 -- the search for it: it is found, and its bytes are kept where they are to be read; or there is none; or it is lost
+abbrev pub FindsLine : Change SourceState → List ℕ → Result (Option Line) ReadFailed → Type 0
+FindsLine source kept (Ok None) = IsReadable source × PassesAll source
+FindsLine source kept (Ok (Some line)) = IsReadable source × ((first : FindsFirst source) × IsJudged first.line line.kind kept × (line.number ≡ length first.passed + 1))
+FindsLine source kept (Err failure) = LosesFirst source
+
+-- some bytes are taken, from the front, and the search ends so
 abbrev pub SeeksFirst : Change SourceState → List ℕ → Result (Option Line) ReadFailed → Type 0
-SeeksFirst source kept (Ok None) = IsReadable source × PassesAll source
-SeeksFirst source kept (Ok (Some line)) = IsReadable source × ((first : FindsFirst source) × IsJudged first.line line.kind kept × (line.number ≡ length first.passed + 1))
-SeeksFirst source kept (Err failure) = LosesFirst source
+SeeksFirst source kept result = TakesSome source × FindsLine source kept result
 
 -- ---- how the run ends
 
@@ -130,10 +134,14 @@ abbrev pub CertifiesFirst : SetupState → Change SourceState → Output → Typ
 CertifiesFirst setup source output = (first : FindsFirst source) × (kind_of first.line ≡ Within) × Certifies setup (without_return first.line) output
 
 -- How the run ends: all lines are passed over, and nothing is written; or the first other one is replied to. Else the line was lost, or memory was wanting, and nothing was written; or writing failed.
-abbrev pub Replies : SetupState → Change SourceState → Change SinkState → Result ℕ CertifyFault → Type 0
-Replies setup source sink (Ok status) =
+abbrev pub EndsReplying : SetupState → Change SourceState → Change SinkState → Result ℕ CertifyFault → Type 0
+EndsReplying setup source sink (Ok status) =
     IsReadable source × ((PassesAll source × IsUntouched sink × (status ≡ 0)) ⊎ ((output : Output) × RepliesToFirst setup source output × WritesAll sink output.text × (status ≡ output.status)))
-Replies setup source sink (Err Read) = LosesFirst source × IsUntouched sink
-Replies setup source sink (Err Write) = IsReadable source × ((output : Output) × ReportsFirst setup source output × FailsWriting sink output.text)
-Replies setup source sink (Err (Memory lacking)) = IsReadable source × FindsFirst source × IsUntouched sink
-Replies setup source sink (Err CertificateWrite) = IsReadable source × ((output : Output) × CertifiesFirst setup source output × FailsWriting sink output.text)
+EndsReplying setup source sink (Err Read) = LosesFirst source × IsUntouched sink
+EndsReplying setup source sink (Err Write) = IsReadable source × ((output : Output) × ReportsFirst setup source output × FailsWriting sink output.text)
+EndsReplying setup source sink (Err (Memory lacking)) = IsReadable source × FindsFirst source × IsUntouched sink
+EndsReplying setup source sink (Err CertificateWrite) = IsReadable source × ((output : Output) × CertifiesFirst setup source output × FailsWriting sink output.text)
+
+-- some bytes were taken, from the front, and the run ends so
+abbrev pub Replies : SetupState → Change SourceState → Change SinkState → Result ℕ CertifyFault → Type 0
+Replies setup source sink result = TakesSome source × EndsReplying setup source sink result

@@ -2,7 +2,6 @@
 use Rattle.std.specs.Prelude.{ℕ, ◌≡◌, ◌⊎◌, true, String, List, Result, Ok, Err, IfSome, string_bytes}
 use Rattle.std.specs.declared.alloc.Global.{Global}
 use Rattle.byte_streams.specs.Streams.{SourceState, SinkState, Change}
-use Rattle.byte_streams.specs.Source.{Takes}
 use Rattle.byte_streams.specs.Sink.{WritesAll, FailsWriting}
 use Rattle.board.specs.Plans.{IsLeast}
 use Rattle.reports.specs.Reports.{accepted_data, refused_certificate_data, report_text}
@@ -13,7 +12,7 @@ use Rattle.certificate.specs.Readings.{IsFirstFault}
 use Rattle.certificate.specs.Faults.{format_code}
 use Rattle.certificate_check.specs.declared.refusals.Refusal.{Refusal}
 use Rattle.certificate_check.specs.Refusals.{IsProved, IsFirstRefusal, refusal_code}
-use Rattle.batch_runs.specs.Batches.{IsReadable}
+use Rattle.batch_runs.specs.Batches.{TakesSome, IsReadable}
 use Rattle.certificate_runs.specs.Outputs.{Output, IsUntouched}
 use Rattle.certificate_runs.specs.declared.faults.CheckFault.{CheckFault}
 use Rattle.certificate_runs.specs.declared.faults.CheckFault.TheVariants.{CertificateRead, CertificateMemory, Write, Memory}
@@ -46,9 +45,13 @@ abbrev pub PutsVerdict : Change SinkState → Output → Result ℕ CheckFault �
 PutsVerdict sink output (Ok status) = WritesAll sink output.text × (status ≡ output.status)
 PutsVerdict sink output (Err fault) = FailsWriting sink output.text × (fault ≡ Write)
 
--- the verdict on what the source has left, where that is known
+-- a verdict on some certificate, or on a fault of some bytes
+abbrev pub IsSomeVerdict : Output → Type 0
+IsSomeVerdict output = ((c : Statement) × IsJudgement c output) ⊎ ((fault : FormatFault) × IsRefused (format_code fault) output)
+
+-- a verdict, which is that on what the source has left, where that is known
 abbrev pub JudgesSource : Change SourceState → Output → Type 0
-JudgesSource source output = IfSome source.before.left (IsVerdict output)
+JudgesSource source output = IsSomeVerdict output × IfSome source.before.left (IsVerdict output)
 
 -- How the run ends: the verdict is written; or writing failed, and a beginning of it is written; or the source failed or memory was wanting, and nothing is written.
 abbrev pub EndsCheck : Change SourceState → Change SinkState → Result ℕ CheckFault → Type 0
@@ -60,4 +63,4 @@ EndsCheck source sink (Err (Memory lacking)) = IsReadable source × IsUntouched 
 
 -- some of the bytes were taken, from the front, and the run ends so
 abbrev pub Checks : Change SourceState → Change SinkState → Result ℕ CheckFault → Type 0
-Checks source sink result = ((seen : List ℕ) × Takes source seen) × EndsCheck source sink result
+Checks source sink result = TakesSome source × EndsCheck source sink result

@@ -11,7 +11,7 @@ returns-in-Ok-judge g c =
     let sink = change g.K.Sink.state c.args.sink.now c.put_verdict.new.sink in
     let output : Output = record { text = c.as_str.result.now; status = c.in-Ok-judge.status } in
     let judgement : IsJudgement c.in-Ok.certificate output = subst (λ (text : List ℕ). IsJudgement c.in-Ok.certificate (record { text = text; status = c.in-Ok-judge.status })) (sym c.as_str.ensures.value) c.in-Ok-judge.ensures in
-    checked source sink output c.put_verdict.result c.in-Ok.ensures.given (readable_certificate source c.in-Ok.certificate c.in-Ok.ensures.failed) (judged source.before.left c.in-Ok.certificate output c.in-Ok.ensures.tells judgement) c.put_verdict.ensures
+    checked source sink output c.put_verdict.result c.in-Ok.ensures.given (readable_certificate source c.in-Ok.certificate c.in-Ok.ensures.failed) (judged source c.in-Ok.certificate output c.in-Ok.ensures.tells judgement) c.put_verdict.ensures
 
 pub returns-in-Ok-refuse : goal.returns-in-Ok-refuse
 returns-in-Ok-refuse g c =
@@ -20,4 +20,4 @@ returns-in-Ok-refuse g c =
     let output : Output = record { text = c.as_str-in-Ok-refuse.result.now; status = c.in-Ok-refuse.status } in
     let read = rw c.in-Err-Format.field-0-is at c.in-Err-Format.ensures in
     let refused : IsRefused c.code.result.now output = subst (λ (text : List ℕ). IsRefused c.code.result.now (record { text = text; status = c.in-Ok-refuse.status })) (sym c.as_str-in-Ok-refuse.ensures.value) c.in-Ok-refuse.ensures in
-    checked source sink output c.put_verdict-in-Ok-refuse.result read.given (readable_fault source c.in-Err-Format.fault read.failed) (faulty source.before.left c.in-Err-Format.fault output read.tells (rw c.code.ensures at refused)) c.put_verdict-in-Ok-refuse.ensures
+    checked source sink output c.put_verdict-in-Ok-refuse.result read.given (readable_fault source c.in-Err-Format.fault read.failed) (faulty source c.in-Err-Format.fault output read.tells (rw c.code.ensures at refused)) c.put_verdict-in-Ok-refuse.ensures
