@@ -16,6 +16,6 @@ pub record Proves (rule : CostRule) (rows : List (Position × ℕ)) (sum : Posit
   pub no_goal : (g : ℕ) → ¬ Contains rows (q, g)
   pub closed : (r : Position) (g : ℕ) → Contains rows (r, g) → (m : Move) (r' : Position) (c : ℕ) → Moves rule r m r' c → (k ≤ sum r' + (g + c)) ⊎ HasRow rows r' (g + c)
 
--- the sum of a board is never above the cost of a plan to q
+-- the sum of a board is never above the cost of a plan to q: as a heuristic it is admissible
 abbrev pub IsLowerBound : CostRule → (Position → ℕ) → Position → Type 0
 IsLowerBound rule sum q = (r : Position) → IsBoard r → NothingBelow rule r q (sum r)

@@ -8,7 +8,7 @@ use Rattle.std.proofs.lemmas.List.{length-set, length-append, get_or-set_same, g
 use Rattle.std.proofs.lemmas.List.Elements.{Contains-append_left, Contains-push, Contains-push_cases}
 use Rattle.std.proofs.lemmas.List.Sums.{sum_by-set}
 use Rattle.std.proofs.lemmas.Option.{slice_get_read, slice_get_past, slice_get_within}
-use Rattle.database_build.specs.Buckets.{Buckets, Waits, count_in, waiting, IsGrown, IsPut, IsTaken}
+use Rattle.database_build.specs.Buckets.{Buckets, Waits, size_in, waiting_count, IsGrown, IsPut, IsTaken}
 use Rattle.database_build.specs.Searches.{IsLowered}
 use Rattle.database_build.specs.declared.search.Search.{Search}
 use Rattle.database_build.specs.declared.table.TheConstants.{NO_VALUE}
@@ -69,15 +69,15 @@ grown_more b b' bucket grown empty = record {
         (cases_eq cost (length b')))
         (cases_lt cost (length b'))
 
-    count : (cost : ℕ) → waiting (b' ++ bucket ∷ []) cost ≡ waiting b' cost
+    count : (cost : ℕ) → waiting_count (b' ++ bucket ∷ []) cost ≡ waiting_count b' cost
     count cost =
         ⊎_elim
-        (λ (lt : cost < length b'). ap count_in (get_push_within b' bucket cost lt))
+        (λ (lt : cost < length b'). ap size_in (get_push_within b' bucket cost lt))
         (λ (le : length b' ≤ cost).
-        let none : waiting b' cost ≡ 0 = ap count_in (slice_get_past b' cost le) in
+        let none : waiting_count b' cost ≡ 0 = ap size_in (slice_get_past b' cost le) in
         ⊎_elim
-        (λ (e : cost ≡ length b'). ap (waiting (b' ++ bucket ∷ [])) e ∙ ap count_in (get_push_end b' bucket) ∙ ap length empty ∙ sym none)
-        (λ (ne : cost ≢ length b'). ap count_in (get_push_past b' bucket cost (omega arith)) ∙ sym none)
+        (λ (e : cost ≡ length b'). ap (waiting_count (b' ++ bucket ∷ [])) e ∙ ap size_in (get_push_end b' bucket) ∙ ap length empty ∙ sym none)
+        (λ (ne : cost ≢ length b'). ap size_in (get_push_past b' bucket cost (omega arith)) ∙ sym none)
         (cases_eq cost (length b')))
         (cases_lt cost (length b'))
 
@@ -107,15 +107,15 @@ module _ (b : Buckets) (cost rank : ℕ) (old now : Vec ℕ Global) (inside : co
       (λ (ne : at ≢ cost). inl (w.0, sym (get_set_other b cost at now ne) ∙ w.1, w.2))
       (cases_eq at cost)
 
-  put_count : (at : ℕ) → waiting (set b cost now) at ≤ waiting b at + 1
+  put_count : (at : ℕ) → waiting_count (set b cost now) at ≤ waiting_count b at + 1
   put_count at =
       ⊎_elim
       (λ (e : at ≡ cost).
-      let after : waiting (set b cost now) at ≡ length now.items = ap (waiting (set b cost now)) e ∙ ap count_in (get_set_same b cost now inside) in
-      let before : waiting b at ≡ length old.items = ap (waiting b) e ∙ ap count_in there in
+      let after : waiting_count (set b cost now) at ≡ length now.items = ap (waiting_count (set b cost now)) e ∙ ap size_in (get_set_same b cost now inside) in
+      let before : waiting_count b at ≡ length old.items = ap (waiting_count b) e ∙ ap size_in there in
       let longer : length now.items ≡ length old.items + 1 = ap length is ∙ length-append old.items (rank ∷ []) in
       omega arith)
-      (λ (ne : at ≢ cost). let e : waiting (set b cost now) at ≡ waiting b at = ap count_in (get_set_other b cost at now ne) in omega arith)
+      (λ (ne : at ≢ cost). let e : waiting_count (set b cost now) at ≡ waiting_count b at = ap size_in (get_set_other b cost at now ne) in omega arith)
       (cases_eq at cost)
 
   pub put_is : IsPut cost rank b (set b cost now)
@@ -194,8 +194,8 @@ module _ (b : Buckets) (cost rank : ℕ) (old now : Vec ℕ Global) (inside : co
 
   pub take_is : IsTaken cost rank b (set b cost now)
   take_is =
-      let after : waiting (set b cost now) cost ≡ length now.items = ap count_in (get_set_same b cost now inside) in
-      let before : waiting b cost ≡ length old.items = ap count_in stood in
+      let after : waiting_count (set b cost now) cost ≡ length now.items = ap size_in (get_set_same b cost now inside) in
+      let before : waiting_count b cost ≡ length old.items = ap size_in stood in
       let longer : length old.items ≡ length now.items + 1 = ap length is ∙ length-append now.items (rank ∷ []) in
       record {
         here = (old, stood, subst (λ xs. Contains xs rank) (sym is) (Contains-push now.items rank));
@@ -205,19 +205,19 @@ module _ (b : Buckets) (cost rank : ℕ) (old now : Vec ℕ Global) (inside : co
         same_length = length-set b cost now;
       }
 
-pub none_waits : (b : Buckets) (cost k : ℕ) → waiting b cost ≡ 0 → Waits b cost k → ⊥
-none_waits b cost k none w = let e : waiting b cost ≡ length w.0.items = ap count_in w.1 in omega (arith, w.2.1)
+pub none_waits : (b : Buckets) (cost k : ℕ) → waiting_count b cost ≡ 0 → Waits b cost k → ⊥
+none_waits b cost k none w = let e : waiting_count b cost ≡ length w.0.items = ap size_in w.1 in omega (arith, w.2.1)
 
-pub released : (b : Buckets) (cost : ℕ) (bucket : Vec ℕ Global) → cost < length b → waiting b cost ≡ 0 → bucket.items ≡ [] → IsGrown b (set b cost bucket)
+pub released : (b : Buckets) (cost : ℕ) (bucket : Vec ℕ Global) → cost < length b → waiting_count b cost ≡ 0 → bucket.items ≡ [] → IsGrown b (set b cost bucket)
 released b cost bucket inside none empty = record {
   waits = λ at k w. ⊎_elim (λ (e : at ≡ cost). absurd (none_waits b cost k none (subst (λ d. Waits b d k) e w))) (λ (ne : at ≢ cost). (w.0, get_set_other b cost at bucket ne ∙ w.1, w.2)) (cases_eq at cost);
   only = λ at k w. ⊎_elim (λ (e : at ≡ cost). let same : bucket ≡ w.0 = some_is (sym (get_set_same b cost bucket inside) ∙ ap (slice_get (set b cost bucket)) (sym e) ∙ w.1) in absurd (none_in w.0.items k (ap (λ v. v.items) (sym same) ∙ empty) w.2))
       (λ (ne : at ≢ cost). (w.0, sym (get_set_other b cost at bucket ne) ∙ w.1, w.2)) (cases_eq at cost);
-  same = λ at. ⊎_elim (λ (e : at ≡ cost). ap (waiting (set b cost bucket)) e ∙ ap count_in (get_set_same b cost bucket inside) ∙ ap length empty ∙ sym (ap (waiting b) e ∙ none)) (λ (ne : at ≢ cost). ap count_in (get_set_other b cost at bucket ne)) (cases_eq at cost);
+  same = λ at. ⊎_elim (λ (e : at ≡ cost). ap (waiting_count (set b cost bucket)) e ∙ ap size_in (get_set_same b cost bucket inside) ∙ ap length empty ∙ sym (ap (waiting_count b) e ∙ none)) (λ (ne : at ≢ cost). ap size_in (get_set_other b cost at bucket ne)) (cases_eq at cost);
   wide = omega (arith, length-set b cost bucket);
 }
 
-pub take_option : (b : Buckets) (cost : ℕ) (old now : Vec ℕ Global) (r : Option ℕ) → cost < length b → old ≡ get_or b cost old → IsSome r → old.items ≡ now.items ++ option_to_list r → MatchOption r ((waiting b cost ≡ 0) × (set b cost now ≡ b)) (λ rank. IsTaken cost rank b (set b cost now))
+pub take_option : (b : Buckets) (cost : ℕ) (old now : Vec ℕ Global) (r : Option ℕ) → cost < length b → old ≡ get_or b cost old → IsSome r → old.items ≡ now.items ++ option_to_list r → MatchOption r ((waiting_count b cost ≡ 0) × (set b cost now ≡ b)) (λ rank. IsTaken cost rank b (set b cost now))
 take_option b cost old now None inside was some is = absurd (false≢true some)
 take_option b cost old now (Some rank) inside was some is = take_is b cost rank old now inside was is
 

@@ -15,7 +15,7 @@ use Rattle.pattern_index.specs.Selections.{Selection, size_of, rank_in, abstract
 use Rattle.pattern_index.proofs.SightLemmas.{sight_below, sight_from_rank}
 use Rattle.pattern_index.proofs.ViewMoveLemmas.{successor_of_sight, moved_view, moved_back, blank_inside}
 use Rattle.database_build.specs.Values.{IsValue}
-use Rattle.database_build.specs.Buckets.{Buckets, Waits, waiting, IsGrown, IsTaken}
+use Rattle.database_build.specs.Buckets.{Buckets, Waits, waiting_count, IsGrown, IsTaken}
 use Rattle.database_build.specs.Searches.{IsFit, IsFresh, IsLowered, IsTried, IsSpread, IsVisited, space_of}
 use Rattle.database_build.specs.declared.search.Search.{Search}
 use Rattle.database_build.specs.declared.table.TheConstants.{NO_VALUE}
@@ -96,7 +96,7 @@ pub record IsProgress (q : Quest) (cost : ℕ) (values values' : List ℕ) (b b'
   pub only : (at k : ℕ) → Waits b' at k → Waits b at k ⊎ (k < size_of q.group)
   pub few : length b ≤ NO_VALUE → length b' ≤ NO_VALUE
   pub wide : length b ≤ length b'
-  pub work : 2 * sum values' + waiting b' cost ≤ 2 * sum values + waiting b cost
+  pub work : 2 * sum values' + waiting_count b' cost ≤ 2 * sum values + waiting_count b cost
 
 progress_none : (q : Quest) (cost : ℕ) (values : List ℕ) (b : Buckets) → IsProgress q cost values values b b
 progress_none q cost values b = record {
@@ -230,7 +230,7 @@ module _ (q : Quest) (cost rank : ℕ) (b : Buckets) (s s' : Search) (now : IsUn
     few = let long = taken.same_length in let f = now.few in omega arith;
   }
 
-  spread_on : (v : Sight) → IsIn q v → place q v ≡ rank → slice_index s.values.items rank ≡ cost → IsSpread v cost all_moves s s' → IsUnderWay q cost s'.values.items s'.buckets.items × (2 * sum s'.values.items + waiting s'.buckets.items cost < 2 * sum s.values.items + waiting b cost) × (length b ≤ length s'.buckets.items) × (s'.group ≡ q.group) × (s'.weights ≡ q.rule)
+  spread_on : (v : Sight) → IsIn q v → place q v ≡ rank → slice_index s.values.items rank ≡ cost → IsSpread v cost all_moves s s' → IsUnderWay q cost s'.values.items s'.buckets.items × (2 * sum s'.values.items + waiting_count s'.buckets.items cost < 2 * sum s.values.items + waiting_count b cost) × (length b ≤ length s'.buckets.items) × (s'.group ≡ q.group) × (s'.weights ≡ q.rule)
   spread_on v view at_rank here spread =
       let within : cost < length b = slice_get_within b cost taken.here.0 taken.here.1 in
       let few = now.few in
@@ -289,10 +289,10 @@ module _ (q : Quest) (cost rank : ℕ) (b : Buckets) (s s' : Search) (now : IsUn
         all.2.1,
       )
 
-  pub visited : IsVisited rank cost s s' → IsUnderWay q cost s'.values.items s'.buckets.items × (2 * sum s'.values.items + waiting s'.buckets.items cost < 2 * sum s.values.items + waiting b cost) × (length b ≤ length s'.buckets.items) × (s'.group ≡ q.group) × (s'.weights ≡ q.rule)
+  pub visited : IsVisited rank cost s s' → IsUnderWay q cost s'.values.items s'.buckets.items × (2 * sum s'.values.items + waiting_count s'.buckets.items cost < 2 * sum s.values.items + waiting_count b cost) × (length b ≤ length s'.buckets.items) × (s'.group ≡ q.group) × (s'.weights ≡ q.rule)
   visited (inl other) =
       let counted = taken.count in
-      subst (λ (x : Search). IsUnderWay q cost x.values.items x.buckets.items × (2 * sum x.values.items + waiting x.buckets.items cost < 2 * sum s.values.items + waiting b cost) × (length b ≤ length x.buckets.items) × (x.group ≡ q.group) × (x.weights ≡ q.rule)) (sym other.1)
+      subst (λ (x : Search). IsUnderWay q cost x.values.items x.buckets.items × (2 * sum x.values.items + waiting_count x.buckets.items cost < 2 * sum s.values.items + waiting_count b cost) × (length b ≤ length x.buckets.items) × (x.group ≡ q.group) × (x.weights ≡ q.rule)) (sym other.1)
       (passed other.0, omega arith, omega (arith, taken.same_length), fits.0, fits.1)
   visited (inr here) =
       let view : IsIn q here.1.0 = subst (λ (g : Selection). IsView g.grid g.tiles here.1.0) fits.0 here.1.1 in
@@ -300,7 +300,7 @@ module _ (q : Quest) (cost rank : ℕ) (b : Buckets) (s s' : Search) (now : IsUn
       spread_on here.1.0 view at here.0 here.1.3
 
 -- a bucket in which nothing waits any more
-pub next_cost : (q : Quest) (cost : ℕ) (values : List ℕ) (b b' : Buckets) → IsUnderWay q cost values b → waiting b cost ≡ 0 → IsGrown b b' → length b' ≡ length b → IsUnderWay q (cost + 1) values b'
+pub next_cost : (q : Quest) (cost : ℕ) (values : List ℕ) (b b' : Buckets) → IsUnderWay q cost values b → waiting_count b cost ≡ 0 → IsGrown b b' → length b' ≡ length b → IsUnderWay q (cost + 1) values b'
 next_cost q cost values b b' now none same long = record {
   size = now.size;
   capped = now.capped;
@@ -396,7 +396,7 @@ running_first q s s' start v view is at fresh lowered = record {
 }
 
 -- s is the search before a rank is taken out, t after it, and s' after the visit
-pub running_visited : (q : Quest) (cost rank : ℕ) (s t s' : Search) → IsRunning q cost s → t.group ≡ s.group → t.weights ≡ s.weights → t.values.items ≡ s.values.items → IsTaken cost rank s.buckets.items t.buckets.items → IsVisited rank cost t s' → IsRunning q cost s' × (2 * sum s'.values.items + waiting s'.buckets.items cost < 2 * sum s.values.items + waiting s.buckets.items cost) × (length s.buckets.items ≤ length s'.buckets.items)
+pub running_visited : (q : Quest) (cost rank : ℕ) (s t s' : Search) → IsRunning q cost s → t.group ≡ s.group → t.weights ≡ s.weights → t.values.items ≡ s.values.items → IsTaken cost rank s.buckets.items t.buckets.items → IsVisited rank cost t s' → IsRunning q cost s' × (2 * sum s'.values.items + waiting_count s'.buckets.items cost < 2 * sum s.values.items + waiting_count s.buckets.items cost) × (length s.buckets.items ≤ length s'.buckets.items)
 running_visited q cost rank s t s' now group weights values taken seen =
     let under_way = subst (λ (xs : List ℕ). IsUnderWay q cost xs s.buckets.items) (sym values) now.under_way in
     let after = visited q cost rank s.buckets.items t s' under_way taken (group ∙ now.group, weights ∙ now.weights) seen in
@@ -406,7 +406,7 @@ running_visited q cost rank s t s' now group weights values taken seen =
       after.2,
     )
 
-pub running_next : (q : Quest) (cost : ℕ) (s s' : Search) (b : Buckets) → IsRunning q cost s → s'.group ≡ s.group → s'.weights ≡ s.weights → s'.values.items ≡ s.values.items → (waiting s.buckets.items cost ≡ 0) × (b ≡ s.buckets.items) → IsGrown b s'.buckets.items → length s'.buckets.items ≡ length b → IsRunning q (cost + 1) s'
+pub running_next : (q : Quest) (cost : ℕ) (s s' : Search) (b : Buckets) → IsRunning q cost s → s'.group ≡ s.group → s'.weights ≡ s.weights → s'.values.items ≡ s.values.items → (waiting_count s.buckets.items cost ≡ 0) × (b ≡ s.buckets.items) → IsGrown b s'.buckets.items → length s'.buckets.items ≡ length b → IsRunning q (cost + 1) s'
 running_next q cost s s' b now group weights values none same long = record {
   under_way =
       subst (λ (xs : List ℕ). IsUnderWay q (cost + 1) xs s'.buckets.items) (sym values)

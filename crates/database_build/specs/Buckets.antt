@@ -11,19 +11,19 @@ abbrev pub Waits : Buckets → ℕ → ℕ → Type 0
 Waits buckets cost rank = (bucket : Vec ℕ Global) × (slice_get buckets cost ≡ Some bucket) × Contains bucket.items rank
 
 -- how many are in a bucket, if there is one
-abbrev pub count_in : Option (Vec ℕ Global) → ℕ
-count_in None = 0
-count_in (Some bucket) = length bucket.items
+abbrev pub size_in : Option (Vec ℕ Global) → ℕ
+size_in None = 0
+size_in (Some bucket) = length bucket.items
 
 -- how many are in the bucket of this cost
-abbrev pub waiting : Buckets → ℕ → ℕ
-waiting buckets cost = count_in (slice_get buckets cost)
+abbrev pub waiting_count : Buckets → ℕ → ℕ
+waiting_count buckets cost = size_in (slice_get buckets cost)
 
 -- the same wait in both, and no bucket is lost
 pub record IsGrown (b b' : Buckets) : Type 0 where
   pub waits : (cost rank : ℕ) → Waits b cost rank → Waits b' cost rank
   pub only : (cost rank : ℕ) → Waits b' cost rank → Waits b cost rank
-  pub same : (cost : ℕ) → waiting b' cost ≡ waiting b cost
+  pub same : (cost : ℕ) → waiting_count b' cost ≡ waiting_count b cost
   pub wide : length b ≤ length b'
 
 -- one more waits
@@ -31,7 +31,7 @@ pub record IsPut (cost rank : ℕ) (b b' : Buckets) : Type 0 where
   pub here : Waits b' cost rank
   pub waits : (at k : ℕ) → Waits b at k → Waits b' at k
   pub only : (at k : ℕ) → Waits b' at k → Waits b at k ⊎ (k ≡ rank)
-  pub count : (at : ℕ) → waiting b' at ≤ waiting b at + 1
+  pub count : (at : ℕ) → waiting_count b' at ≤ waiting_count b at + 1
   pub same_length : length b' ≡ length b
 
 -- one that waited is gone
@@ -39,5 +39,5 @@ pub record IsTaken (cost rank : ℕ) (b b' : Buckets) : Type 0 where
   pub here : Waits b cost rank
   pub waits : (at k : ℕ) → Waits b at k → Waits b' at k ⊎ ((at ≡ cost) × (k ≡ rank))
   pub only : (at k : ℕ) → Waits b' at k → Waits b at k
-  pub count : waiting b' cost + 1 ≡ waiting b cost
+  pub count : waiting_count b' cost + 1 ≡ waiting_count b cost
   pub same_length : length b' ≡ length b

@@ -5,7 +5,7 @@ use Rattle.board.specs.CostRules.{CostRule}
 use Rattle.board.specs.Moves.{all_moves}
 use Rattle.pattern_index.specs.Views.{Sight, IsView, Abstraction}
 use Rattle.pattern_index.specs.Selections.{Selection, size_of, rank_in, abstraction_of, sight_successor}
-use Rattle.database_build.specs.Buckets.{Waits, waiting}
+use Rattle.database_build.specs.Buckets.{Waits, waiting_count}
 use Rattle.database_build.specs.declared.search.Search.{Search}
 use Rattle.database_build.specs.declared.table.TheConstants.{NO_VALUE}
 
@@ -38,7 +38,7 @@ pub record IsLowered (rank cost : ℕ) (s s' : Search) : Type 0 where
   pub only : (at k : ℕ) → Waits s'.buckets.items at k → Waits s.buckets.items at k ⊎ (k ≡ rank)
   pub few : length s.buckets.items ≤ NO_VALUE → length s'.buckets.items ≤ NO_VALUE
   pub wide : length s.buckets.items ≤ length s'.buckets.items
-  pub work : (at : ℕ) → 2 * sum s'.values.items + waiting s'.buckets.items at ≤ 2 * sum s.values.items + waiting s.buckets.items at
+  pub work : (at : ℕ) → 2 * sum s'.values.items + waiting_count s'.buckets.items at ≤ 2 * sum s.values.items + waiting_count s.buckets.items at
 
 -- the view that a move leads to, if there is one, is lowered to a cost and the move's
 abbrev pub IsTried : ℕ → Option (Sight × ℕ) → Search → Search → Type 0

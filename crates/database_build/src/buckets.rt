@@ -1,7 +1,7 @@
 //! Ranks that wait in buckets of cost.
 
 ghost use Rattle.std.specs.Prelude.{ℕ, ◌≡◌, ◌+◌, ◌<◌, ◌≤◌, length, OnOk, MatchOption};
-ghost use Rattle.database_build.specs.Buckets.{IsGrown, IsPut, IsTaken, waiting};
+ghost use Rattle.database_build.specs.Buckets.{IsGrown, IsPut, IsTaken, waiting_count};
 
 use crate::table::NO_VALUE;
 use memory::{OutOfMemory, push};
@@ -38,7 +38,7 @@ pub(crate) fn put(buckets: &mut Vec<Vec<u32>>, cost: usize, rank: u32) -> Result
 pub(crate) fn take(buckets: &mut Vec<Vec<u32>>, cost: usize) -> Option<u32>
     requires { cost < length buckets.old.items }
     ensures { MatchOption result
-        ((waiting buckets.old.items cost ≡ 0) × (buckets.new.items ≡ buckets.old.items))
+        ((waiting_count buckets.old.items cost ≡ 0) × (buckets.new.items ≡ buckets.old.items))
         (λ rank. IsTaken cost rank buckets.old.items buckets.new.items) }
 {
     let left = buckets[cost].len();
@@ -51,7 +51,7 @@ pub(crate) fn take(buckets: &mut Vec<Vec<u32>>, cost: usize) -> Option<u32>
 // Gives back the memory of a bucket in which nothing waits.
 pub(crate) fn release(alloc: Global, buckets: &mut Vec<Vec<u32>>, cost: usize)
     requires inside { cost < length buckets.old.items }
-    requires empty { waiting buckets.old.items cost ≡ 0 }
+    requires empty { waiting_count buckets.old.items cost ≡ 0 }
     ensures same { IsGrown buckets.old.items buckets.new.items }
     ensures length { length buckets.new.items ≡ length buckets.old.items }
 {

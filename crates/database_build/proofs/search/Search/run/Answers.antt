@@ -1,7 +1,7 @@
 use Rattle.std.proofs.Common.{◌+◌, ◌*◌, ◌<◌, ◌≤◌, length, refl, ap, arith}
 use Rattle.std.specs.Prelude.{sum}
 use Rattle.pattern_index.specs.Selections.{size_of}
-use Rattle.database_build.specs.Buckets.{waiting}
+use Rattle.database_build.specs.Buckets.{waiting_count}
 use Rattle.database_build.proofs.ReachLemmas.{IsRunning, quest_of, running_first, running_visited, running_next, values_are}
 use Rattle.database_build.proofs.search.Search.run.Goals as goal
 
@@ -16,7 +16,7 @@ visit-requires-clause-inside c =
     omega (arith, ap size_of c.ranks.invariant.0.group)
 
 -- what a visit leaves
-after : (c : goal.In_ok-visit) → IsRunning (quest_of c.args.self.group c.args.self.weights c.args.goal.now) c.costs.cost c.visit.new.self × (2 * sum c.visit.new.self.values.items + waiting c.visit.new.self.buckets.items c.costs.cost < 2 * sum c.ranks.self.values.items + waiting c.ranks.self.buckets.items c.costs.cost) × (length c.ranks.self.buckets.items ≤ length c.visit.new.self.buckets.items)
+after : (c : goal.In_ok-visit) → IsRunning (quest_of c.args.self.group c.args.self.weights c.args.goal.now) c.costs.cost c.visit.new.self × (2 * sum c.visit.new.self.values.items + waiting_count c.visit.new.self.buckets.items c.costs.cost < 2 * sum c.ranks.self.values.items + waiting_count c.ranks.self.buckets.items c.costs.cost) × (length c.ranks.self.buckets.items ≤ length c.visit.new.self.buckets.items)
 after c =
     running_visited (quest_of c.args.self.group c.args.self.weights c.args.goal.now) c.costs.cost c.in-Some.rank c.ranks.self _ c.visit.new.self
     c.ranks.invariant.0 refl refl refl c.in-Some.ensures c.in_ok-visit.ensures
