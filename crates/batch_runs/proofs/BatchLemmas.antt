@@ -1,6 +1,7 @@
 -- The reports of lines, one line after the other.
 use Rattle.std.proofs.Common.{◌≡◌, ◌⊎◌, ℕ, suc, ◌+◌, ◌≤◌, List, [], ◌∷◌, ◌++◌, Option, None, Some, length, refl, sym, ap, ◌∙◌, subst, inl, inr, arith, append_assoc, append-nil, length-append}
 use Rattle.std.proofs.KnownBytes.{Appends-nil, Appends-trans, Consumes-nil, Consumes-trans}
+use Rattle.std.specs.Io.KnownBytes.{Consumes}
 use Rattle.byte_streams.specs.Streams.{SourceState, SinkState, Change, from_to}
 use Rattle.byte_streams.specs.Sink.{Puts, PutsBeginning}
 use Rattle.byte_streams.proofs.SinkLemmas.{PutsBeginning-after}
@@ -82,7 +83,7 @@ takes_some (Some input) (Some rest) line taken = of_known taken.whole
   where
     of_known : (input ≡ line ++ 10 ∷ rest) ⊎ ((input ≡ line) × (rest ≡ [])) → (seen : List ℕ) × Consumes (Some input) (Some rest) seen
     of_known (inl fed) = (line ++ 10 ∷ [], fed ∙ sym (append_assoc line (10 ∷ []) rest))
-    of_known (inr (ended, none)) = (line, ended ∙ append-nil line ∙ ap (λ (l : List ℕ). line ++ l) (sym none))
+    of_known (inr (ended, none)) = (line, ended ∙ sym (append-nil line) ∙ ap (λ (l : List ℕ). line ++ l) (sym none))
 
 pub TakesSome-line : (a b c : SourceState) (line : List ℕ) → TakesSome (from_to a b) → TakesLine (from_to b c) line → TakesSome (from_to a c)
 TakesSome-line a b c line before taken =

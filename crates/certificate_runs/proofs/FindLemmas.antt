@@ -1,13 +1,14 @@
 -- The lines that are passed over before the first other one.
-use Rattle.std.proofs.Common.{◌≡◌, ℕ, ◌+◌, List, [], ◌∷◌, ◌++◌, Option, None, Some, All, length, refl, sym, ◌∙◌, arith, length-append}
-use Rattle.batch_lines.specs.Readings.{TakesKnown, TakesNoLine, IsJudged}
+use Rattle.std.proofs.Common.{◌≡◌, ◌⊎◌, inl, inr, true, ◌<◌, ℕ, ◌+◌, List, [], ◌∷◌, ◌++◌, Option, None, Some, All, length, refl, sym, ◌∙◌, arith, length-append}
+use Rattle.batch_lines.specs.Readings.{TakesKnown, TakesNoLine, CountsKnown, Stops, IsJudged}
+use Rattle.batch_lines.specs.declared.lines.TheConstants.{INPUT_LIMIT}
 use Rattle.batch_lines.specs.declared.lines.LineKind.{LineKind}
 use Rattle.batch_lines.specs.declared.lines.LineKind.TheVariants.{PassedOver}
 use Rattle.std.proofs.KnownBytes.{Consumes-trans}
-use Rattle.byte_streams.specs.Streams.{SourceState, Change, from_to}
+use Rattle.byte_streams.specs.Streams.{SourceState, from_to}
 use Rattle.byte_streams.specs.Source.{IsEnded}
 use Rattle.batch_lines.proofs.LineLemmas.{kept_consumes}
-use Rattle.batch_runs.specs.Batches.{AreRead, TakesSome}
+use Rattle.batch_runs.specs.Batches.{AreRead, TakesSome, IsTooLong}
 use Rattle.batch_runs.proofs.BatchLemmas.{AreRead-more}
 use Rattle.certificate_runs.specs.Certifying.{IsPassedOver}
 use Rattle.std.proofs.lemmas.List.Elements.{All-nil, All-cons, All-append}
@@ -44,3 +45,15 @@ TakesSome-lost a b c room before (seen, taken, none) = (before.0 ++ seen, Consum
 -- what was taken, and then the end
 pub TakesSome-ended : (a b c : SourceState) → TakesSome (from_to a b) → IsEnded (from_to b c) → TakesSome (from_to a c)
 TakesSome-ended a b c before (ended, kept) = (before.0 ++ [], Consumes-trans a.left b.left c.left before.0 [] before.1 (kept_consumes b.left c.left kept))
+
+-- an input is too long of which more was counted than the limit
+too_long : (a b c : Option (List ℕ)) (x y : ℕ) → CountsKnown a b 0 x → CountsKnown b c x y → INPUT_LIMIT < y → IsTooLong a
+too_long None b c x y p q past = tt
+too_long (Some input) None c x y p q past = absurd p
+too_long (Some input) (Some left) None x y p q past = absurd q
+too_long (Some input) (Some left) (Some rest) x y p q past = omega (arith, p, q, past)
+
+-- why a line is lost
+pub lost_for : (a b c : SourceState) (x y : ℕ) → CountsKnown a.left b.left 0 x → CountsKnown b.left c.left x y → Stops (from_to b c) y → (c.has_failed ≡ true) ⊎ IsTooLong a.left
+lost_for a b c x y before now (inl failed) = inl failed
+lost_for a b c x y before now (inr past) = inr (too_long a.left b.left c.left x y before now past)

@@ -1,6 +1,9 @@
 use Rattle.std.proofs.Common.{◌∙◌, arith}
+use Rattle.byte_streams.specs.Streams.{change}
+use Rattle.batch_runs.specs.Batches.{LosesLine}
 use Rattle.batch_runs.proofs.BatchLemmas.{AreRead-more, TakesSome-line, CountsKnown-more}
-use Rattle.certificate_runs.proofs.FindLemmas.{searching_on, TakesSome-lost, TakesSome-ended}
+use Rattle.certificate_runs.specs.Certifying.{FindsFirst}
+use Rattle.certificate_runs.proofs.FindLemmas.{searching_on, TakesSome-lost, lost_for}
 use Rattle.certificate_runs.proofs.certifying.find_line.Goals as goal
 
 pub lines-preserved : goal.lines-preserved
@@ -13,21 +16,34 @@ lines-preserved g c =
       taken = CountsKnown-more (source c.args.source.now).left (source c.lines.source).left (source c.next_line.new.source).left 0 c.lines.reader.taken c.next_line.new.self.taken c.lines.invariant.taken read.6;
     }
 
+pub returns-in-Err : goal.returns-in-Err
+returns-in-Err g c =
+    let source = g.S.Source.state in
+    let lost = c.in-Err.ensures in
+    let searching = c.lines.invariant.searching in
+    let line : LosesLine (change source c.args.source.now c.next_line.new.source) searching.lines =
+    record {
+      between = source c.lines.source;
+      first = c.lines.invariant.some;
+      taken = c.lines.reader.taken;
+      whole = searching.read;
+      counted = c.lines.invariant.taken;
+      lost = lost.0;
+      cause = lost_for (source c.args.source.now) (source c.lines.source) (source c.next_line.new.source) c.lines.reader.taken c.next_line.new.self.taken c.lines.invariant.taken lost.2 lost.3;
+    } in
+    (TakesSome-lost (source c.args.source.now) (source c.lines.source) (source c.next_line.new.source) _ c.lines.invariant.some lost.0, (searching.lines, searching.passed, line))
+
 pub returns-in_default-kind : goal.returns-in_default-kind
 returns-in_default-kind g c =
     let source = g.S.Source.state in
     let read = rw c.in-Some.is at c.in-Ok.ensures in
-    let searching = c.lines.invariant.searching in (
-      read.7.0.1,
-      (
-        record {
-          passed = searching.lines;
-          line = read.0;
-          read = AreRead-more (source c.args.source.now).left (source c.lines.source).left (source c.next_line.new.source).left searching.lines read.0 searching.read read.1;
-          before = searching.passed;
-          here = λ over. c.in_default-kind.not-PassedOver (read.2.judged ∙ over);
-        },
-        read.2,
-        omega (arith, read.3, searching.counted),
-      ),
-    )
+    let searching = c.lines.invariant.searching in
+    let first : FindsFirst (change source c.args.source.now c.next_line.new.source) =
+    record {
+      passed = searching.lines;
+      line = read.0;
+      read = AreRead-more (source c.args.source.now).left (source c.lines.source).left (source c.next_line.new.source).left searching.lines read.0 searching.read read.1;
+      before = searching.passed;
+      here = λ over. c.in_default-kind.not-PassedOver (read.2.judged ∙ over);
+    } in
+    (TakesSome-line (source c.args.source.now) (source c.lines.source) (source c.next_line.new.source) read.0 c.lines.invariant.some read.1, (read.7.0.1, (first, read.2, omega (arith, read.3, searching.counted))))
