@@ -145,7 +145,7 @@ ends_by_feed old now new before taken kept start more feed way =
     (way.seen, feed_taken old now new way.seen way.no_feed way.consumed feed, way.scan, omega (arith, way.counted))
 
 -- to keep what is left is to take nothing
-pub kept_consumes : (x y : Option (List ℕ)) → Keeps x y → Consumes x y []
+kept_consumes : (x y : Option (List ℕ)) → Keeps x y → Consumes x y []
 kept_consumes None y k = tt
 kept_consumes (Some xs) None k = absurd k
 kept_consumes (Some xs) (Some ys) k = sym k

@@ -6,8 +6,6 @@ use Rattle.batch_lines.specs.declared.lines.LineKind.{LineKind}
 use Rattle.batch_lines.specs.declared.lines.LineKind.TheVariants.{PassedOver}
 use Rattle.std.proofs.KnownBytes.{Consumes-trans}
 use Rattle.byte_streams.specs.Streams.{SourceState, from_to}
-use Rattle.byte_streams.specs.Source.{IsEnded}
-use Rattle.batch_lines.proofs.LineLemmas.{kept_consumes}
 use Rattle.batch_runs.specs.Batches.{AreRead, TakesSome, IsTooLong}
 use Rattle.batch_runs.proofs.BatchLemmas.{AreRead-more}
 use Rattle.certificate_runs.specs.Certifying.{IsPassedOver}
@@ -41,10 +39,6 @@ searching_on input now new n m bytes kept kind searching taken judged passed nex
 -- what was taken, and then of a line that was lost
 pub TakesSome-lost : (a b c : SourceState) (room : ℕ) → TakesSome (from_to a b) → TakesNoLine (from_to b c) room → TakesSome (from_to a c)
 TakesSome-lost a b c room before (seen, taken, none) = (before.0 ++ seen, Consumes-trans a.left b.left c.left before.0 seen before.1 taken)
-
--- what was taken, and then the end
-pub TakesSome-ended : (a b c : SourceState) → TakesSome (from_to a b) → IsEnded (from_to b c) → TakesSome (from_to a c)
-TakesSome-ended a b c before (ended, kept) = (before.0 ++ [], Consumes-trans a.left b.left c.left before.0 [] before.1 (kept_consumes b.left c.left kept))
 
 -- an input is too long of which more was counted than the limit
 too_long : (a b c : Option (List ℕ)) (x y : ℕ) → CountsKnown a b 0 x → CountsKnown b c x y → INPUT_LIMIT < y → IsTooLong a
