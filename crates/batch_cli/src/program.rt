@@ -47,7 +47,8 @@ impl Ending {
     {
         match self {
             Ending::Usage => {
-                "usage: tilesolve, with lines of an id and the tiles of a 3 by 3 board on standard input\n"
+                "usage: tilesolve, with lines of an id and the tiles of a 3 by 3 board on standard \
+                 input\n"
             }
             Ending::NoBuffers => "tilesolve: memory\n",
             Ending::Ran(_) => "",

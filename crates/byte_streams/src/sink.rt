@@ -1,6 +1,7 @@
 //! Bytes that are written, and what writes them to a writer.
 
-ghost use Rattle.std.specs.Prelude.{◌≡◌, ◌<◌, ◌≤◌, ℕ, true, false, IfOk, length, List, OnErr, OnOk, Option, take};
+ghost use Rattle.std.specs.Prelude.{◌≡◌, ◌<◌, ◌≤◌, ℕ, true, false, IfOk, OnErr, OnOk};
+ghost use Rattle.std.specs.Prelude.{List, Option, length, take};
 ghost use Rattle.std.specs.Io.KnownBytes.{Appends, Keeps};
 ghost use Rattle.byte_streams.specs.Streams.{SinkState, change};
 ghost use Rattle.byte_streams.specs.Sink.{Writes, Flushes, AreTaken, StopsAtFailure};
