@@ -7,7 +7,7 @@ use Rattle.board.specs.Neighbours.{LiesTowards, neighbour, opposite}
 use Rattle.board.specs.Positions.{Position, IsBoard}
 use Rattle.board.specs.CostRules.{CostRule}
 use Rattle.board.specs.Moves.{Moves, successor}
-use Rattle.board.specs.Plans.{Leads, NothingBelow}
+use Rattle.board.specs.Plans.{Leads, NothingBelow, IsLeast}
 use Rattle.board.specs.Classes.{SameClass}
 use Rattle.board.specs.Keys.{key_of, Precedes}
 use Rattle.board.specs.Rows.{Proves, IsLowerBound}
@@ -68,6 +68,10 @@ MovesKeepTheClass = (rule : CostRule) (b : Position) (m : Move) (b' : Position) 
 -- where a plan leads from b to q they are in one class
 abbrev pub PlansKeepTheClass : Type 0
 PlansKeepTheClass = (rule : CostRule) (b : Position) (plan : List Move) (q : Position) (k : ℕ) → IsBoard b → Leads rule b plan q k → SameClass b q
+
+-- a least cost is one number
+abbrev pub LeastCostsAreDetermined : Type 0
+LeastCostsAreDetermined = (rule : CostRule) (b q : Position) (j k : ℕ) → IsLeast rule b q j → IsLeast rule b q k → j ≡ k
 
 -- a key names one board of a grid
 abbrev pub KeysNameBoards : Type 0

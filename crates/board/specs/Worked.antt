@@ -1,8 +1,9 @@
 -- Worked rows: what the definitions say of boards that a reader can follow by hand.
-use Rattle.std.specs.Prelude.{ℕ, ◌≡◌, [], ◌∷◌, Some, None}
+use Rattle.std.specs.Prelude.{ℕ, ◌≡◌, List, [], ◌∷◌, Some, None}
 use Rattle.board.specs.declared.moves.Move.TheVariants.{U, L, R, D}
 use Rattle.board.specs.Grids.{Grid}
-use Rattle.board.specs.Positions.{Position, goal_of}
+use Rattle.board.specs.Neighbours.{LiesTowards, neighbour}
+use Rattle.board.specs.Positions.{Position, blank_of, goal_of}
 use Rattle.board.specs.CostRules.{unit_rule, face_rule}
 use Rattle.board.specs.Moves.{successor}
 use Rattle.board.specs.Plans.{Leads}
@@ -52,3 +53,38 @@ TwoKeys = (key_of (two_by_two 0 1 2 3) ≡ 1091) × (key_of (two_by_two 1 0 2 3)
 -- the start's row alone proves that one move is least: each successor is at 1
 abbrev pub OneRow : Type 0
 OneRow = Proves (unit_rule (grid_of 2 2)) ((two_by_two 1 0 2 3, 0) ∷ []) (λ _. 0) (two_by_two 1 0 2 3) (goal_of (grid_of 2 2)) 1
+
+-- no row is needed where the sum of the start reaches the cost; here the blank's cell stands for a sum, 1 at the start and 0 at the goal
+abbrev pub NoRow : Type 0
+NoRow = Proves (unit_rule (grid_of 2 2)) [] blank_of (two_by_two 1 0 2 3) (goal_of (grid_of 2 2)) 1
+
+-- two rows of three columns, so that rows exchanged with columns are seen
+abbrev pub two_by_three : List ℕ → Position
+two_by_three tiles = record { grid = grid_of 2 3; tiles = tiles }
+
+-- cell 2 is the last of its row, and cell 5 is below it
+abbrev pub OblongNeighbours : Type 0
+OblongNeighbours =
+    LiesTowards (grid_of 2 3) D 2 5
+    × (neighbour (grid_of 2 3) U 2 ≡ None)
+    × (neighbour (grid_of 2 3) L 2 ≡ Some 1)
+    × (neighbour (grid_of 2 3) R 2 ≡ None)
+    × (neighbour (grid_of 2 3) D 2 ≡ Some 5)
+
+-- what each move makes of 1 2 0 over 3 4 5
+abbrev pub OblongSuccessors : Type 0
+OblongSuccessors =
+    (successor (face_rule (grid_of 2 3)) (two_by_three (1 ∷ 2 ∷ 0 ∷ 3 ∷ 4 ∷ 5 ∷ [])) U ≡ None)
+    × (successor (face_rule (grid_of 2 3)) (two_by_three (1 ∷ 2 ∷ 0 ∷ 3 ∷ 4 ∷ 5 ∷ [])) L ≡ Some (two_by_three (1 ∷ 0 ∷ 2 ∷ 3 ∷ 4 ∷ 5 ∷ []), 2))
+    × (successor (face_rule (grid_of 2 3)) (two_by_three (1 ∷ 2 ∷ 0 ∷ 3 ∷ 4 ∷ 5 ∷ [])) R ≡ None)
+    × (successor (face_rule (grid_of 2 3)) (two_by_three (1 ∷ 2 ∷ 0 ∷ 3 ∷ 4 ∷ 5 ∷ [])) D ≡ Some (two_by_three (1 ∷ 2 ∷ 5 ∷ 3 ∷ 4 ∷ 0 ∷ []), 5))
+
+-- 1 2 0 over 3 4 5 is in the goal's class, and 2 1 0 over 3 4 5 isn't
+abbrev pub OblongClasses : Type 0
+OblongClasses =
+    SameClass (two_by_three (1 ∷ 2 ∷ 0 ∷ 3 ∷ 4 ∷ 5 ∷ [])) (goal_of (grid_of 2 3))
+    × (¬ SameClass (two_by_three (2 ∷ 1 ∷ 0 ∷ 3 ∷ 4 ∷ 5 ∷ [])) (goal_of (grid_of 2 3)))
+
+-- the keys of the goal, and of 1 2 0 over 3 4 5
+abbrev pub OblongKeys : Type 0
+OblongKeys = (key_of (goal_of (grid_of 2 3)) ≡ 1117317) × (key_of (two_by_three (1 ∷ 2 ∷ 0 ∷ 3 ∷ 4 ∷ 5 ∷ [])) ≡ 35654789)

@@ -6,6 +6,7 @@ ghost use Rattle.board.specs.Laws.{LettersAreRead, NeighboursLieThere, Successor
 ghost use Rattle.board.specs.Laws.{MovesKeepBoards, MovesAreDetermined, MovesAreTakenBack};
 ghost use Rattle.board.specs.Laws.{PlansAreJoined, PlansAreCut, PlansAreDetermined};
 ghost use Rattle.board.specs.Laws.{PlansKeepBoards, MovesKeepTheClass, PlansKeepTheClass};
+ghost use Rattle.board.specs.Laws.{LeastCostsAreDetermined};
 ghost use Rattle.board.specs.Laws.{KeysNameBoards, KeysFit, KeysAreInOrder, RowsSuffice};
 
 use crate::costs::{GREATEST_COST, GREATEST_EXPANDED_COST};
@@ -67,6 +68,11 @@ pub fn plans_are_determined()
 pub fn plans_keep_the_class()
     ensures moves { MovesKeepTheClass }
     ensures plans { PlansKeepTheClass }
+{}
+
+/// A least cost is one number.
+pub fn least_costs_are_determined()
+    ensures { LeastCostsAreDetermined }
 {}
 
 /// A key names one board of a shape, and has 5 bits for each cell.

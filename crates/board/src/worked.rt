@@ -2,7 +2,9 @@
 
 ghost use Rattle.std.specs.Prelude.{◌≡◌};
 ghost use Rattle.board.specs.Worked.{TwoLeft, SixRound, OneUp, FourSuccessors};
-ghost use Rattle.board.specs.Worked.{TwoClasses, TwoKeys, OneRow};
+ghost use Rattle.board.specs.Worked.{TwoClasses, TwoKeys, OneRow, NoRow};
+ghost use Rattle.board.specs.Worked.{OblongNeighbours, OblongSuccessors};
+ghost use Rattle.board.specs.Worked.{OblongClasses, OblongKeys};
 
 use crate::costs::{GREATEST_COST, GREATEST_EXPANDED_COST};
 
@@ -45,4 +47,29 @@ pub fn greatest_costs()
 /// A row that proves a cost of 1.
 pub fn one_row()
     ensures { OneRow }
+{}
+
+/// No row proves a cost of 1 where the sum of the start is 1.
+pub fn no_row()
+    ensures { NoRow }
+{}
+
+/// The neighbours of a cell of 2 by 3.
+pub fn oblong_neighbours()
+    ensures { OblongNeighbours }
+{}
+
+/// What each of the four moves makes of a board of 2 by 3.
+pub fn oblong_successors()
+    ensures { OblongSuccessors }
+{}
+
+/// Boards of 2 by 3 of both classes.
+pub fn oblong_classes()
+    ensures { OblongClasses }
+{}
+
+/// The keys of two boards of 2 by 3.
+pub fn oblong_keys()
+    ensures { OblongKeys }
 {}
