@@ -1,3 +1,4 @@
 pub mod Outcomes
 pub mod Words
 pub mod Faults
+pub mod Laws

@@ -2,6 +2,7 @@
 #![tactic(auto)]
 
 mod faults;
+pub mod laws;
 mod outcome;
 
 pub use faults::SolveFault;

@@ -1,0 +1,29 @@
+//! The laws of the definitions: each is the contract of a function that does nothing.
+
+ghost use Rattle.outcomes.specs.Laws.{OptimalsAgree, OptimalsAreSolvable, BoundsAreBelow};
+ghost use Rattle.outcomes.specs.Laws.{ParityIsOfAnotherClass, BestPlansAreAbove};
+
+/// Optimal outcomes of one task have one cost.
+pub fn optimals_agree()
+    ensures { OptimalsAgree }
+{}
+
+/// No task has an optimal outcome and is unsolvable.
+pub fn optimals_are_solvable()
+    ensures { OptimalsAreSolvable }
+{}
+
+/// A bound is at most the optimal cost.
+pub fn bounds_are_below()
+    ensures { BoundsAreBelow }
+{}
+
+/// Parity is the reason only where the start isn't in the goal's class.
+pub fn parity_is_of_another_class()
+    ensures { ParityIsOfAnotherClass }
+{}
+
+/// The best plan beside a bound leads to the goal, at a cost above the bound.
+pub fn best_plans_are_above()
+    ensures { BestPlansAreAbove }
+{}
