@@ -3,10 +3,14 @@ use Rattle.std.specs.Prelude.{ℕ, ◌≡◌, ◌≤◌, List}
 use Rattle.board.specs.declared.moves.Move.{Move}
 use Rattle.board.specs.Positions.{Position, IsBoard}
 use Rattle.board.specs.CostRules.{CostRule}
-use Rattle.pattern_index.specs.Views.{Sight, IsView, ViewLeads, view_of}
+use Rattle.pattern_index.specs.Views.{Sight, IsView, Abstraction, ViewLeads, view_of}
 use Rattle.pattern_index.specs.Selections.{IsSelection}
-use Rattle.database_build.specs.Values.{IsPotential}
+use Rattle.database_build.specs.Values.{IsValue, IsPotential}
 use Rattle.database_build.specs.Tables.{Lookup, HoldsValues, value_in}
+
+-- a view has one value
+abbrev pub ValuesAreDetermined : Type 0
+ValuesAreDetermined = (a : Abstraction) (goal v : Sight) (n k : ℕ) → IsValue a goal v n → IsValue a goal v k → n ≡ k
 
 -- the values of the views of a group are a potential
 abbrev pub ValuesArePotentials : Type 0

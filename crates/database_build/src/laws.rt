@@ -1,13 +1,19 @@
 //! The laws of the definitions: each is the contract of a function that does nothing.
 
 ghost use Rattle.std.specs.Prelude.{◌≡◌};
-ghost use Rattle.database_build.specs.Laws.{ValuesArePotentials, PotentialsAreLowerBounds};
+ghost use Rattle.database_build.specs.Laws.{ValuesAreDetermined, ValuesArePotentials};
+ghost use Rattle.database_build.specs.Laws.{PotentialsAreLowerBounds};
 
 use crate::table::NO_VALUE;
 
 /// The value that stands for no plan is the greatest of 16 bits.
 pub fn no_value_is_greatest()
     ensures { NO_VALUE ≡ u16.MAX }
+{}
+
+/// A view has one value.
+pub fn values_are_determined()
+    ensures { ValuesAreDetermined }
 {}
 
 /// The values of a built table are a potential: they are consistent.
