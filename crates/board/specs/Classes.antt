@@ -12,7 +12,7 @@ inversions (x ∷ xs) = count_by (λ y. nat_lt y x) xs + inversions xs
 abbrev pub distance : ℕ → ℕ → ℕ
 distance x y = (x - y) + (y - x)
 
--- the taxicab distance: how far apart the rows of two cells are, and their columns
+-- the taxicab or Manhattan distance: how far apart the rows of two cells are, and their columns
 abbrev pub taxicab : Grid → ℕ → ℕ → ℕ
 taxicab grid x y = distance (row_of grid x) (row_of grid y) + distance (column_of grid x) (column_of grid y)
 
