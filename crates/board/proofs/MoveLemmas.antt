@@ -82,7 +82,7 @@ same_cell grid x y rows columns =
     omega arith
 
 -- one cell lies in a direction
-one_cell : (grid : Grid) (m : Move) (from x y : ℕ) → LiesTowards grid m from x → LiesTowards grid m from y → y ≡ x
+pub one_cell : (grid : Grid) (m : Move) (from x y : ℕ) → LiesTowards grid m from x → LiesTowards grid m from y → y ≡ x
 one_cell grid U from x y first second = same_cell grid x y (omega (arith, first.1, second.1)) (second.2 ∙ sym first.2)
 one_cell grid L from x y first second = same_cell grid x y (second.1 ∙ sym first.1) (omega (arith, first.2, second.2))
 one_cell grid R from x y first second = same_cell grid x y (second.1 ∙ sym first.1) (omega (arith, first.2, second.2))

@@ -14,9 +14,9 @@ use Rattle.board.specs.Positions.{Position, IsBoard, cell_of, blank_of}
 use Rattle.board.specs.CostRules.{CostRule, weight_of}
 use Rattle.board.specs.Moves.{Moves}
 use Rattle.board.proofs.TileLemmas.{same_place, all_differ, cell_is, has_cell}
-use Rattle.board.proofs.MoveLemmas.{exchange, cell_of-exchange, blank_after, other_cell, cell_below}
+use Rattle.board.proofs.MoveLemmas.{exchange, cell_of-exchange, blank_after, other_cell, cell_below, one_cell}
 use Rattle.board.proofs.NeighbourLemmas.{neighbour_lies, cells_above}
-use Rattle.pattern_index.specs.Views.{Sight, IsView, Abstraction, ViewMoves, view_of, weight_on}
+use Rattle.pattern_index.specs.Views.{Sight, IsView, Abstraction, ViewMoves, ViewLeads, view_of, weight_on}
 use Rattle.pattern_index.specs.Selections.{IsTile, IsGroup, sight_successor_at, sight_successor}
 use Rattle.pattern_index.proofs.RankLemmas.{Below, Differ, Other, pairs_from_differ, differ_from_pairs}
 use Rattle.pattern_index.proofs.SightLemmas.{cells_of}
@@ -246,3 +246,18 @@ seen_move rule group b m b' c board is_group moves =
       (λ within. weight_seen rule b board to to_below group tiles (subst (λ (x : ℕ). Contains group (get_or b.tiles x 0)) now within) ∙ sym moves.cost),
       (λ without. weight_unseen rule b board to to_below group tiles (subst (λ (x : ℕ). ¬ Contains group (get_or b.tiles x 0)) now without)),
     )
+
+-- a view's move leads to one view, at one cost
+pub one_view_move : (a : Abstraction) (v : Sight) (m : Move) (v' v'' : Sight) (c d : ℕ) → ViewMoves a v m v' c → ViewMoves a v m v'' d → (v'' ≡ v') × (d ≡ c)
+one_view_move a v m v' v'' c d first second =
+    let same : v''.blank ≡ v'.blank = one_cell a.grid m v.blank v'.blank v''.blank first.towards second.towards in
+    let cells : v''.cells ≡ v'.cells = second.exchanged ∙ ap (λ (to : ℕ). map (λ cell. if cell == to then v.blank else cell) v.cells) same ∙ sym first.exchanged in
+    ((λ i. record { blank = same i; cells = cells i }), second.cost ∙ ap (weight_on a.rule a.tiles v.cells) same ∙ sym first.cost)
+
+-- a view plan leads to one view, at one cost
+pub one_view_end : (a : Abstraction) (v : Sight) (plan : List Move) (w w' : Sight) (j k : ℕ) → ViewLeads a v plan w j → ViewLeads a v plan w' k → (w' ≡ w) × (k ≡ j)
+one_view_end a v [] w w' j k first second = (second.0 ∙ sym first.0, second.1 ∙ sym first.1)
+one_view_end a v (m ∷ plan) w w' j k first second =
+    let one = one_view_move a v m first.0 second.0 first.1 second.1 first.3 second.3 in
+    let rest = one_view_end a first.0 plan w w' first.2 second.2 first.4 (subst (λ (x : Sight). ViewLeads a x plan w' second.2) one.0 second.4) in
+    (rest.0, omega (arith, first.5, second.5, one.1, rest.1))

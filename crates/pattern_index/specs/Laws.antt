@@ -8,7 +8,7 @@ use Rattle.board.specs.CostRules.{CostRule}
 use Rattle.board.specs.Keys.{Precedes}
 use Rattle.board.specs.Moves.{Moves}
 use Rattle.pattern_index.specs.Ranks.{ways, IsListing, rank_of}
-use Rattle.pattern_index.specs.Views.{Sight, IsView, Abstraction, ViewMoves, view_of}
+use Rattle.pattern_index.specs.Views.{Sight, IsView, Abstraction, ViewMoves, ViewLeads, view_of}
 use Rattle.pattern_index.specs.Selections.{Selection, IsSelection, IsGroup, rank_in, size_of, sight_successor}
 
 -- n!, the numbers from 1 to n multiplied
@@ -85,3 +85,13 @@ ViewMovesKeepViews =
 abbrev pub ViewMovesAreTakenBack : Type 0
 ViewMovesAreTakenBack =
     (a : Abstraction) (v : Sight) (m : Move) (v' : Sight) (c : ℕ) → IsView a.grid a.tiles v → ViewMoves a v m v' c → ViewMoves a v' (opposite m) v c
+
+-- a view's move leads to one view, at one cost
+abbrev pub ViewMovesAreDetermined : Type 0
+ViewMovesAreDetermined =
+    (a : Abstraction) (v : Sight) (m : Move) (v' v'' : Sight) (c d : ℕ) → ViewMoves a v m v' c → ViewMoves a v m v'' d → (v'' ≡ v') × (d ≡ c)
+
+-- a view plan leads from a view to one view, at one cost
+abbrev pub ViewPlansAreDetermined : Type 0
+ViewPlansAreDetermined =
+    (a : Abstraction) (v : Sight) (plan : List Move) (w w' : Sight) (j k : ℕ) → ViewLeads a v plan w j → ViewLeads a v plan w' k → (w' ≡ w) × (k ≡ j)

@@ -6,3 +6,4 @@ pub mod Splits
 pub mod Equality
 pub mod Packing
 pub mod Laws
+pub mod Worked

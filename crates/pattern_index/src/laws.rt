@@ -7,6 +7,7 @@ ghost use Rattle.pattern_index.specs.Laws.{ViewRanksAreBelow, ViewRanksDiffer, V
 ghost use Rattle.pattern_index.specs.Laws.{BoardsHaveViews, MovesAreViewMoves};
 ghost use Rattle.pattern_index.specs.Laws.{SuccessorsAreViewMoves, ViewMovesKeepViews};
 ghost use Rattle.pattern_index.specs.Laws.{ViewMovesAreTakenBack};
+ghost use Rattle.pattern_index.specs.Laws.{ViewMovesAreDetermined, ViewPlansAreDetermined};
 
 use crate::group::MAX_SIZE;
 
@@ -57,4 +58,10 @@ pub fn successors_are_view_moves()
 pub fn view_moves_are_taken_back()
     ensures views { ViewMovesKeepViews }
     ensures back { ViewMovesAreTakenBack }
+{}
+
+/// A view's move, and a view plan, leads to one view, at one cost.
+pub fn view_plans_are_determined()
+    ensures moves { ViewMovesAreDetermined }
+    ensures plans { ViewPlansAreDetermined }
 {}

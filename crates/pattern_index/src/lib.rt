@@ -11,6 +11,7 @@ mod group;
 pub mod laws;
 mod partition;
 mod view;
+mod worked;
 
 pub use faults::{GroupFault, PartitionFault};
 pub use group::{Group, MAX_SIZE};
