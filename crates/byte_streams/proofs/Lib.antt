@@ -1,1 +1,2 @@
 pub mod SinkLemmas
+pub mod SourceLemmas

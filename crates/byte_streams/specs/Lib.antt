@@ -3,3 +3,4 @@ pub mod Source
 pub mod Sink
 pub mod ByteSource
 pub mod ByteSink
+pub mod Laws

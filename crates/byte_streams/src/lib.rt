@@ -5,6 +5,7 @@
 //! contracts say what stands then.
 #![tactic(auto)]
 
+pub mod laws;
 mod reader;
 mod sink;
 mod source;
