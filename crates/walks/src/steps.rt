@@ -40,5 +40,10 @@ pub fn walk_from_goal(shape: Shape, steps: u32) -> Walk
 // The move that the two highest bits of a state stand for. The lower bits of such states repeat
 // sooner.
 fn direction_of(state: u64) -> Move {
-    Move::ALL[(state >> 62) as usize]
+    match state >> 62 {
+        0 => Move::U,
+        1 => Move::L,
+        2 => Move::R,
+        _ => Move::D,
+    }
 }
