@@ -3,6 +3,7 @@
 
 mod lines;
 mod words;
+mod worked;
 
 pub use lines::{INPUT_LIMIT, LINE_LIMIT, Line, LineKind, LineReader};
 pub use words::{Entry, EntryFault, read_entry};
