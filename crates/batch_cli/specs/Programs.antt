@@ -1,7 +1,8 @@
 -- The program: how it ends, what it writes of that, and its status.
 use Rattle.std.specs.Prelude.{ℕ, ◌≡◌, ◌≢◌, ◌⊎◌, true, false, List, [], ◌∷◌, ◌++◌, Result, Ok, Err, codes}
-use Rattle.byte_streams.specs.Streams.{SourceState, SinkState, Change}
-use Rattle.byte_streams.specs.Sink.{Puts, PutsBeginning}
+use Rattle.byte_streams.specs.Streams.{SourceState, SinkState, Change, from_to}
+use Rattle.byte_streams.specs.Sink.{Puts, PutsBeginning, Flushes}
+use Rattle.byte_streams.specs.declared.sink.WriteFailed.{WriteFailed}
 use Rattle.board.specs.Grids.{Grid}
 use Rattle.board.specs.Positions.{goal_of}
 use Rattle.board.specs.CostRules.{unit_rule}
@@ -12,7 +13,7 @@ use Rattle.batch_cli.specs.declared.faults.BatchFault.TheVariants.{Read, Write, 
 use Rattle.batch_cli.specs.declared.program.Ending.{Ending}
 use Rattle.batch_cli.specs.declared.program.Ending.TheVariants.{Usage, NoBuffers, Ran, Faulted}
 use Rattle.batch_cli.specs.Faults.{of_lines}
-use Rattle.batch_runs.specs.Batches.{Rules, ReportsAll, ReportsWhole, ReportsFirst, ReportsSome, IsReadable, status_of_counts}
+use Rattle.batch_runs.specs.Batches.{Rules, ReportsLines, status_of_counts}
 use Rattle.batch_runs.specs.Setups.{SetupState}
 use Rattle.batch_runs.specs.Solving.{rules_of}
 
@@ -64,12 +65,20 @@ HasFailed sink = sink.has_failed ≡ true
 abbrev pub default_rules : Rules
 default_rules = rules_of default_setup
 
--- How a run over lines ends that flushes its sink: all lines are reported; or reading failed, and the lines before are reported; or writing failed, and a beginning of the reports is written; or memory was wanting for a report, and those before it are written.
-abbrev pub EndsRun : Change SourceState → Change SinkState → Result Summary LinesFault → Type 0
-EndsRun source sink (Ok counts) = ReportsAll default_rules source sink counts × IsReadable source × (sink.after.has_failed ≡ false)
-EndsRun source sink (Err lines.Read) = ReportsWhole default_rules source sink
-EndsRun source sink (Err lines.Write) = ReportsSome default_rules source sink × IsReadable source × HasFailed sink.after
-EndsRun source sink (Err (lines.Memory lacking)) = ReportsFirst default_rules source sink × IsReadable source
+-- the first fault of a run over lines and of the flush behind it
+abbrev pub first_fault : Result Summary LinesFault → Result (Unit {0}) WriteFailed → Result Summary LinesFault
+first_fault (Ok counts) (Ok done) = Ok counts
+first_fault (Ok counts) (Err failed) = Err lines.Write
+first_fault (Err fault) flushed = Err fault
+
+-- How the program's batch ends: its run over the lines, as that ends, and then the flush of the sink; the first fault decides.
+pub record EndsRun (source : Change SourceState) (sink : Change SinkState) (result : Result Summary LinesFault) : Type 0 where
+  pub between : SinkState
+  pub ran : Result Summary LinesFault
+  pub flushed : Result (Unit {0}) WriteFailed
+  pub lines : ReportsLines default_rules source (from_to sink.before between) ran
+  pub flush : Flushes (from_to between sink.after) flushed
+  pub first : result ≡ first_fault ran flushed
 
 -- how the program ends after a run over lines
 abbrev pub ending_of : Result Summary LinesFault → Ending

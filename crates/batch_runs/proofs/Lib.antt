@@ -1,1 +1,2 @@
 pub mod BatchLemmas
+pub mod SolvingLemmas

@@ -14,15 +14,21 @@ use Rattle.batch_lines.specs.declared.lines.LineKind.TheVariants.{PassedOver, Wi
 use Rattle.batch_lines.specs.declared.lines.TheConstants.{INPUT_LIMIT}
 use Rattle.reports.specs.Reports.{outcome_data, refused_data, report_text}
 use Rattle.outcomes.specs.declared.outcome.Outcome.{Outcome}
+use Rattle.outcomes.specs.Outcomes.{Task, Answers}
 use Rattle.outcomes.specs.declared.outcome.Outcome.TheVariants.{Optimal, Unsolvable, Bounded}
 use Rattle.batch_runs.specs.declared.batch.Summary.{Summary}
 use Rattle.batch_runs.specs.declared.faults.LinesFault.{LinesFault}
 use Rattle.batch_runs.specs.declared.faults.LinesFault.TheVariants.{Read, Write, Memory}
 
--- the shape of the boards, and which outcomes a board may be answered by; no outcome tells a want of memory before the first step
+-- the shape of the boards, what is asked of each, and which outcomes it may be answered by; no outcome tells a want of memory before the first step
 pub record Rules : Type 1 where
   pub grid : Grid
+  pub task : Position → Task
   pub allows : Position → Option Outcome → Type 0
+
+-- each outcome that a board may be answered by answers what is asked of it
+abbrev pub IsTruthful : Rules → Type 0
+IsTruthful rules = (b : Position) (outcome : Outcome) → rules.allows b (Some outcome) → Answers (rules.task b) outcome
 
 -- ---- the answer to a line
 

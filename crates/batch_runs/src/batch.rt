@@ -17,7 +17,8 @@ use std::alloc::Global;
 
 /// What solves boards.
 pub trait Solver {
-    // The shape of the boards that it solves, and what a board may be answered by.
+    // The shape of the boards that it solves, what is asked of a board, and what it may be
+    // answered by.
     ghost rules: { Self → Rules };
 
     /// Solves a board. The error tells a want of memory before the first step.

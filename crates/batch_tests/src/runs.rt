@@ -2,6 +2,7 @@
 
 ghost use Rattle.std.specs.Prelude.{◌≡◌, false};
 ghost use Rattle.byte_streams.specs.ByteSink.{sink_has_failed};
+ghost use Rattle.board.specs.CostRules.{unit_rule};
 ghost use Rattle.certificate.specs.Certificates.{AreNamedCosts};
 
 use crate::certificates::{ONE_MOVE, SOLVED};
@@ -26,7 +27,11 @@ struct ByBlank {
 }
 
 impl Solver for ByBlank {
-    ghost rules = { λ s. record { grid = s.shape; allows = λ _ _. Unit {0} } };
+    ghost rules = { λ s. record {
+        grid = s.shape;
+        task = λ b. record { start = b; goal = b; rule = unit_rule s.shape; sum = λ _. 0 };
+        allows = λ _ _. Unit {0};
+    } };
 
     fn solve(&self, alloc: Global, start: &Board) -> Result<Outcome, OutOfMemory> {
         match start.blank() {

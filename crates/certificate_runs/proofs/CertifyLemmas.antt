@@ -25,7 +25,8 @@ use Rattle.reports.specs.Reports.{outcome_data, report_text}
 use Rattle.outcomes.specs.declared.outcome.Outcome.{Outcome}
 use Rattle.batch_runs.specs.Batches.AnswersEntry.{by_fault, by_outcome, by_want}
 use Rattle.batch_runs.specs.Setups.{SetupState}
-use Rattle.batch_runs.specs.Solving.{MayAnswer, task_of, rules_of}
+use Rattle.batch_runs.specs.Batches.{Rules}
+use Rattle.batch_runs.specs.Solving.{task_of}
 use Rattle.certificate_runs.specs.declared.faults.CertifyFault.{CertifyFault}
 use Rattle.batch_runs.proofs.BatchLemmas.{answer_is}
 use Rattle.certificate_runs.specs.declared.certifying.Reply.{Reply}
@@ -62,49 +63,49 @@ no_refusal : (c : Statement) (code : List ℕ) (n : ℕ) → ¬ IsRefusal code n
 no_refusal c code n is = let told = ap (λ (output : Output). output.status) is in absurd (omega (arith, told))
 
 -- a line that is refused by its first fault
-pub refused_entry : (setup : SetupState) (n : ℕ) (bytes : List ℕ) (fault : EntryFault) (reply : Reply) → IsFirstEntryFault setup.goal.grid bytes fault → IsRefusal (entry_code fault) n reply → IsReply setup (within n) bytes reply
-refused_entry setup n bytes fault (Certified c) first is = absurd (no_refusal c (entry_code fault) n is)
-refused_entry setup n bytes fault (Reported text status) first is = (refused (entry_code fault), by_fault fault first, tt, is)
+pub refused_entry : (rules : Rules) (n : ℕ) (bytes : List ℕ) (fault : EntryFault) (reply : Reply) → IsFirstEntryFault rules.grid bytes fault → IsRefusal (entry_code fault) n reply → IsReply rules (within n) bytes reply
+refused_entry rules n bytes fault (Certified c) first is = absurd (no_refusal c (entry_code fault) n is)
+refused_entry rules n bytes fault (Reported text status) first is = (refused (entry_code fault), by_fault fault first, tt, is)
 
 -- a board for which memory was wanting before the first step
-pub refused_board : (setup : SetupState) (n : ℕ) (bytes id : List ℕ) (b : Position) (reply : Reply) → IsEntry setup.goal.grid bytes id b → MayAnswer setup b None → IsRefusal (codes "V3") n reply → IsReply setup (within n) bytes reply
-refused_board setup n bytes id b (Certified c) entry lacking is = absurd (no_refusal c (codes "V3") n is)
-refused_board setup n bytes id b (Reported text status) entry lacking is = (refused (codes "V3"), by_want id b entry lacking, tt, is)
+pub refused_board : (rules : Rules) (n : ℕ) (bytes id : List ℕ) (b : Position) (reply : Reply) → IsEntry rules.grid bytes id b → rules.allows b None → IsRefusal (codes "V3") n reply → IsReply rules (within n) bytes reply
+refused_board rules n bytes id b (Certified c) entry lacking is = absurd (no_refusal c (codes "V3") n is)
+refused_board rules n bytes id b (Reported text status) entry lacking is = (refused (codes "V3"), by_want id b entry lacking, tt, is)
 
 -- an outcome that names no least plan
-pub reported_entry : (setup : SetupState) (n : ℕ) (bytes id text : List ℕ) (b : Position) (outcome : Outcome) (status : ℕ) → IsEntry setup.goal.grid bytes id b → MayAnswer setup b (Some outcome) → IsNotOptimal (answered id outcome) → text ≡ report_text (outcome_data id outcome) → status ≡ status_of_counts (with_outcome no_lines outcome)
-    → ReportsLine setup (within n) bytes (record { text = text; status = status })
-reported_entry setup n bytes id text b outcome status entry allowed other written told =
+pub reported_entry : (rules : Rules) (n : ℕ) (bytes id text : List ℕ) (b : Position) (outcome : Outcome) (status : ℕ) → IsEntry rules.grid bytes id b → rules.allows b (Some outcome) → IsNotOptimal (answered id outcome) → text ≡ report_text (outcome_data id outcome) → status ≡ status_of_counts (with_outcome no_lines outcome)
+    → ReportsLine rules (within n) bytes (record { text = text; status = status })
+reported_entry rules n bytes id text b outcome status entry allowed other written told =
     (answered id outcome, by_outcome id b outcome entry allowed, other, λ i. record { text = written i; status = told i })
 
 -- a line that is too long
-pub refused_line : (setup : SetupState) (n : ℕ) (kind : LineKind) (bytes : List ℕ) (reply : Reply) → kind ≢ PassedOver → kind ≢ Within → IsRefusal (codes "E12") n reply → IsReply setup (record { number = n; kind = kind }) bytes reply
-refused_line setup n PassedOver bytes reply here long is = absurd (here refl)
-refused_line setup n Within bytes reply here long is = absurd (long refl)
-refused_line setup n TooLong bytes (Certified c) here long is = absurd (no_refusal c (codes "E12") n is)
-refused_line setup n TooLong bytes (Reported text status) here long is = (refused (codes "E12"), refl, tt, is)
+pub refused_line : (rules : Rules) (n : ℕ) (kind : LineKind) (bytes : List ℕ) (reply : Reply) → kind ≢ PassedOver → kind ≢ Within → IsRefusal (codes "E12") n reply → IsReply rules (record { number = n; kind = kind }) bytes reply
+refused_line rules n PassedOver bytes reply here long is = absurd (here refl)
+refused_line rules n Within bytes reply here long is = absurd (long refl)
+refused_line rules n TooLong bytes (Certified c) here long is = absurd (no_refusal c (codes "E12") n is)
+refused_line rules n TooLong bytes (Reported text status) here long is = (refused (codes "E12"), refl, tt, is)
 
 -- the reply to the bytes that were kept is one to the first line
-reply_is : (setup : SetupState) (source : Change SourceState) (first : FindsFirst source) (line : Line) (kept : List ℕ) (reply : Reply) → IsJudged first.line line.kind kept → line.number ≡ length first.passed + 1 → IsReply setup line kept reply
-    → IsReply setup (first_line source first) (without_return first.line) reply
-reply_is setup source first line kept (Certified c) judged at (is, named) = (sym judged.judged ∙ is, subst (λ (bytes : List ℕ). IsCertificateFor setup bytes c) (judged.whole is) named)
-reply_is setup source first line kept (Reported text status) judged at (answer, is, other, output) =
-    (answer, answer_is (rules_of setup) first.line line.kind kept answer judged is, other, output ∙ ap (λ (n : ℕ). report_of n answer) at)
+reply_is : (rules : Rules) (source : Change SourceState) (first : FindsFirst source) (line : Line) (kept : List ℕ) (reply : Reply) → IsJudged first.line line.kind kept → line.number ≡ length first.passed + 1 → IsReply rules line kept reply
+    → IsReply rules (first_line source first) (without_return first.line) reply
+reply_is rules source first line kept (Certified c) judged at (is, named) = (sym judged.judged ∙ is, subst (λ (bytes : List ℕ). IsCertificateFor rules bytes c) (judged.whole is) named)
+reply_is rules source first line kept (Reported text status) judged at (answer, is, other, output) =
+    (answer, answer_is rules first.line line.kind kept answer judged is, other, output ∙ ap (λ (n : ℕ). report_of n answer) at)
 
 -- a reply to the line that was found is written, or a beginning of it
-pub replied : (setup : SetupState) (source : Change SourceState) (sink : Change SinkState) (line : Line) (kept : List ℕ) (reply : Reply) (result : Result ℕ CertifyFault) → FindsLine source kept (Ok (Some line)) → IsReply setup line kept reply → PutsReply sink reply result → EndsReplying setup source sink result
-replied setup source sink line kept (Certified c) (Ok status) (readable, (first, judged, at)) reply put =
-    let named = reply_is setup source first line kept (Certified c) judged at reply in
+pub replied : (rules : Rules) (source : Change SourceState) (sink : Change SinkState) (line : Line) (kept : List ℕ) (reply : Reply) (result : Result ℕ CertifyFault) → FindsLine source kept (Ok (Some line)) → IsReply rules line kept reply → PutsReply sink reply result → EndsReplying rules source sink result
+replied rules source sink line kept (Certified c) (Ok status) (readable, (first, judged, at)) reply put =
+    let named = reply_is rules source first line kept (Certified c) judged at reply in
     (readable, inr (reply_output (Certified c), (first, inl (named.0, (c, named.1, refl))), put.0, put.1))
-replied setup source sink line kept (Certified c) (Err fault) (readable, (first, judged, at)) reply put =
-    let named = reply_is setup source first line kept (Certified c) judged at reply in
-    subst (λ (f : CertifyFault). EndsReplying setup source sink (Err f)) (sym put.1) (readable, (reply_output (Certified c), (first, named.0, (c, named.1, refl)), put.0))
-replied setup source sink line kept (Reported text told) (Ok status) (readable, (first, judged, at)) reply put =
-    let reported = reply_is setup source first line kept (Reported text told) judged at reply in
+replied rules source sink line kept (Certified c) (Err fault) (readable, (first, judged, at)) reply put =
+    let named = reply_is rules source first line kept (Certified c) judged at reply in
+    subst (λ (f : CertifyFault). EndsReplying rules source sink (Err f)) (sym put.1) (readable, (reply_output (Certified c), (first, named.0, (c, named.1, refl)), put.0))
+replied rules source sink line kept (Reported text told) (Ok status) (readable, (first, judged, at)) reply put =
+    let reported = reply_is rules source first line kept (Reported text told) judged at reply in
     (readable, inr (reply_output (Reported text told), (first, inr reported), put.0, put.1))
-replied setup source sink line kept (Reported text told) (Err fault) (readable, (first, judged, at)) reply put =
-    let reported = reply_is setup source first line kept (Reported text told) judged at reply in
-    subst (λ (f : CertifyFault). EndsReplying setup source sink (Err f)) (sym put.1) (readable, (reply_output (Reported text told), (first, reported), put.0))
+replied rules source sink line kept (Reported text told) (Err fault) (readable, (first, judged, at)) reply put =
+    let reported = reply_is rules source first line kept (Reported text told) judged at reply in
+    subst (λ (f : CertifyFault). EndsReplying rules source sink (Err f)) (sym put.1) (readable, (reply_output (Reported text told), (first, reported), put.0))
 
 -- an outcome that names a plan of least cost has a certificate
 pub certificate_is : (order : KeysAreInOrder) (setup : SetupState) (b : Position) (cost : ℕ) (plan : Vec Move Global) (rows : Vec (Position × ℕ) Global) → IsBoard setup.goal → IsBoardOf setup.goal.grid b → AreNamedCosts setup.goal.grid setup.rule → length rows.items < 2 ^ 64 → Answers (task_of setup b) (Optimal cost plan rows) → IsCertificate (record { grid = setup.goal.grid; costs = setup.rule; start = b; goal = setup.goal; cost = cost; plan = plan.items; rows = rows.items })

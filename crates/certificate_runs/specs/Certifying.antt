@@ -13,34 +13,41 @@ use Rattle.certificate.specs.Certificates.{Statement, IsCertificate}
 use Rattle.certificate.specs.Spellings.{spelling}
 use Rattle.certificate_check.specs.Refusals.{IsProved}
 use Rattle.outcomes.specs.declared.outcome.Outcome.TheVariants.{Optimal, Unsolvable, Bounded}
-use Rattle.batch_runs.specs.Batches.{Answer, AnswersKind, AreRead, AreAll, TakesSome, LosesLine, IsReadable, answer_text, with_answer, no_lines, status_of_counts}
+use Rattle.outcomes.specs.Outcomes.{Task}
+use Rattle.batch_runs.specs.Batches.{Rules, IsTruthful, Answer, AnswersKind, AreRead, AreAll, TakesSome, LosesLine, IsReadable, answer_text, with_answer, no_lines, status_of_counts}
 use Rattle.batch_runs.specs.Batches.Answer.{passed_over, refused, answered}
 use Rattle.batch_runs.specs.Setups.{SetupState}
-use Rattle.batch_runs.specs.Solving.{rules_of}
+use Rattle.batch_runs.specs.Solving.{task_of}
 use Rattle.certificate_runs.specs.Outputs.{Output, IsUntouched}
 use Rattle.certificate_runs.specs.declared.certifying.Reply.{Reply}
 use Rattle.certificate_runs.specs.declared.certifying.Reply.TheVariants.{Certified, Reported}
 use Rattle.certificate_runs.specs.declared.faults.CertifyFault.{CertifyFault}
 use Rattle.certificate_runs.specs.declared.faults.CertifyFault.TheVariants.{Read, Write, Memory, CertificateWrite}
 
--- a certificate of this board, with the setup's goal and costs, whose plan leads there at its cost and whose rows prove it
-pub record IsCertificateOf (setup : SetupState) (b : Position) (c : Statement) : Type 0 where
-  pub sides : c.grid ≡ setup.goal.grid
-  pub costs : c.costs ≡ setup.rule
-  pub start : c.start ≡ b
-  pub goal : c.goal ≡ setup.goal
+-- these rules are of a solver of the setup's boards, whose outcomes answer what is asked
+pub record AreRulesFor (setup : SetupState) (rules : Rules) : Type 0 where
+  pub grid : rules.grid ≡ setup.goal.grid
+  pub task : rules.task ≡ task_of setup
+  pub truthful : IsTruthful rules
+
+-- a certificate that answers this task: its plan leads from the start to the goal at its cost, and its rows prove it
+pub record IsCertificateOf (task : Task) (c : Statement) : Type 0 where
+  pub sides : c.grid ≡ task.goal.grid
+  pub costs : c.costs ≡ task.rule
+  pub start : c.start ≡ task.start
+  pub goal : c.goal ≡ task.goal
   pub certificate : IsCertificate c
   pub proved : IsProved c
 
 -- a certificate of the board that these bytes name
-abbrev pub IsCertificateFor : SetupState → List ℕ → Statement → Type 0
-IsCertificateFor setup bytes c = (id : List ℕ) × (b : Position) × IsEntry setup.goal.grid bytes id b × IsCertificateOf setup b c
+abbrev pub IsCertificateFor : Rules → List ℕ → Statement → Type 0
+IsCertificateFor rules bytes c = (id : List ℕ) × (b : Position) × IsEntry rules.grid bytes id b × IsCertificateOf (rules.task b) c
 
 -- ---- what is written for a line
 
 -- the certificate of the board that these bytes name, with the status 0
-abbrev pub Certifies : SetupState → List ℕ → Output → Type 0
-Certifies setup bytes output = (c : Statement) × IsCertificateFor setup bytes c × (output ≡ record { text = spelling c; status = 0 })
+abbrev pub Certifies : Rules → List ℕ → Output → Type 0
+Certifies rules bytes output = (c : Statement) × IsCertificateFor rules bytes c × (output ≡ record { text = spelling c; status = 0 })
 
 -- an answer that names no least plan
 abbrev pub IsNotOptimal : Answer → Type 0
@@ -55,17 +62,17 @@ abbrev pub report_of : ℕ → Answer → Output
 report_of n answer = record { text = answer_text n answer; status = status_of_counts (with_answer no_lines answer) }
 
 -- the report of a line with these bytes, as in a batch, but not one of a least plan
-abbrev pub ReportsLine : SetupState → Line → List ℕ → Output → Type 0
-ReportsLine setup line bytes output = (answer : Answer) × AnswersKind (rules_of setup) line.kind bytes answer × IsNotOptimal answer × (output ≡ report_of line.number answer)
+abbrev pub ReportsLine : Rules → Line → List ℕ → Output → Type 0
+ReportsLine rules line bytes output = (answer : Answer) × AnswersKind rules line.kind bytes answer × IsNotOptimal answer × (output ≡ report_of line.number answer)
 
 -- the certificate or the report of a line with these bytes
-abbrev pub RepliesTo : SetupState → Line → List ℕ → Output → Type 0
-RepliesTo setup line bytes output = ((line.kind ≡ Within) × Certifies setup bytes output) ⊎ ReportsLine setup line bytes output
+abbrev pub RepliesTo : Rules → Line → List ℕ → Output → Type 0
+RepliesTo rules line bytes output = ((line.kind ≡ Within) × Certifies rules bytes output) ⊎ ReportsLine rules line bytes output
 
 -- the same of what is to be written
-abbrev pub IsReply : SetupState → Line → List ℕ → Reply → Type 0
-IsReply setup line bytes (Certified c) = (line.kind ≡ Within) × IsCertificateFor setup bytes c
-IsReply setup line bytes (Reported text status) = ReportsLine setup line bytes (record { text = string_bytes text; status = status })
+abbrev pub IsReply : Rules → Line → List ℕ → Reply → Type 0
+IsReply rules line bytes (Certified c) = (line.kind ≡ Within) × IsCertificateFor rules bytes c
+IsReply rules line bytes (Reported text status) = ReportsLine rules line bytes (record { text = string_bytes text; status = status })
 
 -- what is written of a reply, and its status
 abbrev pub reply_output : Reply → Output
@@ -124,24 +131,24 @@ SeeksFirst source kept result = TakesSome source × FindsLine source kept result
 -- ---- how the run ends
 
 -- this is written for the first line
-abbrev pub RepliesToFirst : SetupState → Change SourceState → Output → Type 0
-RepliesToFirst setup source output = (first : FindsFirst source) × RepliesTo setup (first_line source first) (without_return first.line) output
+abbrev pub RepliesToFirst : Rules → Change SourceState → Output → Type 0
+RepliesToFirst rules source output = (first : FindsFirst source) × RepliesTo rules (first_line source first) (without_return first.line) output
 
-abbrev pub ReportsFirst : SetupState → Change SourceState → Output → Type 0
-ReportsFirst setup source output = (first : FindsFirst source) × ReportsLine setup (first_line source first) (without_return first.line) output
+abbrev pub ReportsFirst : Rules → Change SourceState → Output → Type 0
+ReportsFirst rules source output = (first : FindsFirst source) × ReportsLine rules (first_line source first) (without_return first.line) output
 
-abbrev pub CertifiesFirst : SetupState → Change SourceState → Output → Type 0
-CertifiesFirst setup source output = (first : FindsFirst source) × (kind_of first.line ≡ Within) × Certifies setup (without_return first.line) output
+abbrev pub CertifiesFirst : Rules → Change SourceState → Output → Type 0
+CertifiesFirst rules source output = (first : FindsFirst source) × (kind_of first.line ≡ Within) × Certifies rules (without_return first.line) output
 
 -- How the run ends: all lines are passed over, and nothing is written; or the first other one is replied to. Else the line was lost, or memory was wanting, and nothing was written; or writing failed.
-abbrev pub EndsReplying : SetupState → Change SourceState → Change SinkState → Result ℕ CertifyFault → Type 0
-EndsReplying setup source sink (Ok status) =
-    IsReadable source × ((PassesAll source × IsUntouched sink × (status ≡ 0)) ⊎ ((output : Output) × RepliesToFirst setup source output × WritesAll sink output.text × (status ≡ output.status)))
-EndsReplying setup source sink (Err Read) = LosesFirst source × IsUntouched sink
-EndsReplying setup source sink (Err Write) = IsReadable source × ((output : Output) × ReportsFirst setup source output × FailsWriting sink output.text)
-EndsReplying setup source sink (Err (Memory lacking)) = IsReadable source × FindsFirst source × IsUntouched sink
-EndsReplying setup source sink (Err CertificateWrite) = IsReadable source × ((output : Output) × CertifiesFirst setup source output × FailsWriting sink output.text)
+abbrev pub EndsReplying : Rules → Change SourceState → Change SinkState → Result ℕ CertifyFault → Type 0
+EndsReplying rules source sink (Ok status) =
+    IsReadable source × ((PassesAll source × IsUntouched sink × (status ≡ 0)) ⊎ ((output : Output) × RepliesToFirst rules source output × WritesAll sink output.text × (status ≡ output.status)))
+EndsReplying rules source sink (Err Read) = LosesFirst source × IsUntouched sink
+EndsReplying rules source sink (Err Write) = IsReadable source × ((output : Output) × ReportsFirst rules source output × FailsWriting sink output.text)
+EndsReplying rules source sink (Err (Memory lacking)) = IsReadable source × FindsFirst source × IsUntouched sink
+EndsReplying rules source sink (Err CertificateWrite) = IsReadable source × ((output : Output) × CertifiesFirst rules source output × FailsWriting sink output.text)
 
 -- some bytes were taken, from the front, and the run ends so
-abbrev pub Replies : SetupState → Change SourceState → Change SinkState → Result ℕ CertifyFault → Type 0
-Replies setup source sink result = TakesSome source × EndsReplying setup source sink result
+abbrev pub Replies : Rules → Change SourceState → Change SinkState → Result ℕ CertifyFault → Type 0
+Replies rules source sink result = TakesSome source × EndsReplying rules source sink result

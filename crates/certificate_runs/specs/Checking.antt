@@ -1,18 +1,17 @@
 -- What is written of a certificate that is checked, and the status of that.
-use Rattle.std.specs.Prelude.{ℕ, ◌≡◌, ◌⊎◌, true, String, List, Result, Ok, Err, IfSome, string_bytes}
+use Rattle.std.specs.Prelude.{ℕ, ◌≡◌, ◌⊎◌, String, List, Result, Ok, Err, string_bytes, ⊤}
 use Rattle.std.specs.declared.alloc.Global.{Global}
 use Rattle.byte_streams.specs.Streams.{SourceState, SinkState, Change}
 use Rattle.byte_streams.specs.Sink.{WritesAll, FailsWriting}
 use Rattle.board.specs.Plans.{IsLeast}
 use Rattle.reports.specs.Reports.{accepted_data, refused_certificate_data, report_text}
-use Rattle.certificate.specs.declared.faults.FormatFault.{FormatFault}
+use Rattle.certificate.specs.declared.faults.ReadFault.{ReadFault}
+use Rattle.certificate.specs.declared.faults.ReadFault.TheVariants.{Format, Failed, NoMemory}
 use Rattle.certificate.specs.Certificates.{Statement}
-use Rattle.certificate.specs.Spellings.{Spells}
-use Rattle.certificate.specs.Readings.{IsFirstFault}
+use Rattle.certificate.specs.Sources.{ReadsCertificate}
 use Rattle.certificate.specs.Faults.{format_code}
 use Rattle.certificate_check.specs.declared.refusals.Refusal.{Refusal}
 use Rattle.certificate_check.specs.Refusals.{IsProved, IsFirstRefusal, refusal_code}
-use Rattle.batch_runs.specs.Batches.{TakesSome, IsReadable}
 use Rattle.certificate_runs.specs.Outputs.{Output, IsUntouched}
 use Rattle.certificate_runs.specs.declared.faults.CheckFault.{CheckFault}
 use Rattle.certificate_runs.specs.declared.faults.CheckFault.TheVariants.{CertificateRead, CertificateMemory, Write, Memory}
@@ -31,10 +30,19 @@ IsRefused code output = output ≡ record { text = report_text (refused_certific
 abbrev pub IsJudgement : Statement → Output → Type 0
 IsJudgement c output = IsAccepted c output ⊎ ((refusal : Refusal) × IsFirstRefusal c refusal × IsRefused (refusal_code refusal) output)
 
--- the bytes spell a certificate, which is judged; or they are refused for their first fault
-abbrev pub IsVerdict : Output → List ℕ → Type 0
-IsVerdict output input =
-    ((c : Statement) × Spells c input × IsJudgement c output) ⊎ ((fault : FormatFault) × IsFirstFault input fault × IsRefused (format_code fault) output)
+-- the verdict on what was read: a certificate is judged, and a fault of the bytes refused; there is none on a failure of the source or a want of memory
+abbrev pub IsVerdict : Result Statement ReadFault → Output → Type 0
+IsVerdict (Ok c) output = IsJudgement c output
+IsVerdict (Err (Format fault)) output = IsRefused (format_code fault) output
+IsVerdict (Err Failed) output = ⊥
+IsVerdict (Err (NoMemory refused)) output = ⊥
+
+-- a certificate or a fault of the bytes was read
+abbrev pub HasVerdict : Result Statement ReadFault → Type 0
+HasVerdict (Ok c) = ⊤
+HasVerdict (Err (Format fault)) = ⊤
+HasVerdict (Err Failed) = ⊥
+HasVerdict (Err (NoMemory refused)) = ⊥
 
 -- a line and its status, as they are to be written
 abbrev pub verdict_output : String Global × ℕ → Output
@@ -45,22 +53,14 @@ abbrev pub PutsVerdict : Change SinkState → Output → Result ℕ CheckFault �
 PutsVerdict sink output (Ok status) = WritesAll sink output.text × (status ≡ output.status)
 PutsVerdict sink output (Err fault) = FailsWriting sink output.text × (fault ≡ Write)
 
--- a verdict on some certificate, or on a fault of some bytes
-abbrev pub IsSomeVerdict : Output → Type 0
-IsSomeVerdict output = ((c : Statement) × IsJudgement c output) ⊎ ((fault : FormatFault) × IsRefused (format_code fault) output)
+-- How the run ends after this was read: the verdict on it is written; or writing failed, and a beginning of it is written; or memory was wanting for it, and nothing is written. Where there is none, that is what is answered.
+abbrev pub EndsCheck : Result Statement ReadFault → Change SinkState → Result ℕ CheckFault → Type 0
+EndsCheck read sink (Ok status) = (output : Output) × IsVerdict read output × WritesAll sink output.text × (status ≡ output.status)
+EndsCheck read sink (Err Write) = (output : Output) × IsVerdict read output × FailsWriting sink output.text
+EndsCheck read sink (Err (Memory lacking)) = HasVerdict read × IsUntouched sink
+EndsCheck read sink (Err CertificateRead) = (read ≡ Err Failed) × IsUntouched sink
+EndsCheck read sink (Err (CertificateMemory refused)) = (read ≡ Err (NoMemory refused)) × IsUntouched sink
 
--- a verdict, which is that on what the source has left, where that is known
-abbrev pub JudgesSource : Change SourceState → Output → Type 0
-JudgesSource source output = IsSomeVerdict output × IfSome source.before.left (IsVerdict output)
-
--- How the run ends: the verdict is written; or writing failed, and a beginning of it is written; or the source failed or memory was wanting, and nothing is written.
-abbrev pub EndsCheck : Change SourceState → Change SinkState → Result ℕ CheckFault → Type 0
-EndsCheck source sink (Ok status) = IsReadable source × ((output : Output) × JudgesSource source output × WritesAll sink output.text × (status ≡ output.status))
-EndsCheck source sink (Err CertificateRead) = (source.after.has_failed ≡ true) × IsUntouched sink
-EndsCheck source sink (Err (CertificateMemory refused)) = IsReadable source × IsUntouched sink
-EndsCheck source sink (Err Write) = IsReadable source × ((output : Output) × JudgesSource source output × FailsWriting sink output.text)
-EndsCheck source sink (Err (Memory lacking)) = IsReadable source × IsUntouched sink
-
--- some of the bytes were taken, from the front, and the run ends so
+-- a certificate is read of the source, and the run ends so
 abbrev pub Checks : Change SourceState → Change SinkState → Result ℕ CheckFault → Type 0
-Checks source sink result = TakesSome source × EndsCheck source sink result
+Checks source sink result = (read : Result Statement ReadFault) × ReadsCertificate source read × EndsCheck read sink result

@@ -7,9 +7,9 @@ ghost use Rattle.outcomes.specs.Outcomes.{Answers};
 ghost use Rattle.batch_lines.specs.declared.lines.LineKind.TheVariants.{PassedOver, Within};
 ghost use Rattle.certificate.specs.Certificates.{AreNamedCosts, IsBoardOf};
 ghost use Rattle.batch_runs.specs.Batches.{no_lines, with_outcome, status_of_counts};
-ghost use Rattle.batch_runs.specs.Solving.{task_of};
+ghost use Rattle.batch_runs.specs.Solving.{task_of, rules_of};
 ghost use Rattle.certificate_runs.specs.Certifying.{Replies, SeeksFirst, PutsReply};
-ghost use Rattle.certificate_runs.specs.Certifying.{IsCertificateOf, IsReply, IsRefusal};
+ghost use Rattle.certificate_runs.specs.Certifying.{AreRulesFor, IsCertificateOf, IsReply, IsRefusal};
 
 use crate::faults::CertifyFault;
 use batch_lines::{EntryFault, Line, LineKind, LineReader, read_entry};
@@ -35,12 +35,28 @@ pub fn run_cert<S: Source, K: Sink>(
     setup: &Setup,
 ) -> Result<u8, CertifyFault>
     requires { AreNamedCosts setup.now.goal.grid setup.now.rule }
-    ensures { Replies setup.now (change S.state source.old source.new)
+    ensures { Replies (rules_of setup.now) (change S.state source.old source.new)
+        (change K.state sink.old sink.new) result }
+{
+    reply_to_first(alloc, source, sink, setup, setup)
+}
+
+// The same by any solver of the setup's boards.
+fn reply_to_first<S: Source, K: Sink, A: Solver>(
+    alloc: Global,
+    source: &mut S,
+    sink: &mut K,
+    setup: &Setup,
+    solver: &A,
+) -> Result<u8, CertifyFault>
+    requires named { AreNamedCosts setup.now.goal.grid setup.now.rule }
+    requires rules { AreRulesFor setup.now (A.rules solver.now) }
+    ensures { Replies (A.rules solver.now) (change S.state source.old source.new)
         (change K.state sink.old sink.new) result }
 {
     let mut reader = LineReader::new();
     match find_line(source, &mut reader) {
-        Ok(Some(line)) => match reply_to_line(alloc, setup, line, reader.bytes()) {
+        Ok(Some(line)) => match reply_to_line(alloc, setup, solver, line, reader.bytes()) {
             Ok(reply) => put_reply(sink, &reply),
             Err(lacking) => Err(CertifyFault::Memory(lacking)),
         },
@@ -77,33 +93,42 @@ fn find_line<S: Source>(source: &mut S, reader: &mut LineReader) -> Result<Optio
 }
 
 // The reply to a line that isn't passed over, whose bytes are given where it is to be read.
-fn reply_to_line(alloc: Global, setup: &Setup, line: Line, bytes: &[u8]) -> Result<Reply, NoReport>
+fn reply_to_line<A: Solver>(
+    alloc: Global,
+    setup: &Setup,
+    solver: &A,
+    line: Line,
+    bytes: &[u8],
+) -> Result<Reply, NoReport>
     requires named { AreNamedCosts setup.now.goal.grid setup.now.rule }
+    requires rules { AreRulesFor setup.now (A.rules solver.now) }
     requires kind { line.kind ≢ PassedOver }
-    ensures { IfOk result (IsReply setup.now line bytes.now) }
+    ensures { IfOk result (IsReply (A.rules solver.now) line bytes.now) }
 {
     match line.kind {
-        LineKind::Within => reply_to_entry(alloc, setup, line.number, bytes),
+        LineKind::Within => reply_to_entry(alloc, setup, solver, line.number, bytes),
         _ => refuse(alloc, EntryFault::NoText.code(), line.number),
     }
 }
 
 // The reply to a line that is to be read.
-fn reply_to_entry(
+fn reply_to_entry<A: Solver>(
     alloc: Global,
     setup: &Setup,
+    solver: &A,
     number: u64,
     bytes: &[u8],
 ) -> Result<Reply, NoReport>
-    requires { AreNamedCosts setup.now.goal.grid setup.now.rule }
+    requires named { AreNamedCosts setup.now.goal.grid setup.now.rule }
+    requires rules { AreRulesFor setup.now (A.rules solver.now) }
     ensures { IfOk result
-        (IsReply setup.now (record { number = number; kind = Within }) bytes.now) }
+        (IsReply (A.rules solver.now) (record { number = number; kind = Within }) bytes.now) }
 {
     let entry = match read_entry(setup.shape(), bytes) {
         Ok(entry) => entry,
         Err(fault) => return refuse(alloc, fault.code(), number),
     };
-    match setup.solve(alloc, &entry.board) {
+    match solver.solve(alloc, &entry.board) {
         Ok(Outcome::Optimal { cost, plan, rows }) => {
             let certificate = certify(setup, entry.board, cost, plan, rows);
             Ok(Reply::Certified(certificate))
@@ -144,7 +169,7 @@ fn certify(
     requires named { AreNamedCosts setup.now.goal.grid setup.now.rule }
     requires start { IsBoardOf setup.now.goal.grid start }
     requires answers { Answers (task_of setup.now start) (Optimal cost plan rows) }
-    ensures { IsCertificateOf setup.now start result }
+    ensures { IsCertificateOf (task_of setup.now start) result }
 {
     // The order of the rows, which is by key, is that of their lists of tiles by this law.
     keys_are_in_order();
