@@ -57,10 +57,6 @@ pub record Tells (errors : Change SinkState) (ending : Ending) (status : ℕ) : 
   pub begun : PutsBeginning errors (message_of ending)
   pub whole : errors.after.has_failed ≡ false → Puts errors (message_of ending)
 
--- the sink has failed
-abbrev pub HasFailed : SinkState → Type 0
-HasFailed sink = sink.has_failed ≡ true
-
 -- the program's batch
 abbrev pub default_rules : Rules
 default_rules = rules_of default_setup

@@ -4,7 +4,8 @@ ghost use Rattle.std.specs.Prelude.{◌≡◌, ◌≢◌, ◌⊎◌, false, []};
 ghost use Rattle.byte_streams.specs.Streams.{change};
 ghost use Rattle.batch_cli.specs.declared.program.Ending.{Ending};
 ghost use Rattle.batch_cli.specs.Programs.{default_setup, status_of, message_of};
-ghost use Rattle.batch_cli.specs.Programs.{Tells, EndsBy, EndsRun, HasFailed};
+ghost use Rattle.batch_runs.specs.Batches.{HasFailed};
+ghost use Rattle.batch_cli.specs.Programs.{Tells, EndsBy, EndsRun};
 
 use crate::faults::BatchFault;
 use batch_runs::{LinesFault, Setup, Summary, run_batch};

@@ -1,9 +1,11 @@
 -- The reports of lines, one line after the other.
-use Rattle.std.proofs.Common.{◌≡◌, ◌⊎◌, ℕ, suc, ◌+◌, ◌≤◌, List, [], ◌∷◌, ◌++◌, Option, None, Some, length, refl, sym, ap, ◌∙◌, subst, inl, inr, arith, append_assoc, append-nil, length-append}
-use Rattle.std.proofs.KnownBytes.{Appends-nil, Appends-trans, Consumes-nil, Consumes-trans}
+use Rattle.std.proofs.Common.{◌≡◌, ◌≢◌, codes, ◌⊎◌, ℕ, suc, ◌+◌, ◌≤◌, List, [], ◌∷◌, ◌++◌, Option, None, Some, Result, Ok, Err, length, refl, sym, ap, ◌∙◌, subst, inl, inr, arith, append_assoc, append-nil, length-append}
+use Rattle.std.proofs.KnownBytes.{Appends-nil, Appends-trans, Appends-kept, Consumes-nil, Consumes-trans}
+use Rattle.std.proofs.lemmas.Bool.{false≢true}
 use Rattle.std.specs.Io.KnownBytes.{Consumes}
 use Rattle.byte_streams.specs.Streams.{SourceState, SinkState, Change, from_to}
-use Rattle.byte_streams.specs.Sink.{Puts, PutsBeginning}
+use Rattle.byte_streams.specs.Sink.{Puts, PutsBeginning, WritesAll, Writes, Flushes}
+use Rattle.byte_streams.specs.declared.sink.WriteFailed.{WriteFailed}
 use Rattle.byte_streams.proofs.SinkLemmas.{PutsBeginning-after}
 use Rattle.batch_lines.specs.Lines.{lines_of, without_return}
 use Rattle.batch_lines.specs.Readings.{TakesKnown, TakesLine, CountsKnown, IsJudged}
@@ -48,6 +50,12 @@ answer_is rules line PassedOver kept answer judged is = subst (λ (kind : LineKi
 answer_is rules line TooLong kept answer judged is = subst (λ (kind : LineKind). AnswersKind rules kind (without_return line) answer) judged.judged is
 answer_is rules line Within kept answer judged is =
     subst (λ (kind : LineKind). AnswersKind rules kind (without_return line) answer) judged.judged (subst (λ (bytes : List ℕ). AnswersEntry rules bytes answer) (judged.whole refl) is)
+
+-- a line that is neither passed over nor to be read is too long
+pub too_long : (rules : Rules) (kind : LineKind) (bytes : List ℕ) → kind ≢ PassedOver → kind ≢ Within → AnswersKind rules kind bytes (refused (codes "E12"))
+too_long rules PassedOver bytes here long = absurd (here refl)
+too_long rules Within bytes here long = absurd (long refl)
+too_long rules TooLong bytes here long = refl
 
 -- ---- how many lines are counted
 
@@ -174,6 +182,17 @@ reports_so_far rules a b c x y numbered counts running = record {
   answered = running.answered;
   written = running.written;
 }
+
+-- a line more was read that is passed over
+pub IsRunning-passed : (rules : Rules) (a b c : SourceState) (x y : SinkState) (numbered n : ℕ) (counts : Summary) (line kept : List ℕ) (kind : LineKind) → IsRunning rules (from_to a b) (from_to x y) numbered counts → TakesLine (from_to b c) line → IsJudged line kind kept → n ≡ numbered + 1 → kind ≡ PassedOver → IsRunning rules (from_to a c) (from_to x y) n counts
+IsRunning-passed rules a b c x y numbered n counts line kept kind running taken judged number over =
+    IsRunning-more rules a b c x y y numbered n counts passed_over running (record { line = line; kind = PassedOver; kept = kept; taken = taken; judged = subst (λ (k : LineKind). IsJudged line k kept) over judged; number = number; is = refl }) (Appends-nil y.contents)
+
+-- all was written, and then passed on; or that failed
+pub Writes-flushed : (a b c : SinkState) (bytes : List ℕ) (result : Result (Unit {0}) WriteFailed) → WritesAll (from_to a b) bytes → Flushes (from_to b c) result → Writes (from_to a c) bytes result
+Writes-flushed a b c bytes (Ok done) written flushed = (Appends-kept a.contents b.contents c.contents bytes written.0 flushed.0, (written.1.0, flushed.1.1))
+Writes-flushed a b c bytes (Err failure) written flushed =
+    (record { sent = bytes; unsent = []; parts = sym (append-nil bytes); put = Appends-kept a.contents b.contents c.contents bytes written.0 flushed.0 }, flushed.1, λ failed. absurd (false≢true (sym written.1.0 ∙ failed)))
 
 -- what was taken is counted on
 pub CountsKnown-more : (a b c : Option (List ℕ)) (x y z : ℕ) → CountsKnown a b x y → CountsKnown b c y z → CountsKnown a c x z

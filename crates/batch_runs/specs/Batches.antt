@@ -184,6 +184,10 @@ pub record ReportsSome (rules : Rules) (source : Change SourceState) (sink : Cha
 abbrev pub IsReadable : Change SourceState → Type 0
 IsReadable source = source.after.has_failed ≡ false
 
+-- the sink has failed
+abbrev pub HasFailed : SinkState → Type 0
+HasFailed sink = sink.has_failed ≡ true
+
 -- the sink has failed only if it had before
 abbrev pub KeepsFailure : Change SinkState → Type 0
 KeepsFailure sink = sink.after.has_failed ≡ sink.before.has_failed
@@ -192,5 +196,5 @@ KeepsFailure sink = sink.after.has_failed ≡ sink.before.has_failed
 abbrev pub ReportsLines : Rules → Change SourceState → Change SinkState → Result Summary LinesFault → Type 0
 ReportsLines rules source sink (Ok counts) = ReportsAll rules source sink counts × IsReadable source × KeepsFailure sink
 ReportsLines rules source sink (Err Read) = ReportsWhole rules source sink × KeepsFailure sink
-ReportsLines rules source sink (Err Write) = ReportsSome rules source sink × IsReadable source × (sink.after.has_failed ≡ true)
+ReportsLines rules source sink (Err Write) = ReportsSome rules source sink × IsReadable source × HasFailed sink.after
 ReportsLines rules source sink (Err (Memory lacking)) = ReportsFirst rules source sink × IsReadable source × KeepsFailure sink

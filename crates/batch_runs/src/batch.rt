@@ -1,15 +1,17 @@
 //! Lines in, reports out, by any solver.
 
-ghost use Rattle.std.specs.Prelude.{◌≡◌, IfOk, OnErr, Some, None, string_bytes};
+ghost use Rattle.std.specs.Prelude.{◌≡◌, ◌≢◌, ◌⊎◌, IfOk, OnOk, OnErr, Some, None, string_bytes};
 ghost use Rattle.byte_streams.specs.Streams.{change};
+ghost use Rattle.byte_streams.specs.Sink.{Writes};
+ghost use Rattle.batch_lines.specs.declared.lines.LineKind.TheVariants.{PassedOver};
 ghost use Rattle.batch_runs.specs.Batches.{Rules, Answer, AnswersKind, AnswersEntry, ReportsLines};
 ghost use Rattle.batch_runs.specs.Batches.{HasRoom, answer_text, with_answer};
-ghost use Rattle.batch_runs.specs.Batches.{with_outcome, with_refused};
+ghost use Rattle.batch_runs.specs.Batches.{with_outcome, with_refused, HasFailed};
 
 use crate::faults::LinesFault;
 use batch_lines::{EntryFault, Line, LineKind, LineReader, read_entry};
 use board::{Board, Shape};
-use byte_streams::{Sink, Source};
+use byte_streams::{Sink, Source, WriteFailed};
 use memory::OutOfMemory;
 use outcomes::{Outcome, SolveFault};
 use reports::{NoReport, outcome_report, refused_report};
@@ -64,7 +66,8 @@ impl Summary {
     }
 }
 
-/// Writes a report for each line of the source that isn't passed over, in order.
+/// Writes a report for each line of the source that isn't passed over, in order, and flushes the
+/// sink after each.
 pub fn run_lines<S: Source, K: Sink, A: Solver>(
     alloc: Global,
     source: &mut S,
@@ -73,8 +76,10 @@ pub fn run_lines<S: Source, K: Sink, A: Solver>(
     solver: &A,
 ) -> Result<Summary, LinesFault>
     requires { (A.rules solver.now).grid ≡ shape }
-    ensures { ReportsLines (A.rules solver.now) (change S.state source.old source.new)
+    ensures reports { ReportsLines (A.rules solver.now) (change S.state source.old source.new)
         (change K.state sink.old sink.new) result }
+    ensures flushed { K.is_flushed sink.new ⊎ (sink.new ≡ sink.old)
+        ⊎ HasFailed (K.state sink.new) }
 {
     let mut reader = LineReader::new();
     let mut summary = Summary {
@@ -91,19 +96,40 @@ pub fn run_lines<S: Source, K: Sink, A: Solver>(
         let Some(line) = next else {
             return Ok(summary);
         };
-        let report = match report_line(alloc, shape, solver, line, reader.bytes(), summary) {
-            Ok(report) => report,
-            Err(lacking) => return Err(LinesFault::Memory(lacking)),
-        };
-        let Ok(()) = sink.put(report.0.as_str().as_bytes()) else {
-            return Err(LinesFault::Write);
-        };
-        summary = report.1;
+        match line.kind {
+            LineKind::PassedOver => {}
+            _ => {
+                let report = match report_line(
+                    alloc,
+                    shape,
+                    solver,
+                    line,
+                    reader.bytes(),
+                    summary,
+                ) {
+                    Ok(report) => report,
+                    Err(lacking) => return Err(LinesFault::Memory(lacking)),
+                };
+                let Ok(()) = send(sink, report.0.as_str()) else {
+                    return Err(LinesFault::Write);
+                };
+                summary = report.1;
+            }
+        }
     }
 }
 
-// What is written for a line, whose bytes are given where it is to be read, and the counts after
-// it.
+// Writes a report, and passes it on at once, so that who waits for it has it.
+fn send<K: Sink>(sink: &mut K, text: &str) -> Result<(), WriteFailed>
+    ensures writes { Writes (change K.state sink.old sink.new) text.now result }
+    ensures last { OnOk result (K.is_flushed sink.new) }
+{
+    sink.put(text.as_bytes())?;
+    sink.flush()
+}
+
+// What is written for a line that isn't passed over, whose bytes are given where it is to be read,
+// and the counts after it.
 fn report_line<A: Solver>(
     alloc: Global,
     shape: Shape,
@@ -114,18 +140,18 @@ fn report_line<A: Solver>(
 ) -> Result<(String, Summary), NoReport>
     requires grid { (A.rules solver.now).grid ≡ shape }
     requires room { HasRoom summary }
+    requires kind { line.kind ≢ PassedOver }
     ensures { IfOk result (λ report. (answer : Answer)
         × AnswersKind (A.rules solver.now) line.kind bytes.now answer
         × (string_bytes report.0 ≡ answer_text line.number answer)
         × (report.1 ≡ with_answer summary answer)) }
 {
     match line.kind {
-        LineKind::PassedOver => Ok((String::new(alloc), summary)),
-        LineKind::TooLong => {
+        LineKind::Within => answer_line(alloc, shape, solver, line.number, bytes, summary),
+        _ => {
             let text = refused_report(alloc, EntryFault::NoText.code(), line.number)?;
             Ok((text, summary.with_refused()))
         }
-        LineKind::Within => answer_line(alloc, shape, solver, line.number, bytes, summary),
     }
 }
 

@@ -1,7 +1,8 @@
 //! A batch that is solved by a search.
 
+ghost use Rattle.std.specs.Prelude.{◌≡◌, ◌⊎◌};
 ghost use Rattle.byte_streams.specs.Streams.{change};
-ghost use Rattle.batch_runs.specs.Batches.{ReportsLines};
+ghost use Rattle.batch_runs.specs.Batches.{ReportsLines, HasFailed};
 ghost use Rattle.batch_runs.specs.Solving.{rules_of};
 
 use crate::batch::{Solver, Summary, run_lines};
@@ -37,16 +38,22 @@ impl Solver for Setup {
 /// fault, or of an outcome that answers its board. A board that isn't in the goal's class is
 /// answered without a search.
 ///
-/// After `Read` exactly the reports of the lines that were read whole are written; after the other
-/// faults a beginning of the reports. Nothing is flushed.
+/// The sink is flushed after each report, so that whoever waits for one has it; nothing is flushed
+/// for a line that is passed over.
+///
+/// After `Read` exactly the reports of the lines that were read whole are written; after `Memory`
+/// those of the first lines, whole; after `Write` a beginning of the reports: where a flush failed,
+/// those up to its line.
 pub fn run_batch<S: Source, K: Sink>(
     alloc: Global,
     source: &mut S,
     sink: &mut K,
     setup: &Setup,
 ) -> Result<Summary, LinesFault>
-    ensures { ReportsLines (rules_of setup.now) (change S.state source.old source.new)
+    ensures reports { ReportsLines (rules_of setup.now) (change S.state source.old source.new)
         (change K.state sink.old sink.new) result }
+    ensures flushed { K.is_flushed sink.new ⊎ (sink.new ≡ sink.old)
+        ⊎ HasFailed (K.state sink.new) }
 {
     run_lines(alloc, source, sink, setup.shape(), setup)
 }

@@ -28,9 +28,9 @@ struct ByBlank {
 
 impl Solver for ByBlank {
     ghost rules = { λ s. record {
-        grid = s.shape;
-        task = λ b. record { start = b; goal = b; rule = unit_rule s.shape; sum = λ _. 0 };
-        allows = λ _ _. Unit {0};
+      grid = s.shape;
+      task = λ b. record { start = b; goal = b; rule = unit_rule s.shape; sum = λ _. 0 };
+      allows = λ _ _. Unit {0};
     } };
 
     fn solve(&self, alloc: Global, start: &Board) -> Result<Outcome, OutOfMemory> {
@@ -203,24 +203,58 @@ impl Case {
         if matches!(self.run, Run::Certify | Run::Check) {
             return b"";
         }
-        let mut lines: usize = 0;
-        for byte in self.input.iter().take(read) {
-            if *byte == b'\n' {
-                lines = lines.saturating_add(1);
-            }
-        }
-        first_lines(self.output, lines)
+        first_lines(self.output, lines_of(beginning(self.input, read)))
     }
 
-    // How many writes and flushes it makes: one for each byte of the output, and the flush of the
-    // program.
-    fn calls(&self) -> usize {
-        if self.run == Run::Program {
-            self.output.len().saturating_add(1)
+    // Whether it flushes after each report.
+    fn reports_lines(&self) -> bool {
+        matches!(self.run, Run::Lines | Run::Batch | Run::Program)
+    }
+
+    // How many writes and flushes it makes for such a beginning of the output: one for each byte,
+    // and a flush behind each report of a line.
+    fn calls_for(&self, written: &[u8]) -> usize {
+        let flushes = if self.reports_lines() {
+            lines_of(written)
         } else {
-            self.output.len()
+            0
+        };
+        written.len().saturating_add(flushes)
+    }
+
+    // How many it makes in all: the program flushes once more.
+    fn calls(&self) -> usize {
+        let last = (self.run == Run::Program) as usize;
+        self.calls_for(self.output).saturating_add(last)
+    }
+
+    // What is written where the write or flush after so many others fails.
+    fn due_at(&self, call: usize) -> &'static [u8] {
+        for place in 0..self.output.len() {
+            let next = &self.output[..place + 1];
+            if call < self.calls_for(next) {
+                // The flush of a report fails behind its last byte.
+                let whole = call + 1 == self.calls_for(next) && next[place] == b'\n';
+                return if whole && self.reports_lines() {
+                    next
+                } else {
+                    &self.output[..place]
+                };
+            }
+        }
+        self.output
+    }
+}
+
+// How many line feeds stand in a text.
+fn lines_of(text: &[u8]) -> usize {
+    let mut lines: usize = 0;
+    for byte in text {
+        if *byte == b'\n' {
+            lines = lines.saturating_add(1);
         }
     }
+    lines
 }
 
 // So many lines of a text, or all.
@@ -358,7 +392,7 @@ fn succeeds(alloc: Global, case: &Case) -> bool {
     ended.status == case.status
         && ended.told.is_empty()
         && ended.written.as_slice() == case.output
-        && ended.flushes == (case.run == Run::Program) as usize
+        && ended.flushes == case.calls().saturating_sub(case.output.len())
         && ended.unread == case.input.len().saturating_sub(case.reads)
 }
 
@@ -371,15 +405,21 @@ fn first_wrong_end(alloc: Global, case: &Case) -> Option<(usize, usize)> {
     for read in 0..case.reads {
         let due = case.due_before(read);
         // The first fault decides: the program's flush fails in vain behind it.
-        for write in [NEVER, due.len()] {
+        for write in [NEVER, case.calls_for(due)] {
             if !fails_so(alloc, case, read, write, case.unread(), due) {
                 return Some((read, write));
             }
         }
     }
     for write in 0..case.calls() {
-        let due = beginning(case.output, write);
-        if !fails_so(alloc, case, NEVER, write, case.unwritten, due) {
+        if !fails_so(
+            alloc,
+            case,
+            NEVER,
+            write,
+            case.unwritten,
+            case.due_at(write),
+        ) {
             return Some((NEVER, write));
         }
     }

@@ -17,7 +17,7 @@ returns-in-Err-clause-ended g c =
       between = sink c.run_batch.new.sink;
       ran = ran;
       flushed = c.flush.result;
-      lines = subst (λ (s : SetupState). ReportsLines (rules_of s) source (change sink c.args.sink.now c.run_batch.new.sink) ran) c.default_setup-setup.ensures c.in-Err.ensures;
+      lines = subst (λ (s : SetupState). ReportsLines (rules_of s) source (change sink c.args.sink.now c.run_batch.new.sink) ran) c.default_setup-setup.ensures c.in-Err.ensures.reports;
       flush = c.flush.ensures.flushes;
       first = refl;
     }
@@ -32,7 +32,7 @@ returns-in_default-clause-ended g c =
       between = sink c.run_batch.new.sink;
       ran = ran;
       flushed = flushed;
-      lines = subst (λ (s : SetupState). ReportsLines (rules_of s) source (change sink c.args.sink.now c.run_batch.new.sink) ran) c.default_setup-setup.ensures c.in-Ok.ensures;
+      lines = subst (λ (s : SetupState). ReportsLines (rules_of s) source (change sink c.args.sink.now c.run_batch.new.sink) ran) c.default_setup-setup.ensures c.in-Ok.ensures.reports;
       flush = c.in_default.ensures.flushes;
       first = refl;
     }
@@ -47,7 +47,7 @@ returns-clause-ended g c =
       between = sink c.run_batch.new.sink;
       ran = ran;
       flushed = flushed;
-      lines = subst (λ (s : SetupState). ReportsLines (rules_of s) source (change sink c.args.sink.now c.run_batch.new.sink) ran) c.default_setup-setup.ensures c.in-Ok.ensures;
+      lines = subst (λ (s : SetupState). ReportsLines (rules_of s) source (change sink c.args.sink.now c.run_batch.new.sink) ran) c.default_setup-setup.ensures c.in-Ok.ensures.reports;
       flush = c.in-Ok-flush.ensures.flushes;
       first = refl;
     }

@@ -1,8 +1,8 @@
-use Rattle.std.proofs.Common.{refl}
 use Rattle.std.specs.Prelude.{codes}
 use Rattle.batch_runs.specs.Batches.Answer.{refused}
+use Rattle.batch_runs.proofs.BatchLemmas.{too_long}
 use Rattle.batch_runs.proofs.batch.report_line.Goals as goal
 
-pub returns-in_ok-text-in-TooLong : goal.returns-in_ok-text-in-TooLong
-returns-in_ok-text-in-TooLong g c =
-    (refused (codes "E12"), rw c.in-TooLong.is refl, rw c.code.ensures at c.in_ok-text-in-TooLong.ensures, c.with_refused.ensures)
+pub returns-in_ok-text-in_default : goal.returns-in_ok-text-in_default
+returns-in_ok-text-in_default g c =
+    (refused (codes "E12"), too_long (g.A.Solver.rules c.args.solver.now) c.args.line.kind c.args.bytes.now c.requires.kind c.in_default.not-Within, rw c.code.ensures at c.in_ok-text-in_default.ensures, c.with_refused.ensures)
