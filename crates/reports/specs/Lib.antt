@@ -1,1 +1,3 @@
 pub mod Reports
+pub mod Readings
+pub mod Laws

@@ -1,6 +1,7 @@
 //! The reports of outcomes, of refused lines and of certificates, as JSON.
 #![tactic(auto)]
 
+pub mod laws;
 mod report;
 
 pub use report::{

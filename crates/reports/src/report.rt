@@ -8,6 +8,7 @@ ghost use Rattle.board.specs.declared.moves.Move.{Move};
 ghost use Rattle.board.specs.declared.boards.Board.{Board};
 ghost use Rattle.outcomes.specs.Outcomes.{best_of};
 ghost use Rattle.outcomes.specs.declared.outcome.Outcome.TheVariants.{Optimal, Unsolvable, Bounded};
+ghost use Rattle.reports.specs.Readings.{IsSmall, IsSmallBest, AreSmall};
 ghost use Rattle.reports.specs.Reports.{letters_of, best_data, outcome_data, refused_data};
 ghost use Rattle.reports.specs.Reports.{accepted_data, refused_certificate_data, report_text};
 
@@ -25,8 +26,9 @@ pub struct NoReport {
 
 /// The report of an outcome for a line with this id: one JSON object and a line feed.
 pub fn outcome_report(alloc: Global, id: &str, outcome: &Outcome) -> Result<String, NoReport>
-    ensures { IfOk result (λ text.
+    ensures text { IfOk result (λ text.
         string_bytes text ≡ report_text (outcome_data id.now outcome.now)) }
+    ensures small { IfOk result (λ _. AreSmall outcome.now) }
 {
     let value = match outcome_value(alloc, id, outcome) {
         Ok(value) => value,
@@ -75,6 +77,7 @@ pub fn refused_certificate_report(alloc: Global, code: &str) -> Result<String, N
 fn outcome_value(alloc: Global, id: &str, outcome: &Outcome) -> Result<Value, OutOfMemory>
     ensures value { IfOk result (λ built. view built ≡ outcome_data id.now outcome.now) }
     ensures no_float { IfOk result (λ built. has_float (view built) ≡ false) }
+    ensures small { IfOk result (λ _. AreSmall outcome.now) }
 {
     match outcome {
         Outcome::Optimal { cost, plan, .. } => optimal_value(alloc, id, *cost, plan),
@@ -89,6 +92,7 @@ fn optimal_value(alloc: Global, id: &str, cost: u32, plan: &[Move]) -> Result<Va
         kept.items ≡ plan.now →
         IfOk result (λ built. view built ≡ outcome_data id.now (Optimal cost kept rows)) }
     ensures no_float { IfOk result (λ built. has_float (view built) ≡ false) }
+    ensures small { IsSmall cost }
 {
     let letters = plan_letters(alloc, plan)?;
     let mut members = Map::new(alloc);
@@ -126,6 +130,7 @@ fn bounded_value(
     ensures value { IfOk result (λ built.
         view built ≡ outcome_data id.now (Bounded bound best.now cause)) }
     ensures no_float { IfOk result (λ built. has_float (view built) ≡ false) }
+    ensures small { IfOk result (λ _. IsSmall bound × IsSmallBest (best_of best.now)) }
 {
     let plan = best_value(alloc, best)?;
     let mut members = Map::new(alloc);
@@ -146,6 +151,7 @@ fn bounded_value(
 fn best_value(alloc: Global, best: &Option<(u32, Vec<Move>)>) -> Result<Value, OutOfMemory>
     ensures value { IfOk result (λ built. view built ≡ best_data (best_of best.now)) }
     ensures no_float { IfOk result (λ built. has_float (view built) ≡ false) }
+    ensures small { IfOk result (λ _. IsSmallBest (best_of best.now)) }
 {
     match best {
         Some(found) => plan_value(alloc, found.0, &found.1),
@@ -155,7 +161,8 @@ fn best_value(alloc: Global, best: &Option<(u32, Vec<Move>)>) -> Result<Value, O
 
 // The object of a plan and its cost.
 fn plan_value(alloc: Global, cost: u32, plan: &[Move]) -> Result<Value, OutOfMemory>
-    ensures { IfOk result (λ built. view built ≡ best_data (Some (cost, plan.now))) }
+    ensures value { IfOk result (λ built. view built ≡ best_data (Some (cost, plan.now))) }
+    ensures small { IsSmall cost }
 {
     let letters = plan_letters(alloc, plan)?;
     let mut members = Map::new(alloc);

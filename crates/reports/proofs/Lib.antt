@@ -1,0 +1,3 @@
+pub mod TextLemmas
+pub mod ReadLemmas
+pub mod ToldLemmas

@@ -1,0 +1,63 @@
+-- What a report says to whoever reads it as JSON.
+use Rattle.std.specs.Prelude.{ℕ, ◌≡◌, ◌<◌, ◌^◌, List, Vec, Option, None, Some, ⊤, codes}
+use Rattle.serde_json.specs.Data.{Data, number, unsigned, string}
+use Rattle.serde_json.specs.Find.{get}
+use Rattle.serde_json.specs.Read.{read}
+use Rattle.std.specs.declared.alloc.Global.{Global}
+use Rattle.board.specs.declared.moves.Move.{Move}
+use Rattle.board.specs.Positions.{Position}
+use Rattle.outcomes.specs.Outcomes.{best_of}
+use Rattle.outcomes.specs.Words.{cause_word}
+use Rattle.outcomes.specs.declared.outcome.Why.{Why}
+use Rattle.outcomes.specs.declared.outcome.Cause.{Cause}
+use Rattle.outcomes.specs.declared.outcome.Outcome.{Outcome}
+use Rattle.outcomes.specs.declared.outcome.Outcome.TheVariants.{Optimal, Unsolvable, Bounded}
+use Rattle.reports.specs.Reports.{outcome_data, refused_data, accepted_data, refused_certificate_data}
+
+-- ---- the values that are reports
+
+-- a number that is read back: JSON has greater ones, but a reader keeps 64 bits
+abbrev pub IsSmall : ℕ → Type 0
+IsSmall n = n < 2 ^ 64
+
+-- the cost of the best plan is such a number
+abbrev pub IsSmallBest : Option (ℕ × List Move) → Type 0
+IsSmallBest None = ⊤
+IsSmallBest (Some best) = IsSmall best.0
+
+-- the numbers of an outcome's report are such numbers
+abbrev pub AreSmall : Outcome → Type 0
+AreSmall (Optimal cost plan rows) = IsSmall cost
+AreSmall (Unsolvable why) = ⊤
+AreSmall (Bounded bound best cause) = IsSmall bound × IsSmallBest (best_of best)
+
+-- the value of a report: of an outcome, of a refused line, of a certificate that is accepted or refused
+pub data IsReport : Data → Type 0 where
+  of_outcome : (id : List ℕ) (outcome : Outcome) → AreSmall outcome → IsReport (outcome_data id outcome)
+  of_line : (code : List ℕ) (line : ℕ) → IsSmall line → IsReport (refused_data code line)
+  of_cost : (cost : ℕ) → IsSmall cost → IsReport (accepted_data cost)
+  of_certificate : (code : List ℕ) → IsReport (refused_certificate_data code)
+
+-- ---- what a value says
+
+-- a line is read as JSON, and is this value
+abbrev pub Reads : List ℕ → Data → Type 0
+Reads line d = read line ≡ Some d
+
+-- the value has this text under this key
+abbrev pub SaysText : Data → List ℕ → List ℕ → Type 0
+SaysText d key text = get key d ≡ Some (string text)
+
+-- the value has this number under this key
+abbrev pub SaysNumber : Data → List ℕ → ℕ → Type 0
+SaysNumber d key n = get key d ≡ Some (number (unsigned n))
+
+-- the status of the value is this word
+abbrev pub HasStatus : Data → List ℕ → Type 0
+HasStatus d word = SaysText d (codes "status") word
+
+-- two outcomes have one report: all is the same but the rows, and how memory came to be wanting
+pub data SaySame : Outcome → Outcome → Type 0 where
+  optimal : (cost : ℕ) (plan plan' : Vec Move Global) (rows rows' : Vec (Position × ℕ) Global) → plan.items ≡ plan'.items → SaySame (Optimal cost plan rows) (Optimal cost plan' rows')
+  unsolvable : (why : Why) → SaySame (Unsolvable why) (Unsolvable why)
+  bounded : (bound : ℕ) (best best' : Option (ℕ × Vec Move Global)) (cause cause' : Cause) → best_of best ≡ best_of best' → cause_word cause ≡ cause_word cause' → SaySame (Bounded bound best cause) (Bounded bound best' cause')

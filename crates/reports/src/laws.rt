@@ -1,0 +1,37 @@
+//! The laws of reports: each is the contract of a function that does nothing.
+
+ghost use Rattle.reports.specs.Laws.{ReportsAreLines, ReportsAreRead, ReportsSayOneThing};
+ghost use Rattle.reports.specs.Laws.{OutcomesAreTold, RefusalsAreTold};
+ghost use Rattle.reports.specs.Laws.{CostsAreTold, CodesAreTold};
+
+/// A report has one line feed, its last byte.
+pub fn reports_are_lines()
+    ensures { ReportsAreLines }
+{}
+
+/// Whoever reads the line of a report as JSON reads the value that it was made of.
+pub fn reports_are_read()
+    ensures { ReportsAreRead }
+{}
+
+/// Equal texts are reports of equal values.
+pub fn reports_say_one_thing()
+    ensures { ReportsSayOneThing }
+{}
+
+/// An outcome's report is that of no other outcome, but for the rows, and for how memory came to be
+/// wanting.
+pub fn outcomes_are_told()
+    ensures { OutcomesAreTold }
+{}
+
+/// A refused line's report is that of no other code and number.
+pub fn refusals_are_told()
+    ensures { RefusalsAreTold }
+{}
+
+/// A certificate's report is that of no other cost, or code.
+pub fn certificates_are_told()
+    ensures costs { CostsAreTold }
+    ensures codes { CodesAreTold }
+{}
