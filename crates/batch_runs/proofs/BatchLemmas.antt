@@ -1,5 +1,5 @@
 -- The reports of lines, one line after the other.
-use Rattle.std.proofs.Common.{◌≡◌, ◌≢◌, codes, ◌⊎◌, ℕ, suc, ◌+◌, ◌≤◌, List, [], ◌∷◌, ◌++◌, Option, None, Some, Result, Ok, Err, length, refl, sym, ap, ◌∙◌, subst, inl, inr, arith, append_assoc, append-nil, length-append}
+use Rattle.std.proofs.Common.{◌≡◌, ◌≢◌, codes, ◌⊎◌, ℕ, suc, ◌+◌, ◌^◌, ◌<◌, ◌≤◌, List, [], ◌∷◌, ◌++◌, Option, None, Some, Result, Ok, Err, length, refl, sym, ap, ◌∙◌, subst, inl, inr, arith, append_assoc, append-nil, length-append}
 use Rattle.std.proofs.KnownBytes.{Appends-nil, Appends-trans, Appends-kept, Consumes-nil, Consumes-trans}
 use Rattle.std.proofs.lemmas.Bool.{false≢true}
 use Rattle.std.specs.Io.KnownBytes.{Consumes}
@@ -108,7 +108,8 @@ pub record IsRunning (rules : Rules) (source : Change SourceState) (sink : Chang
   pub written : Puts sink (answers_text 1 answers)
   pub counted : counts ≡ with_answers no_lines answers
   pub at : numbered ≡ length lines
-  pub few : total counts ≤ numbered
+  pub few : length lines < 2 ^ 64
+  pub counted_few : total counts ≤ numbered
 
 -- nothing is read yet
 pub IsRunning-none : (rules : Rules) (a : SourceState) (x : SinkState) → IsRunning rules (from_to a a) (from_to x x) 0 no_lines
@@ -122,6 +123,7 @@ IsRunning-none rules a x = record {
   counted = refl;
   at = refl;
   few = omega arith;
+  counted_few = omega arith;
 }
   where
     none : (input : Option (List ℕ)) → AreRead input input []
@@ -136,6 +138,7 @@ pub record IsNext (rules : Rules) (source : Change SourceState) (numbered n : �
   pub taken : TakesLine source line
   pub judged : IsJudged line kind kept
   pub number : n ≡ numbered + 1
+  pub small : n < 2 ^ 64
   pub is : AnswersKind rules kind kept answer
 
 -- one line more was read and its report is written
@@ -155,7 +158,8 @@ IsRunning-more rules a b c x y z numbered n counts answer running next put =
       written = subst (λ (l : List ℕ). Puts (from_to x z) l) text (Appends-trans x.contents y.contents z.contents (answers_text 1 running.answers) (answer_text n answer) running.written put);
       counted = ap (λ (s : Summary). with_answer s answer) running.counted ∙ sym (with_answers-more no_lines running.answers answer);
       at = omega (arith, running.at, next.number, longer);
-      few = omega (arith, running.few, next.number, counted_once counts answer);
+      few = omega (arith, running.at, next.number, next.small, longer);
+      counted_few = omega (arith, running.counted_few, next.number, counted_once counts answer);
     }
 
 -- the report of one line more is written in part
@@ -164,10 +168,12 @@ pub reports_part : (rules : Rules) (a b c : SourceState) (x y z : SinkState) (nu
 reports_part rules a b c x y z numbered n counts answer running next begun =
     let as_many = AnswersLines-length rules running.lines running.answers running.answered in
     let at : n ≡ 1 + length running.answers = omega (arith, running.at, next.number, as_many) in
+    let longer = length-append running.lines (next.line ∷ []) in
     let text : answers_text 1 running.answers ++ answer_text n answer ≡ answers_text 1 (running.answers ++ answer ∷ []) = ap (λ (k : ℕ). answers_text 1 running.answers ++ answer_text k answer) at ∙ sym (answers_text-more 1 running.answers answer) in
     record {
       lines = running.lines ++ next.line ∷ [];
       answers = running.answers ++ answer ∷ [];
+      few = omega (arith, running.at, next.number, next.small, longer);
       first = AreFirst-read a.left c.left (running.lines ++ next.line ∷ []) (AreRead-more a.left b.left c.left running.lines next.line running.read next.taken);
       answered = AnswersLines-more rules running.lines running.answers next.line answer running.answered (answer_is rules next.line next.kind next.kept answer next.judged next.is);
       begun = subst (λ (l : List ℕ). PutsBeginning (from_to x z) l) text (PutsBeginning-after x y z (answers_text 1 running.answers) (answer_text n answer) running.written begun);
@@ -178,15 +184,16 @@ pub reports_so_far : (rules : Rules) (a b c : SourceState) (x y : SinkState) (nu
 reports_so_far rules a b c x y numbered counts running = record {
   lines = running.lines;
   answers = running.answers;
+  few = running.few;
   first = AreFirst-read a.left b.left running.lines running.read;
   answered = running.answered;
   written = running.written;
 }
 
 -- a line more was read that is passed over
-pub IsRunning-passed : (rules : Rules) (a b c : SourceState) (x y : SinkState) (numbered n : ℕ) (counts : Summary) (line kept : List ℕ) (kind : LineKind) → IsRunning rules (from_to a b) (from_to x y) numbered counts → TakesLine (from_to b c) line → IsJudged line kind kept → n ≡ numbered + 1 → kind ≡ PassedOver → IsRunning rules (from_to a c) (from_to x y) n counts
-IsRunning-passed rules a b c x y numbered n counts line kept kind running taken judged number over =
-    IsRunning-more rules a b c x y y numbered n counts passed_over running (record { line = line; kind = PassedOver; kept = kept; taken = taken; judged = subst (λ (k : LineKind). IsJudged line k kept) over judged; number = number; is = refl }) (Appends-nil y.contents)
+pub IsRunning-passed : (rules : Rules) (a b c : SourceState) (x y : SinkState) (numbered n : ℕ) (counts : Summary) (line kept : List ℕ) (kind : LineKind) → IsRunning rules (from_to a b) (from_to x y) numbered counts → TakesLine (from_to b c) line → IsJudged line kind kept → n ≡ numbered + 1 → n < 2 ^ 64 → kind ≡ PassedOver → IsRunning rules (from_to a c) (from_to x y) n counts
+IsRunning-passed rules a b c x y numbered n counts line kept kind running taken judged number small over =
+    IsRunning-more rules a b c x y y numbered n counts passed_over running (record { line = line; kind = PassedOver; kept = kept; taken = taken; judged = subst (λ (k : LineKind). IsJudged line k kept) over judged; number = number; small = small; is = refl }) (Appends-nil y.contents)
 
 -- all was written, and then passed on; or that failed
 pub Writes-flushed : (a b c : SinkState) (bytes : List ℕ) (result : Result (Unit {0}) WriteFailed) → WritesAll (from_to a b) bytes → Flushes (from_to b c) result → Writes (from_to a c) bytes result

@@ -12,6 +12,7 @@ use Rattle.batch_lines.specs.declared.words.EntryFault.{EntryFault}
 use Rattle.batch_lines.specs.declared.lines.LineKind.{LineKind}
 use Rattle.batch_lines.specs.declared.lines.LineKind.TheVariants.{PassedOver, Within, TooLong}
 use Rattle.batch_lines.specs.declared.lines.TheConstants.{INPUT_LIMIT}
+use Rattle.reports.specs.Readings.{AreSmall}
 use Rattle.reports.specs.Reports.{outcome_data, refused_data, report_text}
 use Rattle.outcomes.specs.declared.outcome.Outcome.{Outcome}
 use Rattle.outcomes.specs.Outcomes.{Task, Answers}
@@ -38,10 +39,10 @@ pub data Answer : Type 0 where
   refused : (code : List ℕ) → Answer
   answered : (id : List ℕ) (outcome : Outcome) → Answer
 
--- a line to be read is refused by its first fault, or it is answered by an outcome that is allowed for its board, or refused by V3 where a want of memory before the first step is allowed for it
+-- a line to be read is refused by its first fault, or it is answered by an outcome that is allowed for its board and whose numbers a report can tell, or refused by V3 where a want of memory before the first step is allowed for it
 pub data AnswersEntry (rules : Rules) (line : List ℕ) : Answer → Type 0 where
   by_fault : (fault : EntryFault) → IsFirstEntryFault rules.grid line fault → AnswersEntry rules line (refused (entry_code fault))
-  by_outcome : (id : List ℕ) (b : Position) (outcome : Outcome) → IsEntry rules.grid line id b → rules.allows b (Some outcome) → AnswersEntry rules line (answered id outcome)
+  by_outcome : (id : List ℕ) (b : Position) (outcome : Outcome) → IsEntry rules.grid line id b → rules.allows b (Some outcome) → AreSmall outcome → AnswersEntry rules line (answered id outcome)
   by_want : (id : List ℕ) (b : Position) → IsEntry rules.grid line id b → rules.allows b None → AnswersEntry rules line (refused (codes "V3"))
 
 -- the answer to a line of this kind with these bytes
@@ -151,6 +152,7 @@ pub record LosesLine (source : Change SourceState) (lines : List (List ℕ)) : T
 pub record ReportsAll (rules : Rules) (source : Change SourceState) (sink : Change SinkState) (counts : Summary) : Type 0 where
   pub lines : List (List ℕ)
   pub answers : List Answer
+  pub few : length lines < 2 ^ 64
   pub all : AreAll source.before.left lines
   pub answered : AnswersLines rules lines answers
   pub written : Puts sink (answers_text 1 answers)
@@ -160,6 +162,7 @@ pub record ReportsAll (rules : Rules) (source : Change SourceState) (sink : Chan
 pub record ReportsWhole (rules : Rules) (source : Change SourceState) (sink : Change SinkState) : Type 0 where
   pub lines : List (List ℕ)
   pub answers : List Answer
+  pub few : length lines < 2 ^ 64
   pub lost : LosesLine source lines
   pub answered : AnswersLines rules lines answers
   pub written : Puts sink (answers_text 1 answers)
@@ -168,6 +171,7 @@ pub record ReportsWhole (rules : Rules) (source : Change SourceState) (sink : Ch
 pub record ReportsFirst (rules : Rules) (source : Change SourceState) (sink : Change SinkState) : Type 0 where
   pub lines : List (List ℕ)
   pub answers : List Answer
+  pub few : length lines < 2 ^ 64
   pub first : AreFirst source.before.left lines
   pub answered : AnswersLines rules lines answers
   pub written : Puts sink (answers_text 1 answers)
@@ -176,6 +180,7 @@ pub record ReportsFirst (rules : Rules) (source : Change SourceState) (sink : Ch
 pub record ReportsSome (rules : Rules) (source : Change SourceState) (sink : Change SinkState) : Type 0 where
   pub lines : List (List ℕ)
   pub answers : List Answer
+  pub few : length lines < 2 ^ 64
   pub first : AreFirst source.before.left lines
   pub answered : AnswersLines rules lines answers
   pub begun : PutsBeginning sink (answers_text 1 answers)

@@ -21,6 +21,7 @@ use Rattle.batch_lines.specs.declared.lines.LineKind.TheVariants.{PassedOver, Wi
 use Rattle.certificate.specs.Certificates.{Statement, AreNamedCosts, IsBoardOf, IsRow, RiseAfter, IsCertificate}
 use Rattle.batch_runs.specs.Batches.Answer.{refused, answered}
 use Rattle.batch_runs.specs.Batches.{no_lines, with_outcome, status_of_counts}
+use Rattle.reports.specs.Readings.{AreSmall}
 use Rattle.reports.specs.Reports.{outcome_data, report_text}
 use Rattle.outcomes.specs.declared.outcome.Outcome.{Outcome}
 use Rattle.batch_runs.specs.Batches.AnswersEntry.{by_fault, by_outcome, by_want}
@@ -73,10 +74,10 @@ refused_board rules n bytes id b (Certified c) entry lacking is = absurd (no_ref
 refused_board rules n bytes id b (Reported text status) entry lacking is = (refused (codes "V3"), by_want id b entry lacking, tt, is)
 
 -- an outcome that names no least plan
-pub reported_entry : (rules : Rules) (n : ℕ) (bytes id text : List ℕ) (b : Position) (outcome : Outcome) (status : ℕ) → IsEntry rules.grid bytes id b → rules.allows b (Some outcome) → IsNotOptimal (answered id outcome) → text ≡ report_text (outcome_data id outcome) → status ≡ status_of_counts (with_outcome no_lines outcome)
+pub reported_entry : (rules : Rules) (n : ℕ) (bytes id text : List ℕ) (b : Position) (outcome : Outcome) (status : ℕ) → IsEntry rules.grid bytes id b → rules.allows b (Some outcome) → AreSmall outcome → IsNotOptimal (answered id outcome) → text ≡ report_text (outcome_data id outcome) → status ≡ status_of_counts (with_outcome no_lines outcome)
     → ReportsLine rules (within n) bytes (record { text = text; status = status })
-reported_entry rules n bytes id text b outcome status entry allowed other written told =
-    (answered id outcome, by_outcome id b outcome entry allowed, other, λ i. record { text = written i; status = told i })
+reported_entry rules n bytes id text b outcome status entry allowed small other written told =
+    (answered id outcome, by_outcome id b outcome entry allowed small, other, λ i. record { text = written i; status = told i })
 
 -- a line that is too long
 pub refused_line : (rules : Rules) (n : ℕ) (kind : LineKind) (bytes : List ℕ) (reply : Reply) → kind ≢ PassedOver → kind ≢ Within → IsRefusal (codes "E12") n reply → IsReply rules (record { number = n; kind = kind }) bytes reply

@@ -14,7 +14,7 @@ returns-in-Err g c =
 pub returns-in_ok-text-in-Ok-solve : goal.returns-in_ok-text-in-Ok-solve
 returns-in_ok-text-in-Ok-solve g c =
     let entry = c.in-Ok.entry in
-    (answered entry.id.now c.in-Ok-solve.outcome, by_outcome entry.id.now entry.board c.in-Ok-solve.outcome (subst (λ (grid : Grid). IsEntry grid c.args.bytes.now entry.id.now entry.board) (sym c.requires.grid) c.in-Ok.ensures.entry) c.in-Ok-solve.ensures.answered, c.in_ok-text-in-Ok-solve.ensures, c.with_outcome.ensures)
+    (answered entry.id.now c.in-Ok-solve.outcome, by_outcome entry.id.now entry.board c.in-Ok-solve.outcome (subst (λ (grid : Grid). IsEntry grid c.args.bytes.now entry.id.now entry.board) (sym c.requires.grid) c.in-Ok.ensures.entry) c.in-Ok-solve.ensures.answered c.in_ok-text-in-Ok-solve.ensures.small, c.in_ok-text-in-Ok-solve.ensures.text, c.with_outcome.ensures)
 
 pub returns-in_ok-text-in-Err-solve : goal.returns-in_ok-text-in-Err-solve
 returns-in_ok-text-in-Err-solve g c =

@@ -30,4 +30,4 @@ returns-in_ok-text-in-Ok-solve g c =
     let entry = c.in-Ok.entry in
     let named = subst (λ (grid : Grid). IsEntry grid c.args.bytes.now entry.id.now entry.board) (sym c.requires.rules.grid) (rw c.shape.ensures at c.in-Ok.ensures.entry) in
     let other : IsNotOptimal (answered entry.id.now c.in-Ok-solve.outcome) = search rules in
-    reported_entry solver c.args.number c.args.bytes.now entry.id.now (string_bytes c.in_ok-text-in-Ok-solve.text) entry.board c.in-Ok-solve.outcome c.status_of.result named c.in-Ok-solve.ensures.answered other c.in_ok-text-in-Ok-solve.ensures c.status_of.ensures
+    reported_entry solver c.args.number c.args.bytes.now entry.id.now (string_bytes c.in_ok-text-in-Ok-solve.text) entry.board c.in-Ok-solve.outcome c.status_of.result named c.in-Ok-solve.ensures.answered c.in_ok-text-in-Ok-solve.ensures.small other c.in_ok-text-in-Ok-solve.ensures.text c.status_of.ensures
