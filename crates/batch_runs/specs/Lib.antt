@@ -2,3 +2,5 @@ pub mod Faults
 pub mod Batches
 pub mod Setups
 pub mod Solving
+pub mod Meanings
+pub mod Headline

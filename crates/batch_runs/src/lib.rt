@@ -3,6 +3,7 @@
 
 mod batch;
 mod faults;
+pub mod laws;
 mod setup;
 mod solving;
 

@@ -44,13 +44,17 @@ pub data IsReport : Data → Type 0 where
 abbrev pub Reads : List ℕ → Data → Type 0
 Reads line d = read line ≡ Some d
 
--- the value has this text under this key
-abbrev pub SaysText : Data → List ℕ → List ℕ → Type 0
-SaysText d key text = get key d ≡ Some (string text)
+-- the value has this member under this key
+abbrev pub Says : Data → List ℕ → Data → Type 0
+Says d key e = get key d ≡ Some e
 
--- the value has this number under this key
+-- a text
+abbrev pub SaysText : Data → List ℕ → List ℕ → Type 0
+SaysText d key text = Says d key (string text)
+
+-- a number
 abbrev pub SaysNumber : Data → List ℕ → ℕ → Type 0
-SaysNumber d key n = get key d ≡ Some (number (unsigned n))
+SaysNumber d key n = Says d key (number (unsigned n))
 
 -- the status of the value is this word
 abbrev pub HasStatus : Data → List ℕ → Type 0

@@ -1,0 +1,234 @@
+-- What is read in a line of the output is what was told of the line that it answers.
+use Rattle.std.proofs.Common.{◌≡◌, ◌≢◌, ℕ, zero, suc, ◌+◌, ◌^◌, ◌<◌, ◌≤◌, List, [], ◌∷◌, ◌++◌, Bool, true, false, cond, Option, None, Some, length, refl, sym, ap, ◌∙◌, subst, inl, inr, arith, append_assoc, slice_get, codes, get_or, map, not}
+use Rattle.std.specs.Prelude.{nat_lt, ⊤, ◌⊎◌}
+use Rattle.std.specs.List.{AllByRecursion}
+use Rattle.std.proofs.lemmas.Bool.{ne_eqb}
+use Rattle.std.proofs.lemmas.Option.{slice_get_within}
+use Rattle.serde_json.specs.Data.{Data, null, boolean, number, string, array, object}
+use Rattle.serde_json.specs.Read.{read}
+use Rattle.serde_json.specs.Written.{compact_text}
+use Rattle.board.specs.Positions.{Position}
+use Rattle.batch_lines.specs.Lines.{lines_of, onto_first, without_return, is_passed_over, kind_of}
+use Rattle.batch_lines.specs.Words.{entry_code}
+use Rattle.batch_lines.specs.declared.lines.LineKind.{LineKind}
+use Rattle.batch_lines.specs.declared.lines.LineKind.TheVariants.{PassedOver, Within, TooLong}
+use Rattle.batch_lines.specs.declared.lines.TheConstants.{LINE_LIMIT}
+use Rattle.outcomes.specs.Outcomes.{Answers, best_of}
+use Rattle.outcomes.specs.declared.outcome.Outcome.{Outcome}
+use Rattle.outcomes.specs.declared.outcome.Outcome.TheVariants.{Optimal, Unsolvable, Bounded}
+use Rattle.reports.specs.Reports.{outcome_data, refused_data, report_text}
+use Rattle.reports.specs.Readings.{IsSmall, AreSmall, IsReport}
+use Rattle.reports.specs.Readings.IsReport.{of_outcome, of_line}
+use Rattle.reports.proofs.ReadLemmas.{report_read}
+use Rattle.reports.proofs.TextLemmas.{text_other}
+use Rattle.batch_runs.specs.Batches.{Rules, IsTruthful, Answer, AnswersEntry, AnswersKind, AnswersLine, AnswersLines, answer_text, answers_text}
+use Rattle.batch_runs.specs.Batches.Answer.{passed_over, refused}
+use Rattle.batch_runs.specs.Batches.AnswersEntry.{by_fault, by_outcome, by_want}
+use Rattle.batch_runs.specs.Meanings.{asks, questions, IsQuestion, Names, HasFault, IsReply, SaysRefused}
+use Rattle.batch_runs.specs.Headline.{IsTrueOf, TellsTheTruth}
+use Rattle.batch_runs.proofs.NameLemmas.{same_name, no_fault}
+
+-- ---- lines
+
+feed_ends : (line rest : List ℕ) → AllByRecursion (λ b. b ≢ 10) line → lines_of (line ++ 10 ∷ rest) ≡ line ∷ lines_of rest
+feed_ends [] rest none = refl
+feed_ends (b ∷ bs) rest none = rw (ne_eqb b 10 none.0) (ap (onto_first b) (feed_ends bs rest none.1))
+
+-- a report is one line
+report_first : (d : Data) (rest : List ℕ) → lines_of (report_text d ++ rest) ≡ compact_text d ∷ lines_of rest
+report_first d rest = ap lines_of (append_assoc (compact_text d) (10 ∷ []) rest) ∙ feed_ends (compact_text d) rest (text_other d)
+
+kind_over : (line : List ℕ) → is_passed_over (without_return line) ≡ true → kind_of line ≡ PassedOver
+kind_over line e = rw e refl
+
+either_kind : (b : Bool) → (cond b TooLong Within ≡ TooLong) ⊎ (cond b TooLong Within ≡ Within)
+either_kind true = inl refl
+either_kind false = inr refl
+
+kind_asks : (line : List ℕ) → is_passed_over (without_return line) ≡ false → (kind_of line ≡ TooLong) ⊎ (kind_of line ≡ Within)
+kind_asks line e =
+    let long = nat_lt LINE_LIMIT (length (without_return line)) in
+    let is : kind_of line ≡ cond long TooLong Within = rw e refl in
+    subst (λ (kind : LineKind). (kind ≡ TooLong) ⊎ (kind ≡ Within)) (sym is) (either_kind long)
+
+-- ---- what is told of a line
+
+-- the value that is told of line n
+data Tells (rules : Rules) (n : ℕ) (line : List ℕ) : Data → Type 0 where
+  of_fault : (code : List ℕ) → IsSmall n → HasFault rules.grid line code → Tells rules n line (refused_data code n)
+  of_want : (id : List ℕ) (b : Position) → IsSmall n → Names rules.grid line id b → rules.allows b None → Tells rules n line (refused_data (codes "V3") n)
+  of_board : (id : List ℕ) (b : Position) (outcome : Outcome) → Names rules.grid line id b → rules.allows b (Some outcome) → AreSmall outcome → Tells rules n line (outcome_data id outcome)
+
+module _ (rules : Rules) where
+  is_report : (n : ℕ) (line : List ℕ) (d : Data) → Tells rules n line d → IsReport d
+  is_report n line d (of_fault code small fault) = of_line code n small
+  is_report n line d (of_want id b small names lacking) = of_line (codes "V3") n small
+  is_report n line d (of_board id b outcome names allowed small) = of_outcome id outcome small
+
+  -- what is written of an answer is one report
+  abbrev HasReport : ℕ → List ℕ → Answer → Type 0
+  HasReport n line answer = (d : Data) × (answer_text n answer ≡ report_text d) × Tells rules n line d
+
+  entry_told : (n : ℕ) (line : List ℕ) (answer : Answer) → IsSmall n → kind_of line ≡ Within → AnswersEntry rules (without_return line) answer → HasReport n line answer
+  entry_told n line answer small within (by_fault fault first) = (refused_data (entry_code fault) n, refl, of_fault (entry_code fault) small (inr (within, (fault, first, refl))))
+  entry_told n line answer small within (by_outcome id b outcome entry allowed fits) = (outcome_data id outcome, refl, of_board id b outcome (within, entry) allowed fits)
+  entry_told n line answer small within (by_want id b entry lacking) = (refused_data (codes "V3") n, refl, of_want id b small (within, entry) lacking)
+
+  line_told : (n : ℕ) (line : List ℕ) (answer : Answer) → IsSmall n → AnswersLine rules line answer → (kind_of line ≡ TooLong) ⊎ (kind_of line ≡ Within) → HasReport n line answer
+  line_told n line answer small is (inl long) =
+      let here : answer ≡ refused (codes "E12") = subst (λ (kind : LineKind). AnswersKind rules kind (without_return line) answer) long is in
+      (refused_data (codes "E12") n, ap (answer_text n) here, of_fault (codes "E12") small (inl (long, refl)))
+  line_told n line answer small is (inr within) = entry_told n line answer small within (subst (λ (kind : LineKind). AnswersKind rules kind (without_return line) answer) within is)
+
+  line_over : (n : ℕ) (line : List ℕ) (answer : Answer) → AnswersLine rules line answer → is_passed_over (without_return line) ≡ true → answer_text n answer ≡ []
+  line_over n line answer is over =
+      let here : answer ≡ passed_over = subst (λ (kind : LineKind). AnswersKind rules kind (without_return line) answer) (kind_over line over) is in
+      ap (answer_text n) here
+
+  -- these values are told of these lines, one of each
+  abbrev Told : List (ℕ × List ℕ) → List Data → Type 0
+  Told [] [] = ⊤
+  Told [] (d ∷ ds) = ⊥
+  Told (q ∷ qs) [] = ⊥
+  Told (q ∷ qs) (d ∷ ds) = Tells rules q.0 q.1 d × Told qs ds
+
+  -- the text is that of such values
+  abbrev AreTold : ℕ → List (List ℕ) → List ℕ → Type 0
+  AreTold n lines text = (ds : List Data) × (lines_of text ≡ map compact_text ds) × Told (questions n lines) ds
+
+  told_over : (n : ℕ) (line : List ℕ) (lines : List (List ℕ)) (first rest : List ℕ) → first ≡ [] → asks line ≡ false → AreTold (n + 1) lines rest → AreTold n (line ∷ lines) (first ++ rest)
+  told_over n line lines first rest nothing no_report told = (told.0, ap (λ (text : List ℕ). lines_of (text ++ rest)) nothing ∙ told.1, rw no_report told.2)
+
+  told_more : (n : ℕ) (line : List ℕ) (lines : List (List ℕ)) (answer : Answer) (rest : List ℕ) → HasReport n line answer → asks line ≡ true → AreTold (n + 1) lines rest → AreTold n (line ∷ lines) (answer_text n answer ++ rest)
+  told_more n line lines answer rest one asking told = (
+    one.0 ∷ told.0,
+    ap (λ (text : List ℕ). lines_of (text ++ rest)) one.1 ∙ report_first one.0 rest ∙ ap (λ (ls : List (List ℕ)). compact_text one.0 ∷ ls) told.1,
+    rw asking (one.2, told.2),
+  )
+
+  told_next : (n : ℕ) (line : List ℕ) (lines : List (List ℕ)) (answer : Answer) (rest : List ℕ) → IsSmall n → AnswersLine rules line answer → AreTold (n + 1) lines rest → (over : Bool) → is_passed_over (without_return line) ≡ over → AreTold n (line ∷ lines) (answer_text n answer ++ rest)
+  told_next n line lines answer rest small is told true e = told_over n line lines (answer_text n answer) rest (line_over n line answer is e) (ap not e) told
+  told_next n line lines answer rest small is told false e = told_more n line lines answer rest (line_told n line answer small is (kind_asks line e)) (ap not e) told
+
+  answers_told : (n : ℕ) (lines : List (List ℕ)) (answers : List Answer) → n + length lines ≤ 2 ^ 64 → AnswersLines rules lines answers → AreTold n lines (answers_text n answers)
+  answers_told n [] [] few are = ([], refl, tt)
+  answers_told n [] (answer ∷ answers) few are = absurd are
+  answers_told n (line ∷ lines) [] few are = absurd are
+  answers_told n (line ∷ lines) (answer ∷ answers) few are =
+      let rest = answers_told (n + 1) lines answers (omega arith) are.1 in
+      told_next n line lines answer (answers_text (n + 1) answers) (omega arith) are.0 rest (is_passed_over (without_return line)) refl
+
+  told_length : (qs : List (ℕ × List ℕ)) (ds : List Data) → Told qs ds → length (map compact_text ds) ≡ length qs
+  told_length [] [] told = refl
+  told_length [] (d ∷ ds) told = absurd told
+  told_length (q ∷ qs) [] told = absurd told
+  told_length (q ∷ qs) (d ∷ ds) told = ap suc (told_length qs ds told.1)
+
+  -- the value at a place is told of the line at this place
+  abbrev ToldAt : List (ℕ × List ℕ) → List Data → ℕ → Type 0
+  ToldAt qs ds k = (q : ℕ × List ℕ) × (d : Data) × (slice_get qs k ≡ Some q) × (slice_get (map compact_text ds) k ≡ Some (compact_text d)) × Tells rules q.0 q.1 d
+
+  told_at : (qs : List (ℕ × List ℕ)) (ds : List Data) (k : ℕ) → Told qs ds → k < length qs → ToldAt qs ds k
+  told_at [] ds k told few = absurd (omega arith)
+  told_at (q ∷ qs) [] k told few = absurd told
+  told_at (q ∷ qs) (d ∷ ds) zero told few = (q, d, refl, refl, told.0)
+  told_at (q ∷ qs) (d ∷ ds) (suc k) told few = told_at qs ds k told.1 (omega arith)
+
+-- ---- what is read is what was told
+
+abbrev data_or : Option Data → Data
+data_or None = null
+data_or (Some d) = d
+
+abbrev line_or : Option (List ℕ) → List ℕ
+line_or None = []
+line_or (Some line) = line
+
+abbrev question_or : Option (ℕ × List ℕ) → ℕ × List ℕ
+question_or None = (0, [])
+question_or (Some q) = q
+
+abbrev text_in : Data → List ℕ
+text_in null = []
+text_in (boolean b) = []
+text_in (number n) = []
+text_in (string s) = s
+text_in (array ds) = []
+text_in (object ms) = []
+
+abbrev first_letter : Option Data → ℕ
+first_letter o = get_or (text_in (data_or o)) 0 0
+
+module _ (rules : Rules) (n : ℕ) (id : List ℕ) (b : Position) where
+  want_true : rules.allows b None → IsTrueOf rules n id b (refused_data (codes "V3") n)
+  want_true lacking = record {
+    status = inr (inr (inr refl));
+    optimal = λ e. let z = ap first_letter e in absurd (omega arith);
+    unsolvable = λ e. let z = ap first_letter e in absurd (omega arith);
+    bounded = λ e. let z = ap first_letter e in absurd (omega arith);
+    refused = λ e. ((refl, refl, refl), lacking);
+  }
+
+  outcome_true : (outcome : Outcome) → Answers (rules.task b) outcome → IsTrueOf rules n id b (outcome_data id outcome)
+  outcome_true (Optimal cost plan rows) answers = record {
+    status = inl refl;
+    optimal = λ e. (refl, (cost, plan.items, refl, refl, answers.0, answers.1));
+    unsolvable = λ e. let z = ap first_letter e in absurd (omega arith);
+    bounded = λ e. let z = ap first_letter e in absurd (omega arith);
+    refused = λ e. let z = ap first_letter e in absurd (omega arith);
+  }
+  outcome_true (Unsolvable why) answers = record {
+    status = inr (inl refl);
+    optimal = λ e. let z = ap first_letter e in absurd (omega arith);
+    unsolvable = λ e. (refl, (answers.0, (why, refl, answers.1)));
+    bounded = λ e. let z = ap first_letter e in absurd (omega arith);
+    refused = λ e. let z = ap first_letter e in absurd (omega arith);
+  }
+  outcome_true (Bounded bound best cause) answers = record {
+    status = inr (inr (inl refl));
+    optimal = λ e. let z = ap first_letter e in absurd (omega arith);
+    unsolvable = λ e. let z = ap first_letter e in absurd (omega arith);
+    bounded = λ e. (refl, (bound, best_of best, cause, refl, refl, refl, answers.0, answers.2, answers.3));
+    refused = λ e. let z = ap first_letter e in absurd (omega arith);
+  }
+
+  named_true : IsTruthful rules → (line : List ℕ) (d : Data) → Names rules.grid line id b → Tells rules n line d → IsTrueOf rules n id b d
+  named_true truthful line d names (of_fault code small fault) = absurd (no_fault rules.grid line id code b names fault)
+  named_true truthful line d names (of_want id' b' small names' lacking) =
+      want_true (subst (λ (p : Position). rules.allows p None) (same_name rules.grid line id id' b b' names names').1 lacking)
+  named_true truthful line d names (of_board id' b' outcome names' allowed small) =
+      let same = same_name rules.grid line id id' b b' names names' in
+      let answers : Answers (rules.task b) outcome = subst (λ (p : Position). Answers (rules.task p) outcome) same.1 (truthful b' outcome allowed) in
+      subst (λ (name : List ℕ). IsTrueOf rules n id b (outcome_data name outcome)) (sym same.0) (outcome_true outcome answers)
+
+module _ (rules : Rules) where
+  unnamed_true : (n : ℕ) (line : List ℕ) (d : Data) → ((id : List ℕ) (b : Position) → ¬ Names rules.grid line id b) → Tells rules n line d → (code : List ℕ) × HasFault rules.grid line code × SaysRefused d code n
+  unnamed_true n line d none (of_fault code small fault) = (code, fault, (refl, refl, refl))
+  unnamed_true n line d none (of_want id b small names lacking) = absurd (none id b names)
+  unnamed_true n line d none (of_board id b outcome names allowed small) = absurd (none id b names)
+
+  -- what is read at a place is told of the line there
+  reply_told : (lines : List (List ℕ)) (output : List ℕ) → AreTold rules 1 lines output → (k n : ℕ) (line : List ℕ) (d : Data) → IsQuestion lines k n line → IsReply output k d → Tells rules n line d
+  reply_told lines output told k n line d asked seen =
+      let at = told_at rules (questions 1 lines) told.0 k told.2 (slice_get_within (questions 1 lines) k (n, line) asked) in
+      let question : at.0 ≡ (n, line) = ap question_or (sym at.2 ∙ asked) in
+      let text : compact_text at.1 ≡ seen.0 = ap line_or (sym at.3 ∙ sym (ap (λ (ls : List (List ℕ)). slice_get ls k) told.1) ∙ seen.1) in
+      let same : at.1 ≡ d = ap data_or (sym (report_read at.1 (is_report rules at.0.0 at.0.1 at.1 at.4)) ∙ ap read text ∙ seen.2) in
+      subst (λ (e : Data). Tells rules n line e) same (subst (λ (q : ℕ × List ℕ). Tells rules q.0 q.1 at.1) question at.4)
+
+  some_reply : (lines : List (List ℕ)) (output : List ℕ) → AreTold rules 1 lines output → (k : ℕ) → k < length (lines_of output) → (d : Data) × IsReply output k d
+  some_reply lines output told k few =
+      let count : length (lines_of output) ≡ length (questions 1 lines) = ap length told.1 ∙ told_length rules (questions 1 lines) told.0 told.2 in
+      let at = told_at rules (questions 1 lines) told.0 k told.2 (omega arith) in
+      (at.1, (compact_text at.1, ap (λ (ls : List (List ℕ)). slice_get ls k) told.1 ∙ at.3, report_read at.1 (is_report rules at.0.0 at.0.1 at.1 at.4)))
+
+  pub truth : IsTruthful rules → (lines : List (List ℕ)) (answers : List Answer) → length lines < 2 ^ 64 → AnswersLines rules lines answers → TellsTheTruth rules lines (answers_text 1 answers)
+  truth truthful lines answers few are =
+      let output = answers_text 1 answers in
+      let told = answers_told rules 1 lines answers (omega arith) are in
+      record {
+        one_each = ap length told.1 ∙ told_length rules (questions 1 lines) told.0 told.2;
+        json = some_reply lines output told;
+        named = λ k n line id b d asked names seen. named_true rules n id b truthful line d names (reply_told lines output told k n line d asked seen);
+        unnamed = λ k n line d asked none seen. unnamed_true n line d none (reply_told lines output told k n line d asked seen);
+      }

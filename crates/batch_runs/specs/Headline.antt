@@ -1,0 +1,32 @@
+-- The main theorem: what a reader of the output may believe.
+use Rattle.std.specs.Prelude.{ℕ, ◌≡◌, ◌<◌, ◌^◌, ◌⊎◌, List, length, None, codes}
+use Rattle.serde_json.specs.Data.{Data}
+use Rattle.board.specs.Positions.{Position}
+use Rattle.batch_lines.specs.Lines.{lines_of}
+use Rattle.reports.specs.Readings.{SaysText, HasStatus}
+use Rattle.batch_runs.specs.Batches.{Rules, IsTruthful, Answer, AnswersLines, answers_text}
+use Rattle.batch_runs.specs.Meanings.{questions, IsQuestion, Names, HasFault, IsReply, SaysLeast, SaysNone, SaysBound, SaysRefused}
+
+-- What is said of the board that line n names by this id is true. It is refused only for want of memory.
+pub record IsTrueOf (rules : Rules) (n : ℕ) (id : List ℕ) (b : Position) (d : Data) : Type 0 where
+  pub status : HasStatus d (codes "optimal") ⊎ HasStatus d (codes "unsolvable") ⊎ HasStatus d (codes "bounded") ⊎ HasStatus d (codes "refused")
+  pub optimal : HasStatus d (codes "optimal") → SaysText d (codes "id") id × SaysLeast (rules.task b) d
+  pub unsolvable : HasStatus d (codes "unsolvable") → SaysText d (codes "id") id × SaysNone (rules.task b) d
+  pub bounded : HasStatus d (codes "bounded") → SaysText d (codes "id") id × SaysBound (rules.task b) d
+  pub refused : HasStatus d (codes "refused") → SaysRefused d (codes "V3") n × rules.allows b None
+
+-- The output has one line for each line of the input that isn't passed over, in their order, and each is read as JSON. What it says of a board that is named there is true; and of a line that names none, it says a fault.
+pub record TellsTheTruth (rules : Rules) (lines : List (List ℕ)) (output : List ℕ) : Type 0 where
+  pub one_each : length (lines_of output) ≡ length (questions 1 lines)
+  pub json : (k : ℕ) → k < length (lines_of output) → (d : Data) × IsReply output k d
+  pub named : (k n : ℕ) (line id : List ℕ) (b : Position) (d : Data) → IsQuestion lines k n line → Names rules.grid line id b → IsReply output k d → IsTrueOf rules n id b d
+  pub unnamed : (k n : ℕ) (line : List ℕ) (d : Data) → IsQuestion lines k n line → ((id : List ℕ) (b : Position) → ¬ Names rules.grid line id b) → IsReply output k d → (code : List ℕ) × HasFault rules.grid line code × SaysRefused d code n
+
+-- what is written of the answers of a truthful solver tells the truth
+abbrev pub AnswersTellTheTruth : Rules → Type 0
+AnswersTellTheTruth rules =
+    IsTruthful rules
+    → (lines : List (List ℕ)) (answers : List Answer)
+    → length lines < 2 ^ 64
+    → AnswersLines rules lines answers
+    → TellsTheTruth rules lines (answers_text 1 answers)
