@@ -78,7 +78,7 @@ AreRead-more (Some bytes) None new lines line read taken = absurd read
 AreRead-more (Some bytes) (Some left) None lines line read taken = absurd taken
 AreRead-more (Some bytes) (Some left) (Some rest) lines line read taken = read ∙ ap (λ (ls : List (List ℕ)). lines ++ ls) taken.first ∙ sym (append_assoc lines (line ∷ []) (lines_of rest))
 
-AreFirst-read : (input now : Option (List ℕ)) (lines : List (List ℕ)) → AreRead input now lines → AreFirst input lines
+pub AreFirst-read : (input now : Option (List ℕ)) (lines : List (List ℕ)) → AreRead input now lines → AreFirst input lines
 AreFirst-read None now lines read = tt
 AreFirst-read (Some bytes) None lines read = absurd read
 AreFirst-read (Some bytes) (Some left) lines read = (lines_of left, read)

@@ -2,3 +2,5 @@ pub mod BatchLemmas
 pub mod SolvingLemmas
 pub mod NameLemmas
 pub mod TruthLemmas
+pub mod BeginningLemmas
+pub mod RunLemmas

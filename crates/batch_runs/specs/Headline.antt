@@ -1,11 +1,15 @@
 -- The main theorem: what a reader of the output may believe.
-use Rattle.std.specs.Prelude.{ℕ, ◌≡◌, ◌<◌, ◌^◌, ◌⊎◌, List, length, None, codes}
+use Rattle.std.specs.Prelude.{ℕ, ◌≡◌, ◌<◌, ◌+◌, ◌^◌, ◌⊎◌, List, ◌++◌, length, slice_get, None, Result, Ok, Err, codes}
 use Rattle.serde_json.specs.Data.{Data}
 use Rattle.board.specs.Positions.{Position}
+use Rattle.byte_streams.specs.Streams.{SourceState, SinkState, Change}
+use Rattle.byte_streams.specs.Sink.{Puts, PutsBeginning}
 use Rattle.batch_lines.specs.Lines.{lines_of}
 use Rattle.reports.specs.Readings.{SaysText, HasStatus}
-use Rattle.batch_runs.specs.Batches.{Rules, IsTruthful, Answer, AnswersLines, answers_text}
+use Rattle.batch_runs.specs.Batches.{Rules, IsTruthful, Answer, AnswersLines, answers_text, AreAll, AreFirst}
 use Rattle.batch_runs.specs.Meanings.{questions, IsQuestion, Names, HasFault, IsReply, SaysLeast, SaysNone, SaysBound, SaysRefused}
+use Rattle.batch_runs.specs.declared.batch.Summary.{Summary}
+use Rattle.batch_runs.specs.declared.faults.LinesFault.{LinesFault}
 
 -- What is said of the board that line n names by this id is true. It is refused only for want of memory.
 pub record IsTrueOf (rules : Rules) (n : ℕ) (id : List ℕ) (b : Position) (d : Data) : Type 0 where
@@ -30,3 +34,30 @@ AnswersTellTheTruth rules =
     → length lines < 2 ^ 64
     → AnswersLines rules lines answers
     → TellsTheTruth rules lines (answers_text 1 answers)
+
+-- ---- runs
+
+-- an output was written that tells the truth of all lines of the input
+pub record WritesTruth (rules : Rules) (source : Change SourceState) (sink : Change SinkState) : Type 0 where
+  pub lines : List (List ℕ)
+  pub output : List ℕ
+  pub all : AreAll source.before.left lines
+  pub put : Puts sink output
+  pub truth : TellsTheTruth rules lines output
+
+-- a beginning was written of an output that tells the truth of the first lines of the input
+pub record BeginsTruth (rules : Rules) (source : Change SourceState) (sink : Change SinkState) : Type 0 where
+  pub lines : List (List ℕ)
+  pub output : List ℕ
+  pub first : AreFirst source.before.left lines
+  pub begun : PutsBeginning sink output
+  pub truth : TellsTheTruth rules lines output
+
+-- the one where the run ends well, else the other
+abbrev pub IsTrueRun : Rules → Change SourceState → Change SinkState → Result Summary LinesFault → Type 0
+IsTrueRun rules source sink (Ok counts) = WritesTruth rules source sink
+IsTrueRun rules source sink (Err fault) = BeginsTruth rules source sink
+
+-- in a beginning of an output each line that another one follows is a line of the output
+abbrev pub BeginningsAreOfLines : Type 0
+BeginningsAreOfLines = (begun rest : List ℕ) (k : ℕ) → k + 1 < length (lines_of begun) → slice_get (lines_of (begun ++ rest)) k ≡ slice_get (lines_of begun) k

@@ -5,8 +5,9 @@ ghost use Rattle.byte_streams.specs.Streams.{change};
 ghost use Rattle.byte_streams.specs.Sink.{Writes};
 ghost use Rattle.batch_lines.specs.declared.lines.LineKind.TheVariants.{PassedOver};
 ghost use Rattle.batch_runs.specs.Batches.{Rules, Answer, AnswersKind, AnswersEntry, ReportsLines};
-ghost use Rattle.batch_runs.specs.Batches.{HasRoom, answer_text, with_answer};
+ghost use Rattle.batch_runs.specs.Batches.{IsTruthful, HasRoom, answer_text, with_answer};
 ghost use Rattle.batch_runs.specs.Batches.{with_outcome, with_refused, HasFailed};
+ghost use Rattle.batch_runs.specs.Headline.{IsTrueRun};
 
 use crate::faults::LinesFault;
 use batch_lines::{EntryFault, Line, LineKind, LineReader, read_entry};
@@ -67,8 +68,27 @@ impl Summary {
 }
 
 /// Writes a report for each line of the source that isn't passed over, in order, and flushes the
-/// sink after each.
+/// sink after each. Where the solver is truthful, so is what is written.
 pub fn run_lines<S: Source, K: Sink, A: Solver>(
+    alloc: Global,
+    source: &mut S,
+    sink: &mut K,
+    shape: Shape,
+    solver: &A,
+) -> Result<Summary, LinesFault>
+    requires { (A.rules solver.now).grid ≡ shape }
+    ensures reports { ReportsLines (A.rules solver.now) (change S.state source.old source.new)
+        (change K.state sink.old sink.new) result }
+    ensures truth { IsTruthful (A.rules solver.now) → IsTrueRun (A.rules solver.now)
+        (change S.state source.old source.new) (change K.state sink.old sink.new) result }
+    ensures flushed { K.is_flushed sink.new ⊎ (sink.new ≡ sink.old)
+        ⊎ HasFailed (K.state sink.new) }
+{
+    report_all(alloc, source, sink, shape, solver)
+}
+
+// The same, by what was answered.
+fn report_all<S: Source, K: Sink, A: Solver>(
     alloc: Global,
     source: &mut S,
     sink: &mut K,

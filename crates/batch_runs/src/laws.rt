@@ -1,6 +1,6 @@
 //! The laws of batches: each is the contract of a function that does nothing.
 
-ghost use Rattle.batch_runs.specs.Headline.{AnswersTellTheTruth};
+ghost use Rattle.batch_runs.specs.Headline.{AnswersTellTheTruth, BeginningsAreOfLines};
 
 use crate::batch::Solver;
 
@@ -10,3 +10,8 @@ pub fn answers_tell_the_truth<A: Solver>(solver: &A)
 {
     let _ = solver;
 }
+
+/// In a beginning of an output each line that another one follows is a line of the output.
+pub fn beginnings_are_of_lines()
+    ensures { BeginningsAreOfLines }
+{}

@@ -3,6 +3,7 @@
 ghost use Rattle.std.specs.Prelude.{◌≡◌, ◌⊎◌};
 ghost use Rattle.byte_streams.specs.Streams.{change};
 ghost use Rattle.batch_runs.specs.Batches.{ReportsLines, HasFailed};
+ghost use Rattle.batch_runs.specs.Headline.{IsTrueRun};
 ghost use Rattle.batch_runs.specs.Solving.{rules_of};
 
 use crate::batch::{Solver, Summary, run_lines};
@@ -44,6 +45,8 @@ impl Solver for Setup {
 /// After `Read` exactly the reports of the lines that were read whole are written; after `Memory`
 /// those of the first lines, whole; after `Write` a beginning of the reports: where a flush failed,
 /// those up to its line.
+///
+/// What is written tells the truth: so says the clause `truth`, in words of what a reader sees.
 pub fn run_batch<S: Source, K: Sink>(
     alloc: Global,
     source: &mut S,
@@ -51,6 +54,8 @@ pub fn run_batch<S: Source, K: Sink>(
     setup: &Setup,
 ) -> Result<Summary, LinesFault>
     ensures reports { ReportsLines (rules_of setup.now) (change S.state source.old source.new)
+        (change K.state sink.old sink.new) result }
+    ensures truth { IsTrueRun (rules_of setup.now) (change S.state source.old source.new)
         (change K.state sink.old sink.new) result }
     ensures flushed { K.is_flushed sink.new ⊎ (sink.new ≡ sink.old)
         ⊎ HasFailed (K.state sink.new) }

@@ -3,7 +3,7 @@ use Rattle.byte_streams.specs.Streams.{change}
 use Rattle.batch_lines.specs.Readings.{CountsKnown}
 use Rattle.batch_lines.specs.declared.lines.TheConstants.{INPUT_LIMIT}
 use Rattle.batch_runs.proofs.BatchLemmas.{IsRunning}
-use Rattle.batch_runs.proofs.batch.run_lines.Given as goal
+use Rattle.batch_runs.proofs.batch.report_all.Given as goal
 
 abbrev pub invariant-lines : goal.invariant-lines
 invariant-lines g l = record {
