@@ -4,3 +4,4 @@ pub mod LineLemmas
 pub mod WordLemmas
 pub mod TileLemmas
 pub mod FaultLemmas
+pub mod LawLemmas

@@ -3,3 +3,4 @@ pub mod Readings
 pub mod Starts
 pub mod Words
 pub mod TileNumbers
+pub mod Laws

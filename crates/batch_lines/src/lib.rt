@@ -1,6 +1,7 @@
 //! How an input is cut into lines, and what the words of a line spell.
 #![tactic(auto)]
 
+pub mod laws;
 mod lines;
 mod words;
 mod worked;

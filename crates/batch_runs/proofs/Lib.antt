@@ -4,3 +4,4 @@ pub mod NameLemmas
 pub mod TruthLemmas
 pub mod BeginningLemmas
 pub mod RunLemmas
+pub mod LawLemmas

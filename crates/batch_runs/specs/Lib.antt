@@ -4,3 +4,4 @@ pub mod Setups
 pub mod Solving
 pub mod Meanings
 pub mod Headline
+pub mod Laws

@@ -1,6 +1,8 @@
 //! The laws of batches: each is the contract of a function that does nothing.
 
 ghost use Rattle.batch_runs.specs.Headline.{AnswersTellTheTruth, BeginningsAreOfLines};
+ghost use Rattle.batch_runs.specs.Laws.{LinesAreLostToFailures, ParityWantsNoMemory};
+ghost use Rattle.batch_runs.specs.Laws.{OutputsAreAnswers, FailedWritesAreTold};
 
 use crate::batch::Solver;
 
@@ -14,4 +16,23 @@ pub fn answers_tell_the_truth<A: Solver>(solver: &A)
 /// In a beginning of an output each line that another one follows is a line of the output.
 pub fn beginnings_are_of_lines()
     ensures { BeginningsAreOfLines }
+{}
+
+/// Where the input is known and the output was empty, a run that ends well leaves an answer to each
+/// line; and a sink fails only in a run that says so.
+pub fn runs_are_told<A: Solver>(solver: &A)
+    ensures outputs { OutputsAreAnswers (A.rules solver.now) }
+    ensures failures { FailedWritesAreTold (A.rules solver.now) }
+{
+    let _ = solver;
+}
+
+/// A line of an input within the limit is lost only where the source has failed.
+pub fn lines_are_lost_to_failures()
+    ensures { LinesAreLostToFailures }
+{}
+
+/// A board of the other class is refused for no want of memory.
+pub fn parity_wants_no_memory()
+    ensures { ParityWantsNoMemory }
 {}
