@@ -1,5 +1,5 @@
 -- The program: how it ends, what it writes of that, and its status.
-use Rattle.std.specs.Prelude.{ℕ, ◌≡◌, ◌≢◌, ◌⊎◌, true, false, List, [], ◌∷◌, ◌++◌, Result, Ok, Err, codes}
+use Rattle.std.specs.Prelude.{ℕ, ◌≡◌, ◌<◌, ◌≢◌, ◌⊎◌, true, false, List, [], ◌∷◌, ◌++◌, Result, Ok, Err, codes}
 use Rattle.byte_streams.specs.Streams.{SourceState, SinkState, Change, from_to}
 use Rattle.byte_streams.specs.Sink.{Puts, PutsBeginning, Flushes}
 use Rattle.byte_streams.specs.declared.sink.WriteFailed.{WriteFailed}
@@ -14,6 +14,7 @@ use Rattle.batch_cli.specs.declared.program.Ending.{Ending}
 use Rattle.batch_cli.specs.declared.program.Ending.TheVariants.{Usage, NoBuffers, Ran, Faulted}
 use Rattle.batch_cli.specs.Faults.{of_lines}
 use Rattle.batch_runs.specs.Batches.{Rules, ReportsLines, status_of_counts}
+use Rattle.batch_runs.specs.Headline.{WritesTruth, BeginsTruth}
 use Rattle.batch_runs.specs.Setups.{SetupState}
 use Rattle.batch_runs.specs.Solving.{rules_of}
 
@@ -85,3 +86,7 @@ ending_of (Err fault) = Faulted (of_lines fault)
 abbrev pub EndsBy : {Word : Type 0} → List Word → Change SourceState → Change SinkState → Ending → Type 0
 EndsBy words source sink ending =
     ((words ≡ []) × ((run : Result Summary LinesFault) × EndsRun source sink run × (ending ≡ ending_of run))) ⊎ ((words ≢ []) × (ending ≡ Usage))
+
+-- the program's batch wrote a beginning of an output that tells the truth of the lines that were read, and with the status 0 or 1 all of one that tells it of all lines
+abbrev pub IsTrue : ℕ → Change SourceState → Change SinkState → Type 0
+IsTrue status source sink = BeginsTruth default_rules source sink × (status < 2 → WritesTruth default_rules source sink)

@@ -1,11 +1,11 @@
 //! The program over any streams.
 
-ghost use Rattle.std.specs.Prelude.{◌≡◌, ◌≢◌, ◌⊎◌, false, []};
+ghost use Rattle.std.specs.Prelude.{◌≡◌, ◌≢◌, ◌⊎◌, []};
 ghost use Rattle.byte_streams.specs.Streams.{change};
 ghost use Rattle.batch_cli.specs.declared.program.Ending.{Ending};
 ghost use Rattle.batch_cli.specs.Programs.{default_setup, status_of, message_of};
 ghost use Rattle.batch_runs.specs.Batches.{HasFailed};
-ghost use Rattle.batch_cli.specs.Programs.{Tells, EndsBy, EndsRun};
+ghost use Rattle.batch_cli.specs.Programs.{Tells, IsTrue, EndsBy, EndsRun};
 
 use crate::faults::BatchFault;
 use batch_runs::{LinesFault, Setup, Summary, run_batch};
@@ -75,7 +75,7 @@ impl Ending {
 /// program's name.
 ///
 /// Without words it reports the lines of the source to the sink, for 3 by 3 boards at unit cost
-/// with Korf's goal, and flushes the sink.
+/// with Korf's goal, and flushes the sink. What is written tells the truth: so says `IsTrue`.
 pub fn run_program<S: Source, K: Sink, E: Sink>(
     alloc: Global,
     words: &[String],
@@ -83,11 +83,11 @@ pub fn run_program<S: Source, K: Sink, E: Sink>(
     sink: &mut K,
     errors: &mut E,
 ) -> u8
-    requires { (K.state sink.old).has_failed ≡ false }
     ensures ended { (ending : Ending) × Tells (change E.state errors.old errors.new) ending result
         × EndsBy words.now (change S.state source.old source.new)
         (change K.state sink.old sink.new) ending }
-    ensures flushed { words.now ≡ [] → K.is_flushed sink.new ⊎ HasFailed (K.state sink.new) }
+    ensures batch { words.now ≡ [] → (K.is_flushed sink.new ⊎ HasFailed (K.state sink.new))
+        × IsTrue result (change S.state source.old source.new) (change K.state sink.old sink.new) }
     ensures unused { words.now ≢ [] → (source.new ≡ source.old) × (sink.new ≡ sink.old) }
 {
     if !words.is_empty() {
@@ -105,7 +105,6 @@ fn run<S: Source, K: Sink>(
     source: &mut S,
     sink: &mut K,
 ) -> Result<Summary, LinesFault>
-    requires { (K.state sink.old).has_failed ≡ false }
     ensures ended { EndsRun (change S.state source.old source.new)
         (change K.state sink.old sink.new) result }
     ensures flushed { K.is_flushed sink.new ⊎ HasFailed (K.state sink.new) }

@@ -1,4 +1,4 @@
-use Rattle.std.proofs.Common.{◌≡◌, Result, Ok, Err, refl, subst}
+use Rattle.std.proofs.Common.{Result, Ok, Err, refl, subst}
 use Rattle.byte_streams.specs.Streams.{change}
 use Rattle.byte_streams.specs.declared.sink.WriteFailed.{WriteFailed}
 use Rattle.batch_runs.specs.declared.batch.Summary.{Summary}

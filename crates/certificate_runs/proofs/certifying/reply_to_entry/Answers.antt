@@ -1,10 +1,7 @@
-use Rattle.std.proofs.Common.{refl, rules, string_bytes, sym, subst, ◌∙◌, ◌≡◌, inl}
+use Rattle.std.proofs.Common.{refl, rules, string_bytes, sym, subst}
 use Rattle.std.proofs.lemmas.Result.{IfOk-weaker}
 use Rattle.board.specs.Grids.{Grid}
-use Rattle.outcomes.specs.Outcomes.{Answers}
-use Rattle.outcomes.specs.declared.outcome.Outcome.TheVariants.{Optimal}
 use Rattle.batch_lines.specs.Words.{IsEntry, IsFirstEntryFault}
-use Rattle.batch_runs.specs.Solving.{task_of}
 use Rattle.certificate_runs.specs.Certifying.{IsReply, IsRefusal, IsNotOptimal}
 use Rattle.batch_runs.specs.Batches.Answer.{answered}
 use Rattle.certificate_runs.proofs.CertifyLemmas.{within, refused_entry, refused_board, reported_entry}
