@@ -1,3 +1,4 @@
 pub mod CheckLemmas
 pub mod FindLemmas
 pub mod CertifyLemmas
+pub mod HeadlineLemmas

@@ -1,5 +1,5 @@
 -- What is written for the first line of an input that isn't passed over: a certificate, or a report.
-use Rattle.std.specs.Prelude.{ℕ, ◌≡◌, ◌⊎◌, ◌+◌, List, [], ◌∷◌, ◌++◌, length, Option, None, Some, Result, Ok, Err, All, string_bytes, ⊤}
+use Rattle.std.specs.Prelude.{ℕ, ◌≡◌, ◌⊎◌, ◌+◌, ◌^◌, ◌<◌, List, [], ◌∷◌, ◌++◌, length, Option, None, Some, Result, Ok, Err, All, string_bytes, ⊤}
 use Rattle.byte_streams.specs.Streams.{SourceState, SinkState, Change}
 use Rattle.byte_streams.specs.Sink.{WritesAll, FailsWriting}
 use Rattle.byte_streams.specs.declared.source.ReadFailed.{ReadFailed}
@@ -106,6 +106,7 @@ PassesAll source = (lines : List (List ℕ)) × AreAll source.before.left lines 
 pub record FindsFirst (source : Change SourceState) : Type 0 where
   pub passed : List (List ℕ)
   pub line : List ℕ
+  pub few : length passed + 1 < 2 ^ 64
   pub read : AreRead source.before.left source.after.left (passed ++ line ∷ [])
   pub before : All IsPassedOver passed
   pub here : ¬ IsPassedOver line

@@ -2,3 +2,4 @@ pub mod Outputs
 pub mod Faults
 pub mod Checking
 pub mod Certifying
+pub mod Headline

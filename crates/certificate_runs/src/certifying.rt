@@ -9,6 +9,7 @@ ghost use Rattle.certificate.specs.Certificates.{AreNamedCosts, IsBoardOf};
 ghost use Rattle.batch_runs.specs.Batches.{no_lines, with_outcome, status_of_counts};
 ghost use Rattle.batch_runs.specs.Solving.{task_of, rules_of};
 ghost use Rattle.certificate_runs.specs.Certifying.{Replies, SeeksFirst, PutsReply};
+ghost use Rattle.certificate_runs.specs.Headline.{IsTrueAnswer};
 ghost use Rattle.certificate_runs.specs.Certifying.{AreRulesFor, IsCertificateOf, IsReply, IsRefusal};
 
 use crate::faults::CertifyFault;
@@ -35,7 +36,9 @@ pub fn run_cert<S: Source, K: Sink>(
     setup: &Setup,
 ) -> Result<u8, CertifyFault>
     requires { AreNamedCosts setup.now.goal.grid setup.now.rule }
-    ensures { Replies (rules_of setup.now) (change S.state source.old source.new)
+    ensures replies { Replies (rules_of setup.now) (change S.state source.old source.new)
+        (change K.state sink.old sink.new) result }
+    ensures truth { IsTrueAnswer (rules_of setup.now) (change S.state source.old source.new)
         (change K.state sink.old sink.new) result }
 {
     reply_to_first(alloc, source, sink, setup, setup)

@@ -4,6 +4,7 @@ ghost use Rattle.std.specs.Prelude.{IfOk};
 ghost use Rattle.byte_streams.specs.Streams.{change};
 ghost use Rattle.certificate_runs.specs.Checking.{IsJudgement, IsRefused, Checks, PutsVerdict};
 ghost use Rattle.certificate_runs.specs.Checking.{verdict_output};
+ghost use Rattle.certificate_runs.specs.Headline.{IsTrueCheck};
 
 use crate::faults::CheckFault;
 use byte_streams::{Sink, Source};
@@ -18,6 +19,20 @@ use std::alloc::Global;
 /// Nothing is written where the source fails, or where there is no memory for the certificate or
 /// for the line. Nothing is flushed.
 pub fn run_check<S: Source, K: Sink>(
+    alloc: Global,
+    source: &mut S,
+    sink: &mut K,
+) -> Result<u8, CheckFault>
+    ensures checks { Checks (change S.state source.old source.new)
+        (change K.state sink.old sink.new) result }
+    ensures truth { IsTrueCheck (change S.state source.old source.new)
+        (change K.state sink.old sink.new) result }
+{
+    check_source(alloc, source, sink)
+}
+
+// The same, by what was read.
+fn check_source<S: Source, K: Sink>(
     alloc: Global,
     source: &mut S,
     sink: &mut K,

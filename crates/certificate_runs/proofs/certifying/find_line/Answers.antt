@@ -1,4 +1,4 @@
-use Rattle.std.proofs.Common.{◌∙◌, arith}
+use Rattle.std.proofs.Common.{◌∙◌, ◌^◌, ◌<◌, arith, rules}
 use Rattle.byte_streams.specs.Streams.{change}
 use Rattle.batch_runs.specs.Batches.{LosesLine}
 use Rattle.batch_runs.proofs.BatchLemmas.{AreRead-more, TakesSome-line, CountsKnown-more}
@@ -38,10 +38,12 @@ returns-in_default-kind g c =
     let source = g.S.Source.state in
     let read = rw c.in-Some.is at c.in-Ok.ensures in
     let searching = c.lines.invariant.searching in
+    let small : c.in-Some.line.number < 2 ^ 64 = search rules in
     let first : FindsFirst (change source c.args.source.now c.next_line.new.source) =
     record {
       passed = searching.lines;
       line = read.0;
+      few = omega (arith, read.3, searching.counted, small);
       read = AreRead-more (source c.args.source.now).left (source c.lines.source).left (source c.next_line.new.source).left searching.lines read.0 searching.read read.1;
       before = searching.passed;
       here = λ over. c.in_default-kind.not-PassedOver (read.2.judged ∙ over);

@@ -1,0 +1,233 @@
+-- What was written for a line, or of a certificate, is true.
+use Rattle.std.proofs.Common.{◌≡◌, ℕ, suc, ◌+◌, ◌^◌, ◌<◌, List, [], ◌∷◌, ◌++◌, Bool, true, false, cond, Option, None, Some, Result, Ok, Err, length, refl, sym, ap, ◌∙◌, subst, inl, inr, arith, append-nil, length-append, get_or, not}
+use Rattle.std.specs.Prelude.{IfSome, nat_lt}
+use Rattle.std.specs.List.{AllByRecursion}
+use Rattle.std.proofs.lemmas.List.Elements.{recursion_from_All}
+use Rattle.serde_json.specs.Data.{Data, null, boolean, number, string, array, object}
+use Rattle.serde_json.specs.Written.{compact_text}
+use Rattle.byte_streams.specs.Streams.{SourceState, SinkState, Change}
+use Rattle.byte_streams.specs.Sink.{Puts}
+use Rattle.board.specs.Positions.{Position}
+use Rattle.board.specs.CostRules.{CostRule}
+use Rattle.board.specs.Plans.{Leads, IsLeast}
+use Rattle.outcomes.specs.Outcomes.{Task}
+use Rattle.batch_lines.specs.Lines.{without_return, is_passed_over, kind_of}
+use Rattle.batch_lines.specs.declared.lines.LineKind.{LineKind}
+use Rattle.batch_lines.specs.declared.lines.LineKind.TheVariants.{PassedOver, Within, TooLong}
+use Rattle.batch_lines.specs.declared.lines.TheConstants.{LINE_LIMIT}
+use Rattle.reports.specs.Reports.{accepted_data, refused_certificate_data, report_text}
+use Rattle.reports.specs.Readings.{IsSmall}
+use Rattle.reports.specs.Readings.IsReport.{of_cost, of_certificate}
+use Rattle.reports.proofs.ReadLemmas.{report_read}
+use Rattle.certificate.specs.Certificates.{Statement}
+use Rattle.certificate.specs.Spellings.{Spells, spelling}
+use Rattle.certificate.specs.Faults.{format_code}
+use Rattle.certificate.specs.Sources.{Tells}
+use Rattle.certificate.specs.declared.faults.ReadFault.{ReadFault}
+use Rattle.certificate.specs.declared.faults.ReadFault.TheVariants.{Format, Failed, NoMemory}
+use Rattle.certificate.proofs.LawLemmas.{spelled_read}
+use Rattle.certificate_check.specs.Refusals.{IsProved, refusal_code}
+use Rattle.certificate_check.proofs.RefusalLemmas.{proved_is_least}
+use Rattle.batch_runs.specs.Batches.{Rules, IsTruthful, Answer, AnswersKind, AnswersLine, AnswersLines, AreAll, AreFirst, answer_text, answers_text}
+use Rattle.batch_runs.specs.Batches.Answer.{passed_over}
+use Rattle.batch_runs.specs.Meanings.{asks, questions}
+use Rattle.batch_runs.specs.Headline.{TellsTheTruth}
+use Rattle.batch_runs.proofs.BatchLemmas.{AreFirst-read}
+use Rattle.batch_runs.proofs.TruthLemmas.{truth}
+use Rattle.certificate_runs.specs.Outputs.{Output, IsUntouched}
+use Rattle.certificate_runs.specs.declared.faults.CertifyFault.{CertifyFault}
+use Rattle.certificate_runs.specs.declared.faults.CheckFault.{CheckFault}
+use Rattle.certificate_runs.specs.Certifying.{IsPassedOver, IsCertificateOf, FindsFirst, PassesAll, RepliesTo, Replies, first_line}
+use Rattle.certificate_runs.specs.Checking.{IsJudgement, IsVerdict, Checks}
+use Rattle.certificate_runs.specs.Headline.{CertifiesLeast, AnswersFirst, WritesAnswer, IsTrueAnswer, IsRefusedBy, IsTrueVerdict, WritesVerdict, IsTrueCheck}
+use Rattle.certificate_runs.specs.Headline.AnswersFirst.{by_none, by_certificate, by_report}
+use Rattle.std.proofs.KnownBytes.{Appends-nil}
+
+-- ---- the lines that ask
+
+abbrev is_over : LineKind → Bool
+is_over PassedOver = true
+is_over TooLong = false
+is_over Within = false
+
+over_or : (over long : Bool) → is_over (cond over PassedOver (cond long TooLong Within)) ≡ over
+over_or true long = refl
+over_or false true = refl
+over_or false false = refl
+
+over_is : (line : List ℕ) → is_over (kind_of line) ≡ is_passed_over (without_return line)
+over_is line = over_or (is_passed_over (without_return line)) (nat_lt LINE_LIMIT (length (without_return line)))
+
+asks_not : (line : List ℕ) → IsPassedOver line → asks line ≡ false
+asks_not line over = ap not (sym (over_is line) ∙ ap is_over over)
+
+kind_over : (kind : LineKind) → is_over kind ≡ true → kind ≡ PassedOver
+kind_over PassedOver e = refl
+kind_over TooLong e = absurd cc
+kind_over Within e = absurd cc
+
+asks_so : (line : List ℕ) → ¬ IsPassedOver line → asks line ≡ true
+asks_so line here = by_case (is_passed_over (without_return line)) refl
+  where
+    by_case : (over : Bool) → is_passed_over (without_return line) ≡ over → asks line ≡ true
+    by_case true e = absurd (here (kind_over (kind_of line) (over_is line ∙ e)))
+    by_case false e = ap not e
+
+-- lines that are passed over ask nothing
+none_ask : (n : ℕ) (lines : List (List ℕ)) → AllByRecursion IsPassedOver lines → questions n lines ≡ []
+none_ask n [] over = refl
+none_ask n (line ∷ lines) over = rw (asks_not line over.0) (none_ask (n + 1) lines over.1)
+
+one_asks : (n : ℕ) (passed : List (List ℕ)) (line : List ℕ) → AllByRecursion IsPassedOver passed → ¬ IsPassedOver line → questions n (passed ++ line ∷ []) ≡ (n + length passed, line) ∷ []
+one_asks n [] line over here =
+    let at : n ≡ n + 0 = omega arith in
+    rw (asks_so line here) (ap (λ (k : ℕ). (k, line) ∷ []) at)
+one_asks n (other ∷ passed) line over here =
+    let at : (n + 1) + length passed ≡ n + suc (length passed) = omega arith in
+    rw (asks_not other over.0) (one_asks (n + 1) passed line over.1 here ∙ ap (λ (k : ℕ). (k, line) ∷ []) at)
+
+-- ---- the answers to lines of which the last alone asks
+
+abbrev last_answer : List (List ℕ) → Answer → List Answer
+last_answer [] answer = answer ∷ []
+last_answer (line ∷ passed) answer = passed_over ∷ last_answer passed answer
+
+last_text : (n : ℕ) (passed : List (List ℕ)) (answer : Answer) → answers_text n (last_answer passed answer) ≡ answer_text (n + length passed) answer
+last_text n [] answer =
+    let at : n ≡ n + 0 = omega arith in
+    append-nil (answer_text n answer) ∙ ap (λ (k : ℕ). answer_text k answer) at
+last_text n (line ∷ passed) answer =
+    let at : (n + 1) + length passed ≡ n + suc (length passed) = omega arith in
+    last_text (n + 1) passed answer ∙ ap (λ (k : ℕ). answer_text k answer) at
+
+module _ (rules : Rules) where
+  last_answers : (passed : List (List ℕ)) (line : List ℕ) (answer : Answer) → AllByRecursion IsPassedOver passed → AnswersLine rules line answer → AnswersLines rules (passed ++ line ∷ []) (last_answer passed answer)
+  last_answers [] line answer over is = (is, tt)
+  last_answers (other ∷ passed) line answer over is =
+      (subst (λ (kind : LineKind). AnswersKind rules kind (without_return other) passed_over) (sym over.0) refl, last_answers passed line answer over.1 is)
+
+  -- a report of the last line alone tells the truth
+  last_true : IsTruthful rules → (passed : List (List ℕ)) (line : List ℕ) (answer : Answer) → length passed + 1 < 2 ^ 64 → AllByRecursion IsPassedOver passed → AnswersLine rules line answer → TellsTheTruth rules (passed ++ line ∷ []) (answer_text (length passed + 1) answer)
+  last_true truthful passed line answer few over is =
+      let longer = length-append passed (line ∷ []) in
+      let at : 1 + length passed ≡ length passed + 1 = omega arith in
+      subst (TellsTheTruth rules (passed ++ line ∷ [])) (last_text 1 passed answer ∙ ap (λ (k : ℕ). answer_text k answer) at) (truth rules truthful (passed ++ line ∷ []) (last_answer passed answer) (omega (arith, longer)) (last_answers passed line answer over is))
+
+-- ---- a certificate
+
+-- a fact of a certificate's costs, start and goal is one of the task's
+moved : (P : CostRule → Position → Position → Type 0) (task : Task) (c : Statement) → c.costs ≡ task.rule → c.start ≡ task.start → c.goal ≡ task.goal → P c.costs c.start c.goal → P task.rule task.start task.goal
+moved P task c costs start goal fact =
+    subst (λ (q : Position). P task.rule task.start q) goal (subst (λ (b : Position). P task.rule b c.goal) start (subst (λ (rule : CostRule). P rule c.start c.goal) costs fact))
+
+certifies_least : (task : Task) (c : Statement) → IsCertificateOf task c → CertifiesLeast task c (spelling c)
+certifies_least task c of = record {
+  read = spelled_read (spelling c) c (of.certificate, refl);
+  start = of.start;
+  goal = of.goal;
+  costs = of.costs;
+  leads = moved (λ rule b q. Leads rule b c.plan q c.cost) task c of.costs of.start of.goal of.proved.plan;
+  least = moved (λ rule b q. IsLeast rule b q c.cost) task c of.costs of.start of.goal (proved_is_least c of.certificate.start.board of.proved);
+  proved = of.proved;
+}
+
+-- ---- a line in, a certificate out
+
+first_all : (input : Option (List ℕ)) (lines : List (List ℕ)) → AreAll input lines → AreFirst input lines
+first_all None lines all = tt
+first_all (Some bytes) lines all = ([], all ∙ sym (append-nil lines))
+
+untouched : (sink : Change SinkState) → IsUntouched sink → Puts sink []
+untouched sink same = subst (λ (after : SinkState). Puts (record { before = sink.before; after = after }) []) (sym same) (Appends-nil sink.before.contents)
+
+module _ (rules : Rules) (truthful : IsTruthful rules) (source : Change SourceState) (sink : Change SinkState) where
+  none_answered : PassesAll source → IsUntouched sink → WritesAnswer rules source sink
+  none_answered (lines, all, over) same = record {
+    lines = lines;
+    output = [];
+    first = first_all source.before.left lines all;
+    put = untouched sink same;
+    answer = by_none (none_ask 1 lines (recursion_from_All IsPassedOver lines over)) refl;
+  }
+
+  first_answered : (output : Output) (first : FindsFirst source) → RepliesTo rules (first_line source first) (without_return first.line) output → AnswersFirst rules (first.passed ++ first.line ∷ []) output.text
+  first_answered output first (inl (within, (c, (id, b, entry, of), written))) =
+      let over = recursion_from_All IsPassedOver first.passed first.before in
+      by_certificate (1 + length first.passed) first.line id b c (one_asks 1 first.passed first.line over first.here) (within, entry)
+      (subst (CertifiesLeast (rules.task b) c) (sym (ap (λ (o : Output). o.text) written)) (certifies_least (rules.task b) c of))
+  first_answered output first (inr (answer, is, other, written)) =
+      let over = recursion_from_All IsPassedOver first.passed first.before in
+      by_report (1 + length first.passed) first.line (one_asks 1 first.passed first.line over first.here)
+      (subst (TellsTheTruth rules (first.passed ++ first.line ∷ [])) (sym (ap (λ (o : Output). o.text) written)) (last_true rules truthful first.passed first.line answer first.few over is))
+
+  pub answer_true : (result : Result ℕ CertifyFault) → Replies rules source sink result → IsTrueAnswer rules source sink result
+  answer_true (Ok status) (some, (readable, inl (all, same, told))) = none_answered all same
+  answer_true (Ok status) (some, (readable, inr (output, (first, replies), put, told))) = record {
+    lines = first.passed ++ first.line ∷ [];
+    output = output.text;
+    first = AreFirst-read source.before.left source.after.left (first.passed ++ first.line ∷ []) first.read;
+    put = put.0;
+    answer = first_answered output first replies;
+  }
+  answer_true (Err fault) replies = tt
+
+-- ---- a certificate in, a verdict out
+
+abbrev text_in : Data → List ℕ
+text_in null = []
+text_in (boolean b) = []
+text_in (number n) = []
+text_in (string s) = s
+text_in (array ds) = []
+text_in (object ms) = []
+
+abbrev first_letter : Option Data → ℕ
+first_letter None = 0
+first_letter (Some d) = get_or (text_in d) 0 0
+
+accepted_true : (input : List ℕ) (c : Statement) → Spells c input → IsProved c → IsLeast c.costs c.start c.goal c.cost → IsTrueVerdict input (accepted_data c.cost)
+accepted_true input c spells proved least = record {
+  status = inl refl;
+  accepted = λ e. (c, spelled_read input c spells, refl, proved.plan, least);
+  refused = λ e. let z = ap first_letter e in absurd (omega arith);
+}
+
+refused_true : (input code : List ℕ) → IsRefusedBy input code → IsTrueVerdict input (refused_certificate_data code)
+refused_true input code by = record {
+  status = inr refl;
+  accepted = λ e. let z = ap first_letter e in absurd (omega arith);
+  refused = λ e. (code, refl, by);
+}
+
+accepted_written : (sink : Change SinkState) (input : List ℕ) (c : Statement) → Puts sink (report_text (accepted_data c.cost)) → Spells c input → IsProved c → IsLeast c.costs c.start c.goal c.cost → WritesVerdict sink input
+accepted_written sink input c put spells proved least =
+    let small : IsSmall c.cost = omega (arith, spells.0.cost) in
+    record { line = compact_text (accepted_data c.cost); value = accepted_data c.cost; put = put; json = report_read (accepted_data c.cost) (of_cost c.cost small); truth = accepted_true input c spells proved least }
+
+refused_written : (sink : Change SinkState) (input code : List ℕ) → Puts sink (report_text (refused_certificate_data code)) → IsRefusedBy input code → WritesVerdict sink input
+refused_written sink input code put by =
+    record { line = compact_text (refused_certificate_data code); value = refused_certificate_data code; put = put; json = report_read (refused_certificate_data code) (of_certificate code); truth = refused_true input code by }
+
+module _ (sink : Change SinkState) (input : List ℕ) (output : Output) (put : Puts sink output.text) where
+  -- the output is this one
+  put_text : (text : List ℕ) (status : ℕ) → output ≡ record { text = text; status = status } → Puts sink text
+  put_text text status is = subst (Puts sink) (ap (λ (o : Output). o.text) is) put
+
+  judged : (c : Statement) → Spells c input → IsJudgement c output → WritesVerdict sink input
+  judged c spells (inl accepted) = accepted_written sink input c (put_text (report_text (accepted_data c.cost)) 0 accepted.written) spells accepted.proved accepted.least
+  judged c spells (inr (refusal, first, refused)) =
+      refused_written sink input (refusal_code refusal) (put_text (report_text (refused_certificate_data (refusal_code refusal))) 5 refused) (inr (c, refusal, spelled_read input c spells, first, refl))
+
+  verdict_written : (read : Result Statement ReadFault) → Tells read input → IsVerdict read output → WritesVerdict sink input
+  verdict_written (Ok c) tells verdict = judged c tells verdict
+  verdict_written (Err (Format fault)) tells verdict = refused_written sink input (format_code fault) (put_text (report_text (refused_certificate_data (format_code fault))) 5 verdict) (inl (fault, tells, refl))
+  verdict_written (Err Failed) tells verdict = absurd verdict
+  verdict_written (Err (NoMemory refused)) tells verdict = absurd verdict
+
+known : (input : Option (List ℕ)) (sink : Change SinkState) (output : Output) (read : Result Statement ReadFault) → IfSome input (Tells read) → Puts sink output.text → IsVerdict read output → IfSome input (WritesVerdict sink)
+known None sink output read tells put verdict = tt
+known (Some input) sink output read tells put verdict = verdict_written sink input output put read tells verdict
+
+pub check_true : (source : Change SourceState) (sink : Change SinkState) (result : Result ℕ CheckFault) → Checks source sink result → IsTrueCheck source sink result
+check_true source sink (Ok status) (read, reads, (output, verdict, put, told)) = known source.before.left sink output read reads.tells put.0 verdict
+check_true source sink (Err fault) checks = tt

@@ -1,0 +1,84 @@
+-- What a reader of a certificate, or of a verdict on one, may believe.
+use Rattle.std.specs.Prelude.{ℕ, ◌≡◌, ◌⊎◌, List, [], ◌∷◌, ◌++◌, Result, Ok, IfOk, IfSome, codes}
+use Rattle.serde_json.specs.Data.{Data}
+use Rattle.byte_streams.specs.Streams.{SourceState, SinkState, Change}
+use Rattle.byte_streams.specs.Sink.{Puts}
+use Rattle.board.specs.Positions.{Position}
+use Rattle.board.specs.Plans.{Leads, IsLeast}
+use Rattle.outcomes.specs.Outcomes.{Task}
+use Rattle.reports.specs.Readings.{Reads, SaysText, SaysNumber, HasStatus}
+use Rattle.certificate.specs.Certificates.{Statement}
+use Rattle.certificate.specs.Readings.{certificate, IsFirstFault}
+use Rattle.certificate.specs.Faults.{format_code}
+use Rattle.certificate.specs.declared.faults.FormatFault.{FormatFault}
+use Rattle.certificate_check.specs.Refusals.{IsProved, IsFirstRefusal, refusal_code}
+use Rattle.certificate_check.specs.declared.refusals.Refusal.{Refusal}
+use Rattle.batch_runs.specs.Batches.{Rules, AreFirst}
+use Rattle.batch_runs.specs.Meanings.{questions, Names}
+use Rattle.batch_runs.specs.Headline.{TellsTheTruth}
+use Rattle.certificate_runs.specs.declared.faults.CertifyFault.{CertifyFault}
+use Rattle.certificate_runs.specs.declared.faults.CheckFault.{CheckFault}
+
+-- ---- a line in, a certificate out
+
+-- The bytes, read again, are this certificate. Its plan leads from the start to the goal at its cost, and no plan costs less, which its rows prove.
+pub record CertifiesLeast (task : Task) (c : Statement) (bytes : List ℕ) : Type 0 where
+  pub read : certificate bytes ≡ Ok (c, [])
+  pub start : c.start ≡ task.start
+  pub goal : c.goal ≡ task.goal
+  pub costs : c.costs ≡ task.rule
+  pub leads : Leads task.rule task.start c.plan task.goal c.cost
+  pub least : IsLeast task.rule task.start task.goal c.cost
+  pub proved : IsProved c
+
+-- Where all of these lines are passed over, nothing is written. Else one alone is not, and the output is a certificate of the board that it names, or a report that tells the truth of it.
+pub data AnswersFirst (rules : Rules) (lines : List (List ℕ)) (output : List ℕ) : Type 0 where
+  by_none : questions 1 lines ≡ [] → output ≡ [] → AnswersFirst rules lines output
+  by_certificate : (n : ℕ) (line id : List ℕ) (b : Position) (c : Statement) → questions 1 lines ≡ (n, line) ∷ [] → Names rules.grid line id b → CertifiesLeast (rules.task b) c output → AnswersFirst rules lines output
+  by_report : (n : ℕ) (line : List ℕ) → questions 1 lines ≡ (n, line) ∷ [] → TellsTheTruth rules lines output → AnswersFirst rules lines output
+
+-- this was written for the first lines of the input
+pub record WritesAnswer (rules : Rules) (source : Change SourceState) (sink : Change SinkState) : Type 0 where
+  pub lines : List (List ℕ)
+  pub output : List ℕ
+  pub first : AreFirst source.before.left lines
+  pub put : Puts sink output
+  pub answer : AnswersFirst rules lines output
+
+-- a run that ends well wrote such an answer
+abbrev pub IsTrueAnswer : Rules → Change SourceState → Change SinkState → Result ℕ CertifyFault → Type 0
+IsTrueAnswer rules source sink result = IfOk result (λ status. WritesAnswer rules source sink)
+
+-- ---- a certificate in, a verdict out
+
+-- the input is refused by a fault with this code: by the first fault of its bytes, or by the first cause against the certificate that it is
+abbrev pub IsRefusedBy : List ℕ → List ℕ → Type 0
+IsRefusedBy input code =
+    ((fault : FormatFault) × IsFirstFault input fault × (code ≡ format_code fault)) ⊎ ((c : Statement) × (refusal : Refusal) × (certificate input ≡ Ok (c, [])) × IsFirstRefusal c refusal × (code ≡ refusal_code refusal))
+
+-- the input is a certificate, whose plan leads from its start to its goal at the cost that is said, and no plan costs less
+abbrev pub SaysLeastCost : List ℕ → Data → Type 0
+SaysLeastCost input d =
+    (c : Statement)
+    × (certificate input ≡ Ok (c, []))
+    × SaysNumber d (codes "cost") c.cost
+    × Leads c.costs c.start c.plan c.goal c.cost
+    × IsLeast c.costs c.start c.goal c.cost
+
+-- what is said of the input is true
+pub record IsTrueVerdict (input : List ℕ) (d : Data) : Type 0 where
+  pub status : HasStatus d (codes "accepted") ⊎ HasStatus d (codes "refused")
+  pub accepted : HasStatus d (codes "accepted") → SaysLeastCost input d
+  pub refused : HasStatus d (codes "refused") → (code : List ℕ) × SaysText d (codes "fault") code × IsRefusedBy input code
+
+-- one line was written, which is read as JSON and says the truth of the input
+pub record WritesVerdict (sink : Change SinkState) (input : List ℕ) : Type 0 where
+  pub line : List ℕ
+  pub value : Data
+  pub put : Puts sink (line ++ 10 ∷ [])
+  pub json : Reads line value
+  pub truth : IsTrueVerdict input value
+
+-- a run that ends well wrote such a line, where the input is known
+abbrev pub IsTrueCheck : Change SourceState → Change SinkState → Result ℕ CheckFault → Type 0
+IsTrueCheck source sink result = IfOk result (λ status. IfSome source.before.left (WritesVerdict sink))
