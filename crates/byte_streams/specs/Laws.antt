@@ -1,7 +1,9 @@
 -- The laws of the definitions. Each is the contract of a function that does nothing.
-use Rattle.std.specs.Prelude.{ℕ, ◌≡◌, true, List, ◌∷◌, Option, None, Some, Ok, Err}
-use Rattle.byte_streams.specs.Streams.{SourceState, Change}
+use Rattle.std.specs.Prelude.{ℕ, ◌≡◌, true, false, List, [], ◌∷◌, ◌++◌, Option, None, Some, Result, Ok, Err, is_err}
+use Rattle.byte_streams.specs.Streams.{SourceState, SinkState, Change}
 use Rattle.byte_streams.specs.Source.{GivesNext}
+use Rattle.byte_streams.specs.Sink.{Writes, Flushes}
+use Rattle.byte_streams.specs.declared.sink.WriteFailed.{WriteFailed}
 use Rattle.byte_streams.specs.declared.source.ReadFailed.{ReadFailed}
 
 -- where bytes are known to be left, the end is not answered
@@ -21,6 +23,42 @@ abbrev pub FailuresTakeNone : Type 0
 FailuresTakeNone =
     (source : Change SourceState) (left : List ℕ) (failure : ReadFailed) → source.before.left ≡ Some left → GivesNext source (Err failure) → source.after.left ≡ Some left
 
+-- a source has failed exactly where its last answer is a failure
+abbrev pub AnswersTellFailures : Type 0
+AnswersTellFailures = (source : Change SourceState) (answer : Result (Option ℕ) ReadFailed) → GivesNext source answer → source.after.has_failed ≡ is_err answer
+
 -- a source that has failed answers neither a byte nor the end
 abbrev pub FailuresLast : Type 0
 FailuresLast = (source : Change SourceState) (answer : Option ℕ) → source.before.has_failed ≡ true → ¬ GivesNext source (Ok answer)
+
+-- a sink has failed exactly where its last put failed
+abbrev pub PutsTellFailures : Type 0
+PutsTellFailures = (sink : Change SinkState) (bytes : List ℕ) (answer : Result (Unit {0}) WriteFailed) → Writes sink bytes answer → sink.after.has_failed ≡ is_err answer
+
+-- and exactly where its last flush failed
+abbrev pub FlushesTellFailures : Type 0
+FlushesTellFailures = (sink : Change SinkState) (answer : Result (Unit {0}) WriteFailed) → Flushes sink answer → sink.after.has_failed ≡ is_err answer
+
+-- what is known to stand in a sink stays there, and behind it stand the bytes that were put; where that failed, a beginning of them
+abbrev pub PutsAddBytes : Type 0
+PutsAddBytes =
+    (sink : Change SinkState) (held bytes : List ℕ) (answer : Result (Unit {0}) WriteFailed)
+    → sink.before.contents ≡ Some held
+    → Writes sink bytes answer
+    → (sent unsent : List ℕ) × (bytes ≡ sent ++ unsent) × (sink.after.contents ≡ Some (held ++ sent)) × (is_err answer ≡ false → unsent ≡ [])
+
+-- a flush adds nothing to what is known to stand in a sink, whatever it answers
+abbrev pub FlushesAddNone : Type 0
+FlushesAddNone = (sink : Change SinkState) (held : List ℕ) (answer : Result (Unit {0}) WriteFailed) → sink.before.contents ≡ Some held → Flushes sink answer → sink.after.contents ≡ Some held
+
+-- to a sink that has failed every put fails, and adds nothing to what is known to stand there
+abbrev pub PutFailuresLast : Type 0
+PutFailuresLast =
+    (sink : Change SinkState) (held bytes : List ℕ) (answer : Result (Unit {0}) WriteFailed)
+    → sink.before.has_failed ≡ true
+    → Writes sink bytes answer
+    → (is_err answer ≡ true) × (sink.before.contents ≡ Some held → sink.after.contents ≡ Some held)
+
+-- and every flush fails
+abbrev pub FlushFailuresLast : Type 0
+FlushFailuresLast = (sink : Change SinkState) (answer : Result (Unit {0}) WriteFailed) → sink.before.has_failed ≡ true → Flushes sink answer → is_err answer ≡ true

@@ -1,7 +1,10 @@
 //! The laws of the definitions: each is the contract of a function that does nothing.
 
 ghost use Rattle.byte_streams.specs.Laws.{EndsAreTrue, BytesAreFirst};
-ghost use Rattle.byte_streams.specs.Laws.{FailuresTakeNone, FailuresLast};
+ghost use Rattle.byte_streams.specs.Laws.{FailuresTakeNone, AnswersTellFailures, FailuresLast};
+ghost use Rattle.byte_streams.specs.Laws.{PutsTellFailures, FlushesTellFailures};
+ghost use Rattle.byte_streams.specs.Laws.{PutsAddBytes, FlushesAddNone};
+ghost use Rattle.byte_streams.specs.Laws.{PutFailuresLast, FlushFailuresLast};
 
 /// Where bytes are known to be left, the end is not answered.
 pub fn ends_are_true()
@@ -18,7 +21,31 @@ pub fn failures_take_none()
     ensures { FailuresTakeNone }
 {}
 
+/// A source has failed exactly where its last answer is a failure.
+pub fn answers_tell_failures()
+    ensures { AnswersTellFailures }
+{}
+
 /// A source that has failed answers neither a byte nor the end.
 pub fn failures_last()
     ensures { FailuresLast }
+{}
+
+/// A sink has failed exactly where its last put or flush failed.
+pub fn sinks_tell_failures()
+    ensures puts { PutsTellFailures }
+    ensures flushes { FlushesTellFailures }
+{}
+
+/// Behind what is known to stand in a sink a put adds its bytes, or a beginning of them where it
+/// fails. A flush adds none.
+pub fn puts_add_bytes()
+    ensures puts { PutsAddBytes }
+    ensures flushes { FlushesAddNone }
+{}
+
+/// To a sink that has failed every put and every flush fails, and adds nothing.
+pub fn sink_failures_last()
+    ensures puts { PutFailuresLast }
+    ensures flushes { FlushFailuresLast }
 {}
