@@ -123,7 +123,7 @@ cut_short fault n value source f early = record {
     stopped : (g : ReadFault) → IfFormat g (λ h. Ends source early.seen h) → Stops (λ bytes. IsCutOff (field fault n value) bytes) source early.seen g
     stopped (Format g) end = record { at_end = λ _. end.1; at_byte = λ other. absurd (other end.0) }
     stopped Failed end = cut
-    stopped (NoMemory refused) end = tt
+    stopped (NoMemory refused) end = cut
 
 -- the field is there, and its bytes have no value
 pub refused : {X : Type 0} (fault : FormatFault) → fault ≢ Truncated → (n : ℕ) → 0 < n → (value : List ℕ → Option X) (source : Change SourceState) (text : List ℕ) → Takes source text × ReadsOn source → length text ≡ n → value text ≡ None → Refuses (field fault n value) source (Format fault)

@@ -17,7 +17,7 @@ use Rattle.certificate.specs.declared.faults.FormatFault.TheVariants.{Truncated,
 use Rattle.certificate.specs.Certificates.{Follows, IsBoardOf, IsWithinLimit, IsRow, RiseAfter}
 use Rattle.board.specs.Letters.{letter_of}
 use Rattle.certificate.specs.Spellings.{number_text, row_text}
-use Rattle.certificate.specs.Readings.{Reader, ◌>>=◌, next_reading, give, as_one, whole_reading, IsFaultOf, IsCutOff, HasNoFault, board, number, number_in, may_follow, row_order, letter, letters, row, rows, end}
+use Rattle.certificate.specs.Readings.{Reader, ◌>>=◌, next_reading, give, as_one, whole_reading, IsFaultOf, IsCutOff, HasNoFault, board, number, number_in, may_follow, row_order, letter, letter_in, letters, row, rows, end}
 use Rattle.byte_streams.specs.Streams.{SourceState, Change}
 use Rattle.byte_streams.specs.Source.{Takes}
 use Rattle.byte_streams.specs.Streams.{from_to}
@@ -35,7 +35,7 @@ stops_carried B C text a b c taken sound seen (Format g) w = record {
   at_byte = λ other. let p = w.at_byte other in (text ++ p.0, p.1, ap (λ (l : List ℕ). text ++ l) p.2 ∙ sym (append_assoc text p.0 (p.1 ∷ [])), sound p.0 p.3);
 }
 stops_carried B C text a b c taken sound seen Failed w = sound seen w
-stops_carried B C text a b c taken sound seen (NoMemory refused) w = tt
+stops_carried B C text a b c taken sound seen (NoMemory refused) w = sound seen w
 
 carried : {X Y : Type 0} (r : Reader X) (s : Reader Y) (B C : List ℕ → Type 0) (text : List ℕ) (a b c : SourceState) (f : ReadFault) → Takes (from_to a b) text → ((l : List ℕ) (g : FormatFault) → IsFaultOf r l g → IsFaultOf s (text ++ l) g)
     → ((l : List ℕ) → B l → C (text ++ l)) → RefusesAt r B (from_to b c) f → RefusesAt s C (from_to a c) f
@@ -223,10 +223,23 @@ pub last_is_board : (grid : Grid) (before : Option Position) (rs : List (Positio
 last_is_board grid before [] is all = is
 last_is_board grid before (r ∷ rs) is all = last_is_board grid (Some r.0) rs all.0.board all.1
 
--- ---- want of memory
+-- ---- want of memory, where bytes are due
 
-pub lacks_memory : {X : Type 0} {r : Reader X} (source : Change SourceState) (text : List ℕ) → Takes source text → source.after.has_failed ≡ false → (refused : OutOfMemory) → Refuses r source (NoMemory refused)
-lacks_memory source text taken fine refused = record { seen = text; taken = taken; is = tt; first = tt; stops = tt; failed = fine }
+lacks_memory : {X : Type 0} {r : Reader X} (source : Change SourceState) (text : List ℕ) → Takes source text → IsCutOff r text → source.after.has_failed ≡ false → (refused : OutOfMemory) → Refuses r source (NoMemory refused)
+lacks_memory source text taken cut fine refused = record { seen = text; taken = taken; is = tt; first = tt; stops = cut; failed = fine }
+
+-- before a letter
+pub letters_lack_memory : (done : List Move) (n : ℕ) (source : Change SourceState) → length done < n → Takes source (map letter_of done) → source.after.has_failed ≡ false → (refused : OutOfMemory) → Refuses (letters n) source (NoMemory refused)
+letters_lack_memory done n source fewer taken fine refused =
+    let cut : IsCutOff (letters n) (map letter_of done ++ []) = ([], letters_at done n [] (Truncated, []) fewer (field_short OutOfRange 1 letter_in [] (omega arith))) in
+    lacks_memory source (map letter_of done) taken (subst (λ (l : List ℕ). IsCutOff (letters n) l) (append-nil (map letter_of done)) cut) fine refused
+
+-- between the board of a row and its cost
+pub row_lacks_memory : (grid : Grid) (before : Option Position) (b : Position) (source : Change SourceState) → Finds (SpellsBoard grid) source b → (refused : OutOfMemory) → Refuses (row grid before) source (NoMemory refused)
+row_lacks_memory grid before b source p refused =
+    let is = p.spells.board in
+    let cut : IsCutOff (row grid before) (b.tiles ++ []) = row_cut grid before (sides_of grid b is) b is [] (omega arith) in
+    lacks_memory source p.text p.taken (subst (λ (l : List ℕ). IsCutOff (row grid before) l) (append-nil b.tiles ∙ sym p.spells.is) cut) p.on.1 refused
 
 -- ---- a row among others
 

@@ -52,11 +52,11 @@ pub record IsShown (IsSound : List ℕ → Type 0) (source : Change SourceState)
   pub at_end : fault ≡ Truncated → IfSome source.before.left (λ input. input ≡ seen)
   pub at_byte : fault ≢ Truncated → (before : List ℕ) × (byte : ℕ) × (seen ≡ before ++ byte ∷ []) × IsSound before
 
--- Where reading stops: at the byte that shows a fault, and for a failure of the source where no fault stands in what was taken.
+-- Where reading stops: at the byte that shows a fault, and for a failure of the source or a want of memory where no fault stands in what was taken.
 abbrev pub Stops : (List ℕ → Type 0) → Change SourceState → List ℕ → ReadFault → Type 0
 Stops IsSound source seen (Format fault) = IsShown IsSound source seen fault
 Stops IsSound source seen Failed = IsSound seen
-Stops IsSound source seen (NoMemory refused) = ⊤
+Stops IsSound source seen (NoMemory refused) = IsSound seen
 
 -- Some of the bytes were taken, as far as the fault shows; and a fault of the bytes is the first of them, and of all that were left. It is a failure exactly where the source has failed.
 pub record RefusesAt {X : Type 0} (reader : Reader X) (IsSound : List ℕ → Type 0) (source : Change SourceState) (fault : ReadFault) : Type 0 where
@@ -108,7 +108,7 @@ pub record IsAnswerTo (result : Result Statement ReadFault) (input : List ℕ) :
   pub spelled : (c : Statement) → Spells c input → AnswersOrLacks result (Ok c)
   pub faulty : (fault : FormatFault) → IsFirstFault input fault → AnswersOrLacks result (Err (Format fault))
 
--- No more is taken of the source than shows the fault: a fault of the bytes is their first and shows with the last that was taken, or at the end; and a source fails where no fault stands in what it gave.
+-- No more is taken of the source than shows the fault: a fault of the bytes is their first and shows with the last that was taken, or at the end; and a source fails, or memory is wanting, where no fault stands in what was taken.
 pub record StopsAtFault (source : Change SourceState) (fault : ReadFault) : Type 0 where
   pub seen : List ℕ
   pub taken : Takes source seen

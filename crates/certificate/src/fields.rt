@@ -1,6 +1,7 @@
 //! The fields of a certificate are read from a source, each judged as a whole.
 
-ghost use Rattle.std.specs.Prelude.{◌≡◌, ◌<◌, ◌∷◌, [], IfSome, length};
+ghost use Rattle.std.specs.Prelude.{◌≡◌, ◌<◌, ◌∷◌, [], IfSome, OnOk, length};
+ghost use Rattle.std.specs.Prelude.{vec_len, vec_capacity};
 ghost use Rattle.std.specs.Int.{w32, w64, from_le_bytes};
 ghost use Rattle.byte_streams.specs.Streams.{change};
 ghost use Rattle.certificate.specs.Certificates.{IsBoardOf};
@@ -15,6 +16,7 @@ use crate::certificate::comes_after;
 use crate::faults::{FormatFault, ReadFault};
 use board::{Board, GREATEST_COST, Move, Shape};
 use byte_streams::Source;
+use memory::reserve;
 
 // The next byte, which is due.
 fn next_due<S: Source>(source: &mut S) -> Result<u8, ReadFault>
@@ -126,17 +128,25 @@ pub(crate) fn read_letter<S: Source>(source: &mut S) -> Result<Move, ReadFault>
     }
 }
 
-// A row, which comes after the one with this board, if there is one. Its order is judged last.
+// A row, which comes after the one with this board, if there is one. Its order is judged last. Its
+// place in the list is made when its board is there and its cost is due, so that a want of memory
+// hides no fault.
 pub(crate) fn read_row<S: Source>(
     source: &mut S,
     shape: Shape,
     before: Option<Board>,
+    rows: &mut Vec<(Board, u32)>,
 ) -> Result<(Board, u32), ReadFault>
     requires { IfSome before (IsBoardOf shape) }
-    ensures { Reads (row shape before) (SpellsRow shape before)
+    ensures row { Reads (row shape before) (SpellsRow shape before)
         (change S.state source.old source.new) result }
+    ensures rows { rows.new.items ≡ rows.old.items }
+    ensures place { OnOk result (vec_len rows.new < vec_capacity rows.new) }
 {
     let board = read_board(source, shape)?;
+    if let Err(refused) = reserve(rows, 1) {
+        return Err(ReadFault::NoMemory(refused));
+    }
     let cost = read_number(source)?;
     if !comes_after(before, &board) {
         return Err(ReadFault::Format(FormatFault::NotRising));

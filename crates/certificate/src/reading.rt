@@ -17,7 +17,7 @@ use crate::fields::{
 };
 use board::{Board, Move, Shape, Weights};
 use byte_streams::Source;
-use memory::push;
+use memory::reserve;
 use std::alloc::Global;
 
 // What the input is, the sides of the boards, the kind of costs, and no groups.
@@ -52,7 +52,8 @@ fn read_plan<S: Source>(alloc: Global, source: &mut S) -> Result<Vec<Move>, Read
     read_letters(alloc, source, count)
 }
 
-// So many letters of moves.
+// So many letters of moves. The place of each is made while it is due, so that a want of memory
+// hides no fault.
 fn read_letters<S: Source>(
     alloc: Global,
     source: &mut S,
@@ -64,10 +65,11 @@ fn read_letters<S: Source>(
 {
     let mut moves = Vec::new(alloc);
     'letters: for _ in 0..count {
-        let direction = read_letter(source)?;
-        if let Err(refused) = push(&mut moves, direction) {
+        if let Err(refused) = reserve(&mut moves, 1) {
             return Err(ReadFault::NoMemory(refused));
         }
+        let direction = read_letter(source)?;
+        moves.push_reserved(direction);
     }
     Ok(moves)
 }
@@ -86,11 +88,9 @@ fn read_rows<S: Source>(
     let mut read = Vec::new(alloc);
     let mut before = None;
     'rows: for _ in 0..count {
-        let row = read_row(source, shape, before)?;
+        let row = read_row(source, shape, before, &mut read)?;
         before = Some(row.0);
-        if let Err(refused) = push(&mut read, row) {
-            return Err(ReadFault::NoMemory(refused));
-        }
+        read.push_reserved(row);
     }
     Ok(read)
 }
@@ -141,9 +141,10 @@ fn read_all<S: Source>(alloc: Global, source: &mut S) -> Result<Certificate, Rea
 }
 
 /// Reads a certificate, from front to back and up to its first fault: F1 to F5, F6 where the source
-/// fails, F7 for want of memory. Memory is taken for the moves and rows that are there, and not by
-/// their stated numbers. After a fault of the bytes the source has given them up to and with the
-/// one that shows it, and it fails only where none stands in what it gave.
+/// fails, F7 for want of memory. Memory is taken for the moves and rows that are there and for one
+/// that is due, and not by their stated numbers. After a fault of the bytes the source has given
+/// them up to and with the one that shows it; it fails, and memory is wanting, only where none
+/// stands in what it gave.
 pub fn read<S: Source>(alloc: Global, source: &mut S) -> Result<Certificate, ReadFault>
     ensures { ReadsCertificate (change S.state source.old source.new) result }
 {

@@ -5,32 +5,36 @@ use Rattle.certificate.specs.Fields.{SpellsRow}
 use Rattle.certificate.proofs.FieldLemmas.{passed}
 use Rattle.certificate.proofs.TextLemmas.{board_law}
 use Rattle.certificate.proofs.RowLemmas.{sides_of, follows_from_test}
-use Rattle.certificate.proofs.SourceLemmas.{first_refuses, then_refuses, as_one_refuses, row_refuses, found_after}
+use Rattle.certificate.proofs.SourceLemmas.{first_refuses, then_refuses, as_one_refuses, row_refuses, row_lacks_memory, found_after}
 use Rattle.certificate.proofs.fields.read_row.Goals as goal
 
-pub returns-in_err-board : goal.returns-in_err-board
+pub returns-in_err-board-clause-row : goal.returns-in_err-board-clause-row
 unfolding row
-returns-in_err-board g c =
+returns-in_err-board-clause-row g c =
     let grid = c.args.shape in
     let before = c.args.before in
     passed (row grid before) (SpellsRow grid before) (change g.S.Source.state c.args.source.now c.read_board.new.source) c.from_residual.result c.in_err-board.field-0.0 c.from_residual.ensures.1
     (as_one_refuses (first_refuses _ c.in_err-board.ensures))
 
-pub returns-in_err-cost : goal.returns-in_err-cost
+pub returns-in-Err-clause-row : goal.returns-in-Err-clause-row
+returns-in-Err-clause-row g c =
+    row_lacks_memory c.args.shape c.args.before c.in_ok-board.board (change g.S.Source.state c.args.source.now c.read_board.new.source) c.in_ok-board.ensures _
+
+pub returns-in_err-cost-clause-row : goal.returns-in_err-cost-clause-row
 unfolding row
-returns-in_err-cost g c =
+returns-in_err-cost-clause-row g c =
     let grid = c.args.shape in
     let before = c.args.before in
     passed (row grid before) (SpellsRow grid before) (change g.S.Source.state c.args.source.now c.read_number.new.source) c.from_residual-in_err-cost.result c.in_err-cost.field-0.0 c.from_residual-in_err-cost.ensures.1
     (as_one_refuses (then_refuses _ (board_law grid (sides_of grid c.in_ok-board.board c.in_ok-board.ensures.spells.board)) c.in_ok-board.ensures (first_refuses _ c.in_err-cost.ensures)))
 
-pub returns-then-not-comes_after : goal.returns-then-not-comes_after
-returns-then-not-comes_after g c =
+pub returns-then-not-comes_after-clause-row : goal.returns-then-not-comes_after-clause-row
+returns-then-not-comes_after-clause-row g c =
     let state = g.S.Source.state in
     row_refuses c.args.shape c.args.before c.in_ok-board.board c.in_ok-cost.cost (state c.args.source.now) (state c.read_board.new.source) (state c.read_number.new.source) c.in_ok-board.ensures c.in_ok-cost.ensures (sym c.comes_after.ensures ∙ c.if-not-comes_after.true)
 
-pub returns : goal.returns
-returns g c =
+pub returns-clause-row : goal.returns-clause-row
+returns-clause-row g c =
     let grid = c.args.shape in
     let before = c.args.before in
     found_after

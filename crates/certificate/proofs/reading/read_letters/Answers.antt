@@ -1,10 +1,8 @@
-use Rattle.std.proofs.Common.{map, arith}
-use Rattle.std.proofs.KnownBytes.{Consumes-trans}
+use Rattle.std.proofs.Common.{arith}
 use Rattle.byte_streams.specs.Streams.{change}
-use Rattle.board.specs.Letters.{letter_of}
 use Rattle.certificate.specs.Readings.{letters}
 use Rattle.certificate.proofs.FieldLemmas.{passed}
-use Rattle.certificate.proofs.SourceLemmas.{letters_refuse, lacks_memory}
+use Rattle.certificate.proofs.SourceLemmas.{letters_refuse, letters_lack_memory}
 use Rattle.certificate.proofs.reading.read_letters.Goals as goal
 
 pub returns-in_err-direction : goal.returns-in_err-direction
@@ -16,6 +14,5 @@ returns-in_err-direction g c =
 
 pub returns-in-Err : goal.returns-in-Err
 returns-in-Err g c =
-    let state = g.S.Source.state in
-    let p = c.in_ok-direction.ensures in
-    lacks_memory (change state c.args.source.now c.read_letter.new.source) _ (Consumes-trans (state c.args.source.now).left (state c.letters.source).left (state c.read_letter.new.source).left (map letter_of c.letters.moves.items) p.text c.letters.invariant.taken p.taken) p.on.1 _
+    let old = c.letters.invariant in
+    letters_lack_memory c.letters.moves.items c.args.count (change g.S.Source.state c.args.source.now c.letters.source) (omega (arith, old.size, c.letters-test.true)) old.taken old.on.1 _

@@ -11,7 +11,7 @@ use Rattle.certificate.specs.Sources.{Refuses}
 use Rattle.certificate.specs.Spellings.{row_text}
 use Rattle.certificate.specs.Readings.{row, rows}
 use Rattle.certificate.proofs.FieldLemmas.{passed}
-use Rattle.certificate.proofs.SourceLemmas.{rows_refuse, lacks_memory, last_of, last_is_board, last_pushed, rise_pushed, rows_pushed, text_pushed}
+use Rattle.certificate.proofs.SourceLemmas.{rows_refuse, last_of, last_is_board, last_pushed, rise_pushed, rows_pushed, text_pushed}
 use Rattle.certificate.proofs.reading.read_rows.Goals as goal
 
 pub read_row-requires : goal.read_row-requires
@@ -23,15 +23,9 @@ returns-in_err-row g c =
     let state = g.S.Source.state in
     let grid = c.args.shape in
     let f = c.in_err-row.field-0.0 in
-    let r = subst (λ (b : Option Position). Refuses (row grid b) (change state c.rows.source c.read_row.new.source) f) c.rows.invariant.last c.in_err-row.ensures in
+    let r = subst (λ (b : Option Position). Refuses (row grid b) (change state c.rows.source c.read_row.new.source) f) c.rows.invariant.last c.in_err-row.ensures.row in
     passed (rows grid None c.args.count) _ (change state c.args.source.now c.read_row.new.source) c.from_residual.result f c.from_residual.ensures.1
     (rows_refuse grid c.rows.read.items c.args.count (state c.args.source.now) (state c.rows.source) (state c.read_row.new.source) f (omega (arith, c.rows.invariant.size, c.rows-test.true)) c.rows.invariant.rows c.rows.invariant.rising c.rows.invariant.taken r)
-
-pub returns-in-Err : goal.returns-in-Err
-returns-in-Err g c =
-    let state = g.S.Source.state in
-    let p = c.in_ok-row.ensures in
-    lacks_memory (change state c.args.source.now c.read_row.new.source) _ (Consumes-trans (state c.args.source.now).left (state c.rows.source).left (state c.read_row.new.source).left (flat_map row_text c.rows.read.items) p.text c.rows.invariant.taken p.taken) p.on.1 _
 
 pub rows-preserved : goal.rows-preserved
 rows-preserved g c =
@@ -40,8 +34,8 @@ rows-preserved g c =
     let done = c.rows.read.items in
     let r : Position × ℕ = c.in_ok-row.row in
     let old = c.rows.invariant in
-    let p = c.in_ok-row.ensures in
-    let pushed : c.push.new.items.items ≡ done ++ r ∷ [] = c.in_default.ensures.items in
+    let p = c.in_ok-row.ensures.row in
+    let pushed : c.push_reserved.new.self.items ≡ done ++ r ∷ [] = c.push_reserved.ensures.items ∙ ap (λ (l : List (Position × ℕ)). l ++ r ∷ []) c.in_ok-row.ensures.rows in
     let follows : Follows (last_of None done) r.0 = subst (λ (b : Option Position). Follows b r.0) old.last p.spells.follows in
     let both = Consumes-trans (state c.args.source.now).left (state c.rows.source).left (state c.read_row.new.source).left (flat_map row_text done) p.text old.taken p.taken in
     record {
