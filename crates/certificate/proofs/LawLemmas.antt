@@ -2,17 +2,19 @@
 use Rattle.std.proofs.Common.{◌≡◌, ◌⊎◌, inl, inr, ℕ, List, [], ◌∷◌, ◌++◌, Bool, true, Option, None, Some, Result, Ok, Err, refl, sym, ap, subst, ◌∙◌, append-nil}
 use Rattle.std.specs.Prelude.{IfSome, ◌↔◌}
 use Rattle.std.proofs.lemmas.Bool.{false≢true}
+use Rattle.std.proofs.lemmas.List.{append_cancel_right}
+use Rattle.std.specs.Io.KnownBytes.{Consumes}
 use Rattle.certificate.specs.declared.faults.FormatFault.{FormatFault}
 use Rattle.certificate.specs.declared.faults.FormatFault.TheVariants.{BytesAfterEnd}
 use Rattle.certificate.specs.declared.faults.ReadFault.{ReadFault}
 use Rattle.certificate.specs.declared.faults.ReadFault.TheVariants.{Format, Failed, NoMemory}
 use Rattle.certificate.specs.Certificates.{Statement}
 use Rattle.certificate.specs.Spellings.{Spells, spelling}
-use Rattle.certificate.specs.Readings.{Reading, certificate, give, end, next_reading, IsFaultOf, IsFirstFault}
+use Rattle.certificate.specs.Readings.{Reading, certificate, give, end, next_reading, IsFaultOf, IsFirstFault, HasNoFault}
 use Rattle.byte_streams.specs.Streams.{SourceState, Change}
 use Rattle.byte_streams.specs.Source.{Takes}
 use Rattle.certificate.specs.Sources.{IfFormat, is_failure, FindsAll, ReadsAll, Tells, IsAnswerTo, ReadsCertificate}
-use Rattle.certificate.specs.Laws.{AreBytes}
+use Rattle.certificate.specs.Laws.{AreBytes, TellsOfBytes}
 use Rattle.certificate.proofs.ReaderLemmas.{fine, faulty}
 use Rattle.certificate.proofs.FieldLemmas.{if_known}
 use Rattle.certificate.proofs.CertificateLemmas.{read_again, read_takes}
@@ -121,3 +123,24 @@ certificate_read source (Err f) refuses =
       stops = record { seen = refuses.seen; taken = refuses.taken; is = refuses.is; stops = refuses.stops };
       given = (refuses.seen, refuses.taken);
     }
+
+-- ---- the bytes that were taken, where those before and after are known
+
+same_bytes : (a b : Option (List ℕ)) (bytes left seen : List ℕ) → a ≡ Some (bytes ++ left) → b ≡ Some left → Consumes a b seen → seen ≡ bytes
+same_bytes a b bytes left seen was is taken =
+    let known : Consumes (Some (bytes ++ left)) (Some left) seen = subst (λ (o : Option (List ℕ)). Consumes (Some (bytes ++ left)) o seen) is (subst (λ (o : Option (List ℕ)). Consumes o b seen) was taken) in
+    append_cancel_right seen bytes left (sym known)
+
+pub told_of_bytes : (source : Change SourceState) (result : Result Statement ReadFault) (bytes left : List ℕ) → source.before.left ≡ Some (bytes ++ left) → source.after.left ≡ Some left → ReadsCertificate source result → TellsOfBytes result bytes
+told_of_bytes source (Ok c) bytes left was is reads =
+    let spells : Spells c (bytes ++ left) = subst (λ (o : Option (List ℕ)). IfSome o (Tells (Ok c))) was reads.tells in
+    (spells.0, sym (same_bytes source.before.left source.after.left bytes left (spelling c) was is reads.taken))
+told_of_bytes source (Err (Format fault)) bytes left was is reads =
+    let p = reads.stops in
+    subst (λ (l : List ℕ). IsFirstFault l fault) (same_bytes source.before.left source.after.left bytes left p.seen was is p.taken) p.is
+told_of_bytes source (Err Failed) bytes left was is reads =
+    let p = reads.stops in
+    subst (λ (l : List ℕ). HasNoFault certificate l) (same_bytes source.before.left source.after.left bytes left p.seen was is p.taken) p.stops
+told_of_bytes source (Err (NoMemory refused)) bytes left was is reads =
+    let p = reads.stops in
+    subst (λ (l : List ℕ). HasNoFault certificate l) (same_bytes source.before.left source.after.left bytes left p.seen was is p.taken) p.stops

@@ -1,10 +1,14 @@
--- The laws of spellings and readings.
-use Rattle.std.specs.Prelude.{ℕ, ◌≡◌, ◌⊎◌, ◌<◌, ◌^◌, ◌↔◌, List, [], ◌++◌, length, Ok}
+-- The laws of spellings and readings, and of what is read of a source.
+use Rattle.std.specs.Prelude.{ℕ, ◌≡◌, ◌⊎◌, ◌<◌, ◌^◌, ◌↔◌, List, [], ◌++◌, length, Some, Result, Ok, Err}
 use Rattle.std.specs.List.{AllByRecursion}
 use Rattle.certificate.specs.Certificates.{Statement, IsCertificate}
 use Rattle.certificate.specs.Spellings.{Spells, spelling, announcement}
-use Rattle.certificate.specs.Readings.{certificate, IsFaultAt, IsFirstFault}
+use Rattle.certificate.specs.Readings.{certificate, IsFaultAt, IsFirstFault, HasNoFault}
+use Rattle.certificate.specs.Sources.{ReadsCertificate}
+use Rattle.byte_streams.specs.Streams.{SourceState, Change}
 use Rattle.certificate.specs.declared.faults.FormatFault.{FormatFault}
+use Rattle.certificate.specs.declared.faults.ReadFault.{ReadFault}
+use Rattle.certificate.specs.declared.faults.ReadFault.TheVariants.{Format, Failed, NoMemory}
 
 -- the numbers are bytes
 abbrev pub AreBytes : List ℕ → Type 0
@@ -47,3 +51,19 @@ OneCertificate = (c d : Statement) (bytes : List ℕ) → Spells c bytes → Spe
 -- a certificate has one spelling
 abbrev pub OneSpelling : Type 0
 OneSpelling = (c : Statement) (bytes bytes' : List ℕ) → Spells c bytes → Spells c bytes' → bytes' ≡ bytes
+
+-- what an answer tells of the bytes that were taken: they spell the certificate, or have this first fault; or have none, unless they are cut off
+abbrev pub TellsOfBytes : Result Statement ReadFault → List ℕ → Type 0
+TellsOfBytes (Ok c) bytes = Spells c bytes
+TellsOfBytes (Err (Format fault)) bytes = IsFirstFault bytes fault
+TellsOfBytes (Err Failed) bytes = HasNoFault certificate bytes
+TellsOfBytes (Err (NoMemory refused)) bytes = HasNoFault certificate bytes
+
+-- where the bytes before and after are known, the answer tells of those between
+abbrev pub AnswersTellOfBytes : Type 0
+AnswersTellOfBytes =
+    (source : Change SourceState) (result : Result Statement ReadFault) (bytes left : List ℕ)
+    → source.before.left ≡ Some (bytes ++ left)
+    → source.after.left ≡ Some left
+    → ReadsCertificate source result
+    → TellsOfBytes result bytes

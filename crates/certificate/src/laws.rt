@@ -2,7 +2,7 @@
 
 ghost use Rattle.certificate.specs.Laws.{ReadingIsSpelling, SpelledOrFaulty, NotBoth};
 ghost use Rattle.certificate.specs.Laws.{OneFirstFault, FaultsComeFirst, NoneBeginsAnother};
-ghost use Rattle.certificate.specs.Laws.{OneCertificate, OneSpelling};
+ghost use Rattle.certificate.specs.Laws.{OneCertificate, OneSpelling, AnswersTellOfBytes};
 
 /// A certificate is read exactly where the bytes spell it. Else they have one first fault.
 pub fn reading_is_spelling()
@@ -26,4 +26,11 @@ pub fn none_begins_another()
 pub fn one_spelling_a_certificate()
     ensures certificate { OneCertificate }
     ensures spelling { OneSpelling }
+{}
+
+/// An answer tells of the bytes that were taken: they spell the certificate, or have its first
+/// fault; or they have none, unless they are cut off, where the source failed or memory was
+/// refused.
+pub fn answers_tell_of_bytes()
+    ensures { AnswersTellOfBytes }
 {}
