@@ -2,7 +2,7 @@
 
 use crate::answer::{Answer, refused_if, whole_if};
 use byte_streams::ByteSource;
-use certificate::{ReadFault, read};
+use certificate::{FormatFault, ReadFault, read};
 use std::alloc::Global;
 
 // A plan of nine moves, which outgrows its first places, and five rows.
@@ -15,6 +15,14 @@ const LONGER: [u8; 85] = [
     0x02, 0x02, 0x00, 0x00, 0x00,
 ];
 
+// No moves, and more rows announced than memory holds, none of which is there.
+const CUT_OFF: [u8; 36] = [
+    0x54, 0x49, 0x4c, 0x45, 0x43, 0x52, 0x54, 0x31, 2, 2, 0, 0, // the opening
+    1, 0, 2, 3, 0, 1, 2, 3, // start and goal
+    1, 0, 0, 0, 0, 0, 0, 0, // the cost, and the count of moves
+    0, 0, 0, 0, 0, 0, 0, 1, // the count of rows
+];
+
 /// Reads the bytes that spell a certificate.
 pub fn read_certificate(alloc: Global) -> Answer {
     let mut source = ByteSource::new(LONGER.as_slice());
@@ -24,5 +32,16 @@ pub fn read_certificate(alloc: Global) -> Answer {
             "another certificate",
         ),
         Err(fault) => refused_if(matches!(fault, ReadFault::NoMemory(_)), "no certificate"),
+    }
+}
+
+/// Reads bytes that end where the rows are due. Memory is taken for rows that are there, so the end
+/// is answered whatever is refused.
+pub fn read_announcement(alloc: Global) -> Answer {
+    let mut source = ByteSource::new(CUT_OFF.as_slice());
+    match read(alloc, &mut source) {
+        Err(ReadFault::Format(FormatFault::Truncated)) => Answer::Whole,
+        Err(ReadFault::NoMemory(_)) => Answer::Wrong("memory for rows that are not there"),
+        _ => Answer::Wrong("the end is not answered"),
     }
 }

@@ -17,7 +17,7 @@ mod runs;
 mod searches;
 
 use answer::Answer;
-use certificates::read_certificate;
+use certificates::{read_announcement, read_certificate};
 use databases::{build_table, copy_partition};
 use runs::{check_certificate, run_two_lines, write_certificate};
 use searches::search;
@@ -28,7 +28,7 @@ use std::process::ExitCode;
 use std::rt::Env;
 
 // The names of all calls.
-const CALLS: [&str; 11] = [
+const CALLS: [&str; 12] = [
     "partition",
     "table",
     "unit-2x2",
@@ -37,6 +37,7 @@ const CALLS: [&str; 11] = [
     "face-2x3",
     "no-plan",
     "read",
+    "cut-off",
     "batch",
     "write",
     "check",
@@ -53,6 +54,7 @@ fn call(alloc: Global, name: &str) -> Option<Answer> {
         "face-2x3" => Some(search(alloc, 3, &[2, 3, 5, 0, 1, 4], true, Some(22))),
         "no-plan" => Some(search(alloc, 2, &[0, 2, 1, 3], false, None)),
         "read" => Some(read_certificate(alloc)),
+        "cut-off" => Some(read_announcement(alloc)),
         "batch" => Some(run_two_lines(alloc)),
         "write" => Some(write_certificate(alloc)),
         "check" => Some(check_certificate(alloc)),
