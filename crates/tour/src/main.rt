@@ -1,0 +1,14 @@
+//! A tour of the library: each step prints what it answers.
+#![tactic(auto)]
+
+mod patterns;
+mod puzzle;
+mod runs;
+
+use std::io;
+
+fn main(rt: HostRuntime) -> io::Result<()> {
+    puzzle::visit(&rt)?;
+    runs::visit(&rt)?;
+    patterns::visit(&rt)
+}
