@@ -1,10 +1,10 @@
 -- What the program's batch wrote tells the truth.
-use Rattle.std.proofs.Common.{ℕ, ◌≡◌, ◌∙◌, ◌<◌, List, [], Option, None, Some, Result, Ok, Err, sym, append-nil, arith}
+use Rattle.std.proofs.Common.{ℕ, ◌≡◌, ◌∙◌, ◌<◌, List, [], Option, None, Some, Result, Ok, Err, sym, append-nil, arith, subst, ap}
 use Rattle.std.proofs.KnownBytes.{Appends-kept}
 use Rattle.byte_streams.specs.Streams.{SourceState, SinkState, Change, from_to}
 use Rattle.byte_streams.specs.Sink.{PutsNone, Flushes}
 use Rattle.byte_streams.specs.declared.sink.WriteFailed.{WriteFailed}
-use Rattle.batch_runs.specs.Batches.{AreAll, AreFirst}
+use Rattle.batch_runs.specs.Batches.{AreAll, AreFirst, status_of_counts}
 use Rattle.batch_runs.specs.Headline.{WritesTruth, BeginsTruth, IsTrueRun}
 use Rattle.batch_runs.specs.declared.batch.Summary.{Summary}
 use Rattle.batch_runs.specs.declared.faults.LinesFault.{LinesFault}
@@ -41,12 +41,17 @@ BeginsTruth-kept source a b c some kept = record {
   truth = some.truth;
 }
 
-WritesTruth-kept : (source : Change SourceState) (a b c : SinkState) → WritesTruth default_rules source (from_to a b) → PutsNone (from_to b c) → WritesTruth default_rules source (from_to a c)
-WritesTruth-kept source a b c all kept = record { lines = all.lines; output = all.output; all = all.all; put = Appends-kept a.contents b.contents c.contents all.output all.put kept; truth = all.truth }
+WritesTruth-kept : (source : Change SourceState) (a b c : SinkState) (status : ℕ) → WritesTruth default_rules source (from_to a b) status → PutsNone (from_to b c) → WritesTruth default_rules source (from_to a c) status
+WritesTruth-kept source a b c status all kept = record { lines = all.lines; output = all.output; all = all.all; put = Appends-kept a.contents b.contents c.contents all.output all.put kept; truth = all.truth; settled = all.settled }
+
+abbrev counts_or : Summary → Result Summary LinesFault → Summary
+counts_or other (Ok counts) = counts
+counts_or other (Err fault) = other
 
 -- only a run that is reported whole and flushed ends well
-whole : (source : Change SourceState) (sink : Change SinkState) (ran : Result Summary LinesFault) (flushed : Result (Unit {0}) WriteFailed) (counts : Summary) → Ok counts ≡ first_fault ran flushed → IsTrueRun default_rules source sink ran → WritesTruth default_rules source sink
-whole source sink (Ok done) flushed counts first true_run = true_run
+whole : (source : Change SourceState) (sink : Change SinkState) (ran : Result Summary LinesFault) (flushed : Result (Unit {0}) WriteFailed) (counts : Summary) → Ok counts ≡ first_fault ran flushed → IsTrueRun default_rules source sink ran → WritesTruth default_rules source sink (status_of_counts counts)
+whole source sink (Ok done) (Ok flushed) counts first true_run = subst (λ (s : Summary). WritesTruth default_rules source sink (status_of_counts s)) (ap (counts_or counts) (sym first)) true_run
+whole source sink (Ok done) (Err failed) counts first true_run = absurd cc
 whole source sink (Err fault) flushed counts first true_run = absurd cc
 
 -- what the run wrote, with the status of its end
@@ -54,10 +59,10 @@ pub run_tells : (source : Change SourceState) (sink : Change SinkState) (result 
 run_tells source sink result status ended told =
     let ran = run_true default_rules (setup_truthful default_setup) source (from_to sink.before ended.between) ended.ran ended.lines in
     let kept = flush_none (from_to ended.between sink.after) ended.flushed ended.flush in
-    (BeginsTruth-kept source sink.before ended.between sink.after (begun source (from_to sink.before ended.between) ended.ran ran) kept, λ fine. WritesTruth-kept source sink.before ended.between sink.after (by_result result told ended.first ran fine) kept)
+    (BeginsTruth-kept source sink.before ended.between sink.after (begun source (from_to sink.before ended.between) ended.ran ran) kept, λ fine. WritesTruth-kept source sink.before ended.between sink.after status (by_result result told ended.first ran fine) kept)
   where
-    by_result : (result : Result Summary LinesFault) → status ≡ status_of (ending_of result) → result ≡ first_fault ended.ran ended.flushed → IsTrueRun default_rules source (from_to sink.before ended.between) ended.ran → status < 2 → WritesTruth default_rules source (from_to sink.before ended.between)
-    by_result (Ok counts) told first ran fine = whole source (from_to sink.before ended.between) ended.ran ended.flushed counts first ran
+    by_result : (result : Result Summary LinesFault) → status ≡ status_of (ending_of result) → result ≡ first_fault ended.ran ended.flushed → IsTrueRun default_rules source (from_to sink.before ended.between) ended.ran → status < 2 → WritesTruth default_rules source (from_to sink.before ended.between) status
+    by_result (Ok counts) told first ran fine = subst (WritesTruth default_rules source (from_to sink.before ended.between)) (sym told) (whole source (from_to sink.before ended.between) ended.ran ended.flushed counts first ran)
     by_result (Err lines.Read) told first ran fine = absurd (omega arith)
     by_result (Err lines.Write) told first ran fine = absurd (omega arith)
     by_result (Err (lines.Memory lacking)) told first ran fine = absurd (omega arith)

@@ -1,5 +1,5 @@
 -- The program: how it ends, what it writes of that, and its status.
-use Rattle.std.specs.Prelude.{ℕ, ◌≡◌, ◌<◌, ◌≢◌, ◌⊎◌, true, false, List, [], ◌∷◌, ◌++◌, Result, Ok, Err, codes}
+use Rattle.std.specs.Prelude.{ℕ, ◌≡◌, ◌<◌, ◌≢◌, ◌⊎◌, false, List, [], ◌∷◌, ◌++◌, Result, Ok, Err, codes}
 use Rattle.byte_streams.specs.Streams.{SourceState, SinkState, Change, from_to}
 use Rattle.byte_streams.specs.Sink.{Puts, PutsBeginning, Flushes}
 use Rattle.byte_streams.specs.declared.sink.WriteFailed.{WriteFailed}
@@ -87,6 +87,6 @@ abbrev pub EndsBy : {Word : Type 0} → List Word → Change SourceState → Cha
 EndsBy words source sink ending =
     ((words ≡ []) × ((run : Result Summary LinesFault) × EndsRun source sink run × (ending ≡ ending_of run))) ⊎ ((words ≢ []) × (ending ≡ Usage))
 
--- the program's batch wrote a beginning of an output that tells the truth of the lines that were read, and with the status 0 or 1 all of one that tells it of all lines
+-- the program's batch wrote a beginning of an output that tells the truth of the lines that were read, and with the status 0 or 1 all of one that tells it of all lines; with 0 none of them is bounded or refused
 abbrev pub IsTrue : ℕ → Change SourceState → Change SinkState → Type 0
-IsTrue status source sink = BeginsTruth default_rules source sink × (status < 2 → WritesTruth default_rules source sink)
+IsTrue status source sink = BeginsTruth default_rules source sink × (status < 2 → WritesTruth default_rules source sink status)

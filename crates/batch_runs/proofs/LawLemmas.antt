@@ -1,13 +1,11 @@
 -- What the definitions say of streams whose bytes are known, and of sinks that have not failed.
-use Rattle.std.proofs.Common.{ℕ, ◌≡◌, ◌⊎◌, ◌<◌, ◌≤◌, true, false, List, [], ◌++◌, length, Option, None, Some, Result, Ok, Err, inl, inr, subst, sym, refl, ap, ◌∙◌, arith}
+use Rattle.std.proofs.Common.{ℕ, ◌≡◌, ◌⊎◌, ◌≤◌, true, List, [], length, Option, None, Some, Ok, Err, inl, inr, subst, sym, refl, ap, ◌∙◌, arith}
 use Rattle.std.specs.Io.KnownBytes.{Appends}
-use Rattle.byte_streams.specs.Streams.{SourceState, SinkState, Change}
 use Rattle.batch_lines.specs.Lines.{lines_of}
 use Rattle.batch_lines.specs.declared.lines.TheConstants.{INPUT_LIMIT}
-use Rattle.batch_runs.specs.declared.batch.Summary.{Summary}
-use Rattle.batch_runs.specs.declared.faults.LinesFault.{LinesFault}
 use Rattle.batch_runs.specs.declared.faults.LinesFault.TheVariants.{Read, Write, Memory}
-use Rattle.batch_runs.specs.Batches.{Rules, AnswersLines, AreAll, IsTooLong, ReportsLines, answers_text}
+use Rattle.batch_runs.specs.Batches.{Rules, AnswersLines, AreAll, IsTooLong, answers_text}
+use Rattle.batch_runs.specs.Headline.{TellsTheTruth, OutputsTellTheTruth}
 use Rattle.batch_runs.specs.Laws.{LinesAreLostToFailures, ParityWantsNoMemory, OutputsAreAnswers, FailedWritesAreTold}
 
 -- an input within the limit is not too long
@@ -37,6 +35,11 @@ outputs rules source sink counts input known empty reports =
     let all = reports.0 in
     let lines_are : lines_of input ≡ all.lines = subst (λ (left : Option (List ℕ)). AreAll left all.lines) known all.all in
     (all.answers, subst (λ (lines : List (List ℕ)). AnswersLines rules lines all.answers) (sym lines_are) all.answered, held sink.before.contents sink.after.contents (answers_text 1 all.answers) empty all.written)
+
+pub outputs_true : (rules : Rules) → OutputsTellTheTruth rules
+outputs_true rules source sink status input known empty all =
+    let lines_are : lines_of input ≡ all.lines = subst (λ (left : Option (List ℕ)). AreAll left all.lines) known all.all in
+    (all.output, held sink.before.contents sink.after.contents all.output empty all.put, subst (λ (lines : List (List ℕ)). TellsTheTruth rules lines all.output) (sym lines_are) all.truth, all.settled)
 
 pub told : (rules : Rules) → FailedWritesAreTold rules
 told rules source sink (Ok counts) unfailed other reports = reports.2 ∙ unfailed

@@ -1,7 +1,7 @@
 -- What a run wrote tells the truth.
-use Rattle.std.proofs.Common.{[], Result, Ok, Err, append-nil, sym}
+use Rattle.std.proofs.Common.{[], Result, Ok, Err, append-nil, sym, ap, ◌∙◌}
 use Rattle.byte_streams.specs.Streams.{SourceState, SinkState, Change}
-use Rattle.batch_runs.specs.Batches.{Rules, IsTruthful, ReportsLines, answers_text}
+use Rattle.batch_runs.specs.Batches.{Rules, IsTruthful, ReportsLines, answers_text, status_of_counts}
 use Rattle.batch_runs.specs.Headline.{IsTrueRun}
 use Rattle.batch_runs.specs.Setups.{SetupState}
 use Rattle.batch_runs.specs.Solving.{rules_of}
@@ -9,11 +9,11 @@ use Rattle.batch_runs.specs.declared.batch.Summary.{Summary}
 use Rattle.batch_runs.specs.declared.faults.LinesFault.{LinesFault}
 use Rattle.batch_runs.specs.declared.faults.LinesFault.TheVariants.{Read, Write, Memory}
 use Rattle.batch_runs.proofs.BatchLemmas.{AreFirst-read}
-use Rattle.batch_runs.proofs.TruthLemmas.{truth}
+use Rattle.batch_runs.proofs.TruthLemmas.{truth, settled}
 
 pub run_true : (rules : Rules) → IsTruthful rules → (source : Change SourceState) (sink : Change SinkState) (result : Result Summary LinesFault) → ReportsLines rules source sink result → IsTrueRun rules source sink result
 run_true rules truthful source sink (Ok counts) (all, readable, kept) =
-    record { lines = all.lines; output = answers_text 1 all.answers; all = all.all; put = all.written; truth = truth rules truthful all.lines all.answers all.few all.answered }
+    record { lines = all.lines; output = answers_text 1 all.answers; all = all.all; put = all.written; truth = truth rules truthful all.lines all.answers all.few all.answered; settled = λ fine. settled rules all.lines all.answers all.few all.answered (ap status_of_counts (sym all.counted) ∙ fine) }
 run_true rules truthful source sink (Err Read) (whole, kept) = record {
   lines = whole.lines;
   output = answers_text 1 whole.answers;

@@ -1,8 +1,8 @@
 -- What is read in a line of the output is what was told of the line that it answers.
-use Rattle.std.proofs.Common.{◌≡◌, ◌≢◌, ℕ, zero, suc, ◌+◌, ◌^◌, ◌<◌, ◌≤◌, List, [], ◌∷◌, ◌++◌, Bool, true, false, cond, Option, None, Some, length, refl, sym, ap, ◌∙◌, subst, inl, inr, arith, append_assoc, slice_get, codes, get_or, map, not}
+use Rattle.std.proofs.Common.{◌≡◌, ◌≢◌, ℕ, zero, suc, ◌+◌, ◌^◌, ◌<◌, ◌≤◌, List, [], ◌∷◌, ◌++◌, Bool, true, false, cond, Option, None, Some, length, refl, sym, ap, ◌∙◌, subst, inl, inr, arith, append_assoc, slice_get, codes, get_or, map, not, ◌==◌, ◌&&◌}
 use Rattle.std.specs.Prelude.{nat_lt, ⊤, ◌⊎◌}
 use Rattle.std.specs.List.{AllByRecursion}
-use Rattle.std.proofs.lemmas.Bool.{ne_eqb}
+use Rattle.std.proofs.lemmas.Bool.{ne_eqb, eqb-true}
 use Rattle.std.proofs.lemmas.Option.{slice_get_within}
 use Rattle.serde_json.specs.Data.{Data, null, boolean, number, string, array, object}
 use Rattle.serde_json.specs.Read.{read}
@@ -17,14 +17,15 @@ use Rattle.outcomes.specs.Outcomes.{Answers, best_of}
 use Rattle.outcomes.specs.declared.outcome.Outcome.{Outcome}
 use Rattle.outcomes.specs.declared.outcome.Outcome.TheVariants.{Optimal, Unsolvable, Bounded}
 use Rattle.reports.specs.Reports.{outcome_data, refused_data, report_text}
-use Rattle.reports.specs.Readings.{IsSmall, AreSmall, IsReport}
+use Rattle.reports.specs.Readings.{IsSmall, AreSmall, IsReport, HasStatus}
 use Rattle.reports.specs.Readings.IsReport.{of_outcome, of_line}
 use Rattle.reports.proofs.ReadLemmas.{report_read}
 use Rattle.reports.proofs.TextLemmas.{text_other}
-use Rattle.batch_runs.specs.Batches.{Rules, IsTruthful, Answer, AnswersEntry, AnswersKind, AnswersLine, AnswersLines, answer_text, answers_text}
-use Rattle.batch_runs.specs.Batches.Answer.{passed_over, refused}
+use Rattle.batch_runs.specs.Batches.{Rules, IsTruthful, Answer, AnswersEntry, AnswersKind, AnswersLine, AnswersLines, answer_text, answers_text, with_answer, with_answers, no_lines, status_of_counts}
+use Rattle.batch_runs.specs.Batches.Answer.{passed_over, refused, answered}
 use Rattle.batch_runs.specs.Batches.AnswersEntry.{by_fault, by_outcome, by_want}
-use Rattle.batch_runs.specs.Meanings.{asks, questions, IsQuestion, Names, HasFault, IsReply, SaysRefused}
+use Rattle.batch_runs.specs.Meanings.{asks, questions, IsQuestion, Names, HasFault, IsReply, SaysRefused, IsSettled}
+use Rattle.batch_runs.specs.declared.batch.Summary.{Summary}
 use Rattle.batch_runs.specs.Headline.{IsTrueOf, TellsTheTruth}
 use Rattle.batch_runs.proofs.NameLemmas.{same_name, no_fault}
 
@@ -59,7 +60,24 @@ data Tells (rules : Rules) (n : ℕ) (line : List ℕ) : Data → Type 0 where
   of_want : (id : List ℕ) (b : Position) → IsSmall n → Names rules.grid line id b → rules.allows b None → Tells rules n line (refused_data (codes "V3") n)
   of_board : (id : List ℕ) (b : Position) (outcome : Outcome) → Names rules.grid line id b → rules.allows b (Some outcome) → AreSmall outcome → Tells rules n line (outcome_data id outcome)
 
-module _ (rules : Rules) where
+-- an answer that names a least plan, or that there is none
+abbrev pub IsSettledAnswer : Answer → Type 0
+IsSettledAnswer passed_over = ⊤
+IsSettledAnswer (refused code) = ⊥
+IsSettledAnswer (answered id (Optimal cost plan rows)) = ⊤
+IsSettledAnswer (answered id (Unsolvable why)) = ⊤
+IsSettledAnswer (answered id (Bounded bound best cause)) = ⊥
+
+abbrev IsSettledData : Data → Type 0
+IsSettledData d = HasStatus d (codes "optimal") ⊎ HasStatus d (codes "unsolvable")
+
+outcome_settled : (id : List ℕ) (outcome : Outcome) → IsSettledAnswer (answered id outcome) → IsSettledData (outcome_data id outcome)
+outcome_settled id (Optimal cost plan rows) is = inl refl
+outcome_settled id (Unsolvable why) is = inr refl
+outcome_settled id (Bounded bound best cause) is = absurd is
+
+-- S says that all answers are such
+module _ (rules : Rules) (S : Type 0) where
   is_report : (n : ℕ) (line : List ℕ) (d : Data) → Tells rules n line d → IsReport d
   is_report n line d (of_fault code small fault) = of_line code n small
   is_report n line d (of_want id b small names lacking) = of_line (codes "V3") n small
@@ -67,17 +85,17 @@ module _ (rules : Rules) where
 
   -- what is written of an answer is one report
   abbrev HasReport : ℕ → List ℕ → Answer → Type 0
-  HasReport n line answer = (d : Data) × (answer_text n answer ≡ report_text d) × Tells rules n line d
+  HasReport n line answer = (d : Data) × (answer_text n answer ≡ report_text d) × Tells rules n line d × (IsSettledAnswer answer → IsSettledData d)
 
   entry_told : (n : ℕ) (line : List ℕ) (answer : Answer) → IsSmall n → kind_of line ≡ Within → AnswersEntry rules (without_return line) answer → HasReport n line answer
-  entry_told n line answer small within (by_fault fault first) = (refused_data (entry_code fault) n, refl, of_fault (entry_code fault) small (inr (within, (fault, first, refl))))
-  entry_told n line answer small within (by_outcome id b outcome entry allowed fits) = (outcome_data id outcome, refl, of_board id b outcome (within, entry) allowed fits)
-  entry_told n line answer small within (by_want id b entry lacking) = (refused_data (codes "V3") n, refl, of_want id b small (within, entry) lacking)
+  entry_told n line answer small within (by_fault fault first) = (refused_data (entry_code fault) n, refl, of_fault (entry_code fault) small (inr (within, (fault, first, refl))), λ is. absurd is)
+  entry_told n line answer small within (by_outcome id b outcome entry allowed fits) = (outcome_data id outcome, refl, of_board id b outcome (within, entry) allowed fits, outcome_settled id outcome)
+  entry_told n line answer small within (by_want id b entry lacking) = (refused_data (codes "V3") n, refl, of_want id b small (within, entry) lacking, λ is. absurd is)
 
   line_told : (n : ℕ) (line : List ℕ) (answer : Answer) → IsSmall n → AnswersLine rules line answer → (kind_of line ≡ TooLong) ⊎ (kind_of line ≡ Within) → HasReport n line answer
   line_told n line answer small is (inl long) =
       let here : answer ≡ refused (codes "E12") = subst (λ (kind : LineKind). AnswersKind rules kind (without_return line) answer) long is in
-      (refused_data (codes "E12") n, ap (answer_text n) here, of_fault (codes "E12") small (inl (long, refl)))
+      (refused_data (codes "E12") n, ap (answer_text n) here, of_fault (codes "E12") small (inl (long, refl)), λ settled. absurd (subst IsSettledAnswer here settled))
   line_told n line answer small is (inr within) = entry_told n line answer small within (subst (λ (kind : LineKind). AnswersKind rules kind (without_return line) answer) within is)
 
   line_over : (n : ℕ) (line : List ℕ) (answer : Answer) → AnswersLine rules line answer → is_passed_over (without_return line) ≡ true → answer_text n answer ≡ []
@@ -90,7 +108,7 @@ module _ (rules : Rules) where
   Told [] [] = ⊤
   Told [] (d ∷ ds) = ⊥
   Told (q ∷ qs) [] = ⊥
-  Told (q ∷ qs) (d ∷ ds) = Tells rules q.0 q.1 d × Told qs ds
+  Told (q ∷ qs) (d ∷ ds) = (Tells rules q.0 q.1 d × (S → IsSettledData d)) × Told qs ds
 
   -- the text is that of such values
   abbrev AreTold : ℕ → List (List ℕ) → List ℕ → Type 0
@@ -99,24 +117,24 @@ module _ (rules : Rules) where
   told_over : (n : ℕ) (line : List ℕ) (lines : List (List ℕ)) (first rest : List ℕ) → first ≡ [] → asks line ≡ false → AreTold (n + 1) lines rest → AreTold n (line ∷ lines) (first ++ rest)
   told_over n line lines first rest nothing no_report told = (told.0, ap (λ (text : List ℕ). lines_of (text ++ rest)) nothing ∙ told.1, rw no_report told.2)
 
-  told_more : (n : ℕ) (line : List ℕ) (lines : List (List ℕ)) (answer : Answer) (rest : List ℕ) → HasReport n line answer → asks line ≡ true → AreTold (n + 1) lines rest → AreTold n (line ∷ lines) (answer_text n answer ++ rest)
-  told_more n line lines answer rest one asking told = (
+  told_more : (n : ℕ) (line : List ℕ) (lines : List (List ℕ)) (answer : Answer) (rest : List ℕ) → HasReport n line answer → (S → IsSettledAnswer answer) → asks line ≡ true → AreTold (n + 1) lines rest → AreTold n (line ∷ lines) (answer_text n answer ++ rest)
+  told_more n line lines answer rest one settled asking told = (
     one.0 ∷ told.0,
     ap (λ (text : List ℕ). lines_of (text ++ rest)) one.1 ∙ report_first one.0 rest ∙ ap (λ (ls : List (List ℕ)). compact_text one.0 ∷ ls) told.1,
-    rw asking (one.2, told.2),
+    rw asking ((one.2, λ all. one.3 (settled all)), told.2),
   )
 
-  told_next : (n : ℕ) (line : List ℕ) (lines : List (List ℕ)) (answer : Answer) (rest : List ℕ) → IsSmall n → AnswersLine rules line answer → AreTold (n + 1) lines rest → (over : Bool) → is_passed_over (without_return line) ≡ over → AreTold n (line ∷ lines) (answer_text n answer ++ rest)
-  told_next n line lines answer rest small is told true e = told_over n line lines (answer_text n answer) rest (line_over n line answer is e) (ap not e) told
-  told_next n line lines answer rest small is told false e = told_more n line lines answer rest (line_told n line answer small is (kind_asks line e)) (ap not e) told
+  told_next : (n : ℕ) (line : List ℕ) (lines : List (List ℕ)) (answer : Answer) (rest : List ℕ) → IsSmall n → AnswersLine rules line answer → (S → IsSettledAnswer answer) → AreTold (n + 1) lines rest → (over : Bool) → is_passed_over (without_return line) ≡ over → AreTold n (line ∷ lines) (answer_text n answer ++ rest)
+  told_next n line lines answer rest small is settled told true e = told_over n line lines (answer_text n answer) rest (line_over n line answer is e) (ap not e) told
+  told_next n line lines answer rest small is settled told false e = told_more n line lines answer rest (line_told n line answer small is (kind_asks line e)) settled (ap not e) told
 
-  answers_told : (n : ℕ) (lines : List (List ℕ)) (answers : List Answer) → n + length lines ≤ 2 ^ 64 → AnswersLines rules lines answers → AreTold n lines (answers_text n answers)
-  answers_told n [] [] few are = ([], refl, tt)
-  answers_told n [] (answer ∷ answers) few are = absurd are
-  answers_told n (line ∷ lines) [] few are = absurd are
-  answers_told n (line ∷ lines) (answer ∷ answers) few are =
-      let rest = answers_told (n + 1) lines answers (omega arith) are.1 in
-      told_next n line lines answer (answers_text (n + 1) answers) (omega arith) are.0 rest (is_passed_over (without_return line)) refl
+  answers_told : (n : ℕ) (lines : List (List ℕ)) (answers : List Answer) → n + length lines ≤ 2 ^ 64 → AnswersLines rules lines answers → (S → AllByRecursion IsSettledAnswer answers) → AreTold n lines (answers_text n answers)
+  answers_told n [] [] few are settled = ([], refl, tt)
+  answers_told n [] (answer ∷ answers) few are settled = absurd are
+  answers_told n (line ∷ lines) [] few are settled = absurd are
+  answers_told n (line ∷ lines) (answer ∷ answers) few are settled =
+      let rest = answers_told (n + 1) lines answers (omega arith) are.1 (λ all. (settled all).1) in
+      told_next n line lines answer (answers_text (n + 1) answers) (omega arith) are.0 (λ all. (settled all).0) rest (is_passed_over (without_return line)) refl
 
   told_length : (qs : List (ℕ × List ℕ)) (ds : List Data) → Told qs ds → length (map compact_text ds) ≡ length qs
   told_length [] [] told = refl
@@ -126,12 +144,12 @@ module _ (rules : Rules) where
 
   -- the value at a place is told of the line at this place
   abbrev ToldAt : List (ℕ × List ℕ) → List Data → ℕ → Type 0
-  ToldAt qs ds k = (q : ℕ × List ℕ) × (d : Data) × (slice_get qs k ≡ Some q) × (slice_get (map compact_text ds) k ≡ Some (compact_text d)) × Tells rules q.0 q.1 d
+  ToldAt qs ds k = (q : ℕ × List ℕ) × (d : Data) × (slice_get qs k ≡ Some q) × (slice_get (map compact_text ds) k ≡ Some (compact_text d)) × Tells rules q.0 q.1 d × (S → IsSettledData d)
 
   told_at : (qs : List (ℕ × List ℕ)) (ds : List Data) (k : ℕ) → Told qs ds → k < length qs → ToldAt qs ds k
   told_at [] ds k told few = absurd (omega arith)
   told_at (q ∷ qs) [] k told few = absurd told
-  told_at (q ∷ qs) (d ∷ ds) zero told few = (q, d, refl, refl, told.0)
+  told_at (q ∷ qs) (d ∷ ds) zero told few = (q, d, refl, refl, told.0.0, told.0.1)
   told_at (q ∷ qs) (d ∷ ds) (suc k) told few = told_at qs ds k told.1 (omega arith)
 
 -- ---- what is read is what was told
@@ -207,28 +225,92 @@ module _ (rules : Rules) where
   unnamed_true n line d none (of_want id b small names lacking) = absurd (none id b names)
   unnamed_true n line d none (of_board id b outcome names allowed small) = absurd (none id b names)
 
-  -- what is read at a place is told of the line there
-  reply_told : (lines : List (List ℕ)) (output : List ℕ) → AreTold rules 1 lines output → (k n : ℕ) (line : List ℕ) (d : Data) → IsQuestion lines k n line → IsReply output k d → Tells rules n line d
-  reply_told lines output told k n line d asked seen =
-      let at = told_at rules (questions 1 lines) told.0 k told.2 (slice_get_within (questions 1 lines) k (n, line) asked) in
-      let question : at.0 ≡ (n, line) = ap question_or (sym at.2 ∙ asked) in
+-- what is told, as it is read
+module _ (rules : Rules) (S : Type 0) (lines : List (List ℕ)) (output : List ℕ) (told : AreTold rules S 1 lines output) where
+  as_many : length (lines_of output) ≡ length (questions 1 lines)
+  as_many = ap length told.1 ∙ told_length rules S (questions 1 lines) told.0 told.2
+
+  -- the value that is read at a place is the one that was told there
+  same_value : (k : ℕ) (d : Data) (at : ToldAt rules S (questions 1 lines) told.0 k) → IsReply output k d → at.1 ≡ d
+  same_value k d at seen =
       let text : compact_text at.1 ≡ seen.0 = ap line_or (sym at.3 ∙ sym (ap (λ (ls : List (List ℕ)). slice_get ls k) told.1) ∙ seen.1) in
-      let same : at.1 ≡ d = ap data_or (sym (report_read at.1 (is_report rules at.0.0 at.0.1 at.1 at.4)) ∙ ap read text ∙ seen.2) in
-      subst (λ (e : Data). Tells rules n line e) same (subst (λ (q : ℕ × List ℕ). Tells rules q.0 q.1 at.1) question at.4)
+      ap data_or (sym (report_read at.1 (is_report rules S at.0.0 at.0.1 at.1 at.4)) ∙ ap read text ∙ seen.2)
 
-  some_reply : (lines : List (List ℕ)) (output : List ℕ) → AreTold rules 1 lines output → (k : ℕ) → k < length (lines_of output) → (d : Data) × IsReply output k d
-  some_reply lines output told k few =
-      let count : length (lines_of output) ≡ length (questions 1 lines) = ap length told.1 ∙ told_length rules (questions 1 lines) told.0 told.2 in
-      let at = told_at rules (questions 1 lines) told.0 k told.2 (omega arith) in
-      (at.1, (compact_text at.1, ap (λ (ls : List (List ℕ)). slice_get ls k) told.1 ∙ at.3, report_read at.1 (is_report rules at.0.0 at.0.1 at.1 at.4)))
+  reply_told : (k n : ℕ) (line : List ℕ) (d : Data) → IsQuestion lines k n line → IsReply output k d → Tells rules n line d
+  reply_told k n line d asked seen =
+      let at = told_at rules S (questions 1 lines) told.0 k told.2 (slice_get_within (questions 1 lines) k (n, line) asked) in
+      let question : at.0 ≡ (n, line) = ap question_or (sym at.2 ∙ asked) in
+      subst (λ (e : Data). Tells rules n line e) (same_value k d at seen) (subst (λ (q : ℕ × List ℕ). Tells rules q.0 q.1 at.1) question at.4)
 
+  reply_settled : S → IsSettled output
+  reply_settled all k d seen =
+      let few : k < length (questions 1 lines) = omega (arith, as_many, slice_get_within (lines_of output) k seen.0 seen.1) in
+      let at = told_at rules S (questions 1 lines) told.0 k told.2 few in
+      subst IsSettledData (same_value k d at seen) (at.5 all)
+
+  some_reply : (k : ℕ) → k < length (lines_of output) → (d : Data) × IsReply output k d
+  some_reply k few =
+      let at = told_at rules S (questions 1 lines) told.0 k told.2 (omega (arith, as_many)) in
+      (at.1, (compact_text at.1, ap (λ (ls : List (List ℕ)). slice_get ls k) told.1 ∙ at.3, report_read at.1 (is_report rules S at.0.0 at.0.1 at.1 at.4)))
+
+-- ---- counts
+
+abbrev pub is_open : Summary → ℕ
+is_open counts = counts.bounded + counts.refused
+
+-- no count falls
+grows : (counts : Summary) (answers : List Answer) → is_open counts ≤ is_open (with_answers counts answers)
+grows counts [] = omega arith
+grows counts (answer ∷ answers) = omega (arith, once counts answer, grows (with_answer counts answer) answers)
+  where
+    once : (counts : Summary) (answer : Answer) → is_open counts ≤ is_open (with_answer counts answer)
+    once counts passed_over = omega arith
+    once counts (refused code) = omega arith
+    once counts (answered id (Optimal cost plan rows)) = omega arith
+    once counts (answered id (Unsolvable why)) = omega arith
+    once counts (answered id (Bounded bound best cause)) = omega arith
+
+-- where none is bounded or refused, all are settled
+none_open : (counts : Summary) (answers : List Answer) → is_open (with_answers counts answers) ≡ 0 → AllByRecursion IsSettledAnswer answers
+none_open counts [] none = tt
+none_open counts (answer ∷ answers) none = (first answer (omega (arith, none, grows (with_answer counts answer) answers)), none_open (with_answer counts answer) answers none)
+  where
+    first : (answer : Answer) → is_open (with_answer counts answer) ≡ 0 → IsSettledAnswer answer
+    first passed_over e = tt
+    first (refused code) e = absurd (omega arith)
+    first (answered id (Optimal cost plan rows)) e = tt
+    first (answered id (Unsolvable why)) e = tt
+    first (answered id (Bounded bound best cause)) e = absurd (omega arith)
+
+both : (a b : Bool) → cond {A = ℕ} (a && b) 0 1 ≡ 0 → (a ≡ true) × (b ≡ true)
+both true true e = (refl, refl)
+both true false e = absurd (omega arith)
+both false b e = absurd (omega arith)
+
+status_open : (m n : ℕ) → cond {A = ℕ} (m == 0 && n == 0) 0 1 ≡ 0 → m + n ≡ 0
+status_open m n e =
+    let zeros = both (m == 0) (n == 0) e in
+    let m_is : m ≡ 0 = eqb-true m 0 zeros.0 in
+    let n_is : n ≡ 0 = eqb-true n 0 zeros.1 in
+    omega (arith, m_is, n_is)
+
+-- ---- the theorem
+
+module _ (rules : Rules) where
   pub truth : IsTruthful rules → (lines : List (List ℕ)) (answers : List Answer) → length lines < 2 ^ 64 → AnswersLines rules lines answers → TellsTheTruth rules lines (answers_text 1 answers)
   truth truthful lines answers few are =
       let output = answers_text 1 answers in
-      let told = answers_told rules 1 lines answers (omega arith) are in
+      let told = answers_told rules ⊥ 1 lines answers (omega arith) are (λ none. absurd none) in
       record {
-        one_each = ap length told.1 ∙ told_length rules (questions 1 lines) told.0 told.2;
-        json = some_reply lines output told;
-        named = λ k n line id b d asked names seen. named_true rules n id b truthful line d names (reply_told lines output told k n line d asked seen);
-        unnamed = λ k n line d asked none seen. unnamed_true n line d none (reply_told lines output told k n line d asked seen);
+        one_each = as_many rules ⊥ lines output told;
+        json = some_reply rules ⊥ lines output told;
+        named = λ k n line id b d asked names seen. named_true rules n id b truthful line d names (reply_told rules ⊥ lines output told k n line d asked seen);
+        unnamed = λ k n line d asked none seen. unnamed_true rules n line d none (reply_told rules ⊥ lines output told k n line d asked seen);
       }
+
+  pub settled : (lines : List (List ℕ)) (answers : List Answer) → length lines < 2 ^ 64 → AnswersLines rules lines answers → status_of_counts (with_answers no_lines answers) ≡ 0 → IsSettled (answers_text 1 answers)
+  settled lines answers few are fine =
+      let counts = with_answers no_lines answers in
+      let all = none_open no_lines answers (status_open counts.bounded counts.refused fine) in
+      let told = answers_told rules ⊤ 1 lines answers (omega arith) are (λ any. all) in
+      reply_settled rules ⊤ lines (answers_text 1 answers) told tt

@@ -1,13 +1,13 @@
 -- The main theorem: what a reader of the output may believe.
-use Rattle.std.specs.Prelude.{ℕ, ◌≡◌, ◌<◌, ◌+◌, ◌^◌, ◌⊎◌, List, ◌++◌, length, slice_get, None, Result, Ok, Err, codes}
+use Rattle.std.specs.Prelude.{ℕ, ◌≡◌, ◌<◌, ◌+◌, ◌^◌, ◌⊎◌, List, ◌++◌, [], length, slice_get, None, Some, Result, Ok, Err, codes}
 use Rattle.serde_json.specs.Data.{Data}
 use Rattle.board.specs.Positions.{Position}
 use Rattle.byte_streams.specs.Streams.{SourceState, SinkState, Change}
 use Rattle.byte_streams.specs.Sink.{Puts, PutsBeginning}
 use Rattle.batch_lines.specs.Lines.{lines_of}
 use Rattle.reports.specs.Readings.{SaysText, HasStatus}
-use Rattle.batch_runs.specs.Batches.{Rules, IsTruthful, Answer, AnswersLines, answers_text, AreAll, AreFirst}
-use Rattle.batch_runs.specs.Meanings.{questions, IsQuestion, Names, HasFault, IsReply, SaysLeast, SaysNone, SaysBound, SaysRefused}
+use Rattle.batch_runs.specs.Batches.{Rules, IsTruthful, Answer, AnswersLines, answers_text, AreAll, AreFirst, status_of_counts}
+use Rattle.batch_runs.specs.Meanings.{questions, IsQuestion, Names, HasFault, IsReply, SaysLeast, SaysNone, SaysBound, SaysRefused, IsSettled}
 use Rattle.batch_runs.specs.declared.batch.Summary.{Summary}
 use Rattle.batch_runs.specs.declared.faults.LinesFault.{LinesFault}
 
@@ -37,13 +37,14 @@ AnswersTellTheTruth rules =
 
 -- ---- runs
 
--- an output was written that tells the truth of all lines of the input
-pub record WritesTruth (rules : Rules) (source : Change SourceState) (sink : Change SinkState) : Type 0 where
+-- an output was written that tells the truth of all lines of the input; and with the status 0 none of its lines is bounded or refused
+pub record WritesTruth (rules : Rules) (source : Change SourceState) (sink : Change SinkState) (status : ℕ) : Type 0 where
   pub lines : List (List ℕ)
   pub output : List ℕ
   pub all : AreAll source.before.left lines
   pub put : Puts sink output
   pub truth : TellsTheTruth rules lines output
+  pub settled : status ≡ 0 → IsSettled output
 
 -- a beginning was written of an output that tells the truth of the first lines of the input
 pub record BeginsTruth (rules : Rules) (source : Change SourceState) (sink : Change SinkState) : Type 0 where
@@ -55,9 +56,18 @@ pub record BeginsTruth (rules : Rules) (source : Change SourceState) (sink : Cha
 
 -- the one where the run ends well, else the other
 abbrev pub IsTrueRun : Rules → Change SourceState → Change SinkState → Result Summary LinesFault → Type 0
-IsTrueRun rules source sink (Ok counts) = WritesTruth rules source sink
+IsTrueRun rules source sink (Ok counts) = WritesTruth rules source sink (status_of_counts counts)
 IsTrueRun rules source sink (Err fault) = BeginsTruth rules source sink
 
 -- in a beginning of an output each line that another one follows is a line of the output
 abbrev pub BeginningsAreOfLines : Type 0
 BeginningsAreOfLines = (begun rest : List ℕ) (k : ℕ) → k + 1 < length (lines_of begun) → slice_get (lines_of (begun ++ rest)) k ≡ slice_get (lines_of begun) k
+
+-- where the input is known and the output was empty, what the sink holds tells the truth of the input's lines
+abbrev pub OutputsTellTheTruth : Rules → Type 0
+OutputsTellTheTruth rules =
+    (source : Change SourceState) (sink : Change SinkState) (status : ℕ) (input : List ℕ)
+    → source.before.left ≡ Some input
+    → sink.before.contents ≡ Some []
+    → WritesTruth rules source sink status
+    → (output : List ℕ) × (sink.after.contents ≡ Some output) × TellsTheTruth rules (lines_of input) output × (status ≡ 0 → IsSettled output)

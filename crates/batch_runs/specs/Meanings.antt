@@ -75,3 +75,7 @@ SaysBound task d =
 -- line n is refused by a fault with this code
 abbrev pub SaysRefused : Data → List ℕ → ℕ → Type 0
 SaysRefused d code n = HasStatus d (codes "refused") × SaysText d (codes "fault") code × SaysNumber d (codes "line") n
+
+-- each line of the output says a least plan, or that there is none
+abbrev pub IsSettled : List ℕ → Type 0
+IsSettled output = (k : ℕ) (d : Data) → IsReply output k d → HasStatus d (codes "optimal") ⊎ HasStatus d (codes "unsolvable")

@@ -1,6 +1,7 @@
 //! The laws of batches: each is the contract of a function that does nothing.
 
 ghost use Rattle.batch_runs.specs.Headline.{AnswersTellTheTruth, BeginningsAreOfLines};
+ghost use Rattle.batch_runs.specs.Headline.{OutputsTellTheTruth};
 ghost use Rattle.batch_runs.specs.Laws.{LinesAreLostToFailures, ParityWantsNoMemory};
 ghost use Rattle.batch_runs.specs.Laws.{OutputsAreAnswers, FailedWritesAreTold};
 
@@ -9,6 +10,14 @@ use crate::batch::Solver;
 /// What is written of the answers of a truthful solver tells the truth of each line.
 pub fn answers_tell_the_truth<A: Solver>(solver: &A)
     ensures { AnswersTellTheTruth (A.rules solver.now) }
+{
+    let _ = solver;
+}
+
+/// Where the input is known and the output was empty, what a run that ends well leaves there tells
+/// the truth of the input's lines.
+pub fn outputs_tell_the_truth<A: Solver>(solver: &A)
+    ensures { OutputsTellTheTruth (A.rules solver.now) }
 {
     let _ = solver;
 }

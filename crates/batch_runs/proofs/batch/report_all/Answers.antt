@@ -1,4 +1,4 @@
-use Rattle.std.proofs.Common.{◌≡◌, ◌<◌, ◌^◌, rules, refl, sym, ◌∙◌, inl, inr}
+use Rattle.std.proofs.Common.{◌≡◌, rules, refl, sym, ◌∙◌, inl, inr}
 use Rattle.byte_streams.specs.Streams.{from_to}
 use Rattle.batch_runs.specs.Batches.{answer_text}
 use Rattle.batch_runs.proofs.BatchLemmas.{IsRunning-none, IsNext, IsRunning-more, IsRunning-passed, reports_part, CountsKnown-more}
