@@ -1,2 +1,3 @@
 pub mod Faults
 pub mod Programs
+pub mod Laws

@@ -3,6 +3,7 @@
 #![tactic(auto)]
 
 mod faults;
+pub mod laws;
 mod program;
 
 pub use batch_lines::{

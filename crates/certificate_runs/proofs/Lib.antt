@@ -2,3 +2,4 @@ pub mod CheckLemmas
 pub mod FindLemmas
 pub mod CertifyLemmas
 pub mod HeadlineLemmas
+pub mod LawLemmas

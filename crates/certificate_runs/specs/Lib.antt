@@ -3,3 +3,4 @@ pub mod Faults
 pub mod Checking
 pub mod Certifying
 pub mod Headline
+pub mod Laws

@@ -5,6 +5,7 @@
 mod certifying;
 mod checking;
 mod faults;
+pub mod laws;
 
 pub use certifying::run_cert;
 pub use checking::run_check;

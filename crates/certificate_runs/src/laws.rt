@@ -1,0 +1,17 @@
+//! The laws of the definitions: each is the contract of a function that does nothing.
+
+ghost use Rattle.certificate_runs.specs.Laws.{OtherFaultsLeaveTheSink, OtherFaultsWriteNoVerdict};
+
+use batch_runs::Solver;
+
+/// A run that writes a certificate leaves the sink as it was, but after a fault of writing.
+pub fn other_faults_leave_the_sink<A: Solver>(solver: &A)
+    ensures { OtherFaultsLeaveTheSink (A.rules solver.now) }
+{
+    let _ = solver;
+}
+
+/// And so does one that checks a certificate.
+pub fn other_faults_write_no_verdict()
+    ensures { OtherFaultsWriteNoVerdict }
+{}
