@@ -1,31 +1,39 @@
 -- Quiet and Limit say what they mean.
-use Rattle.std.proofs.Common.{◌≡◌, ◌≢◌, ◌⊎◌, ℕ, ◌+◌, ◌-◌, ◌*◌, ◌<◌, ◌≤◌, List, [], length, refl, sym, ap, ◌∙◌, subst, inl, inr, ⊎_elim, arith, Option, Some, None, min}
+use Rattle.std.proofs.Common.{◌≡◌, ◌⊎◌, ℕ, ◌+◌, ◌-◌, ◌*◌, ◌<◌, ◌≤◌, List, [], length, refl, sym, ap, ◌∙◌, subst, inl, inr, arith, Option, Some, None, min}
 use Rattle.std.specs.Prelude.{All, slice_get, sum_by}
-use Rattle.std.proofs.lemmas.Bool.{cases_lt}
 use Rattle.std.proofs.lemmas.Option.{slice_get_within, get_or_from_slice_get}
 use Rattle.std.proofs.lemmas.List.Sums.{sum_by-le-sum_by}
 use Rattle.board.specs.declared.moves.Move.{Move}
 use Rattle.world_model.specs.declared.steps.Stop.TheVariants.{Quiet, Limit}
 use Rattle.board.specs.Positions.{Position}
-use Rattle.outcomes.specs.Outcomes.{Task, IsBestPlan, best_of}
 use Rattle.world_model.specs.declared.parts.Item.{Item}
 use Rattle.world_model.specs.declared.parts.Known.{Known}
-use Rattle.world_model.specs.Workers.{WorkerState, IsLeastWith}
 use Rattle.outcomes.specs.declared.outcome.Cause.{Cause}
-use Rattle.outcomes.specs.declared.outcome.Outcome.{Outcome}
 use Rattle.outcomes.specs.declared.outcome.Want.TheVariants.{Refused}
 use Rattle.memory.specs.declared.OutOfMemory.{OutOfMemory}
 use Rattle.std.specs.Prelude.{Vec}
 use Rattle.std.specs.declared.alloc.Global.{Global}
-use Rattle.outcomes.specs.declared.outcome.Cause.TheVariants.{Limit as ForLimit, Memory as ForMemory, Start as ForStart, Cost as ForCost, Cut as ForCut}
-use Rattle.outcomes.specs.declared.outcome.Outcome.TheVariants.{Optimal, Unsolvable, Bounded}
-use Rattle.world_model.specs.Outcomes.{IsBoundOf, IsPlanOf, IsAboveCost, IsCauseOf, IsGivenAt, IsGiven}
-use Rattle.world_model.specs.Books.{limit_of, IsNotBelow}
-use Rattle.world_model.specs.Worlds.{WorldState, IsWorker, Knows, LiesIn, IsBoundFor, IsInFrontier, IsLowest, IsReached}
+use Rattle.outcomes.specs.declared.outcome.Cause.TheVariants.{Memory as ForMemory, Cost as ForCost, Cut as ForCut}
+use Rattle.outcomes.specs.declared.outcome.Outcome.TheVariants.{Bounded}
+use Rattle.world_model.specs.Costs.{IsLeastWith, IsNotBelow, limit_of}
+use Rattle.world_model.specs.Credit.{IsCredited, expansion_count, packet_count}
+use Rattle.world_model.specs.Frontiers.{IsInFrontier, IsLowest, IsReached}
+use Rattle.world_model.specs.Outcomes.{IsBoundOf, IsGiven, IsGivenAt, cause_of, is_too_high}
+use Rattle.world_model.specs.Quiet.{IsQuiet}
 use Rattle.world_model.specs.Shapes.{IsShaped}
-use Rattle.world_model.specs.Credit.{packet_count, expansion_count, IsIdle, IsCredited, IsQuiet}
+use Rattle.world_model.specs.Soundness.{IsSound}
+use Rattle.world_model.specs.WorkerSteps.{Lane}
+use Rattle.world_model.specs.Workers.{IsIdle, WorkerState}
+use Rattle.world_model.specs.Worlds.{IsUnderWay, IsWorker, Knows, LiesIn, WorldState}
 use Rattle.world_model.proofs.ListLemmas.{part_le, none_in_empty, get_below, all_from_places, sum_plus, sum_le_but_one}
 use Rattle.world_model.proofs.CreditLemmas.{limit_falls}
+use Rattle.world_model.proofs.OutcomeLemmas.{end_at, above_bound}
+use Rattle.world_model.specs.declared.limits.TheConstants.{GREATEST_GRANT}
+use Rattle.world_model.specs.declared.steps.Stop.{Stop}
+use Rattle.board.specs.Rows.{IsLowerBound}
+use Rattle.board.specs.declared.costs.TheConstants.{GREATEST_EXPANDED_COST}
+use Rattle.std.proofs.lemmas.Bool.{cond-true, lt-ltb}
+use Rattle.std.proofs.Common.{true}
 
 module _ (w : WorldState) (shaped : IsShaped w) (credited : IsCredited w) (stop : w.book.stop ≡ Some Quiet) where
   no_credit : w.book.credit ≡ 0
@@ -37,17 +45,17 @@ module _ (w : WorldState) (shaped : IsShaped w) (credited : IsCredited w) (stop 
   no_purse : (i : ℕ) (worker : WorkerState) → IsWorker w i worker → worker.purse ≡ 0
   no_purse i worker is = let le = part_le (λ (x : WorkerState). x.purse) w.workers i worker is in let e = credited.credit in let z = no_credit in omega arith
 
-  idle : (i : ℕ) (worker : WorkerState) → IsWorker w i worker → IsIdle w.task w.book.best worker
+  idle : (i : ℕ) (worker : WorkerState) → IsWorker w i worker → IsIdle w.task worker (limit_of worker.best) w.book.best
   idle i worker is = (credited.workers i worker is).idle (no_purse i worker is)
 
   none_lies : (from to : ℕ) (packet : List Item) → LiesIn w from to packet → ⊥
   none_lies from to packet lies =
-      let row = part_le (λ (r : List (List (List Item))). sum_by length r) w.lanes from lies.is.from_lanes lies.is.of_sender in
+      let row = part_le (λ (r : List Lane). sum_by length r) w.lanes from lies.is.from_lanes lies.is.of_sender in
       let lane = part_le (λ (l : List (List Item)). length l) lies.is.from_lanes to lies.lane lies.is.of_receiver in
       let z = no_packet_count in
       omega (arith, lies.lies.1)
 
-  none_bound : (to : ℕ) (offer : Item) → IsBoundFor w to offer → ⊥
+  none_bound : (to : ℕ) (offer : Item) → IsUnderWay w to offer → ⊥
   none_bound to offer (inl has) = none_in_empty has.0.held offer (idle to has.0 has.1).holds_nothing has.2
   none_bound to offer (inr (inl has)) = none_in_empty has.2 offer (emptied has.1.unsent has.2 (idle has.0 has.1 has.3).sends_nothing has.4) has.5
     where
@@ -58,7 +66,7 @@ module _ (w : WorldState) (shaped : IsShaped w) (credited : IsCredited w) (stop 
   none_below : (b : Position) (cost : ℕ) → IsInFrontier w b cost → limit_of w.book.best ≤ cost + w.task.sum b
   none_below b cost (inl has) =
       let knows = has.2 in
-      let le = (idle has.0 knows.worker knows.is).no_board b has.1 (has.1.cost + w.task.sum b) (record { board = knows.board; knows = knows.knows; closed = has.3; no_goal = has.4; adds = refl }) in
+      let le = (idle has.0 knows.worker knows.is).no_board b has.1 (record { board = knows.board; knows = knows.knows; unexpanded = has.3; no_goal = has.4 }) in
       let le' = limit_falls knows.worker.best w.book.best (credited.workers has.0 knows.worker knows.is).copy in
       omega (arith, has.5)
   none_below b cost (inr has) = absurd (none_bound has.0 has.1 has.2)
@@ -79,9 +87,7 @@ module _ (w : WorldState) (shaped : IsShaped w) (credited : IsCredited w) (stop 
   pub quiet_true : IsQuiet w
   quiet_true = record {
     lanes = no_packet_count;
-    purses = no_purse;
-    held = λ i worker is. (idle i worker is).holds_nothing;
-    unsent = λ i worker is. (idle i worker is).sends_nothing;
+    workers = λ i worker is. record { purse = no_purse i worker is; held = (idle i worker is).holds_nothing; unsent = (idle i worker is).sends_nothing };
     frontier = none_below;
     best = reached_at w.book.best refl;
   }
@@ -92,45 +98,49 @@ least_unique P None (Some y) a b = absurd (a y b.0)
 least_unique P (Some x) None a b = absurd (b x a.0)
 least_unique P (Some x) (Some y) a b = let le = a.1 y b.0 in let le' = b.1 x a.0 in let e : x ≡ y = omega arith in ap Some e
 
--- a bound that a known goal's plan is above isn't reached by a frontier that is
-no_cut : (task : Task) (lowest reached : Option ℕ) (bound : ℕ) (best : Option (ℕ × List Move)) → ((f : ℕ) → lowest ≡ Some f → limit_of reached ≤ f) → IsBoundOf task lowest reached bound → IsPlanOf task reached best → IsBestPlan task bound best → IsAboveCost lowest
-no_cut task None reached bound best high is plan better = tt
-no_cut task (Some f) None bound best high is plan better = let le = high f refl in omega arith
-no_cut task (Some f) (Some c) bound None high is plan better = absurd plan
-no_cut task (Some f) (Some c) bound (Some k) high is plan better =
-    ⊎_elim
-    (λ (lt : 1048320 < f). lt)
-    (λ (le : f ≤ 1048320). absurd (let least = high f refl in let e : min f c ≡ is.0 = cc (is.1) in omega (arith, is.2, plan.1, better.1)))
-    (cases_lt 1048320 f)
+-- a frontier that is not below the limit of the goal's cost, though the bound is, is too high to be expanded
+too_high : (w : WorldState) (lowest reached : Option ℕ) (bound : ℕ) → ((f : ℕ) → lowest ≡ Some f → limit_of reached ≤ f) → IsBoundOf (end_at w lowest reached) bound → ((goal : ℕ) → reached ≡ Some goal → bound < goal) → is_too_high lowest ≡ true
+too_high w None reached bound high is below = refl
+too_high w (Some f) None bound high is below = lt-ltb GREATEST_EXPANDED_COST f (let le = high f refl in omega arith)
+too_high w (Some f) (Some c) bound high is below =
+    lt-ltb GREATEST_EXPANDED_COST f (let le = high f refl in let lt = below c refl in let e : min f c ≡ is.0 = cc (is.1) in omega (arith, is.2))
 
-quiet_cause : (lowest : Option ℕ) (cause : Cause) → IsAboveCost lowest → IsCauseOf (Some Quiet) lowest cause → cause ≡ ForCost
-quiet_cause lowest cause above (inl is) = is.1
-quiet_cause lowest cause above (inr is) = absurd (is.0 above)
+module _ (w : WorldState) (shaped : IsShaped w) (sound : IsSound w) (credited : IsCredited w) (lower : IsLowerBound w.task.rule w.task.sum w.task.goal) (stop : w.book.stop ≡ Some Quiet) (lowest reached : Option ℕ) (is_lowest : IsLowest w lowest) (is_reached : IsReached w reached) where
+  quiet : IsQuiet w
+  quiet = quiet_true w shaped credited stop
 
-module _ (w : WorldState) (shaped : IsShaped w) (credited : IsCredited w) (stop : w.book.stop ≡ Some Quiet) (b : ℕ) (p : Option (ℕ × Vec Move Global)) (cause : Cause) where
-  frontier_high : IsQuiet w → (f : ℕ) → IsLowest w (Some f) → limit_of w.book.best ≤ f
-  frontier_high quiet f low = let le = quiet.frontier low.0.0 low.0.1 low.0.2 in omega (arith, low.0.3)
+  same_best : w.book.best ≡ reached
+  same_best = least_unique (λ cost. (known : Known) × Knows w (w.owner w.task.goal) w.task.goal known × (known.cost ≡ cost)) w.book.best reached quiet.best is_reached
 
-  cause_at : (lowest reached : Option ℕ) → IsLowest w lowest → IsReached w reached → IsGivenAt w lowest reached (Bounded b p cause) → (cause ≡ ForCost) ⊎ ((refused : OutOfMemory) × (cause ≡ ForMemory (Refused refused)) × (p ≡ None))
-  cause_at lowest reached is_lowest is_reached (inl none) = absurd (cc (none.1))
-  cause_at lowest reached is_lowest is_reached (inr (n, is, inl gives)) = absurd (cc (gives.is))
-  cause_at lowest reached is_lowest is_reached (inr (n, is, inr (inl gives))) =
-      let e : Bounded b p cause ≡ Bounded n gives.best gives.cause = gives.is in
-      let e' : cause ≡ gives.cause = cc in
-      let same : w.book.best ≡ reached = least_unique (λ cost. (known : Known) × Knows w (w.owner w.task.goal) w.task.goal known × (known.cost ≡ cost)) w.book.best reached (quiet_true w shaped credited stop).best is_reached in
-      let above = no_cut w.task lowest reached n (best_of gives.best) (λ f at. subst (λ o. limit_of o ≤ f) same (frontier_high (quiet_true w shaped credited stop) f (subst (IsLowest w) at is_lowest))) is gives.followed gives.above in
-      inl (e' ∙ quiet_cause lowest gives.cause above (subst (λ s. IsCauseOf s lowest gives.cause) stop gives.caused))
-  cause_at lowest reached is_lowest is_reached (inr (n, is, inr (inr gives))) = let e = gives.2 in inr (gives.1, cc, cc)
+  frontier_high : (f : ℕ) → lowest ≡ Some f → limit_of reached ≤ f
+  frontier_high f at =
+      let low : IsLowest w (Some f) = subst (IsLowest w) at is_lowest in
+      let le = quiet.frontier low.0.0 low.0.1 low.0.2 in
+      let le' : limit_of reached ≤ low.0.1 + w.task.sum low.0.0 = subst (λ o. limit_of o ≤ low.0.1 + w.task.sum low.0.0) same_best le in
+      omega (arith, low.0.3)
 
-pub quiet_for_cost : (w : WorldState) (bound : ℕ) (best : Option (ℕ × Vec Move Global)) (cause : Cause) → IsShaped w → IsCredited w → w.book.stop ≡ Some Quiet → IsGiven w (Bounded bound best cause) → (cause ≡ ForCost) ⊎ ((refused : OutOfMemory) × (cause ≡ ForMemory (Refused refused)) × (best ≡ None))
-quiet_for_cost w bound best cause shaped credited stop given = cause_at w shaped credited stop bound best cause given.0 given.1 given.2 given.3 given.4
+  -- the cause of a quiet world is the cost, where its frontier is too high
+  quiet_cause : (cause : Cause) → is_too_high lowest ≡ true → cause ≡ cause_of w.book.stop lowest → cause ≡ ForCost
+  quiet_cause cause high is = is ∙ ap (λ (o : Option Stop). cause_of o lowest) stop ∙ cond-true _ _ _ high
 
-not_cut : (cause : Cause) (best : Option (ℕ × Vec Move Global)) → cause ≡ ForCut → (cause ≡ ForCost) ⊎ ((refused : OutOfMemory) × (cause ≡ ForMemory (Refused refused)) × (best ≡ None)) → ⊥
-not_cut cause best cut (inl cost) = let e : ForCut ≡ ForCost = sym cut ∙ cost in cc
-not_cut cause best cut (inr memory) = let e : ForCut ≡ ForMemory (Refused memory.0) = sym cut ∙ memory.1 in cc
+  for_cost_at : (bound : ℕ) (best : Option (ℕ × Vec Move Global)) (cause : Cause) → IsGivenAt (end_at w lowest reached) (Bounded bound best cause) → (cause ≡ ForCost) ⊎ ((best ≡ None) × ((refused : OutOfMemory) × (cause ≡ ForMemory (Refused refused))))
+  for_cost_at bound None cause (is, inl given) =
+      inl (quiet_cause cause (too_high w lowest reached bound frontier_high is (λ goal at. let e : ◌≡◌ {A = Option ℕ} None (Some goal) = sym given.0 ∙ at in cc)) given.1)
+  for_cost_at bound None cause (is, inr lacks) = inr (refl, lacks.1)
+  for_cost_at bound (Some best) cause given =
+      let followed = given.1 in
+      let above = above_bound w shaped sound lower lowest reached is_lowest is_reached bound best.0 best.1.items given.0 followed given.2 in
+      inl (quiet_cause cause (too_high w lowest reached bound frontier_high given.0 (λ goal at. let e : Some followed.goal ≡ Some goal = sym followed.is ∙ at in let e' : followed.goal ≡ goal = cc in omega (arith, followed.within))) given.3)
 
-pub quiet_never_cut : (w : WorldState) (outcome : Outcome) → IsShaped w → IsCredited w → w.book.stop ≡ Some Quiet → IsGiven w outcome → (bound : ℕ) (best : Option (ℕ × Vec Move Global)) → outcome ≢ Bounded bound best ForCut
-quiet_never_cut w outcome shaped credited stop given bound best is_cut = not_cut ForCut best refl (quiet_for_cost w bound best ForCut shaped credited stop (subst (IsGiven w) is_cut given))
+pub quiet_for_cost : (w : WorldState) (bound : ℕ) (best : Option (ℕ × Vec Move Global)) (cause : Cause) → IsShaped w → IsSound w → IsCredited w → IsLowerBound w.task.rule w.task.sum w.task.goal → w.book.stop ≡ Some Quiet → IsGiven w (Bounded bound best cause) → (cause ≡ ForCost) ⊎ ((best ≡ None) × ((refused : OutOfMemory) × (cause ≡ ForMemory (Refused refused))))
+quiet_for_cost w bound best cause shaped sound credited lower stop given = for_cost_at w shaped sound credited lower stop given.0 given.1 given.2 given.3 bound best cause given.4
+
+not_cut : (best : Option (ℕ × Vec Move Global)) → (ForCut ≡ ForCost) ⊎ ((best ≡ None) × ((refused : OutOfMemory) × (ForCut ≡ ForMemory (Refused refused)))) → ⊥
+not_cut best (inl cost) = cc
+not_cut best (inr memory) = let e = memory.1.1 in cc
+
+pub quiet_never_cut : (w : WorldState) (bound : ℕ) (best : Option (ℕ × Vec Move Global)) → IsShaped w → IsSound w → IsCredited w → IsLowerBound w.task.rule w.task.sum w.task.goal → w.book.stop ≡ Some Quiet → ¬ IsGiven w (Bounded bound best ForCut)
+quiet_never_cut w bound best shaped sound credited lower stop given = not_cut best (quiet_for_cost w bound best ForCut shaped sound credited lower stop given)
 
 pub expansions_limited : (w : WorldState) → IsCredited w → expansion_count w ≤ w.book.limit
 expansions_limited w credited =
@@ -139,12 +149,12 @@ expansions_limited w credited =
     let within = credited.within_limit in
     omega arith
 
-pub limit_spent : (w : WorldState) → IsCredited w → w.book.stop ≡ Some Limit → (w.book.granted ≡ w.book.limit) × (w.book.limit ≤ expansion_count w + 256 * (length w.workers - 1))
+pub limit_spent : (w : WorldState) → IsCredited w → w.book.stop ≡ Some Limit → (w.book.granted ≡ w.book.limit) × (w.book.limit ≤ expansion_count w + GREATEST_GRANT * (length w.workers - 1))
 limit_spent w credited stop =
     let h = credited.at_limit stop in
     let who = h.1 in
     let parts = sum_plus (λ (x : WorkerState). x.allowance) (λ (x : WorkerState). x.expansions) w.workers in
-    let left = sum_le_but_one (λ (x : WorkerState). x.allowance) 256 w.workers who.0 who.1 (record who.1 { allowance = 256 }) (all_from_places (λ x. x.allowance ≤ 256) w.workers (λ i x at. (credited.workers i x at).allowance)) who.2 who.3 refl in
+    let left = sum_le_but_one (λ (x : WorkerState). x.allowance) GREATEST_GRANT w.workers who.0 who.1 (record who.1 { allowance = GREATEST_GRANT }) (all_from_places (λ x. x.allowance ≤ GREATEST_GRANT) w.workers (λ i x at. (credited.workers i x at).allowance)) who.2 who.3 refl in
     let some = slice_get_within w.workers who.0 who.1 who.2 in
     let e = credited.granted in
     (h.0, omega (arith, h.0))

@@ -1,78 +1,99 @@
 -- Each step keeps a world shaped.
-use Rattle.std.proofs.Common.{ℕ, ◌<◌, List, length, refl, sym, subst, inl, inr, Option}
+use Rattle.std.proofs.Common.{◌≡◌, ℕ, ◌<◌, [], length, refl, sym, subst, inl, inr, Option, Some, None}
+use Rattle.std.specs.Prelude.{slice_get, unwrap_or}
+use Rattle.board.specs.Positions.{Position}
+use Rattle.world_model.specs.declared.steps.Refusal.{Refusal}
 use Rattle.world_model.specs.declared.steps.Step.{Step}
 use Rattle.world_model.specs.declared.steps.Step.TheVariants.{Expand, Settle, Send, Deliver, Draw, Announce, Grant, Rest, Halt}
-use Rattle.world_model.specs.declared.steps.Refusal.{Refusal}
-use Rattle.board.specs.Positions.{Position}
-use Rattle.outcomes.specs.Outcomes.{Task}
-use Rattle.world_model.specs.declared.parts.Item.{Item}
-use Rattle.world_model.specs.Workers.{WorkerState}
-use Rattle.world_model.specs.Books.{BookState}
-use Rattle.world_model.specs.WorkerSteps.{ExpandStep, SettleStep, SendStep, DeliverStep}
-use Rattle.world_model.specs.Worlds.{WorldState}
-use Rattle.world_model.specs.Shapes.{IsTask, IsShapedWorker, IsShapedLane, IsShaped}
-use Rattle.world_model.specs.Steps.{ByWorkerAndBook, Next}
+use Rattle.world_model.specs.BookSteps.{AtBook}
+use Rattle.world_model.specs.Shapes.{IsShaped, IsShapedLane, IsShapedWorker, IsTask}
+use Rattle.world_model.specs.Steps.{Next}
+use Rattle.world_model.specs.Turns.{Turn}
+use Rattle.world_model.specs.WorkerSteps.{AtLane, DeliverStep, ExpandStep, SendStep, SettleStep}
+use Rattle.world_model.specs.Workers.{Packet, Role, WorkerState, packet_for}
+use Rattle.world_model.specs.Worlds.{WorldState, role_of}
+use Rattle.world_model.proofs.BookKept.{IsKeptByBook, draw_same, announce_same, grant_same, rest_same, halt_same}
+use Rattle.world_model.proofs.StepCases.{Cases, Expands, Settles, Sends, Delivers, BookChange, Accepts, expand_cases, settle_cases, send_cases, deliver_cases, next_cases}
 use Rattle.world_model.proofs.ShapeKept.{expanded_low, shaped_same, shaped_settled, shaped_sent, shaped_delivered, shaped_expanded, lane_sent, lane_delivered, shaped_by_worker, shaped_by_lane}
-use Rattle.world_model.proofs.BookKept.{IsSame, KeepsBoards, draw_keeps, announce_keeps, grant_keeps, rest_keeps, halt_keeps}
 
-module _ (task : Task) (owner : Position → ℕ) (n i : ℕ) (worker : WorkerState) (shaped : IsShapedWorker task owner n i worker) (answer : Option Refusal) (worker' : WorkerState) where
-  pub expand_shaped : IsTask task → ((b : Position) → owner b < n) → ExpandStep task owner i worker answer worker' → IsShapedWorker task owner n i worker'
-  expand_shaped is owners (inl refused) = subst (IsShapedWorker task owner n i) (sym refused.1.1) shaped
-  expand_shaped is owners (inr (busy, inl refused)) = subst (IsShapedWorker task owner n i) (sym refused.1.1) shaped
-  expand_shaped is owners (inr (busy, inr (left, (b, known, f, at, floor, inl refused)))) = subst (IsShapedWorker task owner n i) (sym refused.1.1) shaped
-  expand_shaped is owners (inr (busy, inr (left, (b, known, f, at, floor, inr (room, inl new))))) = subst (IsShapedWorker task owner n i) (sym new.1) (shaped_expanded task owner n i worker shaped is owners b known f at (expanded_low task worker f busy floor) room)
-  expand_shaped is owners (inr (busy, inr (left, (b, known, f, at, floor, inr (room, inr refused))))) = subst (IsShapedWorker task owner n i) (sym refused.1.1) shaped
+-- what is unsent for a worker, where there is something
+pub some_unsent : (o : Option Packet) → ¬ (unwrap_or o [] ≡ []) → o ≡ Some (unwrap_or o [])
+some_unsent None some = absurd (some refl)
+some_unsent (Some packet) some = refl
 
-  pub settle_shaped : SettleStep worker answer worker' → IsShapedWorker task owner n i worker'
-  settle_shaped (inl refused) = subst (IsShapedWorker task owner n i) (sym refused.1.1) shaped
-  settle_shaped (inr (some, (front, last, held, inl new))) = subst (IsShapedWorker task owner n i) (sym new.1) (shaped_settled task owner n i worker shaped front last held)
-  settle_shaped (inr (some, (front, last, held, inr refused))) = subst (IsShapedWorker task owner n i) (sym refused.1.1) shaped
+module _ (n : ℕ) (role : Role) (worker worker' : WorkerState) (shaped : IsShapedWorker n role worker) where
+  expands_shaped : IsTask role.task → ((b : Position) → role.owner b < n) → Expands role worker worker' → IsShapedWorker n role worker'
+  expands_shaped is owners step =
+      subst (IsShapedWorker n role) (sym step.is) (shaped_expanded n role worker shaped is owners step.board step.known step.next.opens (expanded_low role.task worker step.board step.known step.busy step.next) step.room)
 
-  pub same_shaped : IsSame worker worker' → IsShapedWorker task owner n i worker'
-  same_shaped same = shaped_same task owner n i worker shaped worker' same.known same.held same.unsent
+  settles_shaped : Settles worker worker' → IsShapedWorker n role worker'
+  settles_shaped step = subst (IsShapedWorker n role) (sym step.is) (shaped_settled n role worker shaped step.front step.last step.held)
 
 -- a worker of a shape, and a lane of one
-abbrev BothShaped : Task → (Position → ℕ) → ℕ → ℕ → ℕ → WorkerState × List (List Item) → Type 0
-BothShaped task owner n i to x = IsShapedWorker task owner n i x.0 × IsShapedLane task owner to x.1
+abbrev BothShaped : ℕ → Role → ℕ → AtLane → Type 0
+BothShaped n role to x = IsShapedWorker n role x.worker × IsShapedLane role.task role.owner to x.lane
 
-module _ (task : Task) (owner : Position → ℕ) (n i : ℕ) (worker : WorkerState) (shaped : IsShapedWorker task owner n i worker) (lane : List (List Item)) (answer : Option Refusal) (worker' : WorkerState) (lane' : List (List Item)) where
-  pub send_shaped : (to : ℕ) → IsShapedLane task owner to lane → SendStep to worker lane answer worker' lane' → BothShaped task owner n i to (worker', lane')
-  send_shaped to good (packet, is, inl refused) = subst (BothShaped task owner n i to) (sym refused.1.1) (shaped, good)
-  send_shaped to good (packet, is, inr (some, inl refused)) = subst (BothShaped task owner n i to) (sym refused.1.1) (shaped, good)
-  send_shaped to good (packet, is, inr (some, inr (rich, inl refused))) = subst (BothShaped task owner n i to) (sym refused.1.1) (shaped, good)
-  send_shaped to good (packet, is, inr (some, inr (rich, inr (room, new)))) = subst (BothShaped task owner n i to) (sym new.1) (shaped_sent task owner n i worker shaped to _, lane_sent task owner to lane packet good (shaped.unsent to packet is) some room)
+sends_shaped : (n to : ℕ) (role : Role) (x y : AtLane) → BothShaped n role to x → Sends to x y → BothShaped n role to y
+sends_shaped n to role x y both step =
+    subst (BothShaped n role to) (sym step.is)
+    (shaped_sent n role x.worker both.0 to _, lane_sent role.task role.owner to x.lane (packet_for x.worker to) both.1 (both.0.unsent to (packet_for x.worker to) (some_unsent (slice_get x.worker.unsent to) step.some)) step.some step.room)
 
-  pub deliver_shaped : IsShapedLane task owner i lane → DeliverStep worker lane answer worker' lane' → BothShaped task owner n i i (worker', lane')
-  deliver_shaped good (inl refused) = subst (BothShaped task owner n i i) (sym refused.1.1) (shaped, good)
-  deliver_shaped good (inr (free, inl refused)) = subst (BothShaped task owner n i i) (sym refused.1.1) (shaped, good)
-  deliver_shaped good (inr (free, inr (fits, inl refused))) = subst (BothShaped task owner n i i) (sym refused.1.1) (shaped, good)
-  deliver_shaped good (inr (free, inr (fits, inr (some, (packet, rest, is, new))))) =
-      let both = lane_delivered task owner i lane packet rest is good in
-      subst (BothShaped task owner n i i) (sym new.1) (shaped_delivered task owner n i worker shaped packet _ both.1, both.0)
+delivers_shaped : (n : ℕ) (role : Role) (x y : AtLane) → BothShaped n role role.me x → Delivers x y → BothShaped n role role.me y
+delivers_shaped n role x y both step =
+    let lane = lane_delivered role.task role.owner role.me x.lane step.packet step.rest step.first both.1 in
+    subst (BothShaped n role role.me) (sym step.is) (shaped_delivered n role x.worker both.0 step.packet _ lane.1, lane.0)
 
-by_book : (w : WorldState) (answer : Option Refusal) (w' : WorldState) (i : ℕ) (BookStep : WorkerState → BookState → WorkerState → BookState → Type 0) → ((worker : WorkerState) (book : BookState) (worker' : WorkerState) (book' : BookState) → BookStep worker book worker' book' → KeepsBoards worker book worker' book') → IsShaped w → ByWorkerAndBook w answer w' i BookStep → IsShaped w'
-by_book w answer w' i BookStep keeps shaped (inl refused) = subst IsShaped (sym refused.1.1) shaped
-by_book w answer w' i BookStep keeps shaped (inr (there, (worker, worker', book', is, step, left))) =
-    let kept = keeps worker w.book worker' book' step in
-    subst IsShaped (sym left) (shaped_by_worker w shaped i worker is worker' (same_shaped w.task w.owner (length w.workers) i worker (shaped.workers i worker is) answer worker' kept.0) book' kept.1)
+pub expand_shaped : (n : ℕ) (role : Role) (it : Turn WorkerState Refusal) → IsTask role.task → ((b : Position) → role.owner b < n) → ExpandStep role it → IsShapedWorker n role it.before → IsShapedWorker n role it.after
+expand_shaped n role it is owners step shaped = split (expand_cases role it step)
+  where
+    split : Cases it (Expands role it.before it.after) → IsShapedWorker n role it.after
+    split (inl out) = subst (IsShapedWorker n role) (sym out.1.1) shaped
+    split (inr done) = expands_shaped n role it.before it.after shaped is owners done.1
 
-pub steps_shaped : (w : WorldState) (answer : Option Refusal) (w' : WorldState) (step : Step) → IsShaped w → Next w answer w' step → IsShaped w'
-steps_shaped w answer w' (Expand i) shaped (inl refused) = subst IsShaped (sym refused.1.1) shaped
-steps_shaped w answer w' (Expand i) shaped (inr (there, (worker, worker', is, step, left))) =
-    subst IsShaped (sym left) (shaped_by_worker w shaped i worker is worker' (expand_shaped w.task w.owner (length w.workers) i worker (shaped.workers i worker is) answer worker' shaped.task shaped.owners step) w.book refl)
-steps_shaped w answer w' (Settle i) shaped (inl refused) = subst IsShaped (sym refused.1.1) shaped
-steps_shaped w answer w' (Settle i) shaped (inr (there, (worker, worker', is, step, left))) =
-    subst IsShaped (sym left) (shaped_by_worker w shaped i worker is worker' (settle_shaped w.task w.owner (length w.workers) i worker (shaped.workers i worker is) answer worker' step) w.book refl)
-steps_shaped w answer w' (Send i j) shaped (inl refused) = subst IsShaped (sym refused.1.1) shaped
-steps_shaped w answer w' (Send i j) shaped (inr (there, (worker, worker', lane, lane', is, at, step, left))) =
-    let both = send_shaped w.task w.owner (length w.workers) i worker (shaped.workers i worker is) lane answer worker' lane' j (shaped.lanes i j lane at) step in
-    subst IsShaped (sym left) (shaped_by_lane w shaped i worker is worker' both.0 w.book refl i j lane lane' at both.1)
-steps_shaped w answer w' (Deliver i j) shaped (inl refused) = subst IsShaped (sym refused.1.1) shaped
-steps_shaped w answer w' (Deliver i j) shaped (inr (there, (worker, worker', lane, lane', is, at, step, left))) =
-    let both = deliver_shaped w.task w.owner (length w.workers) i worker (shaped.workers i worker is) lane answer worker' lane' (shaped.lanes j i lane at) step in
-    subst IsShaped (sym left) (shaped_by_lane w shaped i worker is worker' both.0 w.book refl j i lane lane' at both.1)
-steps_shaped w answer w' (Draw i) shaped next = by_book w answer w' i _ (λ worker book worker' book' step. draw_keeps worker book answer worker' book' step) shaped next
-steps_shaped w answer w' (Announce i) shaped next = by_book w answer w' i _ (λ worker book worker' book' step. announce_keeps worker book answer worker' book' w.task w.owner i step) shaped next
-steps_shaped w answer w' (Grant i) shaped next = by_book w answer w' i _ (λ worker book worker' book' step. grant_keeps worker book answer worker' book' w.task step) shaped next
-steps_shaped w answer w' (Rest i) shaped next = by_book w answer w' i _ (λ worker book worker' book' step. rest_keeps worker book answer worker' book' w.task i step) shaped next
-steps_shaped w answer w' (Halt i cause) shaped next = by_book w answer w' i _ (λ worker book worker' book' step. halt_keeps worker book answer worker' book' w.task cause step) shaped next
+pub settle_shaped : (n : ℕ) (role : Role) (it : Turn WorkerState Refusal) → SettleStep it → IsShapedWorker n role it.before → IsShapedWorker n role it.after
+settle_shaped n role it step shaped = split (settle_cases it step)
+  where
+    split : Cases it (Settles it.before it.after) → IsShapedWorker n role it.after
+    split (inl out) = subst (IsShapedWorker n role) (sym out.1.1) shaped
+    split (inr done) = settles_shaped n role it.before it.after shaped done.1
+
+pub send_shaped : (n to : ℕ) (role : Role) (it : Turn AtLane Refusal) → SendStep to it → IsShapedWorker n role it.before.worker → IsShapedLane role.task role.owner to it.before.lane → IsShapedWorker n role it.after.worker × IsShapedLane role.task role.owner to it.after.lane
+send_shaped n to role it step shaped lane = split (send_cases to it step)
+  where
+    split : Cases it (Sends to it.before it.after) → BothShaped n role to it.after
+    split (inl out) = subst (BothShaped n role to) (sym out.1.1) (shaped, lane)
+    split (inr done) = sends_shaped n to role it.before it.after (shaped, lane) done.1
+
+pub deliver_shaped : (n : ℕ) (role : Role) (it : Turn AtLane Refusal) → DeliverStep it → IsShapedWorker n role it.before.worker → IsShapedLane role.task role.owner role.me it.before.lane → IsShapedWorker n role it.after.worker × IsShapedLane role.task role.owner role.me it.after.lane
+deliver_shaped n role it step shaped lane = split (deliver_cases it step)
+  where
+    split : Cases it (Delivers it.before it.after) → BothShaped n role role.me it.after
+    split (inl out) = subst (BothShaped n role role.me) (sym out.1.1) (shaped, lane)
+    split (inr done) = delivers_shaped n role it.before it.after (shaped, lane) done.1
+
+on_book : (w w' : WorldState) (i : ℕ) (Change : AtBook → AtBook → Type 0) → ((x y : AtBook) → Change x y → IsKeptByBook x y) → IsShaped w → BookChange i Change w w' → IsShaped w'
+on_book w w' i Change keeps shaped step =
+    let kept = keeps (record { worker = step.worker; book = w.book }) step.new step.change in
+    subst IsShaped (sym step.is) (shaped_by_worker w shaped i step.worker step.at step.new.worker (shaped_same (length w.workers) (role_of w i) step.worker (shaped.workers i step.worker step.at) step.new.worker kept.worker.known kept.worker.held kept.worker.unsent) step.new.book kept.floors)
+
+accepts_shaped : (step : Step) (w w' : WorldState) → IsShaped w → Accepts step w w' → IsShaped w'
+accepts_shaped (Expand i) w w' shaped step = subst IsShaped (sym step.is) (shaped_by_worker w shaped i step.worker step.at step.new (expands_shaped (length w.workers) (role_of w i) step.worker step.new (shaped.workers i step.worker step.at) shaped.task shaped.owners step.change) w.book refl)
+accepts_shaped (Settle i) w w' shaped step = subst IsShaped (sym step.is) (shaped_by_worker w shaped i step.worker step.at step.new (settles_shaped (length w.workers) (role_of w i) step.worker step.new (shaped.workers i step.worker step.at) step.change) w.book refl)
+accepts_shaped (Send i j) w w' shaped step =
+    let both = sends_shaped (length w.workers) j (role_of w i) (record { worker = step.worker; lane = step.lane }) step.new (shaped.workers i step.worker step.at, shaped.lanes i j step.lane step.at_lane) step.change in
+    subst IsShaped (sym step.is) (shaped_by_lane w shaped i step.worker step.at step.new.worker both.0 w.book refl i j step.lane step.new.lane step.at_lane both.1)
+accepts_shaped (Deliver i j) w w' shaped step =
+    let both = delivers_shaped (length w.workers) (role_of w i) (record { worker = step.worker; lane = step.lane }) step.new (shaped.workers i step.worker step.at, shaped.lanes j i step.lane step.at_lane) step.change in
+    subst IsShaped (sym step.is) (shaped_by_lane w shaped i step.worker step.at step.new.worker both.0 w.book refl j i step.lane step.new.lane step.at_lane both.1)
+accepts_shaped (Draw i) w w' shaped step = on_book w w' i _ draw_same shaped step
+accepts_shaped (Announce i) w w' shaped step = on_book w w' i _ (announce_same (role_of w i)) shaped step
+accepts_shaped (Grant i) w w' shaped step = on_book w w' i _ (grant_same (role_of w i)) shaped step
+accepts_shaped (Rest i) w w' shaped step = on_book w w' i _ (rest_same (role_of w i)) shaped step
+accepts_shaped (Halt i cause) w w' shaped step = on_book w w' i _ (halt_same cause) shaped step
+
+pub steps_shaped : (step : Step) (it : Turn WorldState Refusal) → Next step it → IsShaped it.before → IsShaped it.after
+steps_shaped step it next shaped = split (next_cases step it next)
+  where
+    split : Cases it (Accepts step it.before it.after) → IsShaped it.after
+    split (inl out) = subst IsShaped (sym out.1.1) shaped
+    split (inr done) = accepts_shaped step it.before it.after shaped done.1

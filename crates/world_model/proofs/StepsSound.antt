@@ -1,75 +1,51 @@
 -- Each step keeps a world sound.
-use Rattle.std.proofs.Common.{◌≡◌, ℕ, List, sym, subst, inl, inr, Option}
+use Rattle.std.proofs.Common.{ℕ, sym, subst, inl, inr}
+use Rattle.std.specs.Prelude.{slice_get}
+use Rattle.world_model.specs.declared.steps.Refusal.{Refusal}
 use Rattle.world_model.specs.declared.steps.Step.{Step}
 use Rattle.world_model.specs.declared.steps.Step.TheVariants.{Expand, Settle, Send, Deliver, Draw, Announce, Grant, Rest, Halt}
-use Rattle.world_model.specs.declared.steps.Refusal.{Refusal}
-use Rattle.world_model.specs.Books.{BookState}
-use Rattle.world_model.specs.declared.parts.Item.{Item}
-use Rattle.world_model.specs.Workers.{WorkerState}
-use Rattle.world_model.specs.WorkerSteps.{ExpandStep, SettleStep, SendStep, DeliverStep}
-use Rattle.world_model.specs.Worlds.{WorldState, IsWorker, IsLane, IsSound}
+use Rattle.world_model.specs.BookSteps.{AtBook}
 use Rattle.world_model.specs.Shapes.{IsShaped}
-use Rattle.world_model.specs.Steps.{changed, with_lane, ByWorkerAndBook, Next}
+use Rattle.world_model.specs.Soundness.{IsSound}
+use Rattle.world_model.specs.Steps.{Next, with_lane}
+use Rattle.world_model.specs.Turns.{Turn}
+use Rattle.world_model.specs.WorkerSteps.{AtLane}
+use Rattle.world_model.specs.Workers.{packet_for}
+use Rattle.world_model.specs.Worlds.{WorldState, role_of}
 use Rattle.world_model.proofs.ListLemmas.{is_empty}
-use Rattle.world_model.proofs.ChangeLemmas.{unchanged_world, unchanged_lanes}
-use Rattle.world_model.proofs.BookKept.{KeepsBoards, draw_keeps, announce_keeps, grant_keeps, rest_keeps, halt_keeps}
+use Rattle.world_model.proofs.ChangeLemmas.{changed}
+use Rattle.world_model.proofs.StepCases.{Cases, BookChange, Accepts, next_cases}
+use Rattle.world_model.proofs.BookKept.{IsKeptByBook, draw_same, announce_same, grant_same, rest_same, halt_same}
+use Rattle.world_model.proofs.StepsShaped.{some_unsent}
 use Rattle.world_model.proofs.SettleSound.{settle_sound}
 use Rattle.world_model.proofs.ExpandSound.{expand_sound}
 use Rattle.world_model.proofs.LaneSound.{book_sound, send_sound, deliver_sound}
 
-module _ (w : WorldState) (shaped : IsShaped w) (sound : IsSound w) (i : ℕ) (worker : WorkerState) (is : IsWorker w i worker) (answer : Option Refusal) (worker' : WorkerState) where
-  same_world : worker' ≡ worker → IsSound (changed w i worker' w.book w.lanes)
-  same_world e = subst IsSound (sym (unchanged_world w i worker is worker' e)) sound
+on_book : (w w' : WorldState) (i : ℕ) (Change : AtBook → AtBook → Type 0) → ((x y : AtBook) → Change x y → IsKeptByBook x y) → IsSound w → BookChange i Change w w' → IsSound w'
+on_book w w' i Change keeps sound step = subst IsSound (sym step.is) (book_sound w sound i step.worker step.at step.new.worker (keeps (record { worker = step.worker; book = w.book }) step.new step.change).worker step.new.book)
 
-  becomes : (new : WorkerState) → IsSound (changed w i new w.book w.lanes) → worker' ≡ new → IsSound (changed w i worker' w.book w.lanes)
-  becomes new good e = subst (λ x. IsSound (changed w i x w.book w.lanes)) (sym e) good
+accepts_sound : (step : Step) (w w' : WorldState) → IsShaped w → IsSound w → Accepts step w w' → IsSound w'
+accepts_sound (Expand i) w w' shaped sound step =
+    subst IsSound (sym step.is) (subst (λ x. IsSound (changed w i x w.book w.lanes)) (sym step.change.is) (expand_sound w shaped sound i step.worker step.at step.change.board step.change.known step.change.next.opens))
+accepts_sound (Settle i) w w' shaped sound step =
+    subst IsSound (sym step.is) (subst (λ x. IsSound (changed w i x w.book w.lanes)) (sym step.change.is) (settle_sound w shaped sound i step.worker step.at step.change.front step.change.last step.change.held))
+accepts_sound (Send i j) w w' shaped sound step =
+    subst IsSound (sym step.is)
+    (subst (λ (x : AtLane). IsSound (changed w i x.worker w.book (with_lane w.lanes i j x.lane))) (sym step.change.is)
+    (send_sound w sound i j step.worker step.at step.lane step.at_lane (packet_for step.worker j) (some_unsent (slice_get step.worker.unsent j) step.change.some)))
+accepts_sound (Deliver i j) w w' shaped sound step =
+    subst IsSound (sym step.is)
+    (subst (λ (x : AtLane). IsSound (changed w i x.worker w.book (with_lane w.lanes j i x.lane))) (sym step.change.is)
+    (deliver_sound w sound i j step.worker step.at step.lane step.at_lane (is_empty step.worker.held step.change.free) step.change.packet step.change.rest step.change.first))
+accepts_sound (Draw i) w w' shaped sound step = on_book w w' i _ draw_same sound step
+accepts_sound (Announce i) w w' shaped sound step = on_book w w' i _ (announce_same (role_of w i)) sound step
+accepts_sound (Grant i) w w' shaped sound step = on_book w w' i _ (grant_same (role_of w i)) sound step
+accepts_sound (Rest i) w w' shaped sound step = on_book w w' i _ (rest_same (role_of w i)) sound step
+accepts_sound (Halt i cause) w w' shaped sound step = on_book w w' i _ (halt_same cause) sound step
 
-  expand_step : ExpandStep w.task w.owner i worker answer worker' → IsSound (changed w i worker' w.book w.lanes)
-  expand_step (inl refused) = same_world refused.1.1
-  expand_step (inr (busy, inl refused)) = same_world refused.1.1
-  expand_step (inr (busy, inr (left, (b, known, f, at, floor, inl refused)))) = same_world refused.1.1
-  expand_step (inr (busy, inr (left, (b, known, f, at, floor, inr (room, inl new))))) = becomes _ (expand_sound w shaped sound i worker is b known f at) new.1
-  expand_step (inr (busy, inr (left, (b, known, f, at, floor, inr (room, inr refused))))) = same_world refused.1.1
-
-  settle_step : SettleStep worker answer worker' → IsSound (changed w i worker' w.book w.lanes)
-  settle_step (inl refused) = same_world refused.1.1
-  settle_step (inr (some, (front, last, held, inl new))) = becomes _ (settle_sound w shaped sound i worker is front last held) new.1
-  settle_step (inr (some, (front, last, held, inr refused))) = same_world refused.1.1
-
-module _ (w : WorldState) (sound : IsSound w) (i j : ℕ) (worker : WorkerState) (is : IsWorker w i worker) (lane : List (List Item)) (answer : Option Refusal) (worker' : WorkerState) (lane' : List (List Item)) where
-  same_lane : (from to : ℕ) → IsLane w from to lane → ◌≡◌ {A = WorkerState × List (List Item)} (worker', lane') (worker, lane) → IsSound (changed w i worker' w.book (with_lane w.lanes from to lane'))
-  same_lane from to at e = subst IsSound (sym (unchanged_lanes w i worker is from to lane at worker' lane' e)) sound
-
-  new_lane : (from to : ℕ) (new : WorkerState) (l : List (List Item)) → IsSound (changed w i new w.book (with_lane w.lanes from to l)) → ◌≡◌ {A = WorkerState × List (List Item)} (worker', lane') (new, l) → IsSound (changed w i worker' w.book (with_lane w.lanes from to lane'))
-  new_lane from to new l good e = subst (λ (x : WorkerState × List (List Item)). IsSound (changed w i x.0 w.book (with_lane w.lanes from to x.1))) (sym e) good
-
-  send_step : IsLane w i j lane → SendStep j worker lane answer worker' lane' → IsSound (changed w i worker' w.book (with_lane w.lanes i j lane'))
-  send_step at (packet, unsent, inl refused) = same_lane i j at refused.1.1
-  send_step at (packet, unsent, inr (some, inl refused)) = same_lane i j at refused.1.1
-  send_step at (packet, unsent, inr (some, inr (rich, inl refused))) = same_lane i j at refused.1.1
-  send_step at (packet, unsent, inr (some, inr (rich, inr (room, new)))) = new_lane i j _ _ (send_sound w sound i j worker is lane at packet unsent) new.1
-
-  deliver_step : IsLane w j i lane → DeliverStep worker lane answer worker' lane' → IsSound (changed w i worker' w.book (with_lane w.lanes j i lane'))
-  deliver_step at (inl refused) = same_lane j i at refused.1.1
-  deliver_step at (inr (free, inl refused)) = same_lane j i at refused.1.1
-  deliver_step at (inr (free, inr (fits, inl refused))) = same_lane j i at refused.1.1
-  deliver_step at (inr (free, inr (fits, inr (some, (packet, rest, first, new))))) = new_lane j i _ _ (deliver_sound w sound i j worker is lane at (is_empty worker.held free) packet rest first) new.1
-
-by_book : (w : WorldState) (answer : Option Refusal) (w' : WorldState) (i : ℕ) (BookStep : WorkerState → BookState → WorkerState → BookState → Type 0) → ((worker : WorkerState) (book : BookState) (worker' : WorkerState) (book' : BookState) → BookStep worker book worker' book' → KeepsBoards worker book worker' book') → IsSound w → ByWorkerAndBook w answer w' i BookStep → IsSound w'
-by_book w answer w' i BookStep keeps sound (inl refused) = subst IsSound (sym refused.1.1) sound
-by_book w answer w' i BookStep keeps sound (inr (there, (worker, worker', book', is, step, left))) = subst IsSound (sym left) (book_sound w sound i worker is worker' (keeps worker w.book worker' book' step).0 book')
-
-pub steps_sound : (w : WorldState) (answer : Option Refusal) (w' : WorldState) (step : Step) → IsShaped w → IsSound w → Next w answer w' step → IsSound w'
-steps_sound w answer w' (Expand i) shaped sound (inl refused) = subst IsSound (sym refused.1.1) sound
-steps_sound w answer w' (Expand i) shaped sound (inr (there, (worker, worker', is, step, left))) = subst IsSound (sym left) (expand_step w shaped sound i worker is answer worker' step)
-steps_sound w answer w' (Settle i) shaped sound (inl refused) = subst IsSound (sym refused.1.1) sound
-steps_sound w answer w' (Settle i) shaped sound (inr (there, (worker, worker', is, step, left))) = subst IsSound (sym left) (settle_step w shaped sound i worker is answer worker' step)
-steps_sound w answer w' (Send i j) shaped sound (inl refused) = subst IsSound (sym refused.1.1) sound
-steps_sound w answer w' (Send i j) shaped sound (inr (there, (worker, worker', lane, lane', is, at, step, left))) = subst IsSound (sym left) (send_step w sound i j worker is lane answer worker' lane' at step)
-steps_sound w answer w' (Deliver i j) shaped sound (inl refused) = subst IsSound (sym refused.1.1) sound
-steps_sound w answer w' (Deliver i j) shaped sound (inr (there, (worker, worker', lane, lane', is, at, step, left))) = subst IsSound (sym left) (deliver_step w sound i j worker is lane answer worker' lane' at step)
-steps_sound w answer w' (Draw i) shaped sound next = by_book w answer w' i _ (λ worker book worker' book' step. draw_keeps worker book answer worker' book' step) sound next
-steps_sound w answer w' (Announce i) shaped sound next = by_book w answer w' i _ (λ worker book worker' book' step. announce_keeps worker book answer worker' book' w.task w.owner i step) sound next
-steps_sound w answer w' (Grant i) shaped sound next = by_book w answer w' i _ (λ worker book worker' book' step. grant_keeps worker book answer worker' book' w.task step) sound next
-steps_sound w answer w' (Rest i) shaped sound next = by_book w answer w' i _ (λ worker book worker' book' step. rest_keeps worker book answer worker' book' w.task i step) sound next
-steps_sound w answer w' (Halt i cause) shaped sound next = by_book w answer w' i _ (λ worker book worker' book' step. halt_keeps worker book answer worker' book' w.task cause step) sound next
+pub steps_sound : (step : Step) (it : Turn WorldState Refusal) → Next step it → IsShaped it.before → IsSound it.before → IsSound it.after
+steps_sound step it next shaped sound = split (next_cases step it next)
+  where
+    split : Cases it (Accepts step it.before it.after) → IsSound it.after
+    split (inl out) = subst IsSound (sym out.1.1) sound
+    split (inr done) = accepts_sound step it.before it.after shaped sound done.1

@@ -1,32 +1,102 @@
 -- The laws of worlds.
-use Rattle.std.specs.Prelude.{◌≡◌, ◌≢◌, ◌⊎◌, ◌↔◌, ℕ, ◌+◌, ◌-◌, ◌*◌, ◌≤◌, ◌<◌, List, length, Option, Some, None}
+use Rattle.std.specs.Prelude.{◌≡◌, ◌⊎◌, ℕ, ◌+◌, ◌-◌, ◌*◌, ◌<◌, ◌≤◌, List, length, Vec, Option, Some, None}
+use Rattle.std.specs.declared.alloc.Global.{Global}
+use Rattle.memory.specs.declared.OutOfMemory.{OutOfMemory}
 use Rattle.board.specs.declared.moves.Move.{Move}
 use Rattle.board.specs.Positions.{Position}
 use Rattle.board.specs.Plans.{NothingBelow}
 use Rattle.board.specs.Rows.{IsLowerBound}
-use Rattle.outcomes.specs.Outcomes.{Task, Answers}
-use Rattle.world_model.specs.declared.parts.Item.{Item}
-use Rattle.world_model.specs.declared.parts.Known.{Known}
-use Rattle.world_model.specs.Workers.{WorkerState}
 use Rattle.outcomes.specs.declared.outcome.Cause.{Cause}
-use Rattle.outcomes.specs.declared.outcome.Outcome.{Outcome}
+use Rattle.outcomes.specs.declared.outcome.Cause.TheVariants.{Memory as ForMemory, Cost as ForCost, Cut as ForCut}
 use Rattle.outcomes.specs.declared.outcome.Want.TheVariants.{Refused}
-use Rattle.memory.specs.declared.OutOfMemory.{OutOfMemory}
-use Rattle.std.specs.Prelude.{Vec}
-use Rattle.std.specs.declared.alloc.Global.{Global}
-use Rattle.outcomes.specs.declared.outcome.Cause.TheVariants.{Limit as ForLimit, Memory as ForMemory, Start as ForStart, Cost as ForCost, Cut as ForCut}
-use Rattle.outcomes.specs.declared.outcome.Outcome.TheVariants.{Optimal, Unsolvable, Bounded}
-use Rattle.world_model.specs.Outcomes.{IsGiven}
+use Rattle.outcomes.specs.declared.outcome.Outcome.{Outcome}
+use Rattle.outcomes.specs.declared.outcome.Outcome.TheVariants.{Bounded}
+use Rattle.outcomes.specs.Outcomes.{Answers}
+use Rattle.world_model.specs.declared.limits.TheConstants.{GREATEST_GRANT}
+use Rattle.world_model.specs.declared.parts.Known.{Known}
+use Rattle.world_model.specs.declared.steps.Refusal.{Refusal}
 use Rattle.world_model.specs.declared.steps.Step.{Step}
 use Rattle.world_model.specs.declared.steps.Stop.TheVariants.{Quiet, Limit}
-use Rattle.world_model.specs.declared.steps.Refusal.{Refusal}
-use Rattle.world_model.specs.WorkerSteps.{ExpandStep, SettleStep, SendStep, DeliverStep}
-use Rattle.world_model.specs.Worlds.{WorldState, Knows, IsSound, IsInFrontier}
+use Rattle.world_model.specs.Turns.{Turn, turn}
+use Rattle.world_model.specs.Workers.{WorkerState, Role}
+use Rattle.world_model.specs.WorkerSteps.{AtLane, ExpandStep, SettleStep, SendStep, DeliverStep}
+use Rattle.world_model.specs.Worlds.{WorldState, Knows}
+use Rattle.world_model.specs.Steps.{Next, IsRun}
 use Rattle.world_model.specs.Shapes.{IsTask, IsShapedWorker, IsShapedLane, IsShaped}
-use Rattle.world_model.specs.Credit.{IsCredited, IsQuiet, expansion_count}
-use Rattle.world_model.specs.Steps.{Next, Run, opening}
+use Rattle.world_model.specs.Openings.{Job, IsJob, opening}
+use Rattle.world_model.specs.Soundness.{IsSound}
+use Rattle.world_model.specs.Frontiers.{IsInFrontier}
+use Rattle.world_model.specs.Credit.{IsCredited, expansion_count}
+use Rattle.world_model.specs.Quiet.{IsQuiet}
+use Rattle.world_model.specs.Outcomes.{IsGiven}
 
--- what a sound world says: no plan costs less than a number that is below its frontier and below the goal's known cost
+-- a refused step leaves the world as it was
+abbrev pub RefusalsChangeNothing : Type 0
+RefusalsChangeNothing = (step : Step) (w : WorldState) (refusal : Refusal) (w' : WorldState) → Next step (turn w (Some refusal) w') → w' ≡ w
+
+-- a step leaves the task, the owners, the count of workers and the limit as they were
+abbrev pub StepsKeepTheJob : Type 0
+StepsKeepTheJob =
+    (step : Step) (it : Turn WorldState Refusal)
+    → Next step it
+    → (it.after.task ≡ it.before.task) × (it.after.owner ≡ it.before.owner) × (length it.after.workers ≡ length it.before.workers) × (it.after.book.limit ≡ it.before.book.limit)
+
+-- a step, whatever it answers, leaves a shaped world shaped
+abbrev pub StepsKeepShaped : Type 0
+StepsKeepShaped = (step : Step) (it : Turn WorldState Refusal) → Next step it → IsShaped it.before → IsShaped it.after
+
+-- and a sound one sound
+abbrev pub StepsKeepSound : Type 0
+StepsKeepSound = (step : Step) (it : Turn WorldState Refusal) → Next step it → IsShaped it.before → IsSound it.before → IsSound it.after
+
+-- and a credited one credited
+abbrev pub StepsKeepCredited : Type 0
+StepsKeepCredited = (step : Step) (it : Turn WorldState Refusal) → Next step it → IsCredited it.before → IsCredited it.after
+
+-- no step of a shaped world is without an answer
+abbrev pub StepsHaveAnswers : Type 0
+StepsHaveAnswers = (step : Step) (w : WorldState) → IsShaped w → ¬ ((answer : Option Refusal) (w' : WorldState) → ¬ Next step (turn w answer w'))
+
+-- an expansion keeps its worker shaped
+abbrev pub ExpansionsKeepTheirWorker : Type 0
+ExpansionsKeepTheirWorker =
+    (n : ℕ) (role : Role) (it : Turn WorkerState Refusal)
+    → IsTask role.task
+    → ((b : Position) → role.owner b < n)
+    → ExpandStep role it
+    → IsShapedWorker n role it.before
+    → IsShapedWorker n role it.after
+
+-- a worker that settles an item stays shaped
+abbrev pub SettlingKeepsItsWorker : Type 0
+SettlingKeepsItsWorker = (n : ℕ) (role : Role) (it : Turn WorkerState Refusal) → SettleStep it → IsShapedWorker n role it.before → IsShapedWorker n role it.after
+
+-- a worker that sends a packet stays shaped, and so does the lane to worker `to`
+abbrev pub SendingKeepsItsWorker : Type 0
+SendingKeepsItsWorker =
+    (n to : ℕ) (role : Role) (it : Turn AtLane Refusal)
+    → SendStep to it
+    → IsShapedWorker n role it.before.worker
+    → IsShapedLane role.task role.owner to it.before.lane
+    → IsShapedWorker n role it.after.worker × IsShapedLane role.task role.owner to it.after.lane
+
+-- a worker that takes in a packet stays shaped, and so does the lane to it
+abbrev pub DeliveringKeepsItsWorker : Type 0
+DeliveringKeepsItsWorker =
+    (n : ℕ) (role : Role) (it : Turn AtLane Refusal)
+    → DeliverStep it
+    → IsShapedWorker n role it.before.worker
+    → IsShapedLane role.task role.owner role.me it.before.lane
+    → IsShapedWorker n role it.after.worker × IsShapedLane role.task role.owner role.me it.after.lane
+
+-- the opening world of a job is shaped, sound and credited, and its limit is the job's
+abbrev pub OpeningsAreSound : Type 0
+OpeningsAreSound =
+    (job : Job) (via : Move)
+    → IsJob job
+    → IsShaped (opening job via) × IsSound (opening job via) × IsCredited (opening job via) × ((opening job via).book.limit ≡ job.limit)
+
+-- no plan costs less than a number that no board of a sound world's frontier is below, nor the cost at which the goal is known
 abbrev pub FrontiersBound : Type 0
 FrontiersBound =
     (w : WorldState) (n : ℕ)
@@ -38,8 +108,8 @@ FrontiersBound =
     → NothingBelow w.task.rule w.task.start w.task.goal n
 
 -- the outcome that a sound world gives answers its task, at any moment
-abbrev pub GivenOutcomesAnswer : Type 0
-GivenOutcomesAnswer =
+abbrev pub OutcomesAnswer : Type 0
+OutcomesAnswer =
     (w : WorldState) (outcome : Outcome)
     → IsShaped w
     → IsSound w
@@ -47,136 +117,74 @@ GivenOutcomesAnswer =
     → IsGiven w outcome
     → Answers w.task outcome
 
--- a step of one worker keeps it shaped, and its lane
-abbrev pub ExpandingKeepsItsWorker : Type 0
-ExpandingKeepsItsWorker =
-    (task : Task) (owner : Position → ℕ) (n i : ℕ) (worker : WorkerState) (answer : Option Refusal) (worker' : WorkerState)
-    → IsTask task
-    → ((b : Position) → owner b < n)
-    → IsShapedWorker task owner n i worker
-    → ExpandStep task owner i worker answer worker'
-    → IsShapedWorker task owner n i worker'
-
-abbrev pub SettlingKeepsItsWorker : Type 0
-SettlingKeepsItsWorker =
-    (task : Task) (owner : Position → ℕ) (n i : ℕ) (worker : WorkerState) (answer : Option Refusal) (worker' : WorkerState)
-    → IsShapedWorker task owner n i worker
-    → SettleStep worker answer worker'
-    → IsShapedWorker task owner n i worker'
-
-abbrev pub SendingKeepsItsWorker : Type 0
-SendingKeepsItsWorker =
-    (task : Task) (owner : Position → ℕ) (n i to : ℕ) (worker : WorkerState) (lane : List (List Item)) (answer : Option Refusal) (worker' : WorkerState) (lane' : List (List Item))
-    → IsShapedWorker task owner n i worker
-    → IsShapedLane task owner to lane
-    → SendStep to worker lane answer worker' lane'
-    → IsShapedWorker task owner n i worker' × IsShapedLane task owner to lane'
-
-abbrev pub DeliveringKeepsItsWorker : Type 0
-DeliveringKeepsItsWorker =
-    (task : Task) (owner : Position → ℕ) (n i : ℕ) (worker : WorkerState) (lane : List (List Item)) (answer : Option Refusal) (worker' : WorkerState) (lane' : List (List Item))
-    → IsShapedWorker task owner n i worker
-    → IsShapedLane task owner i lane
-    → DeliverStep worker lane answer worker' lane'
-    → IsShapedWorker task owner n i worker' × IsShapedLane task owner i lane'
-
--- a step, whatever it answers, keeps a world shaped
-abbrev pub StepsKeepShaped : Type 0
-StepsKeepShaped = (w : WorldState) (answer : Option Refusal) (w' : WorldState) (step : Step) → IsShaped w → Next w answer w' step → IsShaped w'
-
--- a step keeps a world sound
-abbrev pub StepsKeepSound : Type 0
-StepsKeepSound = (w : WorldState) (answer : Option Refusal) (w' : WorldState) (step : Step) → IsShaped w → IsSound w → Next w answer w' step → IsSound w'
-
--- a step keeps a world credited
-abbrev pub StepsKeepCredited : Type 0
-StepsKeepCredited = (w : WorldState) (answer : Option Refusal) (w' : WorldState) (step : Step) → IsCredited w → Next w answer w' step → IsCredited w'
-
--- no step of a shaped world is without an answer: where each one is excluded, something is wrong
-abbrev pub StepsHaveAnswers : Type 0
-StepsHaveAnswers = (w : WorldState) (step : Step) → IsShaped w → ((answer : Option Refusal) (w' : WorldState) → Next w answer w' step → ⊥) → ⊥
-
--- the opening world of 1 to 16 workers, with each owner among them, is shaped, sound and credited
-abbrev pub OpeningIsSound : Type 0
-OpeningIsSound =
-    (n limit : ℕ) (task : Task) (owner : Position → ℕ) (via : Move)
-    → 1 ≤ n
-    → n ≤ 16
-    → ((b : Position) → owner b < n)
-    → IsTask task
-    → IsShaped (opening n limit task owner via) × IsSound (opening n limit task owner via) × IsCredited (opening n limit task owner via)
-
--- every world that a run reaches from the opening world is shaped, sound and credited
+-- each world that a run reaches from the opening world is shaped, sound and credited
 abbrev pub RunsKeepSound : Type 0
 RunsKeepSound =
-    (n limit : ℕ) (task : Task) (owner : Position → ℕ) (via : Move) (steps : List Step) (answers : List (Option Refusal)) (w : WorldState)
-    → 1 ≤ n
-    → n ≤ 16
-    → ((b : Position) → owner b < n)
-    → IsTask task
-    → Run (opening n limit task owner via) steps answers w
+    (job : Job) (via : Move) (made : List (Step × Option Refusal)) (w : WorldState)
+    → IsJob job
+    → IsRun (opening job via) made w
     → IsShaped w × IsSound w × IsCredited w
 
--- whatever outcome such a world gives, at any moment, answers the task
+-- and the outcome that it gives answers the job's task
 abbrev pub RunsAnswer : Type 0
 RunsAnswer =
-    (n limit : ℕ) (task : Task) (owner : Position → ℕ) (via : Move) (steps : List Step) (answers : List (Option Refusal)) (w : WorldState) (outcome : Outcome)
-    → 1 ≤ n
-    → n ≤ 16
-    → ((b : Position) → owner b < n)
-    → IsTask task
-    → IsLowerBound task.rule task.sum task.goal
-    → Run (opening n limit task owner via) steps answers w
+    (job : Job) (via : Move) (made : List (Step × Option Refusal)) (w : WorldState) (outcome : Outcome)
+    → IsJob job
+    → IsLowerBound job.task.rule job.task.sum job.task.goal
+    → IsRun (opening job via) made w
     → IsGiven w outcome
-    → Answers task outcome
+    → Answers job.task outcome
 
--- the workers of such a world never expand more than the limit, and where the book stopped by Limit they expanded all of it but 256 for each worker but one
+-- its workers together expanded at most the limit; where it stopped for the limit, all of it but one grant for each worker but one
 abbrev pub RunsSpendTheLimit : Type 0
 RunsSpendTheLimit =
-    (n limit : ℕ) (task : Task) (owner : Position → ℕ) (via : Move) (steps : List Step) (answers : List (Option Refusal)) (w : WorldState)
-    → 1 ≤ n
-    → n ≤ 16
-    → ((b : Position) → owner b < n)
-    → IsTask task
-    → Run (opening n limit task owner via) steps answers w
-    → (expansion_count w ≤ limit) × (w.book.stop ≡ Some Limit → limit ≤ expansion_count w + 256 * (n - 1))
+    (job : Job) (via : Move) (made : List (Step × Option Refusal)) (w : WorldState)
+    → IsJob job
+    → IsRun (opening job via) made w
+    → (expansion_count w ≤ job.limit) × (w.book.stop ≡ Some Limit → job.limit ≤ expansion_count w + GREATEST_GRANT * (job.count - 1))
 
--- where the book stopped by Quiet, the world is quiet
-abbrev pub QuietIsTrue : Type 0
-QuietIsTrue = (w : WorldState) → IsShaped w → IsCredited w → w.book.stop ≡ Some Quiet → IsQuiet w
+-- one worker alone expanded just the limit
+abbrev pub OneWorkerSpendsTheLimit : Type 0
+OneWorkerSpendsTheLimit =
+    (job : Job) (via : Move) (made : List (Step × Option Refusal)) (w : WorldState)
+    → IsJob job
+    → job.count ≡ 1
+    → IsRun (opening job via) made w
+    → w.book.stop ≡ Some Limit
+    → expansion_count w ≡ job.limit
 
--- where the book stopped by Quiet, no outcome is cut off
-abbrev pub QuietIsNeverCutOff : Type 0
-QuietIsNeverCutOff =
-    (w : WorldState) (outcome : Outcome)
-    → IsShaped w
-    → IsCredited w
-    → w.book.stop ≡ Some Quiet
-    → IsGiven w outcome
-    → (bound : ℕ) (best : Option (ℕ × Vec Move Global)) → outcome ≢ Bounded bound best ForCut
-
--- a bound then has the cause `ForCost`, or no memory was found for a plan
-abbrev pub QuietBoundsAreForCost : Type 0
-QuietBoundsAreForCost =
-    (w : WorldState) (bound : ℕ) (best : Option (ℕ × Vec Move Global)) (cause : Cause)
-    → IsShaped w
-    → IsCredited w
-    → w.book.stop ≡ Some Quiet
-    → IsGiven w (Bounded bound best cause)
-    → (cause ≡ ForCost) ⊎ ((refused : OutOfMemory) × (cause ≡ ForMemory (Refused refused)) × (best ≡ None))
-
--- all workers together never expand more than the limit
-abbrev pub ExpansionsAreLimited : Type 0
-ExpansionsAreLimited = (w : WorldState) → IsCredited w → expansion_count w ≤ w.book.limit
-
--- where the book stopped by Limit all of it is granted, and all of it but 256 for each worker but one is spent
+-- the workers of a credited world expanded at most the limit; where it stopped for the limit, all of that is granted, and spent but for one
+-- grant for each worker but one
 abbrev pub LimitIsSpent : Type 0
 LimitIsSpent =
     (w : WorldState)
     → IsCredited w
-    → w.book.stop ≡ Some Limit
-    → (w.book.granted ≡ w.book.limit) × (w.book.limit ≤ expansion_count w + 256 * (length w.workers - 1))
+    → (expansion_count w ≤ w.book.limit)
+    × (w.book.stop ≡ Some Limit → (w.book.granted ≡ w.book.limit) × (w.book.limit ≤ expansion_count w + GREATEST_GRANT * (length w.workers - 1)))
 
--- one worker spends exactly the limit
-abbrev pub OneWorkerSpendsTheLimit : Type 0
-OneWorkerSpendsTheLimit = (w : WorldState) → IsCredited w → w.book.stop ≡ Some Limit → length w.workers ≡ 1 → expansion_count w ≡ w.book.limit
+-- where the book stopped by Quiet the world is quiet
+abbrev pub QuietIsTrue : Type 0
+QuietIsTrue = (w : WorldState) → IsShaped w → IsCredited w → w.book.stop ≡ Some Quiet → IsQuiet w
+
+-- a bound that it gives is for the cost; or memory was refused, and there is no plan beside it
+abbrev pub QuietBoundsAreForCost : Type 0
+QuietBoundsAreForCost =
+    (w : WorldState) (bound : ℕ) (best : Option (ℕ × Vec Move Global)) (cause : Cause)
+    → IsShaped w
+    → IsSound w
+    → IsCredited w
+    → IsLowerBound w.task.rule w.task.sum w.task.goal
+    → w.book.stop ≡ Some Quiet
+    → IsGiven w (Bounded bound best cause)
+    → (cause ≡ ForCost) ⊎ ((best ≡ None) × ((refused : OutOfMemory) × (cause ≡ ForMemory (Refused refused))))
+
+-- so it gives no bound for which the run was cut
+abbrev pub QuietIsNeverCut : Type 0
+QuietIsNeverCut =
+    (w : WorldState) (bound : ℕ) (best : Option (ℕ × Vec Move Global))
+    → IsShaped w
+    → IsSound w
+    → IsCredited w
+    → IsLowerBound w.task.rule w.task.sum w.task.goal
+    → w.book.stop ≡ Some Quiet
+    → ¬ IsGiven w (Bounded bound best ForCut)

@@ -1,6 +1,7 @@
--- Which outcome a world gives.
-use Rattle.std.specs.Prelude.{◌≡◌, ◌≢◌, ◌⊎◌, ⊤, ℕ, ◌+◌, ◌≤◌, ◌<◌, min, max, List, [], AllPairs, Contains, Option, Some, None, Vec}
-use Rattle.std.specs.declared.alloc.Global.{Global}
+-- Which outcome a world gives, at any moment.
+use Rattle.std.specs.Prelude.{ℕ, ◌≡◌, ◌≢◌, ◌⊎◌, ◌↔◌, ◌+◌, ◌≤◌, ◌<◌, nat_lt, max, Bool, true, List, [], AllPairs, Contains, Option, Some, None, if◌then◌else◌}
+use Rattle.memory.specs.declared.OutOfMemory.{OutOfMemory}
+use Rattle.board.specs.declared.costs.TheConstants.{GREATEST_EXPANDED_COST}
 use Rattle.board.specs.declared.moves.Move.{Move}
 use Rattle.board.specs.Positions.{Position}
 use Rattle.board.specs.Plans.{Leads}
@@ -8,81 +9,83 @@ use Rattle.board.specs.Keys.{key_of}
 use Rattle.outcomes.specs.declared.outcome.Why.TheVariants.{Exhausted}
 use Rattle.outcomes.specs.declared.outcome.Cause.{Cause}
 use Rattle.outcomes.specs.declared.outcome.Cause.TheVariants.{Limit as ForLimit, Memory as ForMemory, Start as ForStart, Cost as ForCost, Cut as ForCut}
-use Rattle.outcomes.specs.declared.outcome.Outcome.{Outcome}
 use Rattle.outcomes.specs.declared.outcome.Want.TheVariants.{Refused}
-use Rattle.memory.specs.declared.OutOfMemory.{OutOfMemory}
-use Rattle.board.specs.declared.costs.TheConstants.{GREATEST_EXPANDED_COST}
+use Rattle.outcomes.specs.declared.outcome.Outcome.{Outcome}
 use Rattle.outcomes.specs.declared.outcome.Outcome.TheVariants.{Optimal, Unsolvable, Bounded}
-use Rattle.outcomes.specs.Outcomes.{Task, IsBestPlan, best_of}
 use Rattle.world_model.specs.declared.parts.Known.{Known}
 use Rattle.world_model.specs.declared.steps.Stop.{Stop}
 use Rattle.world_model.specs.declared.steps.Stop.TheVariants.{Quiet, Limit, Memory, Start}
-use Rattle.world_model.specs.Worlds.{WorldState, Knows, IsLowest, IsReached}
+use Rattle.world_model.specs.Costs.{lesser}
+use Rattle.world_model.specs.Worlds.{WorldState, Knows}
+use Rattle.world_model.specs.Frontiers.{IsLowest, IsReached}
 
--- the smaller of two numbers, of which an absent one is above all
-abbrev pub lesser : Option ℕ → Option ℕ → Option ℕ
-lesser None y = y
-lesser (Some x) None = Some x
-lesser (Some x) (Some y) = Some (min x y)
+-- a world, with the lowest of its frontier and the cost at which the goal is known
+pub record End : Type 0 where
+  pub world : WorldState
+  pub lowest : Option ℕ
+  pub reached : Option ℕ
 
--- the greater of the start's sum and the smaller of the lowest of the frontier and the goal's cost
-abbrev pub IsBoundOf : Task → Option ℕ → Option ℕ → ℕ → Type 0
-IsBoundOf task lowest reached bound = (n : ℕ) × (lesser lowest reached ≡ Some n) × (bound ≡ max (task.sum task.start) n)
+-- the smaller of the two, which no plan costs less than
+abbrev pub floor : End → Option ℕ
+floor end = lesser end.lowest end.reached
 
--- the known boards with cost plus sum below k, with their costs, in rising order of key
+-- the bound: the floor, and at least the start's sum
+abbrev pub IsBoundOf : End → ℕ → Type 0
+IsBoundOf end bound = (n : ℕ) × (floor end ≡ Some n) × (bound ≡ max (end.world.task.sum end.world.task.start) n)
+
+-- a plan that leads from the start to the goal at this cost, which is no more than that at which the goal is known
+pub record IsFollowedBack (end : End) (cost : ℕ) (plan : List Move) : Type 0 where
+  pub goal : ℕ
+  pub is : end.reached ≡ Some goal
+  pub leads : Leads end.world.task.rule end.world.task.start plan end.world.task.goal cost
+  pub within : cost ≤ goal
+
+-- the board is known at this cost, and its cost plus sum is below k
+abbrev pub IsKnownBelow : WorldState → ℕ → Position → ℕ → Type 0
+IsKnownBelow w k b cost = (i : ℕ) × (known : Known) × Knows w i b known × (known.cost ≡ cost) × (cost + w.task.sum b < k)
+
+-- a row for each board that is known so, and no other row; in rising order of key
 pub record AreRowsBelow (w : WorldState) (k : ℕ) (rows : List (Position × ℕ)) : Type 0 where
-  pub ordered : AllPairs (λ row later. key_of row.0 < key_of later.0) rows
-  pub known : (b : Position) (cost : ℕ) → Contains rows (b, cost) → (i : ℕ) × (known : Known) × Knows w i b known × (known.cost ≡ cost) × (cost + w.task.sum b < k)
-  pub all : (i : ℕ) (b : Position) (known : Known) → Knows w i b known → known.cost + w.task.sum b < k → Contains rows (b, known.cost)
+  pub rising : AllPairs (λ row later. key_of row.0 < key_of later.0) rows
+  pub each : (b : Position) (cost : ℕ) → Contains rows (b, cost) ↔ IsKnownBelow w k b cost
 
+-- where the start's sum proves the cost k there is no row, else there are those below k
 abbrev pub AreRowsFor : WorldState → ℕ → List (Position × ℕ) → Type 0
 AreRowsFor w k rows = ((k ≤ w.task.sum w.task.start) × (rows ≡ [])) ⊎ ((w.task.sum w.task.start < k) × AreRowsBelow w k rows)
 
--- the cause that the book's stop and the lowest of the frontier give
-abbrev pub IsAboveCost : Option ℕ → Type 0
-IsAboveCost None = ⊤
-IsAboveCost (Some f) = GREATEST_EXPANDED_COST < f
+-- whether all of the frontier is above the greatest cost at which a board is expanded
+abbrev pub is_too_high : Option ℕ → Bool
+is_too_high None = true
+is_too_high (Some f) = nat_lt GREATEST_EXPANDED_COST f
 
-abbrev pub IsCauseOf : Option Stop → Option ℕ → Cause → Type 0
-IsCauseOf (Some Limit) lowest cause = cause ≡ ForLimit
-IsCauseOf (Some (Memory want)) lowest cause = cause ≡ ForMemory want
-IsCauseOf (Some Start) lowest cause = cause ≡ ForStart
-IsCauseOf (Some Quiet) lowest cause = (IsAboveCost lowest × (cause ≡ ForCost)) ⊎ ((IsAboveCost lowest → ⊥) × (cause ≡ ForCut))
-IsCauseOf None lowest cause = cause ≡ ForCut
+-- the cause that a bound has, by what stopped the run and by the lowest of the frontier
+abbrev pub cause_of : Option Stop → Option ℕ → Cause
+cause_of (Some Limit) lowest = ForLimit
+cause_of (Some (Memory want)) lowest = ForMemory want
+cause_of (Some Start) lowest = ForStart
+cause_of (Some Quiet) lowest = if is_too_high lowest then ForCost else ForCut
+cause_of None lowest = ForCut
 
--- the plan that the last moves give, at its cost, where the goal is known
-abbrev pub IsPlanOf : Task → Option ℕ → Option (ℕ × List Move) → Type 0
-IsPlanOf task None best = best ≡ None
-IsPlanOf task (Some cost) None = ⊥
-IsPlanOf task (Some cost) (Some best) = Leads task.rule task.start best.1 task.goal best.0 × (best.0 ≤ cost)
+-- the cause at an end
+abbrev pub cause_at : End → Cause
+cause_at end = cause_of end.world.book.stop end.lowest
 
--- the plan's cost is the bound: the plan is least
-pub record GivesPlan (w : WorldState) (reached : Option ℕ) (bound : ℕ) (outcome : Outcome) : Type 0 where
-  pub plan : Vec Move Global
-  pub rows : Vec (Position × ℕ) Global
-  pub followed : IsPlanOf w.task reached (Some (bound, plan.items))
-  pub listed : AreRowsFor w bound rows.items
-  pub is : outcome ≡ Optimal bound plan rows
+-- memory was refused for the plan of a goal that is known, or for its rows
+abbrev pub LacksMemory : End → Cause → Type 0
+LacksMemory end cause = (end.reached ≢ None) × ((refused : OutOfMemory) × (cause ≡ ForMemory (Refused refused)))
 
--- the goal is unknown, or its plan costs more than the bound
-pub record GivesBound (w : WorldState) (lowest reached : Option ℕ) (bound : ℕ) (outcome : Outcome) : Type 0 where
-  pub best : Option (ℕ × Vec Move Global)
-  pub cause : Cause
-  pub followed : IsPlanOf w.task reached (best_of best)
-  pub above : IsBestPlan w.task bound (best_of best)
-  pub caused : IsCauseOf w.book.stop lowest cause
-  pub is : outcome ≡ Bounded bound best cause
+-- Neither the frontier nor the goal is known: no plan. Else the bound is given. Where the plan that is followed back costs just that,
+-- it is optimal, and has its rows. Else the bound is given with the plan, if the goal is known. Where the plan or the rows find no
+-- memory, it is given alone.
+abbrev pub IsGivenAt : End → Outcome → Type 0
+IsGivenAt end (Optimal cost plan rows) = IsBoundOf end cost × IsFollowedBack end cost plan.items × AreRowsFor end.world cost rows.items
+IsGivenAt end (Unsolvable why) = (floor end ≡ None) × (why ≡ Exhausted)
+IsGivenAt end (Bounded bound None cause) = IsBoundOf end bound × (((end.reached ≡ None) × (cause ≡ cause_at end)) ⊎ LacksMemory end cause)
+IsGivenAt end (Bounded bound (Some best) cause) =
+    IsBoundOf end bound × IsFollowedBack end best.0 best.1.items × (best.0 ≢ bound) × (cause ≡ cause_at end)
 
--- the plan or its rows find no memory
-abbrev pub LacksMemory : Option ℕ → ℕ → Outcome → Type 0
-LacksMemory reached bound outcome = (reached ≢ None) × (refused : OutOfMemory) × (outcome ≡ Bounded bound None (ForMemory (Refused refused)))
-
--- which outcome a world gives, by the lowest of its frontier and the goal's cost
-abbrev pub IsGivenAt : WorldState → Option ℕ → Option ℕ → Outcome → Type 0
-IsGivenAt w lowest reached outcome =
-    ((lesser lowest reached ≡ None) × (outcome ≡ Unsolvable Exhausted))
-    ⊎ ((bound : ℕ) × IsBoundOf w.task lowest reached bound × (GivesPlan w reached bound outcome ⊎ GivesBound w lowest reached bound outcome ⊎ LacksMemory reached bound outcome))
-
--- which outcome a world gives
+-- the world gives this outcome
 abbrev pub IsGiven : WorldState → Outcome → Type 0
-IsGiven w outcome = (lowest : Option ℕ) × (reached : Option ℕ) × IsLowest w lowest × IsReached w reached × IsGivenAt w lowest reached outcome
+IsGiven w outcome =
+    (lowest : Option ℕ) × (reached : Option ℕ) × IsLowest w lowest × IsReached w reached
+    × IsGivenAt (record { world = w; lowest = lowest; reached = reached }) outcome

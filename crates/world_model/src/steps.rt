@@ -1,36 +1,52 @@
-//! The steps of a run and the causes of refusals.
+//! The steps of a run, and why one is refused.
 
 use memory::OutOfMemory;
 use outcomes::Want;
 
-/// Why a run was halted.
+/// Why a run is halted.
 #[derive(Clone, Copy, Debug, PartialEq, Eq)]
 pub enum HaltCause {
+    /// The limit on expansions is reached.
     Limit,
+    /// Memory is wanting.
     Memory(Want),
+    /// A thread could not be started.
     Start,
 }
 
 /// What stopped a run.
 #[derive(Clone, Copy, Debug, PartialEq, Eq)]
 pub enum Stop {
+    /// No credit is left: no worker has anything to do, and no packet is under way.
     Quiet,
+    /// It was halted: the limit on expansions is reached.
     Limit,
+    /// It was halted: memory is wanting.
     Memory(Want),
+    /// It was halted: a thread could not be started.
     Start,
 }
 
-/// One step of a run, with the workers that it names.
+/// A step of a run, with the workers that it names.
 #[derive(Clone, Copy, Debug)]
 pub enum Step {
+    /// The worker expands a board.
     Expand(usize),
+    /// The worker relaxes an item that it holds.
     Settle(usize),
+    /// The first worker sends a packet to the second.
     Send(usize, usize),
+    /// The first worker takes in a packet from the second.
     Deliver(usize, usize),
+    /// The worker draws credit.
     Draw(usize),
+    /// The worker announces the goal's cost.
     Announce(usize),
+    /// The worker is granted expansions.
     Grant(usize),
+    /// The worker rests: it gives its purse back.
     Rest(usize),
+    /// The worker halts the run.
     Halt(usize, HaltCause),
 }
 
@@ -43,17 +59,17 @@ pub enum Refusal {
     NoAllowance,
     /// S3: a packet has no room for all that this board puts there.
     NoRoom,
-    /// S4: the lane has 64 packets.
+    /// S4: the lane is full.
     RingFull,
-    /// S5: the lane has no packet.
+    /// S5: the lane is empty.
     RingEmpty,
     /// S6: the purse is below 2.
     PurseTooSmall,
     /// S7: something is held.
     StillHolding,
-    /// S8: no memory was found.
+    /// S8: memory was refused.
     Memory(OutOfMemory),
-    /// S9: not the goal's owner, the goal is unknown, or its cost is no lower.
+    /// S9: not the goal's owner, the goal is unknown, or its cost isn't below the best.
     NothingToAnnounce,
     /// S10: something is held or unsent, a better goal is known, or a board may be expanded.
     NotIdle,

@@ -1,0 +1,29 @@
+-- What an expansion makes of a worker.
+use Rattle.std.specs.Prelude.{ℕ, ◌+◌, ◌-◌, List, [], ◌∷◌, ◌++◌, slice_set, fold, filter_map, option_map, ◌==◌, if◌then◌else◌}
+use Rattle.board.specs.Positions.{Position}
+use Rattle.board.specs.CostRules.{CostRule}
+use Rattle.board.specs.Moves.{all_moves, successor}
+use Rattle.world_model.specs.declared.parts.Item.{Item}
+use Rattle.world_model.specs.declared.parts.Known.{Known}
+use Rattle.world_model.specs.Knowledge.{relaxation, closure}
+use Rattle.world_model.specs.Workers.{WorkerState, Role, packet_for}
+
+-- the successors of a board that costs this much, by the moves in their order
+abbrev pub successor_items : CostRule → Position → ℕ → List Item
+successor_items rule b cost = filter_map (λ m. option_map (λ next. record { board = next.0; cost = cost + next.1; via = m }) (successor rule b m)) all_moves
+
+-- the worker with one successor more: its own is relaxed, another's goes to the end of the packet for that one
+abbrev pub with_successor : Role → WorkerState → Item → WorkerState
+with_successor role worker item =
+    if role.owner item.board == role.me
+    then record worker { known = relaxation worker.known item }
+    else record worker { unsent = slice_set worker.unsent (role.owner item.board) (packet_for worker (role.owner item.board) ++ item ∷ []) }
+
+-- the worker with a board closed, which counts as an expansion
+abbrev pub with_closed : WorkerState → Position → Known → WorkerState
+with_closed worker b known =
+    record worker { known = closure worker.known b known; allowance = worker.allowance - 1; expansions = worker.expansions + 1 }
+
+-- the worker after it expanded a board that it knows so
+abbrev pub expansion : Role → WorkerState → Position → Known → WorkerState
+expansion role worker b known = fold (with_successor role) (with_closed worker b known) (successor_items role.task.rule b known.cost)
