@@ -5,8 +5,8 @@ use Rattle.world_model.specs.Costs.{IsNotBelow, limit_of}
 use Rattle.world_model.specs.Credit.{IsCreditedWorker}
 use Rattle.world_model.specs.Expansions.{expansion, successor_items, with_closed}
 use Rattle.world_model.specs.Knowledge.{relaxation}
-use Rattle.world_model.specs.WorkerSteps.{AtLane, Lane}
-use Rattle.world_model.specs.Workers.{IsIdle, IsOpen, KnowsAs, Packet, Role, WorkerState, packet_for}
+use Rattle.world_model.specs.WorkerSteps.{AtLane}
+use Rattle.world_model.specs.Workers.{IsIdle, IsOpen, KnowsAs, Lane, Packet, Role, WorkerState, packet_for}
 use Rattle.world_model.proofs.StepCases.{IsRunning, Expands, Settles, Sends, Delivers, Draws, Announces, Grants, Rests, Halts}
 use Rattle.world_model.specs.declared.limits.TheConstants.{CREDIT_DRAWN, GREATEST_GRANT}
 use Rattle.std.proofs.Common.{◌≡◌, ◌≢◌, ◌⊎◌, ℕ, ◌+◌, ◌-◌, ◌<◌, ◌≤◌, true, false, eqb, List, [], ◌∷◌, ◌++◌, length, get_or, refl, sym, ap, ◌∙◌, subst, inl, inr, ⊎_elim, arith, Option, Some, None}
@@ -48,7 +48,7 @@ lower_best : (cost : ℕ) (best : Option ℕ) → ¬ IsNotBelow (Some cost) best
 lower_best cost None lower = tt
 lower_best cost (Some best) lower = ⊎_elim (λ (lt : cost < best). omega arith) (λ (le : best ≤ cost). absurd (lower le)) (cases_lt cost best)
 
-not_below_stable : (x y : Option ℕ) → ¬ (¬ IsNotBelow x y) → IsNotBelow x y
+pub not_below_stable : (x y : Option ℕ) → ¬ (¬ IsNotBelow x y) → IsNotBelow x y
 not_below_stable None y not = tt
 not_below_stable (Some x) None not = absurd (not (λ h. h))
 not_below_stable (Some x) (Some y) not = ⊎_elim (λ (lt : x < y). absurd (not (λ le. omega arith))) (λ (le : y ≤ x). le) (cases_lt x y)

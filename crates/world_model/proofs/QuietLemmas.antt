@@ -22,8 +22,7 @@ use Rattle.world_model.specs.Outcomes.{IsBoundOf, IsGiven, IsGivenAt, cause_of, 
 use Rattle.world_model.specs.Quiet.{IsQuiet}
 use Rattle.world_model.specs.Shapes.{IsShaped}
 use Rattle.world_model.specs.Soundness.{IsSound}
-use Rattle.world_model.specs.WorkerSteps.{Lane}
-use Rattle.world_model.specs.Workers.{IsIdle, WorkerState}
+use Rattle.world_model.specs.Workers.{IsIdle, Lane, WorkerState}
 use Rattle.world_model.specs.Worlds.{IsUnderWay, IsWorker, Knows, LiesIn, WorldState}
 use Rattle.world_model.proofs.ListLemmas.{part_le, none_in_empty, get_below, all_from_places, sum_plus, sum_le_but_one}
 use Rattle.world_model.proofs.CreditLemmas.{limit_falls}

@@ -16,8 +16,8 @@ use Rattle.world_model.specs.Expansions.{expansion}
 use Rattle.world_model.specs.Knowledge.{relaxation}
 use Rattle.world_model.specs.Steps.{ByWorker, Ends, Next, OnBook, OnLane, from_to, with_lane}
 use Rattle.world_model.specs.Turns.{IsRefused, Turn, turn}
-use Rattle.world_model.specs.WorkerSteps.{AtLane, DeliverStep, ExpandStep, IsOverfull, Lane, SendStep, SettleStep}
-use Rattle.world_model.specs.Workers.{HasNothingBelow, IsFloor, IsIdle, IsNext, Packet, Role, WorkerState, packet_for}
+use Rattle.world_model.specs.WorkerSteps.{AtLane, DeliverStep, ExpandStep, IsOverfull, SendStep, SettleStep}
+use Rattle.world_model.specs.Workers.{HasNothingBelow, IsFloor, IsIdle, IsNext, Lane, Packet, Role, WorkerState, packet_for}
 use Rattle.world_model.specs.Worlds.{IsLane, IsWorker, WorldState, role_of}
 use Rattle.world_model.proofs.ChangeLemmas.{changed, unchanged_world, unchanged_lanes}
 

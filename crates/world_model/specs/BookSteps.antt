@@ -90,3 +90,8 @@ refusal_of NotLower = NothingToAnnounce
 refusal_of NothingLeft = NoAllowance
 refusal_of FloorBelowLimit = NotIdle
 refusal_of AllowanceRemains = AllowanceLeft
+
+-- a worker and the book after a call of the book: as they were where it is refused, and else these
+abbrev pub after_call : Option BookFault → AtBook → AtBook → AtBook
+after_call None old new = new
+after_call (Some fault) old new = old

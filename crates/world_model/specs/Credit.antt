@@ -25,7 +25,7 @@ pub record IsGoalOwner (task : Task) (best : Option ℕ) (worker : WorkerState) 
   pub copy : worker.best ≡ best
   pub knows : (cost : ℕ) → best ≡ Some cost → (known : Known) × KnowsAs worker task.goal known × (known.cost ≤ cost)
 
--- beside this best cost the worker's copy is not below it, its allowance is one grant at most, and where its purse is empty it is idle
+-- beside this best cost: the copy is not below it, the allowance is one grant at most, and a worker whose purse is empty is idle
 pub record IsCreditedWorker (role : Role) (best : Option ℕ) (worker : WorkerState) : Type 0 where
   pub allowance : worker.allowance ≤ GREATEST_GRANT
   pub copy : IsNotBelow worker.best best
@@ -36,8 +36,9 @@ pub record IsCreditedWorker (role : Role) (best : Option ℕ) (worker : WorkerSt
 abbrev pub HasSpentWorker : WorldState → Type 0
 HasSpentWorker w = (i : ℕ) × (worker : WorkerState) × IsWorker w i worker × (worker.allowance ≡ 0)
 
--- The credit is what is in all purses, and 1 for each packet in a lane. What was granted is allowance or was spent, and within the
--- limit. Where the run stopped for the limit, all of it is granted and some worker has no allowance; where it is quiet, no credit is left.
+-- The credit is what is in all purses, and 1 for each packet in a lane. What was granted is allowance or was spent, and is within the
+-- limit. Where the run stopped for the limit, all of it is granted and some worker has no allowance. Where it is quiet, no credit is
+-- left.
 pub record IsCredited (w : WorldState) : Type 0 where
   pub credit : w.book.credit ≡ purse_total w + packet_count w
   pub granted : w.book.granted ≡ sum_by (λ worker. worker.allowance + worker.expansions) w.workers

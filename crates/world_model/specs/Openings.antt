@@ -10,7 +10,7 @@ use Rattle.world_model.specs.Workers.{WorkerState}
 use Rattle.world_model.specs.Worlds.{WorldState}
 use Rattle.world_model.specs.Shapes.{IsTask}
 
--- what is to be done, and by whom: a task, how many boards may be expanded for it, how many workers there are, and who owns which board
+-- what is to be done, and by whom: a task, how many boards may be expanded, how many workers there are, and who owns which board
 pub record Job : Type 0 where
   pub task : Task
   pub limit : ℕ

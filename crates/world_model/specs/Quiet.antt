@@ -28,7 +28,8 @@ pub record IsQuiet (w : WorldState) : Type 0 where
 abbrev pub HasBegun : WorldState → Type 0
 HasBegun w = (i : ℕ) × (known : Known) × Knows w i w.task.start known × (known.expanded ≡ true)
 
--- from a world that stopped so its own outcome is taken: it is quiet; or it has begun, if the limit is above what one grant to each makes; or memory was wanting
+-- The world is kept where it stopped so: by Quiet, where it is quiet; for the limit, where it has begun if that is above one grant for
+-- each worker; or for memory. A run's own outcome is taken from such worlds alone.
 abbrev pub IsKeptAt : WorldState → Option Stop → Type 0
 IsKeptAt w None = ⊥
 IsKeptAt w (Some Quiet) = IsQuiet w

@@ -9,8 +9,7 @@ use Rattle.outcomes.specs.Outcomes.{Task}
 use Rattle.world_model.specs.declared.limits.TheConstants.{WORKER_LIMIT, PACKET_LIMIT, LANE_LIMIT}
 use Rattle.world_model.specs.declared.parts.Item.{Item}
 use Rattle.world_model.specs.declared.parts.Known.{Known}
-use Rattle.world_model.specs.Workers.{WorkerState, Packet, Role, IsTaskBoard}
-use Rattle.world_model.specs.WorkerSteps.{Lane}
+use Rattle.world_model.specs.Workers.{WorkerState, Packet, Lane, Role, IsTaskBoard}
 use Rattle.world_model.specs.Worlds.{WorldState, IsWorker, IsLane, role_of}
 
 -- start and goal are boards of one shape, and each of its tiles has a weight
@@ -42,7 +41,8 @@ pub record IsShapedLane (task : Task) (owner : Position → ℕ) (to : ℕ) (lan
   pub few : length lane ≤ LANE_LIMIT
   pub packets : (packet : Packet) → Contains lane packet → (1 ≤ length packet) × IsPacketFor task owner to packet
 
--- there are workers, not too many; each board has an owner among them; each has a floor, and a lane to each; and each part is as it should be
+-- There are workers, not too many, and each board has its owner among them. Each worker has a floor and a lane to each worker. Each
+-- part is as it should be.
 pub record IsShaped (w : WorldState) : Type 0 where
   pub task : IsTask w.task
   pub count : (1 ≤ length w.workers) × (length w.workers ≤ WORKER_LIMIT)

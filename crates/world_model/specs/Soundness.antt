@@ -13,7 +13,8 @@ IsCovered w b cost =
     ((known : Known) × Knows w (w.owner b) b known × (known.cost ≤ cost))
     ⊎ ((to : ℕ) × (item : Item) × IsUnderWay w to item × (item.board ≡ b) × (item.cost ≤ cost))
 
--- the board at this cost is the start at 0; or the board before its last move is known to that one's owner, cheaper by the move's cost at least
+-- The board at this cost is the start at 0; or the board before its last move is known to that one's owner, cheaper by the move's cost
+-- at least.
 abbrev pub HasPredecessor : WorldState → Position → ℕ → Move → Type 0
 HasPredecessor w b cost via =
     ((b ≡ w.task.start) × (cost ≡ 0))

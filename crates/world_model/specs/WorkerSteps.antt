@@ -10,12 +10,8 @@ use Rattle.world_model.specs.declared.steps.Refusal.TheVariants.{NothingBelowLim
 use Rattle.world_model.specs.Turns.{Turn, IsRefused, Becomes, Unless}
 use Rattle.world_model.specs.Costs.{limit_of}
 use Rattle.world_model.specs.Knowledge.{relaxation}
-use Rattle.world_model.specs.Workers.{WorkerState, Packet, Role, packet_for, HasNothingBelow, IsNext}
+use Rattle.world_model.specs.Workers.{WorkerState, Packet, Lane, Role, packet_for, HasNothingBelow, IsNext}
 use Rattle.world_model.specs.Expansions.{expansion}
-
--- the packets on their way from one worker to another, the first to arrive first
-abbrev pub Lane : Type 0
-Lane = List Packet
 
 -- a worker, and a lane from it or to it
 pub record AtLane : Type 0 where
