@@ -1,5 +1,5 @@
 -- The laws of worlds.
-use Rattle.std.specs.Prelude.{◌≡◌, ◌⊎◌, ℕ, ◌+◌, ◌-◌, ◌*◌, ◌<◌, ◌≤◌, List, length, Vec, Option, Some, None}
+use Rattle.std.specs.Prelude.{◌≡◌, ◌≢◌, ◌⊎◌, ℕ, ◌+◌, ◌-◌, ◌*◌, ◌<◌, ◌≤◌, List, length, Vec, Option, Some, None}
 use Rattle.std.specs.declared.alloc.Global.{Global}
 use Rattle.memory.specs.declared.OutOfMemory.{OutOfMemory}
 use Rattle.board.specs.declared.moves.Move.{Move}
@@ -16,7 +16,7 @@ use Rattle.world_model.specs.declared.limits.TheConstants.{GREATEST_GRANT}
 use Rattle.world_model.specs.declared.parts.Known.{Known}
 use Rattle.world_model.specs.declared.steps.Refusal.{Refusal}
 use Rattle.world_model.specs.declared.steps.Step.{Step}
-use Rattle.world_model.specs.declared.steps.Stop.TheVariants.{Quiet, Limit}
+use Rattle.world_model.specs.declared.steps.Stop.TheVariants.{Quiet, Limit, Start}
 use Rattle.world_model.specs.Turns.{Turn, turn}
 use Rattle.world_model.specs.Workers.{WorkerState, Role}
 use Rattle.world_model.specs.WorkerSteps.{AtLane, ExpandStep, SettleStep, SendStep, DeliverStep}
@@ -27,7 +27,7 @@ use Rattle.world_model.specs.Openings.{Job, IsJob, opening}
 use Rattle.world_model.specs.Soundness.{IsSound}
 use Rattle.world_model.specs.Frontiers.{IsInFrontier}
 use Rattle.world_model.specs.Credit.{IsCredited, expansion_count}
-use Rattle.world_model.specs.Quiet.{IsQuiet}
+use Rattle.world_model.specs.Quiet.{IsQuiet, IsKept}
 use Rattle.world_model.specs.Outcomes.{IsGiven}
 
 -- a refused step leaves the world as it was
@@ -134,6 +134,16 @@ RunsAnswer =
     → IsRun (opening job via) made w
     → IsGiven w outcome
     → Answers job.task outcome
+
+-- where it stopped, but not because a thread could not be started, it is kept
+abbrev pub RunsAreKept : Type 0
+RunsAreKept =
+    (job : Job) (via : Move) (made : List (Step × Option Refusal)) (w : WorldState)
+    → IsJob job
+    → IsRun (opening job via) made w
+    → w.book.stop ≢ None
+    → w.book.stop ≢ Some Start
+    → IsKept w
 
 -- its workers together expanded at most the limit; where it stopped for the limit, all of it but one grant for each worker but one
 abbrev pub RunsSpendTheLimit : Type 0
