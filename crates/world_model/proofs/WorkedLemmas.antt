@@ -1,9 +1,23 @@
 -- The worked runs: each is computed, and what it ends with.
 use Rattle.std.proofs.Common.{◌≡◌, ◌≢◌, ℕ, zero, suc, ◌-◌, ◌<◌, ◌≤◌, Bool, true, false, List, [], ◌∷◌, ◌++◌, length, refl, sym, ap, ◌∙◌, subst, inl, inr, arith, Some, None, replicate}
-use Rattle.std.specs.Prelude.{All, AllPairs, ◌==◌, ◌&&◌, nat_lt, not, slice_get, slice_set, slice_index, option_map}
+use Rattle.std.specs.Prelude.{All, AllPairs, ◌==◌, ◌&&◌, nat_lt, not, slice_get, slice_set, slice_index, option_map, Option}
 use Rattle.std.proofs.Common.{lit<}
 use Rattle.std.specs.Prelude.{Contains}
-use Rattle.std.specs.FinMap as entries
+use Rattle.std.specs.FinMap as map
+use Rattle.std.specs.Ordering.{nat_cmp}
+use Rattle.std.proofs.lemmas.Bool.{cond-true, cond-false}
+use Rattle.std.specs.Prelude.{if◌then◌else◌}
+use Rattle.board.specs.declared.moves.Move.{Move}
+use Rattle.world_model.specs.Frontiers.{IsLowest, IsReached}
+use Rattle.world_model.specs.Knowledge.{Knowledge, is_news, relaxation_at}
+use Rattle.world_model.specs.Openings.{IsJob, Job, opening}
+use Rattle.world_model.specs.Outcomes.{AreRowsFor, IsKnownBelow}
+use Rattle.world_model.specs.Shapes.{IsShaped}
+use Rattle.world_model.specs.Steps.{IsRun}
+use Rattle.world_model.specs.Worked.{BoardIsExpandedAgain, CutIsGiven, HaltIsGiven, PlanIsGiven, RefusalsAreGiven, RefusalsOnTheWayAreGiven, RelaxationsLower, far_goal, one_move, one_way, other_way}
+use Rattle.world_model.specs.Workers.{WorkerState}
+use Rattle.world_model.specs.Worlds.{WorldState}
+use Rattle.world_model.proofs.TableLemmas.{get_inserted}
 use Rattle.board.specs.Plans.{Leads}
 use Rattle.std.proofs.lemmas.List.{length-replicate}
 use Rattle.std.proofs.lemmas.List.Elements.{All-cons}
@@ -16,17 +30,9 @@ use Rattle.board.specs.CostRules.{IsCostRule, unit_rule}
 use Rattle.board.specs.Worked.{grid_of, two_by_two, two_by_three}
 use Rattle.board.specs.Keys.{key_of}
 use Rattle.world_model.specs.declared.parts.Known.{Known}
-use Rattle.world_model.specs.declared.steps.HaltCause.TheVariants.{Limit, Memory}
+use Rattle.world_model.specs.declared.steps.HaltCause.TheVariants.{Limit, Memory, Start}
 use Rattle.world_model.specs.declared.steps.Step.{Step}
 use Rattle.world_model.specs.declared.steps.Step.TheVariants.{Expand, Settle, Send, Deliver, Draw, Announce, Grant, Rest, Halt}
-use Rattle.world_model.specs.Frontiers.{IsLowest, IsReached}
-use Rattle.world_model.specs.Openings.{IsJob, Job, opening}
-use Rattle.world_model.specs.Outcomes.{AreRowsFor, IsKnownBelow}
-use Rattle.world_model.specs.Shapes.{IsShaped}
-use Rattle.world_model.specs.Steps.{IsRun}
-use Rattle.world_model.specs.Worked.{BoardIsExpandedAgain, CutIsGiven, HaltIsGiven, PlanIsGiven, RefusalsAreGiven, far_goal, one_move, one_way, other_way}
-use Rattle.world_model.specs.Workers.{WorkerState}
-use Rattle.world_model.specs.Worlds.{WorldState}
 use Rattle.world_model.proofs.OpeningLemmas.{opening_shaped}
 use Rattle.world_model.proofs.SmallWorkers.{In, Small, worker_of, look_up, found, current, current_complete}
 use Rattle.world_model.proofs.SmallSteps.{eq_tests, lt_tests, not_tests}
@@ -178,6 +184,30 @@ refusals_given = (
   (Some 0, None, one_lowest refused_steps, one_reached refused_steps _ refl, ((0, refl, refl), inl (refl, refl))),
 )
 
+abbrev way_steps : List Step
+way_steps =
+    sent_steps
+    ++ (Rest 0 ∷ Rest 1 ∷ Grant 1 ∷ Deliver 1 0 ∷ Deliver 0 1 ∷ Deliver 0 1 ∷ Announce 0 ∷ Rest 0 ∷ Settle 0 ∷ Rest 0 ∷ Announce 0 ∷ Announce 0 ∷ Halt 0 Start ∷ Draw 0 ∷ [])
+
+pub way_given : RefusalsOnTheWayAreGiven
+way_given = (world_of one_move.task one_move.owner (one_end way_steps), (one_run way_steps).0)
+
+-- what is known at a key after a relaxation there
+relaxed_at : (known : Knowledge) (key cost : ℕ) (via : Move) (o : Option Known) (news : Bool) → map.get known key ≡ o → is_news o cost ≡ news → map.get (relaxation_at known key cost via) key ≡ (if news then Some (record { cost = cost; expanded = false; via = via }) else o)
+relaxed_at known key cost via o true at news =
+    ap (λ (k : Knowledge). map.get k key) (cond-true _ _ _ (ap (λ (x : Option Known). is_news x cost) at ∙ news)) ∙ get_inserted known key (record { cost = cost; expanded = false; via = via })
+relaxed_at known key cost via o false at news = ap (λ (k : Knowledge). map.get k key) (cond-false _ _ _ (ap (λ (x : Option Known). is_news x cost) at ∙ news)) ∙ at
+
+pub relaxations_lower : RelaxationsLower
+relaxations_lower key =
+    let closed : Known = record { cost = 5; expanded = true; via = U } in
+    let known : Knowledge = map.insert map.empty key closed in (
+      relaxed_at map.empty key 5 U None true (map.get-empty nat_cmp key) refl,
+      relaxed_at known key 5 L (Some closed) false (get_inserted map.empty key closed) refl,
+      relaxed_at known key 6 L (Some closed) false (get_inserted map.empty key closed) refl,
+      relaxed_at known key 4 L (Some closed) true (get_inserted map.empty key closed) refl,
+    )
+
 abbrev all_steps : List Step
 all_steps = Grant 1 ∷ Expand 1 ∷ Send 1 0 ∷ Draw 1 ∷ Send 1 0 ∷ Deliver 0 1 ∷ Settle 0 ∷ Announce 0 ∷ Rest 0 ∷ Rest 1 ∷ []
 
@@ -250,7 +280,7 @@ start_row = (two_by_two 1 0 2 3, 0) ∷ []
 start_alone : (b : Position) (cost : ℕ) → IsKnownBelow all_world 1 b cost → Contains {X = Position × ℕ} start_row (b, cost)
 start_alone b cost (i, known, knows, same, low) =
     let x = small_worker one_move.task one_move.owner one_move_is.task.goal all_end (one_run all_steps).1 i knows.worker knows.is in
-    let looked : look_up x.0.entries (key_of b) ≡ Some known = sym (found x.0.entries (key_of b)) ∙ ap (λ (y : WorkerState). entries.get y.known (key_of b)) (sym x.2) ∙ knows.knows in
+    let looked : look_up x.0.entries (key_of b) ≡ Some known = sym (found x.0.entries (key_of b)) ∙ ap (λ (y : WorkerState). map.get y.known (key_of b)) (sym x.2) ∙ knows.knows in
     let listed = current_complete one_move.task x.0.entries (boards_at one_move.task all_end.workers i x.0 (one_run all_steps).1 x.1) b known knows.board looked in
     let is = all_only x.0 (subst (λ (xs : List Small). In xs x.0) workers_are (in_place all_end.workers i x.0 x.1)) (b, known) listed (omega (arith, same)) in
     let none : 0 ≡ cost = omega arith in

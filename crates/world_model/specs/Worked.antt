@@ -1,5 +1,6 @@
 -- Worked runs: what steps answer, and which outcome follows, on boards that a reader can follow by hand.
-use Rattle.std.specs.Prelude.{◌≡◌, ℕ, ◌-◌, ◌^◌, ◌%◌, List, [], ◌∷◌, ◌++◌, map, Option, None, Some, Vec}
+use Rattle.std.specs.Prelude.{◌≡◌, ℕ, ◌-◌, ◌^◌, ◌%◌, List, [], ◌∷◌, ◌++◌, Bool, true, false, map as each_of, Option, None, Some, Vec}
+use Rattle.std.specs.FinMap as map
 use Rattle.std.specs.declared.alloc.Global.{Global}
 use Rattle.board.specs.declared.moves.Move.{Move}
 use Rattle.board.specs.declared.moves.Move.TheVariants.{U, L}
@@ -10,11 +11,13 @@ use Rattle.outcomes.specs.declared.outcome.Cause.TheVariants.{Memory as ForMemor
 use Rattle.outcomes.specs.declared.outcome.Want.{Want}
 use Rattle.outcomes.specs.declared.outcome.Outcome.{Outcome}
 use Rattle.outcomes.specs.declared.outcome.Outcome.TheVariants.{Optimal, Bounded}
-use Rattle.world_model.specs.declared.steps.HaltCause.TheVariants.{Limit, Memory}
+use Rattle.world_model.specs.declared.steps.HaltCause.TheVariants.{Limit, Memory, Start}
 use Rattle.world_model.specs.declared.steps.Refusal.{Refusal}
-use Rattle.world_model.specs.declared.steps.Refusal.TheVariants.{NothingBelowLimit, NoAllowance, RingEmpty, PurseTooSmall, NothingToAnnounce, NotIdle, Stopped, PurseEmpty, NothingThere, AllowanceLeft, NoSuchWorker}
+use Rattle.world_model.specs.declared.steps.Refusal.TheVariants.{NothingBelowLimit, NoAllowance, RingEmpty, PurseTooSmall, StillHolding, NothingToAnnounce, NotIdle, Stopped, PurseEmpty, NothingThere, AllowanceLeft, NoSuchWorker}
 use Rattle.world_model.specs.declared.steps.Step.{Step}
 use Rattle.world_model.specs.declared.steps.Step.TheVariants.{Expand, Settle, Send, Deliver, Draw, Announce, Grant, Rest, Halt}
+use Rattle.world_model.specs.declared.parts.Known.{Known}
+use Rattle.world_model.specs.Knowledge.{relaxation_at}
 use Rattle.world_model.specs.Worlds.{WorldState}
 use Rattle.world_model.specs.Steps.{IsRun}
 use Rattle.world_model.specs.Openings.{Job, opening}
@@ -45,7 +48,7 @@ not_ok step refusal = (step, Some refusal)
 abbrev pub Gives : Job → List (Step × Option Refusal) → Outcome → Type 0
 Gives job made outcome = (w : WorldState) × IsRun (opening job U) made w × IsGiven w outcome
 
--- 1 0 over 2 3, from which one move to the left leads to the goal, by two workers; the start is owned by worker 1, the goal by worker 0
+-- 1 0 over 2 3, from which one move to the left leads to the goal, by two workers. Worker 1 owns the start, worker 0 the goal.
 abbrev pub one_move : Job
 one_move = plain_job (two_by_two 1 0 2 3) (goal_of (grid_of 2 2)) 2
 
@@ -96,6 +99,42 @@ RefusalsAreGiven =
     ∷ [])
     (Bounded 0 None ForCut)
 
+-- who has spent the purse, still has something to do, holds a packet or was granted enough is refused, and the goal is announced once
+abbrev pub RefusalsOnTheWayAreGiven : Type 0
+RefusalsOnTheWayAreGiven =
+    (w : WorldState)
+    × IsRun (opening one_move U)
+    (goal_sent
+    ++ (not_ok (Rest 0) PurseEmpty
+    ∷ not_ok (Rest 1) NotIdle
+    ∷ not_ok (Grant 1) AllowanceLeft
+    ∷ not_ok (Deliver 1 0) RingEmpty
+    ∷ ok (Deliver 0 1)
+    ∷ not_ok (Deliver 0 1) StillHolding
+    ∷ not_ok (Announce 0) NothingToAnnounce
+    ∷ not_ok (Rest 0) NotIdle
+    ∷ ok (Settle 0)
+    ∷ not_ok (Rest 0) NotIdle
+    ∷ ok (Announce 0)
+    ∷ not_ok (Announce 0) NothingToAnnounce
+    ∷ ok (Halt 0 Start)
+    ∷ not_ok (Draw 0) Stopped
+    ∷ []))
+    w
+
+-- what is known of the board with this key
+abbrev pub entry_of : ℕ → Bool → Move → Known
+entry_of cost expanded via = record { cost = cost; expanded = expanded; via = via }
+
+-- a board that is closed at 5: an equal cost and a greater one change nothing, a lower one is taken with its last move, and opens it
+abbrev pub RelaxationsLower : Type 0
+RelaxationsLower =
+    (key : ℕ)
+    → (map.get (relaxation_at map.empty key 5 U) key ≡ Some (entry_of 5 false U))
+    × (map.get (relaxation_at (map.insert map.empty key (entry_of 5 true U)) key 5 L) key ≡ Some (entry_of 5 true U))
+    × (map.get (relaxation_at (map.insert map.empty key (entry_of 5 true U)) key 6 L) key ≡ Some (entry_of 5 true U))
+    × (map.get (relaxation_at (map.insert map.empty key (entry_of 5 true U)) key 4 L) key ≡ Some (entry_of 4 false L))
+
 -- 0 1 2 over 3 4 5, with a goal that is far away, by a worker for each cell of the blank
 abbrev pub far_goal : Job
 far_goal = plain_job (two_by_three (0 ∷ 1 ∷ 2 ∷ 3 ∷ 4 ∷ 5 ∷ [])) (two_by_three (5 ∷ 4 ∷ 3 ∷ 2 ∷ 1 ∷ 0 ∷ [])) 6
@@ -121,4 +160,4 @@ other_way =
 
 -- all these steps are accepted, and the bound is then 2
 abbrev pub BoardIsExpandedAgain : Type 0
-BoardIsExpandedAgain = Gives far_goal (map ok (one_way ++ other_way)) (Bounded 2 None ForCut)
+BoardIsExpandedAgain = Gives far_goal (each_of ok (one_way ++ other_way)) (Bounded 2 None ForCut)

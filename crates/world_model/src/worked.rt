@@ -2,7 +2,8 @@
 
 ghost use Rattle.std.specs.Prelude.{◌≡◌};
 ghost use Rattle.world_model.specs.Worked.{PlanIsGiven, CutIsGiven, HaltIsGiven};
-ghost use Rattle.world_model.specs.Worked.{RefusalsAreGiven, BoardIsExpandedAgain};
+ghost use Rattle.world_model.specs.Worked.{RefusalsAreGiven, RefusalsOnTheWayAreGiven};
+ghost use Rattle.world_model.specs.Worked.{BoardIsExpandedAgain, RelaxationsLower};
 
 use crate::limits::{CREDIT_DRAWN, GREATEST_GRANT, LANE_LIMIT, PACKET_LIMIT, WORKER_LIMIT};
 
@@ -13,9 +14,15 @@ pub fn one_move()
     ensures halt { HaltIsGiven }
 {}
 
-/// What is refused in an opening world.
+/// What is refused in an opening world, and later.
 pub fn refusals()
-    ensures { RefusalsAreGiven }
+    ensures opening { RefusalsAreGiven }
+    ensures way { RefusalsOnTheWayAreGiven }
+{}
+
+/// What a relaxation makes of a board that is closed.
+pub fn relaxations()
+    ensures { RelaxationsLower }
 {}
 
 /// A board that was expanded is met at a lower cost, and expanded again.
