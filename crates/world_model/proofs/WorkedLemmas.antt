@@ -14,7 +14,7 @@ use Rattle.world_model.specs.Openings.{IsJob, Job, opening}
 use Rattle.world_model.specs.Outcomes.{AreRowsFor, IsKnownBelow}
 use Rattle.world_model.specs.Shapes.{IsShaped}
 use Rattle.world_model.specs.Steps.{IsRun}
-use Rattle.world_model.specs.Worked.{BoardIsExpandedAgain, CutIsGiven, HaltIsGiven, PlanIsGiven, RefusalsAreGiven, RefusalsOnTheWayAreGiven, RelaxationsLower, far_goal, one_move, one_way, other_way}
+use Rattle.world_model.specs.Worked.{BoardIsExpandedAgain, CutIsGiven, HaltIsGiven, LimitIsGiven, PlanIsGiven, RefusalsAreGiven, RefusalsOnTheWayAreGiven, RelaxationsLower, far_goal, one_move, one_way, other_way}
 use Rattle.world_model.specs.Workers.{WorkerState}
 use Rattle.world_model.specs.Worlds.{WorldState}
 use Rattle.world_model.proofs.TableLemmas.{get_inserted}
@@ -297,6 +297,7 @@ pub plan_given : PlanIsGiven
 plan_given plan rows moves listed = (
   all_world,
   (one_run all_steps).0,
+  (refl, refl),
   (
     Some 1,
     Some 1,
@@ -346,4 +347,20 @@ again_given = (
   world_of far_goal.task far_goal.owner far_end,
   (run_by far_goal far_goal_is refl far_boards far_steps).0,
   (Some 2, None, lowest_by far_goal far_goal_is refl far_boards far_steps, reached_by far_goal far_goal_is refl far_boards far_steps _ refl, ((2, refl, refl), inl (refl, refl))),
+)
+
+abbrev limited_move : Job
+limited_move = record one_move { limit = 1 }
+
+limited_is : IsJob limited_move
+limited_is = record { task = one_move_is.task; some = omega arith; few = omega arith; owners = one_move_is.owners }
+
+abbrev limit_steps : List Step
+limit_steps = Grant 1 ∷ Halt 1 Limit ∷ Expand 1 ∷ Expand 1 ∷ Grant 1 ∷ Halt 1 Limit ∷ []
+
+pub limit_given : LimitIsGiven
+limit_given = (
+  world_of limited_move.task limited_move.owner (end_of limited_move.task limited_move.owner limit_steps (small_opening limited_move)),
+  (run_by limited_move limited_is refl one_boards limit_steps).0,
+  (Some 1, None, lowest_by limited_move limited_is refl one_boards limit_steps, reached_by limited_move limited_is refl one_boards limit_steps _ refl, ((1, refl, refl), inl (refl, refl))),
 )

@@ -7,10 +7,11 @@ use Rattle.board.specs.declared.moves.Move.TheVariants.{U, L}
 use Rattle.board.specs.Positions.{Position, blank_of, goal_of}
 use Rattle.board.specs.CostRules.{unit_rule}
 use Rattle.board.specs.Worked.{grid_of, two_by_two, two_by_three}
-use Rattle.outcomes.specs.declared.outcome.Cause.TheVariants.{Memory as ForMemory, Cut as ForCut}
+use Rattle.outcomes.specs.declared.outcome.Cause.TheVariants.{Limit as ForLimit, Memory as ForMemory, Cut as ForCut}
 use Rattle.outcomes.specs.declared.outcome.Want.{Want}
 use Rattle.outcomes.specs.declared.outcome.Outcome.{Outcome}
 use Rattle.outcomes.specs.declared.outcome.Outcome.TheVariants.{Optimal, Bounded}
+use Rattle.world_model.specs.declared.steps.Stop.TheVariants.{Quiet}
 use Rattle.world_model.specs.declared.steps.HaltCause.TheVariants.{Limit, Memory, Start}
 use Rattle.world_model.specs.declared.steps.Refusal.{Refusal}
 use Rattle.world_model.specs.declared.steps.Refusal.TheVariants.{NothingBelowLimit, NoAllowance, RingEmpty, PurseTooSmall, StillHolding, NothingToAnnounce, NotIdle, Stopped, PurseEmpty, NothingThere, AllowanceLeft, NoSuchWorker}
@@ -60,13 +61,17 @@ goal_sent = ok (Grant 1) ∷ ok (Expand 1) ∷ not_ok (Send 1 0) PurseTooSmall �
 abbrev pub goal_announced : List (Step × Option Refusal)
 goal_announced = ok (Deliver 0 1) ∷ ok (Settle 0) ∷ ok (Announce 0) ∷ ok (Rest 0) ∷ ok (Rest 1) ∷ []
 
--- then one move to the left is optimal, and the start is its one row
+-- the run has stopped by Quiet, with no credit left
+abbrev pub HasEnded : WorldState → Type 0
+HasEnded w = (w.book.stop ≡ Some Quiet) × (w.book.credit ≡ 0)
+
+-- then the run is quiet, one move to the left is optimal, and the start is its one row
 abbrev pub PlanIsGiven : Type 0
 PlanIsGiven =
     (plan : Vec Move Global) (rows : Vec (Position × ℕ) Global)
     → plan.items ≡ L ∷ []
     → rows.items ≡ (two_by_two 1 0 2 3, 0) ∷ []
-    → Gives one_move (goal_sent ++ goal_announced) (Optimal 1 plan rows)
+    → (w : WorldState) × IsRun (opening one_move U) (goal_sent ++ goal_announced) w × HasEnded w × IsGiven w (Optimal 1 plan rows)
 
 -- with the goal on its way, the run is cut with the bound 1
 abbrev pub CutIsGiven : Type 0
@@ -78,6 +83,13 @@ HaltIsGiven =
     (want : Want)
     → Gives one_move (ok (Grant 1) ∷ not_ok (Halt 1 Limit) AllowanceLeft ∷ ok (Halt 0 (Memory want)) ∷ not_ok (Rest 1) Stopped ∷ [])
     (Bounded 0 None (ForMemory want))
+
+-- with a limit of one expansion the worker that made it halts the run
+abbrev pub LimitIsGiven : Type 0
+LimitIsGiven =
+    Gives (record one_move { limit = 1 })
+    (ok (Grant 1) ∷ not_ok (Halt 1 Limit) AllowanceLeft ∷ ok (Expand 1) ∷ not_ok (Expand 1) NoAllowance ∷ not_ok (Grant 1) NoAllowance ∷ ok (Halt 1 Limit) ∷ [])
+    (Bounded 1 None ForLimit)
 
 -- what is refused in the opening world
 abbrev pub RefusalsAreGiven : Type 0

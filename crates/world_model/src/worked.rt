@@ -1,7 +1,7 @@
 //! Worked runs that the definitions allow: each is the contract of a function that does nothing.
 
 ghost use Rattle.std.specs.Prelude.{◌≡◌};
-ghost use Rattle.world_model.specs.Worked.{PlanIsGiven, CutIsGiven, HaltIsGiven};
+ghost use Rattle.world_model.specs.Worked.{PlanIsGiven, CutIsGiven, HaltIsGiven, LimitIsGiven};
 ghost use Rattle.world_model.specs.Worked.{RefusalsAreGiven, RefusalsOnTheWayAreGiven};
 ghost use Rattle.world_model.specs.Worked.{BoardIsExpandedAgain, RelaxationsLower};
 
@@ -12,6 +12,7 @@ pub fn one_move()
     ensures plan { PlanIsGiven }
     ensures cut { CutIsGiven }
     ensures halt { HaltIsGiven }
+    ensures limit { LimitIsGiven }
 {}
 
 /// What is refused in an opening world, and later.
