@@ -1,0 +1,3 @@
+pub mod OpenLists
+pub mod Buckets
+pub mod Laws

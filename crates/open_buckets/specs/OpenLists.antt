@@ -1,0 +1,51 @@
+-- What contracts see of an open list: at each f, the cost of a board plus its sum, the entries, of which each is a key and a cost, and
+-- for how many more there is a place.
+use Rattle.std.specs.Prelude.{ℕ, ◌≡◌, ◌≢◌, ◌<◌, ◌≤◌, ◌+◌, List, [], ◌∷◌, ◌++◌, Option, None, Some, slice_index, slice_index_or}
+
+-- Entries and places, both by f.
+pub record OpenList (K : Type 0) : Type 0 where
+  pub entries : List (List (K × ℕ))
+  pub places : List ℕ
+
+-- no entry, and no place for one
+abbrev pub empty_list : {K : Type 0} → OpenList K
+empty_list = record { entries = []; places = [] }
+
+-- the entries at f, in the order in which they were put there; one that was put there twice stands there twice
+abbrev pub entries_at : {K : Type 0} → OpenList K → ℕ → List (K × ℕ)
+entries_at list f = slice_index_or list.entries f []
+
+-- for how many more entries there is a place at f
+abbrev pub places_at : {K : Type 0} → OpenList K → ℕ → ℕ
+places_at list f = slice_index list.places f
+
+-- no entry is below f
+abbrev pub NothingWaits : {K : Type 0} → OpenList K → ℕ → Type 0
+NothingWaits list f = (h : ℕ) → h < f → entries_at list h ≡ []
+
+-- all but f is as it was
+abbrev pub OthersStay : {K : Type 0} → ℕ → OpenList K → OpenList K → Type 0
+OthersStay f old new = (h : ℕ) → h ≢ f → (entries_at new h ≡ entries_at old h) × (places_at new h ≡ places_at old h)
+
+-- an entry is added at f, and takes one place at most
+pub record Puts {K : Type 0} (f : ℕ) (entry : K × ℕ) (old new : OpenList K) : Type 0 where
+  pub here : entries_at new f ≡ entries_at old f ++ entry ∷ []
+  pub places : places_at old f ≤ places_at new f + 1
+  pub others : OthersStay f old new
+
+-- an entry is taken out at f, which is the least f of all, and gives its place back
+pub record Takes {K : Type 0} (f : ℕ) (entry : K × ℕ) (old new : OpenList K) : Type 0 where
+  pub here : entries_at old f ≡ entries_at new f ++ entry ∷ []
+  pub least : NothingWaits old f
+  pub places : places_at new f ≡ places_at old f + 1
+  pub others : OthersStay f old new
+
+-- the entry that is taken next: the last that was put at f, which is the least f of all
+pub record IsNext {K : Type 0} (f : ℕ) (entry : K × ℕ) (list : OpenList K) : Type 0 where
+  pub last : (rest : List (K × ℕ)) × (entries_at list f ≡ rest ++ entry ∷ [])
+  pub least : NothingWaits list f
+
+-- the least f of all entries; none where nothing waits
+abbrev pub IsLowest : {K : Type 0} → OpenList K → Option ℕ → Type 0
+IsLowest list None = (h : ℕ) → entries_at list h ≡ []
+IsLowest list (Some f) = (entries_at list f ≢ []) × NothingWaits list f

@@ -1,0 +1,132 @@
+//! Entries in buckets, and a cursor to the lowest of them.
+
+ghost use Rattle.std.specs.Prelude.{◌≡◌, ◌<◌, ◌≤◌, ◌^◌, ℕ, OnOk, MatchOption};
+ghost use Rattle.open_buckets.specs.OpenLists.{empty_list, entries_at, places_at, NothingWaits};
+ghost use Rattle.open_buckets.specs.OpenLists.{Puts, Takes, IsNext, IsLowest};
+
+use memory::OutOfMemory;
+use std::alloc::Global;
+use std::marker::Model;
+
+/// The greatest cost plus sum of a board: the greatest cost that a plan is followed to, 1,048,320,
+/// a move of weight 255 more, and a sum of 24 times 65,535.
+pub const GREATEST_F: u32 = 2_621_415;
+
+/// Entries by f, the cost of a board plus its sum. Each is a key, or whatever else tells the board,
+/// and the cost.
+///
+/// There is a bucket for each f, and a cursor that is never above the least f of all entries.
+#[derive(Drop)]
+pub struct Open<K> {
+    buckets: Vec<Vec<(K, u32)>>,
+    cursor: usize,
+}
+
+impl<K> Model for Open<K> {
+    ghost use Rattle.open_buckets.specs.OpenLists.{OpenList};
+    ghost use Rattle.open_buckets.specs.Buckets.{list_of, IsSound};
+
+    ghost Value = { OpenList K };
+
+    ghost view = { λ o. list_of o.buckets.items };
+
+    ghost invariant = { λ o. IsSound o.buckets.items o.cursor };
+}
+
+impl<K: Copy> Open<K> {
+    /// Nothing waits.
+    pub fn new(alloc: Global) -> Self
+        ensures { result ≡ empty_list }
+    {
+        Open {
+            buckets: Vec::new(alloc),
+            cursor: 0,
+        }
+    }
+
+    /// Makes places for this many entries at an f. Whether it succeeds or not, all entries stay,
+    /// and no place is lost.
+    pub fn reserve(&mut self, alloc: Global, f: u32, count: usize) -> Result<(), OutOfMemory>
+        requires within { f ≤ GREATEST_F }
+        requires modest { count ≤ 2 ^ 27 }
+        ensures ok { OnOk result (count ≤ places_at self.new f) }
+        ensures entries { (h : ℕ) → entries_at self.new h ≡ entries_at self.old h }
+        ensures places { (h : ℕ) → places_at self.old h ≤ places_at self.new h }
+    {
+        let place = f as usize;
+        'buckets: while self.buckets.len() <= place {
+            memory::push(&mut self.buckets, Vec::new(alloc))?;
+        }
+        let bucket = &mut self.buckets[place];
+        memory::reserve(bucket, count)
+    }
+
+    /// Adds an entry at an f that has a place.
+    pub fn put(&mut self, f: u32, key: K, g: u32)
+        requires { 0 < places_at self.old f }
+        ensures { Puts f (key, g) self.old self.new }
+    {
+        let place = f as usize;
+        let bucket = &mut self.buckets[place];
+        if memory::push(bucket, (key, g)).is_err() {
+            unreachable!()
+        }
+        if place < self.cursor {
+            self.cursor = place;
+        }
+    }
+
+    /// Takes out the next entry, which has the least f of all, where that f is below a limit. Its
+    /// place stays for another one.
+    pub fn take_lowest(&mut self, below: u32) -> Option<(K, u32)>
+        ensures { MatchOption result ((self.new ≡ self.old) × NothingWaits self.old below)
+            (λ entry. (f : ℕ) × (f < below) × Takes f entry self.old self.new) }
+    {
+        let limit = below as usize;
+        'cursor: while self.cursor < limit {
+            if self.cursor >= self.buckets.len() {
+                return None;
+            }
+            let bucket = &mut self.buckets[self.cursor];
+            if let Some(entry) = bucket.pop() {
+                return Some(entry);
+            }
+            self.cursor += 1;
+        }
+        None
+    }
+
+    /// The entry that `take_lowest` would take.
+    pub fn peek_lowest(&self, below: u32) -> Option<(K, u32)>
+        ensures { MatchOption result (NothingWaits self.now below)
+            (λ entry. (f : ℕ) × (f < below) × IsNext f entry self.now) }
+    {
+        let limit = below as usize;
+        let mut place = self.cursor;
+        'places: while place < limit {
+            if place >= self.buckets.len() {
+                return None;
+            }
+            let bucket = &self.buckets[place];
+            if !bucket.is_empty() {
+                return Some(bucket[bucket.len() - 1]);
+            }
+            place += 1;
+        }
+        None
+    }
+
+    /// The least f of all entries.
+    pub fn lowest(&self) -> Option<u32>
+        ensures { IsLowest self.now result }
+    {
+        let mut place = self.cursor;
+        'places: while place < self.buckets.len() {
+            if !self.buckets[place].is_empty() {
+                return Some(place as u32);
+            }
+            place += 1;
+        }
+        None
+    }
+}
