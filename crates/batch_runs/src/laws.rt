@@ -3,6 +3,7 @@
 ghost use Rattle.batch_runs.specs.Headline.{AnswersTellTheTruth, BeginningsAreOfLines};
 ghost use Rattle.batch_runs.specs.Headline.{OutputsTellTheTruth};
 ghost use Rattle.batch_runs.specs.Laws.{LinesAreLostToFailures, ParityWantsNoMemory};
+ghost use Rattle.batch_runs.specs.Laws.{ParityIsAnswered};
 ghost use Rattle.batch_runs.specs.Laws.{OutputsAreAnswers, FailedWritesAreTold};
 
 use crate::batch::Solver;
@@ -44,4 +45,9 @@ pub fn lines_are_lost_to_failures()
 /// A board of the other class is refused for no want of memory.
 pub fn parity_wants_no_memory()
     ensures { ParityWantsNoMemory }
+{}
+
+/// A board of the other class is answered by its parity alone.
+pub fn parity_is_answered()
+    ensures { ParityIsAnswered }
 {}
