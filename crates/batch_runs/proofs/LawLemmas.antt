@@ -1,11 +1,11 @@
 -- What the definitions say of streams whose bytes are known, and of sinks that have not failed.
-use Rattle.std.proofs.Common.{ℕ, ◌≡◌, ◌⊎◌, ◌≤◌, true, List, [], length, Option, None, Some, Ok, Err, inl, inr, subst, sym, refl, ap, ◌∙◌, arith}
+use Rattle.std.proofs.Common.{ℕ, ◌≡◌, ◌⊎◌, ◌≤◌, true, List, [], ◌++◌, length, Option, None, Some, Ok, Err, inl, inr, subst, sym, refl, ap, ◌∙◌, arith}
 use Rattle.std.specs.Io.KnownBytes.{Appends}
 use Rattle.batch_lines.specs.Lines.{lines_of}
 use Rattle.batch_lines.specs.declared.lines.TheConstants.{INPUT_LIMIT}
 use Rattle.batch_runs.specs.declared.faults.LinesFault.TheVariants.{Read, Write, Memory}
-use Rattle.batch_runs.specs.Batches.{Rules, AnswersLines, AreAll, IsTooLong, answers_text}
-use Rattle.batch_runs.specs.Headline.{TellsTheTruth, OutputsTellTheTruth}
+use Rattle.batch_runs.specs.Batches.{Rules, AnswersLines, AreAll, AreFirst, IsTooLong, answers_text}
+use Rattle.batch_runs.specs.Headline.{TellsTheTruth, OutputsTellTheTruth, BeginningsTellTheTruth}
 use Rattle.batch_runs.specs.Laws.{LinesAreLostToFailures, ParityWantsNoMemory, ParityIsAnswered, OutputsAreAnswers, FailedWritesAreTold}
 
 -- an input within the limit is not too long
@@ -44,6 +44,12 @@ pub outputs_true : (rules : Rules) → OutputsTellTheTruth rules
 outputs_true rules source sink status input known empty all =
     let lines_are : lines_of input ≡ all.lines = subst (λ (left : Option (List ℕ)). AreAll left all.lines) known all.all in
     (all.output, held sink.before.contents sink.after.contents all.output empty all.put, subst (λ (lines : List (List ℕ)). TellsTheTruth rules lines all.output) (sym lines_are) all.truth, all.settled)
+
+pub beginnings_true : (rules : Rules) → BeginningsTellTheTruth rules
+beginnings_true rules source sink input known empty some =
+    let first : (more : List (List ℕ)) × (lines_of input ≡ some.lines ++ more) = subst (λ (left : Option (List ℕ)). AreFirst left some.lines) known some.first in
+    let written = held sink.before.contents sink.after.contents some.begun.sent empty some.begun.put in
+    (some.lines, first.0, some.begun.sent, some.begun.unsent, first.1, written, subst (TellsTheTruth rules some.lines) some.begun.parts some.truth)
 
 pub told : (rules : Rules) → FailedWritesAreTold rules
 told rules source sink (Ok counts) unfailed other reports = reports.2 ∙ unfailed

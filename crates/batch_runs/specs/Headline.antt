@@ -71,3 +71,12 @@ OutputsTellTheTruth rules =
     → sink.before.contents ≡ Some []
     → WritesTruth rules source sink status
     → (output : List ℕ) × (sink.after.contents ≡ Some output) × TellsTheTruth rules (lines_of input) output × (status ≡ 0 → IsSettled output)
+
+-- and after a run that ends early the sink holds a beginning of what tells the truth of the input's first lines
+abbrev pub BeginningsTellTheTruth : Rules → Type 0
+BeginningsTellTheTruth rules =
+    (source : Change SourceState) (sink : Change SinkState) (input : List ℕ)
+    → source.before.left ≡ Some input
+    → sink.before.contents ≡ Some []
+    → BeginsTruth rules source sink
+    → (lines more : List (List ℕ)) × (written unwritten : List ℕ) × (lines_of input ≡ lines ++ more) × (sink.after.contents ≡ Some written) × TellsTheTruth rules lines (written ++ unwritten)

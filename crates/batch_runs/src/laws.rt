@@ -1,7 +1,7 @@
 //! The laws of batches: each is the contract of a function that does nothing.
 
 ghost use Rattle.batch_runs.specs.Headline.{AnswersTellTheTruth, BeginningsAreOfLines};
-ghost use Rattle.batch_runs.specs.Headline.{OutputsTellTheTruth};
+ghost use Rattle.batch_runs.specs.Headline.{OutputsTellTheTruth, BeginningsTellTheTruth};
 ghost use Rattle.batch_runs.specs.Laws.{LinesAreLostToFailures, ParityWantsNoMemory};
 ghost use Rattle.batch_runs.specs.Laws.{ParityIsAnswered};
 ghost use Rattle.batch_runs.specs.Laws.{OutputsAreAnswers, FailedWritesAreTold};
@@ -19,6 +19,14 @@ pub fn answers_tell_the_truth<A: Solver>(solver: &A)
 /// the truth of the input's lines.
 pub fn outputs_tell_the_truth<A: Solver>(solver: &A)
     ensures { OutputsTellTheTruth (A.rules solver.now) }
+{
+    let _ = solver;
+}
+
+/// Where the input is known and the output was empty, what a run that ends early leaves there is a
+/// beginning of what tells the truth of the input's first lines.
+pub fn beginnings_tell_the_truth<A: Solver>(solver: &A)
+    ensures { BeginningsTellTheTruth (A.rules solver.now) }
 {
     let _ = solver;
 }
