@@ -1,7 +1,7 @@
 -- What a report was made of is read back from it.
 use Rattle.std.proofs.Common.{◌≡◌, ℕ, List, [], ◌∷◌, Option, None, Some, option_and_then, get_or, refl, sym, ap, ◌∙◌, subst, arith, codes}
 use Rattle.std.specs.Prelude.{unwrap_or}
-use Rattle.serde_json.specs.Data.{Data, null, boolean, number, string, array, object}
+use Rattle.serde_json.specs.Data.{Data, null, boolean, number, unsigned, string, array, object, member, no_members}
 use Rattle.serde_json.specs.Find.{get, as_str, as_number, as_u64}
 use Rattle.board.specs.Letters.{letter_of, move_of_letter}
 use Rattle.board.specs.declared.moves.Move.{Move}
@@ -88,6 +88,13 @@ say_same id id' (Bounded bound best cause) (Bounded bound' best' cause') e =
     let bests : best_of best ≡ best_of best' = sym (own_best (best_of best)) ∙ ap (λ (d : Data). best_read (value_at (codes "best") d)) e ∙ own_best (best_of best') in
     let causes : cause_word cause ≡ cause_word cause' = ap (text_at (codes "cause")) e in
     subst (λ (c : ℕ). SaySame (Bounded bound best cause) (Bounded c best' cause')) bounds (bounded bound best best' cause cause' bests causes)
+
+pub told_alike : (id : List ℕ) (outcome outcome' : Outcome) → SaySame outcome outcome' → outcome_data id outcome ≡ outcome_data id outcome'
+told_alike id outcome outcome' (optimal cost plan plan' rows rows' plans) =
+    ap (λ (moves : List Move). object (member (codes "cost") (number (unsigned cost)) (member (codes "id") (string id) (member (codes "plan") (string (letters_of moves)) (member (codes "status") (string (codes "optimal")) no_members))))) plans
+told_alike id outcome outcome' (unsolvable why) = refl
+told_alike id outcome outcome' (bounded bound best best' cause cause' bests causes) = λ i.
+    object (member (codes "best") (best_data (bests i)) (member (codes "bound") (number (unsigned bound)) (member (codes "cause") (string (causes i)) (member (codes "id") (string id) (member (codes "status") (string (codes "bounded")) no_members)))))
 
 same_id : (id id' : List ℕ) (outcome outcome' : Outcome) → outcome_data id outcome ≡ outcome_data id' outcome' → id ≡ id'
 same_id id id' outcome outcome' e = sym (own_id id outcome) ∙ ap (text_at (codes "id")) e ∙ own_id id' outcome'

@@ -28,6 +28,10 @@ OutcomesAreTold =
     → report_text (outcome_data id outcome) ≡ report_text (outcome_data id' outcome')
     → (id ≡ id') × SaySame outcome outcome'
 
+-- and outcomes that say the same have one report
+abbrev pub OutcomesAreToldAlike : Type 0
+OutcomesAreToldAlike = (id : List ℕ) (outcome outcome' : Outcome) → SaySame outcome outcome' → outcome_data id outcome ≡ outcome_data id outcome'
+
 -- from the report of a refused line its code and number are read back
 abbrev pub RefusalsAreTold : Type 0
 RefusalsAreTold =

@@ -1,7 +1,7 @@
 //! The laws of reports: each is the contract of a function that does nothing.
 
 ghost use Rattle.reports.specs.Laws.{ReportsAreLines, ReportsAreRead, ReportsSayOneThing};
-ghost use Rattle.reports.specs.Laws.{OutcomesAreTold, RefusalsAreTold};
+ghost use Rattle.reports.specs.Laws.{OutcomesAreTold, OutcomesAreToldAlike, RefusalsAreTold};
 ghost use Rattle.reports.specs.Laws.{CostsAreTold, CodesAreTold};
 
 /// A report has one line feed, its last byte.
@@ -22,7 +22,8 @@ pub fn reports_say_one_thing()
 /// An outcome's report is that of no other outcome, but for the rows, and for how memory came to be
 /// wanting.
 pub fn outcomes_are_told()
-    ensures { OutcomesAreTold }
+    ensures told { OutcomesAreTold }
+    ensures alike { OutcomesAreToldAlike }
 {}
 
 /// A refused line's report is that of no other code and number.

@@ -1,5 +1,8 @@
-use Rattle.reports.proofs.ToldLemmas.{outcome_told}
+use Rattle.reports.proofs.ToldLemmas.{outcome_told, told_alike}
 use Rattle.reports.proofs.laws.outcomes_are_told.Goals as goal
 
-pub returns : goal.returns
-returns c = outcome_told
+pub returns-clause-told : goal.returns-clause-told
+returns-clause-told c = outcome_told
+
+pub returns-clause-alike : goal.returns-clause-alike
+returns-clause-alike c = told_alike
