@@ -13,6 +13,7 @@ use Rattle.outcomes.specs.declared.outcome.Outcome.{Outcome}
 use Rattle.outcomes.specs.declared.outcome.Outcome.TheVariants.{Bounded}
 use Rattle.outcomes.specs.Outcomes.{Answers}
 use Rattle.world_model.specs.declared.limits.TheConstants.{GREATEST_GRANT}
+use Rattle.world_model.specs.declared.parts.Item.{Item}
 use Rattle.world_model.specs.declared.parts.Known.{Known}
 use Rattle.world_model.specs.declared.steps.Refusal.{Refusal}
 use Rattle.world_model.specs.declared.steps.Step.{Step}
@@ -20,11 +21,11 @@ use Rattle.world_model.specs.declared.steps.Stop.TheVariants.{Quiet, Limit, Star
 use Rattle.world_model.specs.Turns.{Turn, turn}
 use Rattle.world_model.specs.Workers.{WorkerState, Role}
 use Rattle.world_model.specs.WorkerSteps.{AtLane, ExpandStep, SettleStep, SendStep, DeliverStep}
-use Rattle.world_model.specs.Worlds.{WorldState, Knows}
+use Rattle.world_model.specs.Worlds.{WorldState, Knows, IsUnderWay}
 use Rattle.world_model.specs.Steps.{Next, IsRun}
 use Rattle.world_model.specs.Shapes.{IsTask, IsShapedWorker, IsShapedLane, IsShaped}
 use Rattle.world_model.specs.Openings.{Job, IsJob, opening}
-use Rattle.world_model.specs.Soundness.{IsSound}
+use Rattle.world_model.specs.Soundness.{IsSound, IsLedTo}
 use Rattle.world_model.specs.Frontiers.{IsInFrontier}
 use Rattle.world_model.specs.Credit.{IsCredited, expansion_count}
 use Rattle.world_model.specs.Quiet.{IsQuiet, IsKept}
@@ -95,6 +96,14 @@ OpeningsAreSound =
     (job : Job) (via : Move)
     → IsJob job
     → IsShaped (opening job via) × IsSound (opening job via) × IsCredited (opening job via) × ((opening job via).book.limit ≡ job.limit)
+
+-- to each board that a sound world knows a plan leads, at no more than the cost that is known: last moves can be followed back
+abbrev pub KnownBoardsAreReached : Type 0
+KnownBoardsAreReached = (w : WorldState) → IsShaped w → IsSound w → (i : ℕ) (b : Position) (known : Known) → Knows w i b known → IsLedTo w b known.cost
+
+-- and so to each that is under way
+abbrev pub ItemsAreReached : Type 0
+ItemsAreReached = (w : WorldState) → IsShaped w → IsSound w → (to : ℕ) (item : Item) → IsUnderWay w to item → IsLedTo w item.board item.cost
 
 -- no plan costs less than a number that no board of a sound world's frontier is below, nor the cost at which the goal is known
 abbrev pub FrontiersBound : Type 0

@@ -1,8 +1,9 @@
 -- Sound worlds: no board is lost, and each one is reached.
-use Rattle.std.specs.Prelude.{◌≡◌, ◌⊎◌, ℕ, ◌+◌, ◌≤◌, true, false}
+use Rattle.std.specs.Prelude.{◌≡◌, ◌⊎◌, ℕ, ◌+◌, ◌≤◌, true, false, List}
 use Rattle.board.specs.declared.moves.Move.{Move}
 use Rattle.board.specs.Positions.{Position}
 use Rattle.board.specs.Moves.{Moves}
+use Rattle.board.specs.Plans.{Leads}
 use Rattle.world_model.specs.declared.parts.Item.{Item}
 use Rattle.world_model.specs.declared.parts.Known.{Known}
 use Rattle.world_model.specs.Worlds.{WorldState, Knows, IsUnderWay}
@@ -28,3 +29,7 @@ pub record IsSound (w : WorldState) : Type 0 where
   pub reached : (i : ℕ) (b : Position) (known : Known) → Knows w i b known → HasPredecessor w b known.cost known.via
   pub items_reached : (to : ℕ) (item : Item) → IsUnderWay w to item → HasPredecessor w item.board item.cost item.via
   pub goal_kept : (i : ℕ) (known : Known) → Knows w i w.task.goal known → known.expanded ≡ false
+
+-- a plan leads from the start to the board, at no more than this cost
+abbrev pub IsLedTo : WorldState → Position → ℕ → Type 0
+IsLedTo w b cost = (plan : List Move) × (k : ℕ) × Leads w.task.rule w.task.start plan b k × (k ≤ cost)

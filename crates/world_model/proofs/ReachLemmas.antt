@@ -1,0 +1,29 @@
+-- To each board that a sound world knows, or has under way, a plan leads, at no more than the cost that it has there.
+use Rattle.std.proofs.Common.{ℕ, zero, suc, ◌+◌, ◌<◌, [], ◌∷◌, ◌++◌, refl, inl, inr, arith}
+use Rattle.board.specs.declared.moves.Move.{Move}
+use Rattle.board.specs.Positions.{Position}
+use Rattle.board.proofs.PlanLemmas.{one_more}
+use Rattle.world_model.specs.declared.parts.Item.{Item}
+use Rattle.world_model.specs.declared.parts.Known.{Known}
+use Rattle.world_model.specs.Shapes.{IsShaped}
+use Rattle.world_model.specs.Soundness.{HasPredecessor, IsLedTo, IsSound}
+use Rattle.world_model.specs.Worlds.{IsUnderWay, Knows, WorldState}
+use Rattle.world_model.proofs.ShapeLemmas.{move_low}
+
+module _ (w : WorldState) (shaped : IsShaped w) (sound : IsSound w) where
+  reached_from : (b : Position) (cost : ℕ) (via : Move) (m : ℕ) → cost < suc m → ((i : ℕ) (x : Position) (k : Known) → Knows w i x k → k.cost < m → IsLedTo w x k.cost) → HasPredecessor w b cost via → IsLedTo w b cost
+  reached_from b cost via m low earlier (inl start) = ([], 0, (start.0, refl), omega arith)
+  reached_from b cost via m low earlier (inr has) =
+      let some = move_low w.task shaped.task has.0 has.4.board via b has.1 has.3 in
+      let plan = earlier (w.owner has.0) has.0 has.2 has.4 (omega (arith, has.5)) in
+      (plan.0 ++ via ∷ [], plan.1 + has.1, one_more w.task.rule w.task.start plan.0 has.0 plan.1 via b has.1 plan.2 has.3, omega (arith, plan.3, has.5))
+
+  known_below : (m i : ℕ) (b : Position) (known : Known) → Knows w i b known → known.cost < m → IsLedTo w b known.cost
+  known_below zero i b known knows low = absurd (omega arith)
+  known_below (suc m) i b known knows low = reached_from b known.cost known.via m low (λ j x k at lt. known_below m j x k at lt) (sound.reached i b known knows)
+
+  pub known_reached : (i : ℕ) (b : Position) (known : Known) → Knows w i b known → IsLedTo w b known.cost
+  known_reached i b known knows = known_below (suc known.cost) i b known knows (omega arith)
+
+  pub items_reached : (to : ℕ) (item : Item) → IsUnderWay w to item → IsLedTo w item.board item.cost
+  items_reached to item way = reached_from item.board item.cost item.via item.cost (omega arith) (λ j x k at lt. known_reached j x k at) (sound.items_reached to item way)
