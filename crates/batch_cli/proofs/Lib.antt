@@ -1,1 +1,2 @@
 pub mod ProgramLemmas
+pub mod LawLemmas

@@ -3,3 +3,4 @@ pub mod FindLemmas
 pub mod CertifyLemmas
 pub mod HeadlineLemmas
 pub mod LawLemmas
+pub mod SilenceLemmas

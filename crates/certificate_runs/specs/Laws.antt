@@ -1,7 +1,11 @@
 -- The laws of the definitions. Each is the contract of a function that does nothing.
-use Rattle.std.specs.Prelude.{◌≡◌, ◌≢◌, Err}
+use Rattle.std.specs.Prelude.{ℕ, ◌≡◌, ◌≢◌, List, [], Err}
 use Rattle.byte_streams.specs.Streams.{SourceState, SinkState, Change}
 use Rattle.batch_runs.specs.Batches.{Rules}
+use Rattle.batch_runs.specs.Meanings.{questions}
+use Rattle.batch_runs.specs.Setups.{SetupState}
+use Rattle.batch_runs.specs.Solving.{rules_of}
+use Rattle.certificate_runs.specs.Headline.{AnswersFirst}
 use Rattle.certificate_runs.specs.Certifying.{Replies}
 use Rattle.certificate_runs.specs.Checking.{Checks}
 use Rattle.certificate_runs.specs.declared.faults.CertifyFault.{CertifyFault}
@@ -17,3 +21,7 @@ OtherFaultsLeaveTheSink rules =
 -- and so does one that checks a certificate
 abbrev pub OtherFaultsWriteNoVerdict : Type 0
 OtherFaultsWriteNoVerdict = (source : Change SourceState) (sink : Change SinkState) (fault : CheckFault) → fault ≢ check.Write → Checks source sink (Err fault) → sink.after ≡ sink.before
+
+-- where nothing is written for lines, none of them asks for an answer
+abbrev pub SilenceIsUnasked : Type 0
+SilenceIsUnasked = (setup : SetupState) (lines : List (List ℕ)) → AnswersFirst (rules_of setup) lines [] → questions 1 lines ≡ []

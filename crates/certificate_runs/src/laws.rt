@@ -1,6 +1,7 @@
 //! The laws of the definitions: each is the contract of a function that does nothing.
 
 ghost use Rattle.certificate_runs.specs.Laws.{OtherFaultsLeaveTheSink, OtherFaultsWriteNoVerdict};
+ghost use Rattle.certificate_runs.specs.Laws.{SilenceIsUnasked};
 
 use batch_runs::Solver;
 
@@ -14,4 +15,9 @@ pub fn other_faults_leave_the_sink<A: Solver>(solver: &A)
 /// And so does one that checks a certificate.
 pub fn other_faults_write_no_verdict()
     ensures { OtherFaultsWriteNoVerdict }
+{}
+
+/// Where nothing is written for lines, none of them asks for an answer.
+pub fn silence_is_unasked()
+    ensures { SilenceIsUnasked }
 {}

@@ -1,0 +1,5 @@
+use Rattle.certificate_runs.proofs.SilenceLemmas.{silence}
+use Rattle.certificate_runs.proofs.laws.silence_is_unasked.Goals as goal
+
+pub returns : goal.returns
+returns c = silence
