@@ -18,7 +18,7 @@ use Rattle.world_model.specs.declared.steps.Stop.TheVariants.{Quiet, Limit, Memo
 use Rattle.world_model.specs.BookSteps.{AtBook}
 use Rattle.world_model.specs.Books.{BookState}
 use Rattle.world_model.specs.Credit.{IsCredited, expansion_count}
-use Rattle.world_model.specs.Expansions.{expansion, successor_items, with_closed, with_successor}
+use Rattle.world_model.specs.Expansions.{expansion, successor_items, with_closure, with_successor}
 use Rattle.world_model.specs.Knowledge.{Knowledge, is_news, relaxation}
 use Rattle.world_model.specs.Openings.{IsJob, Job, opening}
 use Rattle.world_model.specs.Quiet.{HasBegun, IsKept, IsKeptAt}
@@ -94,18 +94,18 @@ begun_by w i worker is new book lanes keeps begun =
 expand_keeps : (w : WorldState) (i : ℕ) (worker : WorkerState) (b : Position) (known : Known) → KnowsAs worker b known → HasStart w worker → HasStart w (expansion (role_of w i) worker b known)
 expand_keeps w i worker b known knows has =
     ⊎_elim
-    (λ same. (has.0, fold_zero (role_of w i) (successor_items w.task.rule b known.cost) (with_closed worker b known) (key_of w.task.start) has.0 (same ∙ has.1) has.3, has.2, has.3))
+    (λ same. (has.0, fold_zero (role_of w i) (successor_items w.task.rule b known.cost) (with_closure worker b known) (key_of w.task.start) has.0 (same ∙ has.1) has.3, has.2, has.3))
     (λ new.
     let e = same_known worker.known (key_of w.task.start) has.0 known has.1 (ap (map.get worker.known) new.0 ∙ knows) in
     let zero : known.cost ≡ 0 = sym (ap (λ (k : Known). k.cost) e) ∙ has.3 in
-    (record known { expanded = true }, fold_zero (role_of w i) (successor_items w.task.rule b known.cost) (with_closed worker b known) (key_of w.task.start) (record known { expanded = true }) new.1 zero, refl, zero))
+    (record known { expanded = true }, fold_zero (role_of w i) (successor_items w.task.rule b known.cost) (with_closure worker b known) (key_of w.task.start) (record known { expanded = true }) new.1 zero, refl, zero))
     (with_insert worker.known (key_of b) (key_of w.task.start) (record known { expanded = true }))
 
 -- the expansion of the start
 expand_begins : (w : WorldState) (i : ℕ) (worker : WorkerState) (known : Known) → known.cost ≡ 0 → HasStart w (expansion (role_of w i) worker w.task.start known)
 expand_begins w i worker known zero = (
   record known { expanded = true },
-  fold_zero (role_of w i) (successor_items w.task.rule w.task.start known.cost) (with_closed worker w.task.start known) (key_of w.task.start) (record known { expanded = true }) (get_inserted worker.known (key_of w.task.start) (record known { expanded = true })) zero,
+  fold_zero (role_of w i) (successor_items w.task.rule w.task.start known.cost) (with_closure worker w.task.start known) (key_of w.task.start) (record known { expanded = true }) (get_inserted worker.known (key_of w.task.start) (record known { expanded = true })) zero,
   refl,
   zero,
 )

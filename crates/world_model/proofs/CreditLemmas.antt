@@ -3,7 +3,7 @@ use Rattle.world_model.specs.BookSteps.{AtBook, MayGoOn}
 use Rattle.world_model.specs.Books.{BookState, grant_of, stop_of, with_rest}
 use Rattle.world_model.specs.Costs.{IsNotBelow, limit_of}
 use Rattle.world_model.specs.Credit.{IsCreditedWorker}
-use Rattle.world_model.specs.Expansions.{expansion, successor_items, with_closed}
+use Rattle.world_model.specs.Expansions.{expansion, successor_items, with_closure}
 use Rattle.world_model.specs.Knowledge.{relaxation}
 use Rattle.world_model.specs.WorkerSteps.{AtLane}
 use Rattle.world_model.specs.Workers.{IsIdle, IsOpen, KnowsAs, Lane, Packet, Role, WorkerState, packet_for}
@@ -137,7 +137,7 @@ module _ (role : Role) (worker : WorkerState) (book : BookState) (funded : IsFun
   pub expand_credit : (worker' : WorkerState) → Expands role worker worker' → KeepsCredit role worker book 0 worker' book 0
   expand_credit worker' step =
       let items = successor_items role.task.rule step.board step.known.cost in
-      let marked = with_closed worker step.board step.known in
+      let marked = with_closure worker step.board step.known in
       let rest = all_rest role items marked in
       let some : worker.allowance ≢ 0 = step.left in
       subst (λ x. KeepsCredit role worker book 0 x book 0) (sym step.is)
@@ -148,7 +148,7 @@ module _ (role : Role) (worker : WorkerState) (book : BookState) (funded : IsFun
       (omega (arith, rest.1, rest.2))
       (omega (arith, rest.0)))
     where
-      marked_lower : (old : Known) → map.get worker.known (key_of role.task.goal) ≡ Some old → (now : Known) × (map.get (with_closed worker step.board step.known).known (key_of role.task.goal) ≡ Some now) × (now.cost ≤ old.cost)
+      marked_lower : (old : Known) → map.get worker.known (key_of role.task.goal) ≡ Some old → (now : Known) × (map.get (with_closure worker step.board step.known).known (key_of role.task.goal) ≡ Some now) × (now.cost ≤ old.cost)
       marked_lower old knows =
           ⊎_elim (λ same. (old, same ∙ knows, omega arith))
           (λ new.

@@ -20,10 +20,10 @@ with_successor role worker item =
     else record worker { unsent = slice_set worker.unsent (role.owner item.board) (packet_for worker (role.owner item.board) ++ item ∷ []) }
 
 -- the worker with a board closed, which counts as an expansion
-abbrev pub with_closed : WorkerState → Position → Known → WorkerState
-with_closed worker b known =
+abbrev pub with_closure : WorkerState → Position → Known → WorkerState
+with_closure worker b known =
     record worker { known = closure worker.known b known; allowance = worker.allowance - 1; expansions = worker.expansions + 1 }
 
 -- the worker after it expanded a board that it knows so
 abbrev pub expansion : Role → WorkerState → Position → Known → WorkerState
-expansion role worker b known = fold (with_successor role) (with_closed worker b known) (successor_items role.task.rule b known.cost)
+expansion role worker b known = fold (with_successor role) (with_closure worker b known) (successor_items role.task.rule b known.cost)

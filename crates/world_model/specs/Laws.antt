@@ -58,9 +58,9 @@ StepsKeepCredited = (step : Step) (it : Turn WorldState Refusal) → Next step i
 abbrev pub StepsHaveAnswers : Type 0
 StepsHaveAnswers = (step : Step) (w : WorldState) → IsShaped w → ¬ ((answer : Option Refusal) (w' : WorldState) → ¬ Next step (turn w answer w'))
 
--- an expansion keeps its worker shaped
-abbrev pub ExpansionsKeepTheirWorker : Type 0
-ExpansionsKeepTheirWorker =
+-- a worker that expands a board stays shaped
+abbrev pub ExpandingKeepsItsWorker : Type 0
+ExpandingKeepsItsWorker =
     (n : ℕ) (role : Role) (it : Turn WorkerState Refusal)
     → IsTask role.task
     → ((b : Position) → role.owner b < n)

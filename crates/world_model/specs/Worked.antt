@@ -54,12 +54,12 @@ abbrev pub one_move : Job
 one_move = plain_job (two_by_two 1 0 2 3) (goal_of (grid_of 2 2)) 2
 
 -- worker 1 expands the start and sends the goal on its way, for which it has to draw
-abbrev pub goal_sent : List (Step × Option Refusal)
-goal_sent = ok (Grant 1) ∷ ok (Expand 1) ∷ not_ok (Send 1 0) PurseTooSmall ∷ ok (Draw 1) ∷ ok (Send 1 0) ∷ []
+abbrev pub first_half : List (Step × Option Refusal)
+first_half = ok (Grant 1) ∷ ok (Expand 1) ∷ not_ok (Send 1 0) PurseTooSmall ∷ ok (Draw 1) ∷ ok (Send 1 0) ∷ []
 
 -- worker 0 takes it in and announces it, and both rest
-abbrev pub goal_announced : List (Step × Option Refusal)
-goal_announced = ok (Deliver 0 1) ∷ ok (Settle 0) ∷ ok (Announce 0) ∷ ok (Rest 0) ∷ ok (Rest 1) ∷ []
+abbrev pub second_half : List (Step × Option Refusal)
+second_half = ok (Deliver 0 1) ∷ ok (Settle 0) ∷ ok (Announce 0) ∷ ok (Rest 0) ∷ ok (Rest 1) ∷ []
 
 -- the run has stopped by Quiet, with no credit left
 abbrev pub HasEnded : WorldState → Type 0
@@ -71,11 +71,11 @@ PlanIsGiven =
     (plan : Vec Move Global) (rows : Vec (Position × ℕ) Global)
     → plan.items ≡ L ∷ []
     → rows.items ≡ (two_by_two 1 0 2 3, 0) ∷ []
-    → (w : WorldState) × IsRun (opening one_move U) (goal_sent ++ goal_announced) w × HasEnded w × IsGiven w (Optimal 1 plan rows)
+    → (w : WorldState) × IsRun (opening one_move U) (first_half ++ second_half) w × HasEnded w × IsGiven w (Optimal 1 plan rows)
 
 -- with the goal on its way, the run is cut with the bound 1
 abbrev pub CutIsGiven : Type 0
-CutIsGiven = Gives one_move goal_sent (Bounded 1 None ForCut)
+CutIsGiven = Gives one_move first_half (Bounded 1 None ForCut)
 
 -- a worker with an allowance can't halt for the limit, each can for memory, and then no step on the book is accepted
 abbrev pub HaltIsGiven : Type 0
@@ -116,7 +116,7 @@ abbrev pub RefusalsOnTheWayAreGiven : Type 0
 RefusalsOnTheWayAreGiven =
     (w : WorldState)
     × IsRun (opening one_move U)
-    (goal_sent
+    (first_half
     ++ (not_ok (Rest 0) PurseEmpty
     ∷ not_ok (Rest 1) NotIdle
     ∷ not_ok (Grant 1) AllowanceLeft
