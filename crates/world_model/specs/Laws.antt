@@ -15,12 +15,14 @@ use Rattle.outcomes.specs.Outcomes.{Answers}
 use Rattle.world_model.specs.declared.limits.TheConstants.{GREATEST_GRANT}
 use Rattle.world_model.specs.declared.parts.Item.{Item}
 use Rattle.world_model.specs.declared.parts.Known.{Known}
+use Rattle.world_model.specs.declared.steps.HaltCause.{HaltCause}
 use Rattle.world_model.specs.declared.steps.Refusal.{Refusal}
 use Rattle.world_model.specs.declared.steps.Step.{Step}
 use Rattle.world_model.specs.declared.steps.Stop.TheVariants.{Quiet, Limit, Start}
 use Rattle.world_model.specs.Turns.{Turn, turn}
 use Rattle.world_model.specs.Workers.{WorkerState, Role}
 use Rattle.world_model.specs.WorkerSteps.{AtLane, ExpandStep, SettleStep, SendStep, DeliverStep}
+use Rattle.world_model.specs.BookSteps.{AtBook, DrawStep, AnnounceStep, GrantStep, RestStep, HaltStep}
 use Rattle.world_model.specs.Worlds.{WorldState, Knows, IsUnderWay}
 use Rattle.world_model.specs.Steps.{Next, IsRun}
 use Rattle.world_model.specs.Shapes.{IsTask, IsShapedWorker, IsShapedLane, IsShaped}
@@ -89,6 +91,13 @@ DeliveringKeepsItsWorker =
     → IsShapedWorker n role it.before.worker
     → IsShapedLane role.task role.owner role.me it.before.lane
     → IsShapedWorker n role it.after.worker × IsShapedLane role.task role.owner role.me it.after.lane
+
+-- a step on the book leaves a worker's boards and items as they were
+abbrev pub BookStepsKeepTheirWorker : Type 0
+BookStepsKeepTheirWorker =
+    (role : Role) (cause : HaltCause) (it : Turn AtBook Refusal)
+    → DrawStep it ⊎ AnnounceStep role it ⊎ GrantStep role it ⊎ RestStep role it ⊎ HaltStep cause it
+    → (it.after.worker.known ≡ it.before.worker.known) × (it.after.worker.held ≡ it.before.worker.held) × (it.after.worker.unsent ≡ it.before.worker.unsent)
 
 -- the opening world of a job is shaped, sound and credited, and its limit is the job's
 abbrev pub OpeningsAreSound : Type 0
