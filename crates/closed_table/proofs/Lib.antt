@@ -1,0 +1,6 @@
+pub mod PlaceLemmas
+pub mod HeadLemmas
+pub mod FindLemmas
+pub mod RelinkLemmas
+pub mod IndexLemmas
+pub mod TableLemmas

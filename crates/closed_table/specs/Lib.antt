@@ -1,0 +1,3 @@
+pub mod Tables
+pub mod Chains
+pub mod Storage

@@ -1,0 +1,187 @@
+//! Known boards in pages, with the chains by which their keys are found.
+
+ghost use Rattle.std.specs.Prelude.{◌≡◌, ◌<◌, None, Some, OnOk, OnErr, IsSome, length, max};
+ghost use Rattle.std.specs.Prelude.{slice_get, slice_index};
+ghost use Rattle.std.specs.FinMap as map;
+ghost use Rattle.closed_table.specs.Tables.{empty_table, IsTable, relaxation_answer};
+ghost use Rattle.closed_table.specs.Tables.{table_relaxation, table_closure};
+
+use crate::index::{self, Head, Index, Slot};
+use board::Move;
+use memory::{OutOfMemory, Pages};
+use std::alloc::Global;
+use std::marker::Model;
+use world_model::Known;
+
+// What stands in pages where nothing was put yet.
+const NO_SLOT: Slot = Slot {
+    key: 0,
+    cost: 0,
+    hash: 0,
+    next: 0,
+    via: Move::U,
+    expanded: false,
+};
+
+const NO_HEAD: Head = Head {
+    first: 0,
+    filter: 0,
+};
+
+/// What became of a board that was met at a cost.
+#[derive(Clone, Copy, Debug)]
+pub enum Relaxed {
+    /// It was absent and is there now, not expanded.
+    New,
+    /// It was there at a greater cost. It has this one and this last move now, and is not expanded.
+    Lower,
+    /// It was there at this cost or a lower one, and is unchanged.
+    Kept,
+}
+
+/// Known boards, by their keys.
+///
+/// They stand in pages, in order of arrival, and hang in as many chains by the hashes of their
+/// keys. When one is added, one chain is added and takes its boards from one other chain: no page
+/// is ever copied.
+#[derive(Drop)]
+pub struct Closed {
+    index: Index,
+    // Places that are made and promised.
+    room: usize,
+    // What was read ahead, which nobody asks for.
+    ahead: u32,
+}
+
+impl Model for Closed {
+    ghost use Rattle.closed_table.specs.Tables.{Table, table_code};
+    ghost use Rattle.closed_table.specs.Storage.{table_of, IsSound};
+
+    ghost Value = { Table };
+
+    ghost coded = { table_code };
+
+    ghost view = { table_of };
+
+    ghost invariant = { IsSound };
+}
+
+impl Closed {
+    /// No board is known.
+    pub fn new(alloc: Global) -> Self
+        ensures { result ≡ empty_table }
+    {
+        Closed {
+            index: Index {
+                slots: Pages::new(alloc),
+                heads: Pages::new(alloc),
+                len: 0,
+                bits: 0,
+            },
+            room: 0,
+            ahead: 0,
+        }
+    }
+
+    /// How many boards are known.
+    pub fn len(&self) -> usize
+        ensures len { result ≡ length self.now.keys }
+        ensures table { IsTable self.now }
+    {
+        self.index.len
+    }
+
+    /// What is known of the board with this key.
+    pub fn get(&self, key: u128) -> Option<Known>
+        ensures { result ≡ map.get self.now.known key }
+    {
+        let Some(place) = index::find(&self.index, key, index::hash(key)) else {
+            return None;
+        };
+        let slot = self.index.slots.get(place);
+        Some(Known {
+            cost: slot.cost,
+            expanded: slot.expanded,
+            via: slot.via,
+        })
+    }
+
+    /// The key that came at a place in order of arrival, and what is known of its board.
+    pub fn at(&self, place: usize) -> (u128, Known)
+        requires { place < length self.now.keys }
+        ensures key { result.0 ≡ slice_index self.now.keys place }
+        ensures known { map.get self.now.known result.0 ≡ Some result.1 }
+    {
+        let slot = self.index.slots.get(place);
+        (
+            slot.key,
+            Known {
+                cost: slot.cost,
+                expanded: slot.expanded,
+                via: slot.via,
+            },
+        )
+    }
+
+    /// Makes places for this many new keys. After a refusal the table is as it was.
+    pub fn reserve(&mut self, alloc: Global, count: usize) -> Result<(), OutOfMemory>
+        ensures ok { OnOk result (self.new ≡ record self.old { room = max self.old.room count }) }
+        ensures err { OnErr result (self.new ≡ self.old) }
+    {
+        if count <= self.room {
+            return Ok(());
+        }
+        let len = self.index.len;
+        index::grow_to(&mut self.index.slots, alloc, len, count, NO_SLOT)?;
+        index::grow_to(&mut self.index.heads, alloc, len, count, NO_HEAD)?;
+        self.room = count;
+        Ok(())
+    }
+
+    /// Reads ahead what `relax` will read of these keys, up to four, so that their reads of memory
+    /// overlap. It changes nothing.
+    pub fn read_ahead(&mut self, keys: &[u128])
+        ensures { self.new ≡ self.old }
+    {
+        self.ahead = index::read_ahead(&self.index, keys);
+    }
+
+    /// Takes a board that was met at a cost by a last move: it is put in where it was absent or
+    /// known at a greater cost, and is not expanded then. Answers the key's place too.
+    pub fn relax(&mut self, key: u128, cost: u32, via: Move) -> (Relaxed, u32)
+        requires { map.get self.old.known key ≡ None → 0 < self.old.room }
+        ensures answer { result.0 ≡ relaxation_answer (map.get self.old.known key) cost }
+        ensures place { slice_get self.new.keys result.1 ≡ Some key }
+        ensures table { self.new ≡ table_relaxation self.old key cost via }
+    {
+        let hash = index::hash(key);
+        let Some(place) = index::find(&self.index, key, hash) else {
+            let place = self.index.len as u32;
+            index::add(&mut self.index, key, hash, cost, via);
+            self.room -= 1;
+            return (Relaxed::New, place);
+        };
+        let mut slot = self.index.slots.get(place);
+        if slot.cost <= cost {
+            return (Relaxed::Kept, place as u32);
+        }
+        slot.cost = cost;
+        slot.via = via;
+        slot.expanded = false;
+        self.index.slots.set(place, slot);
+        (Relaxed::Lower, place as u32)
+    }
+
+    /// Marks a known board as expanded.
+    pub fn mark_expanded(&mut self, key: u128)
+        requires { IsSome (map.get self.old.known key) }
+        ensures { self.new ≡ table_closure self.old key (map.get self.old.known key) }
+    {
+        let Some(place) = index::find(&self.index, key, index::hash(key)) else {
+            unreachable!()
+        };
+        let mut slot = self.index.slots.get(place);
+        slot.expanded = true;
+        self.index.slots.set(place, slot);
+    }
+}

@@ -1,0 +1,83 @@
+//! A list in pages, to which a page is added without moving the others.
+
+ghost use Rattle.std.specs.Prelude.{◌≡◌, ◌++◌, ◌<◌, ◌≤◌, ◌^◌, [], length, OnOk, OnErr};
+ghost use Rattle.std.specs.Prelude.{slice_set, slice_index_or, replicate};
+
+use crate::{OutOfMemory, filled, push};
+use std::alloc::Global;
+use std::marker::Model;
+use std::vec::Vec;
+
+/// How many items a page has.
+pub const PAGE_LENGTH: usize = 4096;
+
+/// The most pages: so a place, and one more, is told by 32 bits.
+const PAGE_LIMIT: usize = 1_048_576;
+
+/// A list in pages. To add a page moves none of the others.
+#[derive(Drop)]
+pub struct Pages<T> {
+    pages: Vec<Vec<T>>,
+}
+
+impl<T> Model for Pages<T> {
+    ghost use Rattle.std.specs.Prelude.{List};
+    ghost use Rattle.memory.specs.Pages.{items_of, ArePages};
+
+    ghost Value = { List T };
+
+    ghost view = { λ p. items_of p.pages.items };
+
+    ghost invariant = { λ p. ArePages p.pages.items };
+}
+
+impl<T: Copy> Pages<T> {
+    /// No page.
+    pub fn new(alloc: Global) -> Self
+        ensures { result ≡ [] }
+    {
+        Pages {
+            pages: Vec::new(alloc),
+        }
+    }
+
+    /// How many items there are.
+    pub fn len(&self) -> usize
+        ensures len { result ≡ length self.now }
+        ensures few { result ≤ 2 ^ 32 }
+    {
+        self.pages.len() * PAGE_LENGTH
+    }
+
+    /// The item at a place.
+    pub fn get(&self, place: usize) -> T
+        requires { place < length self.now }
+        ensures { result ≡ slice_index_or self.now place result }
+    {
+        let page = &self.pages[place / PAGE_LENGTH];
+        page[place % PAGE_LENGTH]
+    }
+
+    /// Puts an item at a place.
+    pub fn set(&mut self, place: usize, item: T)
+        requires { place < length self.old }
+        ensures { self.new ≡ slice_set self.old place item }
+    {
+        let page = &mut self.pages[place / PAGE_LENGTH];
+        page[place % PAGE_LENGTH] = item;
+    }
+
+    /// Adds a page of this item. Where as many pages stand as there may be, this is refused as by a
+    /// want of memory: there are 2^32 items then.
+    pub fn grow(&mut self, alloc: Global, item: T) -> Result<(), OutOfMemory>
+        ensures ok { OnOk result (self.new ≡ self.old ++ replicate PAGE_LENGTH item) }
+        ensures err { OnErr result (self.new ≡ self.old) }
+    {
+        if self.pages.len() >= PAGE_LIMIT {
+            return Err(OutOfMemory { seal: () });
+        }
+        let page = filled(alloc, item, PAGE_LENGTH)?;
+        push(&mut self.pages, page)?;
+        Ok(())
+    }
+}
