@@ -1,5 +1,6 @@
-//! Tests of the solver's containers.
+//! Tests of the crates `open_buckets` and `closed_table`: their worked rows, and many keys beside
+//! an ordered map.
 #![tactic(auto)]
 
 #[cfg(test)]
-mod open_list;
+mod tests;

@@ -1,0 +1,180 @@
+//! What the open list and the known boards answer, beside rows that are known and an ordered map.
+
+use board::Move;
+use closed_table::{Closed, Relaxed};
+use open_buckets::{GREATEST_F, Open};
+use std::alloc::Global;
+use std::collections::BTreeMap;
+use std::test::Fail;
+
+// The inverse of the odd number by which keys are hashed: its multiples by small numbers have the
+// hash 0, so they all hang in one chain.
+const COLLIDING: u128 = 0x2896_9101_C228_2353_2F07_EB1A_988D_4A1D;
+
+// Draws that are spread over all bits of a key.
+const SPREAD: u128 = 0x1_0000_0001_0000_0001_0000_0001;
+
+// An answer as a letter.
+fn letter(answer: Relaxed) -> char {
+    match answer {
+        Relaxed::New => 'N',
+        Relaxed::Lower => 'L',
+        Relaxed::Kept => 'K',
+    }
+}
+
+// A board is met; None where there is no memory for it.
+fn meet(alloc: Global, table: &mut Closed, key: u128, cost: u32, via: Move) -> Option<(char, u32)> {
+    let Ok(()) = table.reserve(alloc, 1) else {
+        return None;
+    };
+    let met = table.relax(key, cost, via);
+    Some((letter(met.0), met.1))
+}
+
+// A board is closed; None where it is unknown.
+fn close(table: &mut Closed, key: u128) -> Option<u32> {
+    let Some(known) = table.get(key) else {
+        return None;
+    };
+    table.mark_expanded(key);
+    Some(known.cost)
+}
+
+// The key at a place and its cost.
+fn at(table: &Closed, place: usize) -> Option<(u128, u32)> {
+    if place >= table.len() {
+        return None;
+    }
+    let found = table.at(place);
+    Some((found.0, found.1.cost))
+}
+
+#[test]
+fn a_board_that_is_met_again(rt: HostRuntime) -> Result<(), Fail> {
+    let mut table = Closed::new(rt.alloc());
+    // The cost and the last move, and the answer; the board is closed each time.
+    for (cost, via, answer) in [
+        (5, Move::U, 'N'),
+        (5, Move::L, 'K'),
+        (4, Move::L, 'L'),
+        (6, Move::U, 'K'),
+    ] {
+        assert_eq!(rt;
+            meet(rt.alloc(), &mut table, 7, cost, via),
+            Some((answer, 0))
+        );
+        let known = table.get(7).ok_or("unknown")?;
+        assert_eq!(rt; known.expanded, answer == 'K');
+        assert_eq!(rt; close(&mut table, 7), Some(cost.min(known.cost)));
+    }
+    let known = table.get(7).ok_or("unknown")?;
+    assert_eq!(rt; (known.cost, known.via == Move::L), (4, true));
+    Ok(())
+}
+
+// The next of a row of pseudo-random numbers (Marsaglia 2003).
+fn draw(state: u64) -> u64 {
+    let mut next = state;
+    next ^= next.wrapping_shl(13);
+    next ^= next >> 7;
+    next ^ next.wrapping_shl(17)
+}
+
+// What the map would answer, which takes the cost where it is news.
+fn meet_in_map(costs: &mut BTreeMap<u128, u32>, key: u128, cost: u32) -> Option<char> {
+    let before = costs.get(&key).copied();
+    if let Some(old) = before {
+        if old <= cost {
+            return Some('K');
+        }
+    }
+    costs.insert(key, cost).ok()?;
+    Some(if before.is_none() { 'N' } else { 'L' })
+}
+
+// How many keys came of so many draws below a limit, times a factor, where each answer is that of
+// an ordered map, and the keys stand in the order in which they came.
+fn beside_a_map(alloc: Global, draws: u32, limit: u64, factor: u128) -> Option<usize> {
+    let mut table = Closed::new(alloc);
+    let mut costs = BTreeMap::new(alloc);
+    let mut order = Vec::new(alloc);
+    let mut state = 88_172_645_463_325_252;
+    for _ in 0..draws {
+        state = draw(state);
+        let key = ((state % limit.max(1)) as u128).wrapping_mul(factor);
+        let cost = (state >> 40) as u32 % 1000;
+        let answer = meet_in_map(&mut costs, key, cost)?;
+        let (met, place) = meet(alloc, &mut table, key, cost, Move::R)?;
+        if answer == 'N' {
+            order.push(key).ok()?;
+        }
+        if met != answer || order.get(place as usize).copied() != Some(key) {
+            return None;
+        }
+    }
+    for (place, key) in order.iter().enumerate() {
+        let cost = costs.get(key).copied()?;
+        if at(&table, place) != Some((*key, cost)) || table.get(*key)?.cost != cost {
+            return None;
+        }
+    }
+    if table.len() != order.len() {
+        return None;
+    }
+    Some(order.len())
+}
+
+#[test]
+fn keys_beside_an_ordered_map(rt: HostRuntime) -> Result<(), Fail> {
+    // Draws, their limit and their factor, and how many keys came of them.
+    for (draws, limit, factor, count) in [
+        (400_000, 300_000, SPREAD, 220_817),
+        (2_000, 300, COLLIDING, 298),
+    ] {
+        assert_eq!(rt; beside_a_map(rt.alloc(), draws, limit, factor), Some(count));
+    }
+    Ok(())
+}
+
+// An entry waits; None where it may not, or there is no memory for it.
+fn wait(alloc: Global, open: &mut Open<u128>, f: u32, key: u128, g: u32) -> Option<u32> {
+    if f > GREATEST_F {
+        return None;
+    }
+    let Ok(()) = open.reserve(alloc, f, 1) else {
+        return None;
+    };
+    open.put(f, key, g);
+    open.lowest()
+}
+
+#[test]
+fn the_lowest_is_taken(rt: HostRuntime) -> Result<(), Fail> {
+    let mut open = Open::new(rt.alloc());
+    // The cost plus sum, the key and the cost of each entry, and the lowest after it.
+    for (f, key, g, lowest) in [
+        (7, 1, 3, 7),
+        (5, 2, 2, 5),
+        (5, 2, 2, 5),
+        (GREATEST_F, 3, 0, 5),
+    ] {
+        assert_eq!(rt; wait(rt.alloc(), &mut open, f, key, g), Some(lowest));
+    }
+    // The limit, the entry that is taken, and the lowest after it.
+    for (below, entry, lowest) in [
+        (5, None, Some(5)),
+        (6, Some((2, 2)), Some(5)),
+        (6, Some((2, 2)), Some(7)),
+        (6, None, Some(7)),
+        (8, Some((1, 3)), Some(GREATEST_F)),
+        (GREATEST_F, None, Some(GREATEST_F)),
+        (u32::MAX, Some((3, 0)), None),
+        (u32::MAX, None, None),
+    ] {
+        assert_eq!(rt; open.peek_lowest(below), entry);
+        assert_eq!(rt; open.take_lowest(below), entry);
+        assert_eq!(rt; open.lowest(), lowest);
+    }
+    Ok(())
+}
