@@ -12,12 +12,14 @@
 
 mod answer;
 mod certificates;
+mod containers;
 mod databases;
 mod runs;
 mod searches;
 
 use answer::Answer;
 use certificates::{read_announcement, read_certificate};
+use containers::{reserve_closed, reserve_open};
 use databases::{build_table, copy_partition};
 use runs::{check_certificate, run_two_lines, write_certificate};
 use searches::search;
@@ -28,7 +30,7 @@ use std::process::ExitCode;
 use std::rt::Env;
 
 // The names of all calls.
-const CALLS: [&str; 12] = [
+const CALLS: [&str; 14] = [
     "partition",
     "table",
     "unit-2x2",
@@ -41,6 +43,8 @@ const CALLS: [&str; 12] = [
     "batch",
     "write",
     "check",
+    "open",
+    "closed",
 ];
 
 // Makes the call of this name, or answers None where there is none.
@@ -58,6 +62,8 @@ fn call(alloc: Global, name: &str) -> Option<Answer> {
         "batch" => Some(run_two_lines(alloc)),
         "write" => Some(write_certificate(alloc)),
         "check" => Some(check_certificate(alloc)),
+        "open" => Some(reserve_open(alloc)),
+        "closed" => Some(reserve_closed(alloc)),
         _ => None,
     }
 }
