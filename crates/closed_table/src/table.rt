@@ -184,4 +184,15 @@ impl Closed {
         slot.expanded = true;
         self.index.slots.set(place, slot);
     }
+
+    /// Marks the known board at a place as expanded, without a search.
+    pub fn mark_expanded_at(&mut self, place: usize)
+        requires { place < length self.old.keys }
+        ensures { self.new ≡ table_closure self.old (slice_index self.old.keys place)
+            (map.get self.old.known (slice_index self.old.keys place)) }
+    {
+        let mut marked = self.index.slots.get(place);
+        marked.expanded = true;
+        self.index.slots.set(place, marked);
+    }
 }
