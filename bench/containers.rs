@@ -222,14 +222,12 @@ impl Table for Closed {
     }
 
     fn close(&mut self, place: u128, cost: u32) -> Option<u128> {
-        let slot = self.slots.get(place as usize);
+        let mut slot = self.slots.get(place as usize);
         if slot.cost != cost || slot.expanded {
             return None;
         }
-        let found = self.find(slot.key, hash_of(slot.key))?;
-        let mut closed = self.slots.get(found);
-        closed.expanded = true;
-        self.slots.set(found, closed);
+        slot.expanded = true;
+        self.slots.set(place as usize, slot);
         Some(slot.key)
     }
 

@@ -109,7 +109,7 @@ fn key_to_expand(closed: &mut Closed, place: u32, g: u32) -> Option<u128> {
     if known.cost != g || known.expanded {
         return None;
     }
-    closed.mark_expanded(key);
+    closed.mark_expanded_at(place as usize);
     Some(key)
 }
 
