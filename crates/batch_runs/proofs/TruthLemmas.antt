@@ -13,7 +13,7 @@ use Rattle.batch_lines.specs.Words.{entry_code}
 use Rattle.batch_lines.specs.declared.lines.LineKind.{LineKind}
 use Rattle.batch_lines.specs.declared.lines.LineKind.TheVariants.{PassedOver, Within, TooLong}
 use Rattle.batch_lines.specs.declared.lines.TheConstants.{LINE_LIMIT}
-use Rattle.outcomes.specs.Outcomes.{Answers, best_of}
+use Rattle.outcomes.specs.Outcomes.{Task, Answers, best_of}
 use Rattle.outcomes.specs.declared.outcome.Outcome.{Outcome}
 use Rattle.outcomes.specs.declared.outcome.Outcome.TheVariants.{Optimal, Unsolvable, Bounded}
 use Rattle.reports.specs.Reports.{outcome_data, refused_data, report_text}
@@ -177,47 +177,38 @@ text_in (object ms) = []
 abbrev first_letter : Option Data → ℕ
 first_letter o = get_or (text_in (data_or o)) 0 0
 
+outcome_true : (task : Task) (id : List ℕ) (outcome : Outcome) → Answers task outcome → IsTrueOf task id (outcome_data id outcome)
+outcome_true task id (Optimal cost plan rows) answers = record {
+  status = inl refl;
+  named = refl;
+  optimal = λ e. (cost, plan.items, refl, refl, answers.0, answers.1);
+  unsolvable = λ e. let z = ap first_letter e in absurd (omega arith);
+  bounded = λ e. let z = ap first_letter e in absurd (omega arith);
+}
+outcome_true task id (Unsolvable why) answers = record {
+  status = inr (inl refl);
+  named = refl;
+  optimal = λ e. let z = ap first_letter e in absurd (omega arith);
+  unsolvable = λ e. (answers.0, (why, refl, answers.1));
+  bounded = λ e. let z = ap first_letter e in absurd (omega arith);
+}
+outcome_true task id (Bounded bound best cause) answers = record {
+  status = inr (inr refl);
+  named = refl;
+  optimal = λ e. let z = ap first_letter e in absurd (omega arith);
+  unsolvable = λ e. let z = ap first_letter e in absurd (omega arith);
+  bounded = λ e. (bound, best_of best, cause, refl, refl, refl, answers.0, answers.2, answers.3);
+}
+
 module _ (rules : Rules) (n : ℕ) (id : List ℕ) (b : Position) where
-  want_true : rules.allows b None → IsTrueOf rules n id b (refused_data (codes "V3") n)
-  want_true lacking = record {
-    status = inr (inr (inr refl));
-    optimal = λ e. let z = ap first_letter e in absurd (omega arith);
-    unsolvable = λ e. let z = ap first_letter e in absurd (omega arith);
-    bounded = λ e. let z = ap first_letter e in absurd (omega arith);
-    refused = λ e. ((refl, refl, refl), lacking);
-  }
-
-  outcome_true : (outcome : Outcome) → Answers (rules.task b) outcome → IsTrueOf rules n id b (outcome_data id outcome)
-  outcome_true (Optimal cost plan rows) answers = record {
-    status = inl refl;
-    optimal = λ e. (refl, (cost, plan.items, refl, refl, answers.0, answers.1));
-    unsolvable = λ e. let z = ap first_letter e in absurd (omega arith);
-    bounded = λ e. let z = ap first_letter e in absurd (omega arith);
-    refused = λ e. let z = ap first_letter e in absurd (omega arith);
-  }
-  outcome_true (Unsolvable why) answers = record {
-    status = inr (inl refl);
-    optimal = λ e. let z = ap first_letter e in absurd (omega arith);
-    unsolvable = λ e. (refl, (answers.0, (why, refl, answers.1)));
-    bounded = λ e. let z = ap first_letter e in absurd (omega arith);
-    refused = λ e. let z = ap first_letter e in absurd (omega arith);
-  }
-  outcome_true (Bounded bound best cause) answers = record {
-    status = inr (inr (inl refl));
-    optimal = λ e. let z = ap first_letter e in absurd (omega arith);
-    unsolvable = λ e. let z = ap first_letter e in absurd (omega arith);
-    bounded = λ e. (refl, (bound, best_of best, cause, refl, refl, refl, answers.0, answers.2, answers.3));
-    refused = λ e. let z = ap first_letter e in absurd (omega arith);
-  }
-
-  named_true : IsTruthful rules → (line : List ℕ) (d : Data) → Names rules.grid line id b → Tells rules n line d → IsTrueOf rules n id b d
+  named_true : IsTruthful rules → (line : List ℕ) (d : Data) → Names rules.grid line id b → Tells rules n line d → IsTrueOf (rules.task b) id d ⊎ SaysRefused d (codes "V3") n × rules.allows b None
   named_true truthful line d names (of_fault code small fault) = absurd (no_fault rules.grid line id code b names fault)
   named_true truthful line d names (of_want id' b' small names' lacking) =
-      want_true (subst (λ (p : Position). rules.allows p None) (same_name rules.grid line id id' b b' names names').1 lacking)
+      inr ((refl, refl, refl), subst (λ (p : Position). rules.allows p None) (same_name rules.grid line id id' b b' names names').1 lacking)
   named_true truthful line d names (of_board id' b' outcome names' allowed small) =
       let same = same_name rules.grid line id id' b b' names names' in
       let answers : Answers (rules.task b) outcome = subst (λ (p : Position). Answers (rules.task p) outcome) same.1 (truthful b' outcome allowed) in
-      subst (λ (name : List ℕ). IsTrueOf rules n id b (outcome_data name outcome)) (sym same.0) (outcome_true outcome answers)
+      inl (subst (λ (name : List ℕ). IsTrueOf (rules.task b) id (outcome_data name outcome)) (sym same.0) (outcome_true (rules.task b) id outcome answers))
 
 module _ (rules : Rules) where
   unnamed_true : (n : ℕ) (line : List ℕ) (d : Data) → ((id : List ℕ) (b : Position) → ¬ Names rules.grid line id b) → Tells rules n line d → (code : List ℕ) × HasFault rules.grid line code × SaysRefused d code n

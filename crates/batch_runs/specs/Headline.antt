@@ -5,25 +5,26 @@ use Rattle.board.specs.Positions.{Position}
 use Rattle.byte_streams.specs.Streams.{SourceState, SinkState, Change}
 use Rattle.byte_streams.specs.Sink.{Puts, PutsBeginning}
 use Rattle.batch_lines.specs.Lines.{lines_of}
+use Rattle.outcomes.specs.Outcomes.{Task}
 use Rattle.reports.specs.Readings.{SaysText, HasStatus}
 use Rattle.batch_runs.specs.Batches.{Rules, IsTruthful, Answer, AnswersLines, answers_text, AreAll, AreFirst, status_of_counts}
 use Rattle.batch_runs.specs.Meanings.{questions, IsQuestion, Names, HasFault, IsReply, SaysLeast, SaysNone, SaysBound, SaysRefused, IsSettled}
 use Rattle.batch_runs.specs.declared.batch.Summary.{Summary}
 use Rattle.batch_runs.specs.declared.faults.LinesFault.{LinesFault}
 
--- What is said of the board that line n names by this id is true. It is refused only for want of memory.
-pub record IsTrueOf (rules : Rules) (n : ℕ) (id : List ℕ) (b : Position) (d : Data) : Type 0 where
-  pub status : HasStatus d (codes "optimal") ⊎ HasStatus d (codes "unsolvable") ⊎ HasStatus d (codes "bounded") ⊎ HasStatus d (codes "refused")
-  pub optimal : HasStatus d (codes "optimal") → SaysText d (codes "id") id × SaysLeast (rules.task b) d
-  pub unsolvable : HasStatus d (codes "unsolvable") → SaysText d (codes "id") id × SaysNone (rules.task b) d
-  pub bounded : HasStatus d (codes "bounded") → SaysText d (codes "id") id × SaysBound (rules.task b) d
-  pub refused : HasStatus d (codes "refused") → SaysRefused d (codes "V3") n × rules.allows b None
+-- What is said of the board that starts the task, and is named by this id, is true.
+pub record IsTrueOf (task : Task) (id : List ℕ) (d : Data) : Type 0 where
+  pub status : HasStatus d (codes "optimal") ⊎ HasStatus d (codes "unsolvable") ⊎ HasStatus d (codes "bounded")
+  pub named : SaysText d (codes "id") id
+  pub optimal : HasStatus d (codes "optimal") → SaysLeast task d
+  pub unsolvable : HasStatus d (codes "unsolvable") → SaysNone task d
+  pub bounded : HasStatus d (codes "bounded") → SaysBound task d
 
--- The output has one line for each line of the input that isn't passed over, in their order, and each is read as JSON. What it says of a board that is named there is true; and of a line that names none, it says a fault.
+-- The output has one line for each line of the input that isn't passed over, in their order, and each is read as JSON. What it says of a board that is named there is true, or refuses it for want of memory; and of a line that names none, it says a fault.
 pub record TellsTheTruth (rules : Rules) (lines : List (List ℕ)) (output : List ℕ) : Type 0 where
   pub one_each : length (lines_of output) ≡ length (questions 1 lines)
   pub json : (k : ℕ) → k < length (lines_of output) → (d : Data) × IsReply output k d
-  pub named : (k n : ℕ) (line id : List ℕ) (b : Position) (d : Data) → IsQuestion lines k n line → Names rules.grid line id b → IsReply output k d → IsTrueOf rules n id b d
+  pub named : (k n : ℕ) (line id : List ℕ) (b : Position) (d : Data) → IsQuestion lines k n line → Names rules.grid line id b → IsReply output k d → IsTrueOf (rules.task b) id d ⊎ SaysRefused d (codes "V3") n × rules.allows b None
   pub unnamed : (k n : ℕ) (line : List ℕ) (d : Data) → IsQuestion lines k n line → ((id : List ℕ) (b : Position) → ¬ Names rules.grid line id b) → IsReply output k d → (code : List ℕ) × HasFault rules.grid line code × SaysRefused d code n
 
 -- what is written of the answers of a truthful solver tells the truth
