@@ -1,0 +1,4 @@
+-- Which worker owns a board.
+pub mod Hashes
+pub mod Slides
+pub mod Worked

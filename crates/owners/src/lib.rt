@@ -1,0 +1,9 @@
+//! Which worker owns a board.
+#![tactic(auto)]
+
+mod spread;
+pub mod worked;
+mod zobrist;
+
+pub use spread::{ByBlank, Slide, Spread};
+pub use zobrist::Zobrist;

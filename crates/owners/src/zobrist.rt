@@ -1,0 +1,95 @@
+//! Owners by a hash of the whole board.
+
+ghost use Rattle.std.specs.Prelude.{◌≡◌, ◌<◌, ◌≤◌, ℕ, slice_index, length};
+ghost use Rattle.board.specs.Positions.{IsBoard};
+ghost use Rattle.owners.specs.Hashes.{hash_of, word, word_on};
+ghost use Rattle.owners.specs.Slides.{position_of};
+
+use crate::spread::{Slide, Spread};
+use board::{Board, Shape};
+use rand_core::SeedableRng;
+use rand_core::utils::NextWord;
+use rand_xoshiro::SplitMix64;
+use std::marker::Model;
+
+// As many words as boards of 5 by 5 need: one for each of 24 tiles on each of 25 cells.
+const WORD_COUNT: usize = 600;
+
+/// By the exclusive or of one word for each tile and the cell on which it stands (Zobrist 1970).
+/// The words are those of `SplitMix64` from eight zero bytes on, tile by tile from 1 on, and for
+/// each tile cell by cell.
+#[derive(Debug, Drop)]
+pub struct Zobrist {
+    // Those of a smaller board are the first of these.
+    words: [u64; 600],
+}
+
+impl Model for Zobrist {
+    ghost use Rattle.std.specs.Prelude.{⊤};
+    ghost use Rattle.owners.specs.Hashes.{AreWords};
+
+    ghost Value = { ⊤ };
+
+    ghost view = { λ z. tt };
+
+    ghost invariant = { λ z. AreWords z.words };
+}
+
+impl Zobrist {
+    /// The words for boards of a shape.
+    pub fn new(_shape: Shape) -> Self {
+        let mut words = [0; 600];
+        fill(&mut words);
+        Zobrist { words }
+    }
+
+    // The word of a tile on a cell, where there are so many cells.
+    fn word(&self, cells: usize, tile: u8, cell: usize) -> u64
+        requires few { cells ≤ 25 }
+        requires tile { tile < cells }
+        requires cell { cell < cells }
+        ensures { result ≡ word_on cells tile cell }
+    {
+        if tile == 0 {
+            return 0;
+        }
+        self.words[(tile as usize - 1) * cells + cell]
+    }
+}
+
+// Writes the first words of the generator.
+fn fill(words: &mut [u64])
+    ensures words { (k : ℕ) → k < length words.old → slice_index words.new k ≡ word k }
+    ensures length { length words.new ≡ length words.old }
+{
+    let mut generator = SplitMix64::from_seed([0; 8]);
+    'words: for k in 0..words.len() {
+        words[k] = generator.next_word();
+    }
+}
+
+impl Spread for Zobrist {
+    ghost use Rattle.owners.specs.Hashes.{hash_of};
+
+    ghost hash_of = { λ z. hash_of };
+
+    fn owner(&self, board: &Board, workers: usize) -> usize {
+        (self.hash(board.shape(), board.tiles()) % workers as u64) as usize
+    }
+
+    fn hash(&self, shape: Shape, tiles: &[u8]) -> u64 {
+        let cells = shape.cells();
+        let mut hash = 0;
+        'cells: for cell in 0..cells {
+            hash ^= self.word(cells, tiles[cell], cell);
+        }
+        hash
+    }
+
+    fn hash_after(&self, hash: u64, shape: Shape, slide: Slide) -> u64 {
+        let cells = shape.cells();
+        let there = self.word(cells, slide.tile, slide.to);
+        let here = self.word(cells, slide.tile, slide.from);
+        hash ^ there ^ here
+    }
+}
