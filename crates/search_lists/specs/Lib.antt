@@ -1,0 +1,3 @@
+-- The open and the closed list of a search.
+pub mod Lists
+pub mod Orders

@@ -1,0 +1,31 @@
+-- What contracts see of the two lists of a search: the known boards, and what waits to be expanded, which are places of known boards.
+use Rattle.std.specs.Prelude.{ℕ, ◌≡◌, ◌<◌, ◌≤◌, ◌+◌, max, List, length, Contains, refl}
+use Rattle.std.specs.Coded.{Coded, code_by, coded×, coded_ℕ, coded_list}
+use Rattle.closed_table.specs.Tables.{Table, empty_table, table_code}
+use Rattle.open_buckets.specs.OpenLists.{OpenList, empty_list, entries_at, places_at}
+
+-- The closed list has all known boards, the open ones too; what waits is the place of a known board, with the cost that it had when
+-- it was put there.
+pub record Lists : Type 0 where
+  pub closed : Table
+  pub waiting : OpenList ℕ
+
+-- no board is known
+abbrev pub empty_lists : Lists
+empty_lists = record { closed = empty_table; waiting = empty_list }
+
+-- what waits is known
+abbrev pub AreKnown : Lists → Type 0
+AreKnown lists = (f place cost : ℕ) → Contains (entries_at lists.waiting f) (place, cost) → place < length lists.closed.keys
+
+-- nothing has changed but that there may be more places
+pub record HasMoreRoom (old new : Lists) : Type 0 where
+  pub keys : new.closed.keys ≡ old.closed.keys
+  pub known : new.closed.known ≡ old.closed.known
+  pub room : old.closed.room ≤ new.closed.room
+  pub entries : (h : ℕ) → entries_at new.waiting h ≡ entries_at old.waiting h
+  pub places : (h : ℕ) → places_at old.waiting h ≤ places_at new.waiting h
+
+-- lists as numbers, by which a proof tells them apart
+abbrev pub lists_code : Coded Lists
+lists_code = code_by (Table × (List (List (ℕ × ℕ)) × List ℕ)) (coded× table_code (coded× (coded_list (coded_list (coded× coded_ℕ coded_ℕ))) (coded_list coded_ℕ))) (λ s. (s.closed, (s.waiting.entries, s.waiting.places))) (λ p. record { closed = p.0; waiting = record { entries = p.1.0; places = p.1.1 } }) (λ _. refl)

@@ -1,0 +1,37 @@
+-- The order of a search: open boards wait at their cost plus sum.
+use Rattle.std.specs.Prelude.{ℕ, ◌≡◌, ◌≢◌, ◌+◌, ◌<◌, ◌≤◌, false, Option, None, Some, slice_get, Contains}
+use Rattle.std.specs.FinMap as map
+use Rattle.board.specs.declared.moves.Move.{Move}
+use Rattle.open_buckets.specs.declared.open.TheConstants.{GREATEST_F}
+use Rattle.open_buckets.specs.OpenLists.{entries_at, IsNext}
+use Rattle.closed_table.specs.Tables.{Table}
+use Rattle.world_model.specs.declared.parts.Known.{Known}
+use Rattle.search_lists.specs.Lists.{Lists}
+use Rattle.search_lists.specs.declared.lists.Next.{Next}
+
+-- What a search is led by: the sum of each board, by its key, and the key of the goal, which is not expanded.
+pub record Guide : Type 0 where
+  pub sum : ℕ → ℕ
+  pub goal : ℕ
+
+-- the board with this key is open: known so, not expanded, and not the goal
+pub record IsOpen (guide : Guide) (closed : Table) (key : ℕ) (known : Known) : Type 0 where
+  pub knows : map.get closed.known key ≡ Some known
+  pub unexpanded : known.expanded ≡ false
+  pub no_goal : key ≢ guide.goal
+
+-- Each open board waits at its cost plus sum. What waits is a known board other than the goal, at some cost and at that plus its sum:
+-- where that is its cost no longer, or it was expanded, the entry is out of date.
+pub record IsInOrder (guide : Guide) (lists : Lists) : Type 0 where
+  pub waits : (key : ℕ) (known : Known) → IsOpen guide lists.closed key known → (place : ℕ) × (slice_get lists.closed.keys place ≡ Some key) × Contains (entries_at lists.waiting (known.cost + guide.sum key)) (place, known.cost)
+  pub adds : (f place cost : ℕ) → Contains (entries_at lists.waiting f) (place, cost) → (key : ℕ) × (slice_get lists.closed.keys place ≡ Some key) × (key ≢ guide.goal) × (f ≡ cost + guide.sum key) × (f ≤ GREATEST_F)
+
+-- each open board has a cost plus sum of at least n
+abbrev pub NoneBelow : Guide → Table → ℕ → Type 0
+NoneBelow guide closed n = (key : ℕ) (known : Known) → IsOpen guide closed key known → n ≤ known.cost + guide.sum key
+
+-- the board that is answered stands at this place, waits next, and is open at this cost, where the lists are in order
+pub record IsFirst (lists : Lists) (next : Next) : Type 0 where
+  pub place : slice_get lists.closed.keys next.place ≡ Some next.key
+  pub waits : IsNext next.f (next.place, next.cost) lists.waiting
+  pub known : (known : Known) × (map.get lists.closed.known next.key ≡ Some known) × (known.expanded ≡ false) × (known.cost ≡ next.cost)
