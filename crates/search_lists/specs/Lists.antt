@@ -1,5 +1,5 @@
 -- What contracts see of the two lists of a search: the known boards, and what waits to be expanded, which are places of known boards.
-use Rattle.std.specs.Prelude.{ℕ, ◌≡◌, ◌<◌, ◌≤◌, ◌+◌, max, List, length, Contains, refl}
+use Rattle.std.specs.Prelude.{ℕ, ◌≡◌, ◌<◌, ◌≤◌, List, length, Contains, refl}
 use Rattle.std.specs.Coded.{Coded, code_by, coded×, coded_ℕ, coded_list}
 use Rattle.closed_table.specs.Tables.{Table, empty_table, table_code}
 use Rattle.open_buckets.specs.OpenLists.{OpenList, empty_list, entries_at, places_at}
@@ -13,6 +13,10 @@ pub record Lists : Type 0 where
 -- no board is known
 abbrev pub empty_lists : Lists
 empty_lists = record { closed = empty_table; waiting = empty_list }
+
+-- the two together
+abbrev pub both : Table → OpenList ℕ → Lists
+both closed waiting = record { closed = closed; waiting = waiting }
 
 -- what waits is known
 abbrev pub AreKnown : Lists → Type 0

@@ -1,12 +1,13 @@
 -- The order of a search: open boards wait at their cost plus sum.
-use Rattle.std.specs.Prelude.{ℕ, ◌≡◌, ◌≢◌, ◌+◌, ◌<◌, ◌≤◌, false, Option, None, Some, slice_get, Contains}
+use Rattle.std.specs.Prelude.{ℕ, ◌≡◌, ◌≢◌, ◌+◌, ◌^◌, ◌<◌, ◌≤◌, false, Option, Some, slice_get, Contains}
 use Rattle.std.specs.FinMap as map
-use Rattle.board.specs.declared.moves.Move.{Move}
 use Rattle.open_buckets.specs.declared.open.TheConstants.{GREATEST_F}
 use Rattle.open_buckets.specs.OpenLists.{entries_at, IsNext}
 use Rattle.closed_table.specs.Tables.{Table}
 use Rattle.world_model.specs.declared.parts.Known.{Known}
+use Rattle.world_model.specs.Costs.{IsLeastWith}
 use Rattle.search_lists.specs.Lists.{Lists}
+use Rattle.search_lists.specs.declared.lists.Met.{Met}
 use Rattle.search_lists.specs.declared.lists.Next.{Next}
 
 -- What a search is led by: the sum of each board, by its key, and the key of the goal, which is not expanded.
@@ -30,8 +31,24 @@ pub record IsInOrder (guide : Guide) (lists : Lists) : Type 0 where
 abbrev pub NoneBelow : Guide → Table → ℕ → Type 0
 NoneBelow guide closed n = (key : ℕ) (known : Known) → IsOpen guide closed key known → n ≤ known.cost + guide.sum key
 
--- the board that is answered stands at this place, waits next, and is open at this cost, where the lists are in order
+-- the least cost plus sum of an open board
+abbrev pub IsFloor : Guide → Table → Option ℕ → Type 0
+IsFloor guide closed floor = IsLeastWith (λ f. (key : ℕ) × (known : Known) × IsOpen guide closed key known × (known.cost + guide.sum key ≡ f)) floor
+
+-- the board stands at this place, is not expanded and known at this cost, and is what waits next
 pub record IsFirst (lists : Lists) (next : Next) : Type 0 where
   pub place : slice_get lists.closed.keys next.place ≡ Some next.key
-  pub waits : IsNext next.f (next.place, next.cost) lists.waiting
   pub known : (known : Known) × (map.get lists.closed.known next.key ≡ Some known) × (known.expanded ≡ false) × (known.cost ≡ next.cost)
+  pub waits : IsNext next.f (next.place, next.cost) lists.waiting
+  pub within : next.f + 1 < 2 ^ 32
+
+-- the board is open, and one of least cost plus sum
+pub record IsLeastOpen (guide : Guide) (closed : Table) (next : Next) : Type 0 where
+  pub opens : (known : Known) × IsOpen guide closed next.key known × (known.cost ≡ next.cost)
+  pub adds : next.f ≡ next.cost + guide.sum next.key
+  pub least : NoneBelow guide closed next.f
+
+-- the board was met at its cost plus sum
+pub record AddsUp (guide : Guide) (met : Met) : Type 0 where
+  pub adds : met.f ≡ met.cost + guide.sum met.key
+  pub within : met.f ≤ GREATEST_F

@@ -1,17 +1,21 @@
 //! Known boards, and the places of those that wait to be expanded.
 
-ghost use Rattle.std.specs.Prelude.{◌≡◌, ◌≢◌, ◌<◌, ◌≤◌, ◌+◌, ◌^◌, ℕ, None, Some, OnOk, OnErr, max};
-ghost use Rattle.std.specs.Prelude.{length, slice_index, IfSome, IfNone, Option};
+ghost use Rattle.std.specs.Prelude.{◌≡◌, ◌≢◌, ◌↔◌, ◌<◌, ◌≤◌, ◌+◌, ◌^◌, ℕ, None, Some, OnOk};
+ghost use Rattle.std.specs.Prelude.{false, length, slice_index, IfSome, IfNone, MatchOption, IsTrue, IsFalse};
 ghost use Rattle.std.specs.FinMap as map;
 ghost use Rattle.closed_table.specs.Tables.{IsTable, table_relaxation, table_closure};
-ghost use Rattle.open_buckets.specs.OpenLists.{entries_at, places_at};
-ghost use Rattle.search_lists.specs.Lists.{empty_lists, HasMoreRoom};
-ghost use Rattle.search_lists.specs.Orders.{Guide, IsInOrder, NoneBelow, IsFirst};
+ghost use Rattle.closed_table.specs.declared.table.Relaxed.TheVariants.{Kept};
+ghost use Rattle.open_buckets.specs.declared.open.TheConstants.{GREATEST_F};
+ghost use Rattle.open_buckets.specs.OpenLists.{places_at, NothingWaits, IsNext, Takes};
+ghost use Rattle.search_lists.specs.Lists.{empty_lists, both, AreKnown, HasMoreRoom};
+ghost use Rattle.search_lists.specs.Orders.{Guide, IsInOrder, NoneBelow, IsFloor, IsFirst};
+ghost use Rattle.search_lists.specs.Orders.{IsLeastOpen, AddsUp};
 
 use board::Move;
-use closed_table::Closed;
+use closed_table::{Closed, Relaxed};
 use memory::OutOfMemory;
 use open_buckets::Open;
+use open_buckets::laws::the_next_is_taken;
 use std::alloc::Global;
 use std::marker::Model;
 use world_model::Known;
@@ -90,4 +94,196 @@ impl SearchLists {
     {
         self.closed.at(place)
     }
+
+    /// Makes places for this many boards that are not known yet. After a refusal nothing has
+    /// changed.
+    pub fn reserve_boards(&mut self, alloc: Global, count: usize) -> Result<(), OutOfMemory>
+        ensures ok { OnOk result (count ≤ self.new.closed.room) }
+        ensures same { HasMoreRoom self.old self.new }
+    {
+        self.closed.reserve(alloc, count)?;
+        Ok(())
+    }
+
+    /// Makes places for this many entries at an f. Whether it succeeds or not, what is known and
+    /// what waits stays.
+    pub fn reserve_places(&mut self, alloc: Global, f: u32, count: usize) -> Result<(), OutOfMemory>
+        requires within { f ≤ GREATEST_F }
+        requires modest { count ≤ 2 ^ 27 }
+        ensures ok { OnOk result (count ≤ places_at self.new.waiting f) }
+        ensures same { HasMoreRoom self.old self.new }
+    {
+        self.open.reserve(alloc, f, count)
+    }
+
+    /// Relaxes a board, and lets it wait where its cost is news, unless it is the goal.
+    pub fn relax(&mut self, goal: u128, met: Met)
+        requires room { map.get self.old.closed.known met.key ≡ None → 0 < self.old.closed.room }
+        requires place { 0 < places_at self.old.waiting met.f }
+        ensures closed { self.new.closed
+            ≡ table_relaxation self.old.closed met.key met.cost met.via }
+        ensures places { (h : ℕ) → places_at self.old.waiting h
+            ≤ places_at self.new.waiting h + 1 }
+        ensures order { (guide : Guide) → guide.goal ≡ goal → AddsUp guide met
+            → IsInOrder guide self.old → IsInOrder guide self.new }
+    {
+        relax(&mut self.closed, &mut self.open, goal, met);
+    }
+
+    /// An open board of least cost plus sum, where that is below a limit. Entries that are out of
+    /// date go out.
+    pub fn next(&mut self, below: u32) -> Option<Next>
+        ensures closed { self.new.closed ≡ self.old.closed }
+        ensures places { (h : ℕ) → places_at self.old.waiting h ≤ places_at self.new.waiting h }
+        ensures order { (guide : Guide) → IsInOrder guide self.old → IsInOrder guide self.new }
+        ensures none { IfNone result ((guide : Guide) → IsInOrder guide self.old
+            → NoneBelow guide self.old.closed below) }
+        ensures first { IfSome result (IsFirst self.new) }
+        ensures below { IfSome result (λ next. next.f < below) }
+        ensures least { IfSome result (λ next. (guide : Guide) → IsInOrder guide self.old
+            → IsLeastOpen guide self.old.closed next) }
+    {
+        let Some(next) = next_open(&self.closed, &mut self.open, below) else {
+            return None;
+        };
+        Some(next)
+    }
+
+    /// The least cost plus sum of an open board. Entries that are out of date go out.
+    pub fn floor(&mut self) -> Option<u32>
+        ensures closed { self.new.closed ≡ self.old.closed }
+        ensures places { (h : ℕ) → places_at self.old.waiting h ≤ places_at self.new.waiting h }
+        ensures order { (guide : Guide) → IsInOrder guide self.old → IsInOrder guide self.new }
+        ensures floor { (guide : Guide) → IsInOrder guide self.old
+            → IsFloor guide self.old.closed result }
+    {
+        let Some(next) = self.next(u32::MAX) else {
+            return None;
+        };
+        Some(next.f)
+    }
+
+    /// Closes the board that was answered last by `next`, and takes it out of what waits.
+    pub fn close(&mut self, next: Next)
+        requires { IsFirst self.old next }
+        ensures closed { self.new.closed ≡ table_closure self.old.closed next.key
+            (map.get self.old.closed.known next.key) }
+        ensures places { (h : ℕ) → places_at self.old.waiting h ≤ places_at self.new.waiting h }
+        ensures order { (guide : Guide) → IsInOrder guide self.old → IsInOrder guide self.new }
+    {
+        let first = Waiting {
+            f: next.f,
+            place: next.place,
+            cost: next.cost,
+        };
+        take_first(&mut self.open, first);
+        self.closed.mark_expanded_at(next.place as usize);
+    }
+
+    /// Reads ahead what `relax` will read of these keys, up to four. It changes nothing.
+    pub fn read_ahead(&mut self, keys: &[u128])
+        ensures { self.new ≡ self.old }
+    {
+        self.closed.read_ahead(keys);
+    }
+}
+
+// Relaxes a board, and lets it wait where its cost is news, unless it is the goal.
+fn relax(closed: &mut Closed, open: &mut Open<u32>, goal: u128, met: Met)
+    requires room { map.get closed.old.known met.key ≡ None → 0 < closed.old.room }
+    requires place { 0 < places_at open.old met.f }
+    requires known { AreKnown (both closed.old open.old) }
+    ensures known { AreKnown (both closed.new open.new) }
+    ensures closed { closed.new ≡ table_relaxation closed.old met.key met.cost met.via }
+    ensures places { (h : ℕ) → places_at open.old h ≤ places_at open.new h + 1 }
+    ensures order { (guide : Guide) → guide.goal ≡ goal → AddsUp guide met
+        → IsInOrder guide (both closed.old open.old)
+        → IsInOrder guide (both closed.new open.new) }
+{
+    let (relaxed, place) = closed.relax(met.key, met.cost, met.via);
+    if is_kept(relaxed) {
+        return;
+    }
+    if met.key == goal {
+        return;
+    }
+    open.put(met.f, place, met.cost);
+}
+
+// Whether the cost was no news.
+fn is_kept(relaxed: Relaxed) -> bool
+    ensures { IsTrue result ↔ (relaxed ≡ Kept) }
+{
+    matches!(relaxed, Relaxed::Kept)
+}
+
+// An open board of least cost plus sum, where that is below a limit. What is out of date goes out.
+fn next_open(closed: &Closed, open: &mut Open<u32>, below: u32) -> Option<Next>
+    requires { AreKnown (both closed.now open.old) }
+    ensures known { AreKnown (both closed.now open.new) }
+    ensures places { (h : ℕ) → places_at open.old h ≤ places_at open.new h }
+    ensures order { (guide : Guide) → IsInOrder guide (both closed.now open.old)
+        → IsInOrder guide (both closed.now open.new) }
+    ensures none { IfNone result (NothingWaits open.new below) }
+    ensures first { IfSome result (IsFirst (both closed.now open.new)) }
+    ensures below { IfSome result (λ next. next.f < below) }
+{
+    'entries: while let Some(first) = first_waiting(open, below) {
+        let (key, known) = closed.at(first.place as usize);
+        if is_current(known, first.cost) {
+            return Some(Next {
+                place: first.place,
+                key,
+                cost: first.cost,
+                f: first.f,
+            });
+        }
+        take_first(open, first);
+    }
+    None
+}
+
+// Whether an entry with this cost is of a board that is known so.
+fn is_current(known: Known, cost: u32) -> bool
+    ensures yes { IsTrue result → (known.expanded ≡ false) × (known.cost ≡ cost) }
+    ensures no { IsFalse result → known.expanded ≡ false → known.cost ≢ cost }
+{
+    !known.expanded && known.cost == cost
+}
+
+// An entry of the open list, at its f.
+#[derive(Clone, Copy)]
+struct Waiting {
+    f: u32,
+    place: u32,
+    cost: u32,
+}
+
+// What waits next, where its f is below a limit.
+fn first_waiting(open: &Open<u32>, below: u32) -> Option<Waiting>
+    ensures { MatchOption result (NothingWaits open.now below)
+        (λ first. (first.f < below) × IsNext first.f (first.place, first.cost) open.now) }
+{
+    let Some(f) = open.lowest() else {
+        return None;
+    };
+    if f >= below {
+        return None;
+    }
+    let Some((place, cost)) = open.peek_lowest(f + 1) else {
+        unreachable!()
+    };
+    Some(Waiting { f, place, cost })
+}
+
+// Takes out what waits next.
+fn take_first(open: &mut Open<u32>, first: Waiting)
+    requires first { IsNext first.f (first.place, first.cost) open.old }
+    requires within { first.f + 1 < 2 ^ 32 }
+    ensures { Takes first.f (first.place, first.cost) open.old open.new }
+{
+    the_next_is_taken::<u32>();
+    let Some(_) = open.take_lowest(first.f + 1) else {
+        unreachable!()
+    };
 }
