@@ -7,6 +7,7 @@ ghost use Rattle.board.specs.Grids.{cell_count};
 ghost use Rattle.board.specs.Positions.{Position, IsBoard, blank_of, goal_of};
 ghost use Rattle.board.specs.Keys.{key_of, HasKey};
 ghost use Rattle.board.specs.Digits.{digits_of};
+ghost use Rattle.board.specs.Padding.{IsPadded};
 ghost use Rattle.board.specs.Moves.{Moves, successor};
 ghost use Rattle.board.specs.Faults.{IsFirstFault};
 ghost use Rattle.board.specs.Classes.{inversions};
@@ -121,6 +122,16 @@ impl Board {
         }
     }
 
+    /// The board of this shape with this key, which is known to be a board's: as `from_key`, without
+    /// a test.
+    pub fn of_key(shape: Shape, key: u128) -> Self
+        requires { (b : Position) × HasKey shape key b }
+        ensures { HasKey shape key result }
+    {
+        let tiles = last_digits(shape.cells(), key);
+        Board { shape, tiles }
+    }
+
     /// The numbers on the cells, from cell 0 on.
     pub fn tiles(&self) -> &[u8]
         ensures value { result.now ≡ self.now.tiles }
@@ -221,10 +232,11 @@ fn fill_up(numbers: &[u8]) -> [u8; 25]
     tiles
 }
 
-// The last digits of a key to the base 32, as many as there are cells.
+// The last digits of a key to the base 32, as many as there are cells, with zeros behind them.
 fn last_digits(cells: usize, key: u128) -> [u8; 25]
     requires { cells ≤ 25 }
-    ensures { take cells result ≡ digits_of cells key }
+    ensures digits { take cells result ≡ digits_of cells key }
+    ensures unused { IsPadded 25 cells result }
 {
     let mut tiles = [0; 25];
     let mut rest = key;
