@@ -1,7 +1,7 @@
 //! Ranks of lists of cells.
 
 ghost use Rattle.std.specs.Prelude.{ℕ, ◌≡◌, ◌+◌, ◌-◌, ◌*◌, ◌%◌, ◌^◌, ◌<◌, ◌≤◌};
-ghost use Rattle.std.specs.Prelude.{length, map, All, bit_or, count_ones};
+ghost use Rattle.std.specs.Prelude.{suc, ◌∷◌, length, map, slice_index, All, bit_or, count_ones};
 ghost use Rattle.pattern_index.specs.Ranks.{ways, IsListing, rank_of, spread, list_at};
 
 use crate::group::MAX_SIZE;
@@ -22,6 +22,31 @@ pub(crate) fn rank_cells(cells: usize, list: &[u8]) -> usize
         let digit = *cell as usize - bits_below(seen, *cell);
         rank = rank * free + digit;
         seen = with_bit(seen, *cell);
+        free -= 1;
+    }
+    rank
+}
+
+// The rank of the cells of the blank and of some tiles, of so many cells, by a list of the cell of
+// each number: as `rank_cells`, without a list of these cells.
+pub(crate) fn rank_numbers(count: usize, tiles: &[u8], cells: &[u8; 25]) -> usize
+    requires few { count ≤ 25 }
+    requires tiles { All (λ tile. tile < 25) tiles.now }
+    requires listing { IsListing count (slice_index cells.now 0 ∷ map (slice_index cells.now) tiles.now) }
+    requires fits { suc (length tiles.now) ≤ count }
+    requires small { ways count (suc (length tiles.now)) ≤ MAX_SIZE }
+    ensures { result
+        ≡ rank_of count (slice_index cells.now 0 ∷ map (slice_index cells.now) tiles.now) }
+{
+    let blank = cells[0];
+    let mut rank = blank as usize;
+    let mut free = count - 1;
+    let mut seen = with_bit(0, blank);
+    'tiles: for tile in tiles {
+        let cell = cells[*tile as usize];
+        let digit = cell as usize - bits_below(seen, cell);
+        rank = rank * free + digit;
+        seen = with_bit(seen, cell);
         free -= 1;
     }
     rank

@@ -5,7 +5,8 @@ ghost use Rattle.std.specs.Prelude.{IsTrue, IsOk, IsErrOf, IfOk, IfErr, IfSome, 
 ghost use Rattle.std.specs.Prelude.{MatchOption, IsPermutation, length, All};
 ghost use Rattle.std.specs.List.Sorted.{IsNonDecreasing};
 ghost use Rattle.board.specs.Grids.{cell_count};
-ghost use Rattle.pattern_index.specs.Views.{Sight, IsView, ViewMoves, view_of, weight_on};
+ghost use Rattle.pattern_index.specs.Views.{Sight, IsView, ViewMoves, view_of, view_at};
+ghost use Rattle.pattern_index.specs.Views.{weight_on};
 ghost use Rattle.pattern_index.specs.Ranks.{ways};
 ghost use Rattle.pattern_index.specs.Selections.{Selection, IsTile, IsGroup, IsSelection};
 ghost use Rattle.pattern_index.specs.Selections.{size_of, rank_in, abstraction_of};
@@ -14,7 +15,7 @@ ghost use Rattle.pattern_index.specs.Laws.{factorial};
 ghost use Rattle.pattern_index.specs.Faults.{IsFirstFault};
 ghost use Rattle.pattern_index.specs.declared.faults.GroupFault.{GroupFault};
 
-use crate::cells::rank_cells;
+use crate::cells::{rank_cells, rank_numbers};
 use crate::faults::GroupFault;
 use crate::view::View;
 use board::{Board, Move, Shape, Weights};
@@ -149,6 +150,17 @@ impl Group {
         ensures high { result < MAX_SIZE }
     {
         rank_cells(self.shape().cells(), view.cells())
+    }
+
+    /// The place of what it sees of a board, by the cell of each of the board's numbers
+    /// (`cells_of`): as `rank` of the view, without making one.
+    pub fn rank_at(&self, cells: &[u8; 25]) -> usize
+        requires { IsView self.now.grid self.now.tiles (view_at self.now.tiles cells.now) }
+        ensures value { result ≡ rank_in self.now.grid (view_at self.now.tiles cells.now) }
+        ensures below { result < size_of self.now }
+        ensures high { result < MAX_SIZE }
+    {
+        rank_numbers(self.shape().cells(), self.tiles(), cells)
     }
 
     /// The view at a place.

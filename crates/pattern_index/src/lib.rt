@@ -16,4 +16,4 @@ mod worked;
 pub use faults::{GroupFault, PartitionFault};
 pub use group::{Group, MAX_SIZE};
 pub use partition::Partition;
-pub use view::View;
+pub use view::{View, cells_of};

@@ -128,8 +128,8 @@ impl View {
     }
 }
 
-// The cell of each number of a board.
-fn cells_of(board: &Board) -> [u8; 25]
+/// The cell of each number of a board, by the number.
+pub fn cells_of(board: &Board) -> [u8; 25]
     ensures board { IsBoard board.now }
     ensures few { cell_count board.now.grid ≤ 25 }
     ensures cells { (number : ℕ) → number < cell_count board.now.grid
