@@ -23,7 +23,7 @@ abbrev nothing : Lookup
 nothing = record { selection = record { grid = record { rows = 0; cols = 0 }; tiles = [] }; values = [] }
 
 -- what holds of each group holds of each table's
-of_tables : (P : Selection → Type 0) (groups : List Selection) (lookups : List Lookup) → AreTablesOf groups lookups → All P groups → All (λ table. P table.selection) lookups
+pub of_tables : (P : Selection → Type 0) (groups : List Selection) (lookups : List Lookup) → AreTablesOf groups lookups → All P groups → All (λ table. P table.selection) lookups
 of_tables P groups lookups is all k d k_in =
     let count : length (map (λ (table : Lookup). table.selection) lookups) ≡ length lookups = length-map lookups (λ (table : Lookup). table.selection) in
     let count' : length (map (λ (table : Lookup). table.selection) lookups) ≡ length groups = ap length is in
@@ -48,7 +48,7 @@ tables_apart groups lookups is apart i j d lt j_in =
         ∙ sym (ap (λ (p : Part). p.tiles) (get_or-map part_of lookups k nothing d k_in))
 
 -- each table is of the partition's grid
-table_grids : (tables : Tables) → IsTables tables → All (λ table. table.selection.grid ≡ tables.split.grid) tables.lookups
+pub table_grids : (tables : Tables) → IsTables tables → All (λ table. table.selection.grid ≡ tables.split.grid) tables.lookups
 table_grids tables is = of_tables (λ g. g.grid ≡ tables.split.grid) tables.split.groups tables.lookups is.one_each is.partition.of_grid
 
 -- so each is of the grid of a board that fits

@@ -16,6 +16,9 @@ use database_build::{NO_VALUE, Table, TableFault};
 use pattern_index::{Group, Partition};
 use std::marker::Model;
 
+/// The greatest sum: `NO_VALUE` of each of 24 groups, the most that a partition may have.
+pub const GREATEST_SUM: u32 = 1_572_840;
+
 /// A partition, and a table for each of its groups.
 #[derive(Debug, Drop)]
 pub struct Bound {
@@ -55,7 +58,7 @@ impl Bound {
     pub fn of(&self, board: &Board) -> u32
         requires { board.now.grid ≡ self.now.split.grid }
         ensures value { result ≡ sum_of (parts_of self.now) board.now }
-        ensures high { result ≤ 24 * NO_VALUE }
+        ensures high { result ≤ GREATEST_SUM }
         ensures nothing_below { (rule : CostRule) (goal : Position) →
             ArePotentials rule goal self.now → NothingBelow rule board.now goal result }
     {
@@ -70,6 +73,14 @@ impl Bound {
         ensures tables { IsTables self.now }
     {
         &self.partition
+    }
+
+    /// Its tables, one for each group of the partition and in their order.
+    pub fn tables(&self) -> &[Table]
+        ensures value { result.now ≡ self.now.lookups }
+        ensures tables { IsTables self.now }
+    {
+        &self.tables
     }
 
     /// The table of a group, by the group's place in the partition.

@@ -6,6 +6,6 @@ mod bound;
 mod faults;
 pub mod laws;
 
-pub use bound::Bound;
+pub use bound::{Bound, GREATEST_SUM};
 pub use database_build::{TableFault, is_potential};
 pub use faults::PatternFault;
