@@ -1,0 +1,4 @@
+pub mod RankLemmas
+pub mod KeyLemmas
+pub mod MoveLemmas
+pub mod SumLemmas

@@ -1,0 +1,56 @@
+-- Boards with the cell of each number beside the numbers, and what is told of their successors.
+use Rattle.std.specs.Prelude.{ℕ, ◌≡◌, ◌≤◌, ◌<◌, List, length, map, take, slice_index, Option, Some, option_map}
+use Rattle.board.specs.declared.moves.Move.{Move}
+use Rattle.board.specs.Grids.{cell_count}
+use Rattle.board.specs.Positions.{Position, IsBoard, cell_of, blank_of}
+use Rattle.board.specs.CostRules.{CostRule, weight_of}
+use Rattle.board.specs.Keys.{key_of}
+use Rattle.board.specs.Neighbours.{neighbour}
+use Rattle.board.specs.Moves.{all_moves, blank_exchange, successor}
+use Rattle.pattern_index.specs.Views.{view_of}
+use Rattle.pattern_index.specs.Selections.{rank_in}
+use Rattle.database_build.specs.Tables.{Lookup}
+use Rattle.lower_bound.specs.Bounds.{Part, sum_of}
+use Rattle.successor_sums.specs.Ranks.{AreRanks, sum_at}
+use Rattle.successor_sums.specs.declared.unpacked.Successor.{Successor}
+use Rattle.successor_sums.specs.declared.unpacked.Reached.{Reached}
+use Rattle.successor_sums.specs.declared.unpacked.UnpackedBoard.TheInside.{Inside}
+
+-- what is told of a successor: its key, the cost of the move, and its sum
+abbrev pub told_of : List Part → Position × ℕ → Successor
+told_of parts moved = record { key = key_of moved.0; cost = moved.1; sum = sum_of parts moved.0 }
+
+-- what is told of the successors of a board, by the four moves in the order in which they are tried
+abbrev pub successors_of : CostRule → List Part → Position → List (Option Successor)
+successors_of rule parts b = map (λ m. option_map (told_of parts) (successor rule b m)) all_moves
+
+-- ---- what lies in memory
+
+-- the list holds the cell of each number, and has a place for each that a board may have
+pub record AreCellsOf (b : Position) (cells : List ℕ) : Type 0 where
+  pub all : length cells ≡ 25
+  pub are : (number : ℕ) → number < cell_count b.grid → slice_index cells number ≡ cell_of b number
+
+-- the memory holds a board, its key, and the cell of each number
+pub record IsUnpacked (inside : Inside) : Type 0 where
+  pub board : IsBoard inside.board
+  pub key : key_of inside.board ≡ inside.key
+  pub cells : AreCellsOf inside.board inside.cells
+
+-- ---- where a move leads to, before the sum is known
+
+-- what is kept of the board after the blank goes to its neighbour in the direction m
+pub record IsReached (rule : CostRule) (lookups : List Lookup) (b : Position) (m : Move) (reached : Reached) : Type 0 where
+  pub to : ℕ
+  pub found : neighbour b.grid m (blank_of b) ≡ Some to
+  pub board : IsBoard (blank_exchange b to)
+  pub key : reached.key ≡ key_of (blank_exchange b to)
+  pub cost : reached.cost ≡ weight_of rule (slice_index b.tiles to)
+  pub low : 1 ≤ reached.cost
+  pub high : reached.cost ≤ 255
+  pub ranks : take (length lookups) reached.ranks ≡ map (λ table. rank_in table.selection.grid (view_of table.selection.tiles (blank_exchange b to))) lookups
+  pub within : AreRanks lookups reached.ranks
+
+-- the successor that is told by the values at the ranks
+abbrev pub told_by : List Lookup → Reached → Successor
+told_by lookups reached = record { key = reached.key; cost = reached.cost; sum = sum_at lookups reached.ranks }

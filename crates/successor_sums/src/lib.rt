@@ -1,0 +1,10 @@
+//! The sums of all successors of a board: the inner loop of an expansion.
+//!
+//! A board is taken apart once, with the cell of each tile beside the tiles. A successor is then
+//! two cells exchanged, and is told by its key: no board is made of it.
+#![tactic(auto)]
+
+mod ranks;
+mod unpacked;
+
+pub use unpacked::{Successor, UnpackedBoard};

@@ -1,0 +1,44 @@
+//! The ranks of a board in some tables, and the sum of the values that stand there.
+
+ghost use Rattle.std.specs.Prelude.{◌≡◌, ◌*◌, ◌≤◌, length, map, take, All};
+ghost use Rattle.pattern_index.specs.Views.{IsView, view_at};
+ghost use Rattle.pattern_index.specs.Selections.{rank_in};
+ghost use Rattle.successor_sums.specs.Ranks.{AreRanks, sum_at};
+
+use database_build::{NO_VALUE, Table};
+
+/// The most tables that a bound may have.
+pub(crate) const MOST_TABLES: usize = 24;
+
+// The rank in each table of what its group sees of a board, by the cell of each number.
+pub(crate) fn ranks_in(tables: &[Table], cells: &[u8; 25]) -> [u32; MOST_TABLES]
+    requires few { length tables.now ≤ MOST_TABLES }
+    requires views { All
+        (λ table. IsView table.selection.grid table.selection.tiles
+        (view_at table.selection.tiles cells.now))
+        tables.now }
+    ensures value { take (length tables.now) result
+        ≡ map (λ table. rank_in table.selection.grid (view_at table.selection.tiles cells.now))
+        tables.now }
+    ensures within { AreRanks tables.now result }
+{
+    let mut ranks = [0; MOST_TABLES];
+    'tables: for i in 0..tables.len() {
+        ranks[i] = tables[i].group().rank_at(cells) as u32;
+    }
+    ranks
+}
+
+// Adds the values that stand at these ranks, one in each table.
+pub(crate) fn sum_ranks(tables: &[Table], ranks: &[u32; MOST_TABLES]) -> u32
+    requires few { length tables.now ≤ MOST_TABLES }
+    requires within { AreRanks tables.now ranks.now }
+    ensures value { result ≡ sum_at tables.now ranks.now }
+    ensures high { result ≤ NO_VALUE * length tables.now }
+{
+    let mut sum = 0;
+    'tables: for i in 0..tables.len() {
+        sum += u32::from(tables[i].values()[ranks[i] as usize]);
+    }
+    sum
+}

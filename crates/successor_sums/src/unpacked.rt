@@ -1,0 +1,185 @@
+//! A board taken apart, and what its successors are told by.
+
+ghost use Rattle.std.specs.Prelude.{ℕ, ◌≡◌, ◌*◌, ◌^◌, ◌<◌, ◌≤◌, length, All, IfSome, None};
+ghost use Rattle.std.specs.Prelude.{MatchOption, option_map};
+ghost use Rattle.board.specs.Positions.{Position, IsBoard, blank_of};
+ghost use Rattle.board.specs.CostRules.{CostRule};
+ghost use Rattle.board.specs.Neighbours.{neighbour};
+ghost use Rattle.board.specs.Keys.{key_of, HasKey};
+ghost use Rattle.board.specs.Plans.{NothingBelow};
+ghost use Rattle.lower_bound.specs.Bounds.{sum_of};
+ghost use Rattle.lower_bound.specs.Tables.{ArePotentials, parts_of};
+ghost use Rattle.successor_sums.specs.Ranks.{AreRanks};
+ghost use Rattle.successor_sums.specs.Unpacked.{successors_of, IsReached, told_by};
+
+use crate::ranks::{MOST_TABLES, ranks_in, sum_ranks};
+use board::{Board, Move, Shape, Weights};
+use database_build::Table;
+use lower_bound::{Bound, GREATEST_SUM};
+use pattern_index::cells_of;
+use std::marker::Model;
+
+/// What is told of a successor, the board that a move leads to.
+#[derive(Clone, Copy, Debug)]
+pub struct Successor {
+    /// Its key.
+    pub key: u128,
+    /// What the move costs.
+    pub cost: u32,
+    /// Its sum.
+    pub sum: u32,
+}
+
+// What is kept of a successor until its sum is known.
+#[derive(Clone, Copy, Debug)]
+struct Reached {
+    key: u128,
+    cost: u32,
+    ranks: [u32; MOST_TABLES],
+}
+
+/// A board taken apart: its key, the tile on each cell, and the cell of each tile.
+#[derive(Debug, Drop)]
+pub struct UnpackedBoard {
+    board: Board,
+    key: u128,
+    cells: [u8; 25],
+}
+
+impl Model for UnpackedBoard {
+    ghost use Rattle.board.specs.Positions.{Position};
+
+    ghost Value = { Position };
+
+    ghost use Rattle.successor_sums.specs.Unpacked.{IsUnpacked};
+
+    ghost view = { λ inside. inside.board };
+
+    ghost invariant = { IsUnpacked };
+}
+
+impl UnpackedBoard {
+    /// A board taken apart.
+    pub fn new(board: &Board) -> Self
+        ensures { result ≡ board.now }
+    {
+        UnpackedBoard {
+            board: *board,
+            key: board.key(),
+            cells: cells_of(board),
+        }
+    }
+
+    /// The board of this shape with this key, which is known to be a board's.
+    pub fn of_key(shape: Shape, key: u128) -> Self
+        requires { (b : Position) × HasKey shape key b }
+        ensures { HasKey shape key result }
+    {
+        let board = Board::of_key(shape, key);
+        let cells = cells_of(&board);
+        UnpackedBoard { board, key, cells }
+    }
+
+    /// The board itself.
+    pub fn board(&self) -> &Board
+        ensures value { result.now ≡ self.now }
+        ensures board { IsBoard self.now }
+    {
+        &self.board
+    }
+
+    /// Its key.
+    pub fn key(&self) -> u128
+        ensures { result ≡ key_of self.now }
+    {
+        self.key
+    }
+
+    /// Its sum, as `Bound::of` answers it.
+    pub fn sum(&self, bound: &Bound) -> u32
+        requires { bound.now.split.grid ≡ self.now.grid }
+        ensures value { result ≡ sum_of (parts_of bound.now) self.now }
+        ensures high { result ≤ GREATEST_SUM }
+        ensures nothing_below { (rule : CostRule) (goal : Position) →
+            ArePotentials rule goal bound.now → NothingBelow rule self.now goal result }
+    {
+        let tables = bound.tables();
+        sum_ranks(tables, &ranks_in(tables, &self.cells))
+    }
+
+    /// What is told of its successors, by the four moves in the order of `Move::ALL`: None where
+    /// the blank would leave the board.
+    ///
+    /// All ranks are made before the first value is read, so that the reads, each of which may miss
+    /// the cache, go on side by side.
+    pub fn successors(&self, weights: &Weights, bound: &Bound) -> [Option<Successor>; 4]
+        requires rule { weights.now.grid ≡ self.now.grid }
+        requires bound { bound.now.split.grid ≡ self.now.grid }
+        ensures value { result ≡ successors_of weights.now (parts_of bound.now) self.now }
+        ensures keys { All
+            (λ told. IfSome told (λ s. (b : Position) × HasKey self.now.grid s.key b)) result }
+        ensures costs { All
+            (λ told. IfSome told (λ s. (1 ≤ s.cost) × (s.cost ≤ 255))) result }
+        ensures sums { All (λ told. IfSome told (λ s. s.sum ≤ GREATEST_SUM)) result }
+    {
+        let up = self.reach(Move::U, weights, bound);
+        let left = self.reach(Move::L, weights, bound);
+        let right = self.reach(Move::R, weights, bound);
+        let down = self.reach(Move::D, weights, bound);
+        let tables = bound.tables();
+        [
+            look_up(tables, &up),
+            look_up(tables, &left),
+            look_up(tables, &right),
+            look_up(tables, &down),
+        ]
+    }
+
+    // What is kept of the successor by a move until its sum is known. Its key is this board's, with
+    // the tile's digit taken from one place to another.
+    fn reach(&self, direction: Move, weights: &Weights, bound: &Bound) -> Option<Reached>
+        requires rule { weights.now.grid ≡ self.now.grid }
+        requires bound { bound.now.split.grid ≡ self.now.grid }
+        ensures { MatchOption result (neighbour self.now.grid direction (blank_of self.now) ≡ None)
+            (IsReached weights.now bound.now.lookups self.now direction) }
+    {
+        let shape = self.board.shape();
+        let from = self.cells[0];
+        let to = shape.neighbour(from as usize, direction)?;
+        let tile = self.board.tile(to);
+        let mut cells = self.cells;
+        cells[0] = to as u8;
+        cells[tile as usize] = from;
+        let last = shape.cells() - 1;
+        let key = self.key - digit_at(tile, last - to) + digit_at(tile, last - from as usize);
+        let cost = weights.of(tile);
+        let ranks = ranks_in(bound.tables(), &cells);
+        Some(Reached { key, cost, ranks })
+    }
+}
+
+// The successor, by the values that stand at its ranks.
+fn look_up(tables: &[Table], reached: &Option<Reached>) -> Option<Successor>
+    requires few { length tables.now ≤ MOST_TABLES }
+    requires within { IfSome reached.now (λ r. AreRanks tables.now r.ranks) }
+    ensures value { result ≡ option_map (told_by tables.now) reached.now }
+    ensures high { IfSome result (λ s. s.sum ≤ GREATEST_SUM) }
+{
+    let Some(found) = reached else {
+        return None;
+    };
+    Some(Successor {
+        key: found.key,
+        cost: found.cost,
+        sum: sum_ranks(tables, &found.ranks),
+    })
+}
+
+// A tile as the digit of a key that has so many digits behind it.
+fn digit_at(tile: u8, behind: usize) -> u128
+    requires tile { tile < 32 }
+    requires few { behind ≤ 24 }
+    ensures { result ≡ tile * 32 ^ behind }
+{
+    (tile as u128) << (5 * behind as u32)
+}
