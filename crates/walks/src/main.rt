@@ -6,6 +6,9 @@
 //!     walks rank SIDE TILES RANKS    ranks of views of a group of the first tiles
 //!     walks table ROWS COLS COUNT..  tables: the first group has the first tiles, and each
 //!                                    takes the next
+//!     walks sums SIDE BOARDS ROUNDS COUNT..
+//!                                    expansions of random boards, with the sums of tables of
+//!                                    random values, of groups as above
 //!
 //! Without a word it makes a small walk of each kind.
 #![tactic(auto)]
@@ -13,11 +16,13 @@
 mod ranks;
 mod states;
 mod steps;
+mod sums;
 mod tables;
 mod words;
 
 use board::Shape;
 use database_build::Table;
+use lower_bound::Bound;
 use pattern_index::Group;
 use ranks::sum_of_ranks;
 use std::io::{ErrorKind, Print};
@@ -25,14 +30,16 @@ use std::process::ExitCode;
 use std::rt::Env;
 use std::{env, io};
 use steps::walk_from_goal;
+use sums::{drawn_keys, expand_all};
 use tables::{summary_of, table_of};
 use words::{Walk, read_walk};
 
 // The kind and the numbers of each small walk.
-const SMALL: [(&str, &[usize]); 3] = [
+const SMALL: [(&str, &[usize]); 4] = [
     ("step", &[3, 1000]),
     ("rank", &[4, 5, 1000]),
     ("table", &[2, 3, 2, 3]),
+    ("sums", &[3, 100, 2, 3, 4]),
 ];
 
 // The walks that the words name, in order, or None where they name none.
@@ -85,19 +92,34 @@ fn tell_tables(rt: &(impl Print + AllocGlobal), groups: &[Group]) -> io::Result<
     Ok(())
 }
 
+fn tell_sums(
+    rt: &(impl Print + AllocGlobal),
+    bound: &Bound,
+    boards: u32,
+    rounds: u32,
+) -> io::Result<()> {
+    let Some(keys) = drawn_keys(rt.alloc(), bound.partition().shape(), boards) else {
+        return Err(ErrorKind::OutOfMemory.into());
+    };
+    let check = expand_all(bound, &keys, rounds);
+    println!(rt; "boards {boards} rounds {rounds} check {check}")
+}
+
 // Makes a walk, and prints what it came to.
 fn tell(rt: &(impl Print + AllocGlobal), walk: &Walk) -> io::Result<()> {
     match walk {
         Walk::Steps(shape, steps) => tell_steps(rt, *shape, *steps),
         Walk::Ranks(group, ranks) => tell_ranks(rt, group, *ranks),
         Walk::Tables(groups) => tell_tables(rt, groups),
+        Walk::Sums(bound, boards, rounds) => tell_sums(rt, bound, *boards, *rounds),
     }
 }
 
 fn main(rt: HostRuntime) -> ExitCode {
     let Some(walks) = read_words(&rt) else {
         let _ = rt.eprintln(
-            "usage: walks [step SIDE STEPS | rank SIDE TILES RANKS | table ROWS COLS COUNT..]",
+            "usage: walks [step SIDE STEPS | rank SIDE TILES RANKS | table ROWS COLS COUNT..\
+             | sums SIDE BOARDS ROUNDS COUNT..]",
         );
         return ExitCode::from(2);
     };

@@ -1,6 +1,10 @@
 //! The walks that words name.
 
+ghost use Rattle.std.specs.Prelude.{◌≡◌, All, IfSome};
+
+use crate::sums::drawn_bound;
 use board::Shape;
+use lower_bound::Bound;
 use pattern_index::Group;
 use std::alloc::Global;
 
@@ -18,6 +22,8 @@ pub enum Walk {
     Ranks(Group, u32),
     /// The tables of these groups.
     Tables(Vec<Group>),
+    /// So many boards, each expanded so many times, with the sums of a bound.
+    Sums(Bound, u32, u32),
 }
 
 /// The walk that its kind and its numbers name, or None where they name none, or find no memory.
@@ -35,6 +41,13 @@ pub fn read_walk(alloc: Global, kind: &str, numbers: &[usize]) -> Option<Walk> {
             let shape = shape_of(*rows, *cols)?;
             Some(Walk::Tables(read_groups(alloc, shape, counts)?))
         }
+        ("sums", [side, boards, rounds, counts @ ..]) => {
+            let shape = shape_of(*side, *side)?;
+            let groups = read_groups(alloc, shape, counts)?;
+            let bound = drawn_bound(alloc, shape, groups)?;
+            let boards = u32::try_from(*boards).ok()?;
+            Some(Walk::Sums(bound, boards, u32::try_from(*rounds).ok()?))
+        }
         _ => None,
     }
 }
@@ -45,10 +58,12 @@ fn shape_of(rows: usize, cols: usize) -> Option<Shape> {
 }
 
 // Groups of so many tiles each: the first has the first tiles, and each takes the next.
-fn read_groups(alloc: Global, shape: Shape, counts: &[usize]) -> Option<Vec<Group>> {
+fn read_groups(alloc: Global, shape: Shape, counts: &[usize]) -> Option<Vec<Group>>
+    ensures { IfSome result (λ groups. All (λ g. g.grid ≡ shape) groups.items) }
+{
     let mut groups = Vec::new(alloc);
     let mut left = TILES.as_slice();
-    for count in counts {
+    'counts: for count in counts {
         let group = Group::new(shape, left.get(..*count)?).ok()?;
         groups.push(group).ok()?;
         left = left.get(*count..)?;
