@@ -1,0 +1,3 @@
+-- What the moves from a board offer.
+pub mod Offers
+pub mod Room

@@ -1,0 +1,37 @@
+-- What the moves from a board offer.
+use Rattle.std.specs.Prelude.{⊤, ℕ, ◌≡◌, ◌+◌, Option, Some, None, option_map}
+use Rattle.board.specs.declared.moves.Move.{Move}
+use Rattle.board.specs.declared.moves.Move.TheVariants.{U, L, R, D}
+use Rattle.board.specs.CostRules.{CostRule}
+use Rattle.board.specs.Keys.{key_of}
+use Rattle.board.specs.Moves.{successor}
+use Rattle.board.specs.Positions.{Position}
+use Rattle.world_model.specs.declared.parts.Item.{Item}
+use Rattle.offers.specs.declared.offer.Offer.{Offer}
+use Rattle.offers.specs.declared.offer.Offers.{Offers}
+
+-- the successor of a board that costs this much, by a move
+abbrev pub item_by : CostRule → Position → ℕ → Move → Option Item
+item_by rule b cost m = option_map (λ next. record { board = next.0; cost = cost + next.1; via = m }) (successor rule b m)
+
+-- the offer is of this item: it has the key of its board, its cost and last move, its cost plus sum, and its owner
+pub record IsOfferOf (sum owner : Position → ℕ) (item : Item) (offer : Offer) : Type 0 where
+  pub key : offer.key ≡ key_of item.board
+  pub cost : offer.cost ≡ item.cost
+  pub via : offer.via ≡ item.via
+  pub adds : offer.f ≡ item.cost + sum item.board
+  pub owned : offer.owner ≡ owner item.board
+
+-- an offer of this item, and none where there is none
+abbrev pub IsOffered : (Position → ℕ) → (Position → ℕ) → Option Item → Option Offer → Type 0
+IsOffered sum owner None None = ⊤
+IsOffered sum owner None (Some offer) = ⊥
+IsOffered sum owner (Some item) None = ⊥
+IsOffered sum owner (Some item) (Some offer) = IsOfferOf sum owner item offer
+
+-- the offers are of these items, by the four moves
+pub record AreOffered (sum owner : Position → ℕ) (items : Move → Option Item) (offers : Offers) : Type 0 where
+  pub up : IsOffered sum owner (items U) offers.up
+  pub left : IsOffered sum owner (items L) offers.left
+  pub right : IsOffered sum owner (items R) offers.right
+  pub down : IsOffered sum owner (items D) offers.down

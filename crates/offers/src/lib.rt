@@ -1,0 +1,8 @@
+//! What the moves from a board offer: its successors, each with its cost plus sum and its owner.
+#![tactic(auto)]
+
+mod offer;
+mod room;
+
+pub use offer::{Offer, Offers, offers_of};
+pub use room::has_room;

@@ -1,0 +1,133 @@
+//! Successors of a board, as they go to their owners.
+
+ghost use Rattle.std.specs.Prelude.{ℕ, ◌≡◌, ◌<◌, ◌≤◌, ◌%◌, List, IfSome, option_map};
+ghost use Rattle.board.specs.declared.costs.TheConstants.{GREATEST_EXPANDED_COST};
+ghost use Rattle.lower_bound.specs.declared.bound.TheConstants.{GREATEST_SUM};
+ghost use Rattle.board.specs.CostRules.{CostRule};
+ghost use Rattle.board.specs.Moves.{blank_exchange, successor};
+ghost use Rattle.board.specs.Positions.{Position};
+ghost use Rattle.lower_bound.specs.Bounds.{Part, sum_of};
+ghost use Rattle.lower_bound.specs.Tables.{parts_of};
+ghost use Rattle.successor_sums.specs.Unpacked.{told_of};
+ghost use Rattle.owners.specs.Slides.{IsSlide};
+ghost use Rattle.offers.specs.Offers.{item_by, IsOffered, AreOffered};
+
+use board::{Board, Move, Shape, Weights};
+use lower_bound::Bound;
+use owners::{Slide, Spread};
+use successor_sums::{Successor, UnpackedBoard};
+
+/// What a move from a board offers: a successor, by its key.
+#[derive(Clone, Copy, Debug)]
+pub struct Offer {
+    pub key: u128,
+    /// What it costs to reach it.
+    pub cost: u32,
+    /// The move.
+    pub via: Move,
+    /// The cost plus the sum.
+    pub f: u32,
+    /// The worker that owns it.
+    pub owner: usize,
+}
+
+/// What the four moves from a board offer; None where the blank would leave the board.
+#[derive(Clone, Copy, Debug)]
+pub struct Offers {
+    pub up: Option<Offer>,
+    pub left: Option<Offer>,
+    pub right: Option<Offer>,
+    pub down: Option<Offer>,
+}
+
+// The hash of a board whose moves are offered, and the number of workers.
+#[derive(Clone, Copy)]
+struct Hashed {
+    hash: u64,
+    workers: usize,
+}
+
+/// What the moves from a board offer that costs this much, to so many workers.
+pub fn offers_of<S: Spread>(
+    unpacked: &UnpackedBoard,
+    cost: u32,
+    weights: &Weights,
+    bound: &Bound,
+    owners: &S,
+    workers: usize,
+) -> Offers
+    requires rule { weights.now.grid ≡ unpacked.now.grid }
+    requires bound { bound.now.split.grid ≡ unpacked.now.grid }
+    requires low { cost ≤ GREATEST_EXPANDED_COST }
+    requires some { 0 < workers }
+    ensures { AreOffered (sum_of (parts_of bound.now)) (λ b. S.hash_of owners.now b % workers)
+        (item_by weights.now unpacked.now cost) result }
+{
+    let [up, left, right, down] = unpacked.successors(weights, bound);
+    let board = unpacked.board();
+    let hashed = Hashed {
+        hash: owners.hash(board.shape(), board.tiles()),
+        workers,
+    };
+    Offers {
+        up: offer_by(board, cost, Move::U, up, owners, hashed),
+        left: offer_by(board, cost, Move::L, left, owners, hashed),
+        right: offer_by(board, cost, Move::R, right, owners, hashed),
+        down: offer_by(board, cost, Move::D, down, owners, hashed),
+    }
+}
+
+// What a move from a board offers, of which this is told.
+fn offer_by<S: Spread>(
+    board: &Board,
+    cost: u32,
+    direction: Move,
+    told: Option<Successor>,
+    owners: &S,
+    hashed: Hashed,
+) -> Option<Offer>
+    requires low { cost ≤ GREATEST_EXPANDED_COST }
+    requires costs { IfSome told (λ s. s.cost ≤ 255) }
+    requires sums { IfSome told (λ s. s.sum ≤ GREATEST_SUM) }
+    requires some { 0 < hashed.workers }
+    requires hash { hashed.hash ≡ S.hash_of owners.now board.now }
+    ensures { (rule : CostRule) (parts : List Part)
+        → told ≡ option_map (told_of parts) (successor rule board.now direction)
+        → IsOffered (sum_of parts) (λ b. S.hash_of owners.now b % hashed.workers)
+        (item_by rule board.now cost direction) result }
+{
+    let shape = board.shape();
+    let blank = board.blank();
+    let Some(from) = shape.neighbour(blank, direction) else {
+        return None;
+    };
+    let Some(successor) = told else {
+        return None;
+    };
+    let slide = Slide {
+        tile: board.tile(from),
+        from,
+        to: blank,
+    };
+    let reached = cost + successor.cost;
+    Some(Offer {
+        key: successor.key,
+        cost: reached,
+        via: direction,
+        f: reached + successor.sum,
+        owner: owner_after(owners, hashed, shape, slide),
+    })
+}
+
+// The owner of a board after a slide.
+fn owner_after<S: Spread>(owners: &S, hashed: Hashed, shape: Shape, slide: Slide) -> usize
+    requires some { 0 < hashed.workers }
+    requires slide { (b : Position) × IsSlide shape b slide }
+    ensures { (b : Position) → IsSlide shape b slide → hashed.hash ≡ S.hash_of owners.now b
+        → result ≡ S.hash_of owners.now (blank_exchange b slide.from) % hashed.workers }
+{
+    if hashed.workers == 1 {
+        return 0;
+    }
+    (owners.hash_after(hashed.hash, shape, slide) % hashed.workers as u64) as usize
+}
