@@ -1,12 +1,14 @@
 -- What the moves from a board offer.
-use Rattle.std.specs.Prelude.{⊤, ℕ, ◌≡◌, ◌+◌, Option, Some, None, option_map}
+use Rattle.std.specs.Prelude.{⊤, ℕ, ◌≡◌, ◌+◌, ◌<◌, ◌≤◌, IfSome, Option, Some, None, option_map}
 use Rattle.board.specs.declared.moves.Move.{Move}
 use Rattle.board.specs.declared.moves.Move.TheVariants.{U, L, R, D}
 use Rattle.board.specs.CostRules.{CostRule}
-use Rattle.board.specs.Keys.{key_of}
+use Rattle.board.specs.Grids.{Grid}
+use Rattle.board.specs.Keys.{key_of, HasKey}
 use Rattle.board.specs.Moves.{successor}
 use Rattle.board.specs.Positions.{Position}
 use Rattle.world_model.specs.declared.parts.Item.{Item}
+use Rattle.lower_bound.specs.declared.bound.TheConstants.{GREATEST_SUM}
 use Rattle.offers.specs.declared.offer.Offer.{Offer}
 use Rattle.offers.specs.declared.offer.Offers.{Offers}
 
@@ -35,3 +37,14 @@ pub record AreOffered (sum owner : Position → ℕ) (items : Move → Option It
   pub left : IsOffered sum owner (items L) offers.left
   pub right : IsOffered sum owner (items R) offers.right
   pub down : IsOffered sum owner (items D) offers.down
+
+-- each offer that there is has this
+abbrev pub OfEach : (Offer → Type 0) → Offers → Type 0
+OfEach P offers = IfSome offers.up P × IfSome offers.left P × IfSome offers.right P × IfSome offers.down P
+
+-- what is offered from a board at this cost has the key of a board of its sides, no cost plus sum above what one move more can make it,
+-- and one of so many owners
+pub record IsWithin (grid : Grid) (cost workers : ℕ) (offer : Offer) : Type 0 where
+  pub board : (b : Position) × HasKey grid offer.key b
+  pub low : offer.f ≤ cost + 255 + GREATEST_SUM
+  pub owned : offer.owner < workers

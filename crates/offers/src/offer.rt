@@ -4,13 +4,14 @@ ghost use Rattle.std.specs.Prelude.{ℕ, ◌≡◌, ◌<◌, ◌≤◌, ◌%◌,
 ghost use Rattle.board.specs.declared.costs.TheConstants.{GREATEST_EXPANDED_COST};
 ghost use Rattle.lower_bound.specs.declared.bound.TheConstants.{GREATEST_SUM};
 ghost use Rattle.board.specs.CostRules.{CostRule};
+ghost use Rattle.board.specs.Keys.{HasKey};
 ghost use Rattle.board.specs.Moves.{blank_exchange, successor};
 ghost use Rattle.board.specs.Positions.{Position};
 ghost use Rattle.lower_bound.specs.Bounds.{Part, sum_of};
 ghost use Rattle.lower_bound.specs.Tables.{parts_of};
 ghost use Rattle.successor_sums.specs.Unpacked.{told_of};
 ghost use Rattle.owners.specs.Slides.{IsSlide};
-ghost use Rattle.offers.specs.Offers.{item_by, IsOffered, AreOffered};
+ghost use Rattle.offers.specs.Offers.{item_by, IsOffered, AreOffered, OfEach, IsWithin};
 
 use board::{Board, Move, Shape, Weights};
 use lower_bound::Bound;
@@ -60,8 +61,9 @@ pub fn offers_of<S: Spread>(
     requires bound { bound.now.split.grid ≡ unpacked.now.grid }
     requires low { cost ≤ GREATEST_EXPANDED_COST }
     requires some { 0 < workers }
-    ensures { AreOffered (sum_of (parts_of bound.now)) (λ b. S.hash_of owners.now b % workers)
-        (item_by weights.now unpacked.now cost) result }
+    ensures offered { AreOffered (sum_of (parts_of bound.now))
+        (λ b. S.hash_of owners.now b % workers) (item_by weights.now unpacked.now cost) result }
+    ensures within { OfEach (IsWithin unpacked.now.grid cost workers) result }
 {
     let [up, left, right, down] = unpacked.successors(weights, bound);
     let board = unpacked.board();
@@ -87,11 +89,13 @@ fn offer_by<S: Spread>(
     hashed: Hashed,
 ) -> Option<Offer>
     requires low { cost ≤ GREATEST_EXPANDED_COST }
+    requires keys { IfSome told (λ s. (b : Position) × HasKey board.now.grid s.key b) }
     requires costs { IfSome told (λ s. s.cost ≤ 255) }
     requires sums { IfSome told (λ s. s.sum ≤ GREATEST_SUM) }
     requires some { 0 < hashed.workers }
     requires hash { hashed.hash ≡ S.hash_of owners.now board.now }
-    ensures { (rule : CostRule) (parts : List Part)
+    ensures within { IfSome result (IsWithin board.now.grid cost hashed.workers) }
+    ensures offered { (rule : CostRule) (parts : List Part)
         → told ≡ option_map (told_of parts) (successor rule board.now direction)
         → IsOffered (sum_of parts) (λ b. S.hash_of owners.now b % hashed.workers)
         (item_by rule board.now cost direction) result }
@@ -123,7 +127,8 @@ fn offer_by<S: Spread>(
 fn owner_after<S: Spread>(owners: &S, hashed: Hashed, shape: Shape, slide: Slide) -> usize
     requires some { 0 < hashed.workers }
     requires slide { (b : Position) × IsSlide shape b slide }
-    ensures { (b : Position) → IsSlide shape b slide → hashed.hash ≡ S.hash_of owners.now b
+    ensures within { result < hashed.workers }
+    ensures owner { (b : Position) → IsSlide shape b slide → hashed.hash ≡ S.hash_of owners.now b
         → result ≡ S.hash_of owners.now (blank_exchange b slide.from) % hashed.workers }
 {
     if hashed.workers == 1 {
