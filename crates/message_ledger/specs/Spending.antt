@@ -1,0 +1,11 @@
+-- What contracts see of an allowance.
+use Rattle.std.specs.Prelude.{ℕ, ◌-◌}
+
+-- how many expansions were granted, and how many of these are left
+pub record Spending : Type 0 where
+  pub granted : ℕ
+  pub left : ℕ
+
+-- how many were made
+abbrev pub spent : Spending → ℕ
+spent it = it.granted - it.left

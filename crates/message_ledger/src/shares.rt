@@ -1,0 +1,193 @@
+//! Counting by parts of ledgers, for threads.
+
+ghost use Rattle.std.specs.Prelude.{ℕ, ◌≡◌, ◌+◌, ◌^◌, ◌<◌};
+
+use crate::counting::{Counting, Tokens};
+use std::marker::{Brand, Model, PhantomData};
+use std::sync::ledger::{Blank, Book, Ledger, Share};
+
+/// A part of a credit. It has one part of the ledger for each 1 of its amount.
+#[derive(Drop)]
+pub struct LedgerPart<L: Ledger> {
+    amount: u64,
+    share: Share<L>,
+    ghost counted: { share.amount ≡ amount },
+    ghost backed: { share.parts ≡ amount },
+}
+
+/// A credit: the book of a ledger, and the parts of it that no share has.
+#[derive(Drop)]
+pub struct LedgerSum<L: Ledger> {
+    sum: u64,
+    book: Book<L>,
+    rest: Share<L>,
+    ghost counted: { book.total ≡ sum },
+    ghost idle: { rest.amount ≡ 0 },
+    ghost parts: { rest.parts + sum + 1 ≡ 2 ^ 64 },
+}
+
+/// What was granted to one worker: one part of a ledger.
+#[derive(Drop)]
+pub struct LedgerTicket<M: Ledger> {
+    share: Share<M>,
+    ghost one: { share.parts ≡ 1 },
+}
+
+/// What was granted to all workers: the book of a ledger.
+#[derive(Drop)]
+pub struct LedgerTotal<M: Ledger> {
+    total: u64,
+    book: Book<M>,
+    ghost counted: { book.total ≡ total },
+}
+
+/// A ledger of what is granted of a limit. The limit is known by the ledger, so that it is known of
+/// a book that stands behind a lock.
+pub trait Capped: Ledger {
+    /// The limit.
+    ghost limit: { ℕ };
+}
+
+impl Capped for Brand {
+    ghost limit = { 0 };
+}
+
+/// Parts of two ledgers: one of a credit, and one of what is granted.
+pub struct Shares<L: Ledger, M: Ledger>(PhantomData<(L, M)>);
+
+impl<L: Ledger, M: Capped> Counting for Shares<L, M> {
+    ghost use Rattle.std.specs.Prelude.{◌≡◌, ◌≢◌, ⊤};
+    ghost use Rattle.outcomes.specs.declared.outcome.Want.TheVariants.{Stated};
+
+    type Part = LedgerPart<L>;
+
+    type Sum = LedgerSum<L>;
+
+    type Ticket = LedgerTicket<M>;
+
+    type Total = LedgerTotal<M>;
+
+    ghost amount = { λ part. part.amount };
+
+    ghost sum = { λ sum. sum.sum };
+
+    ghost granted = { λ ticket. ticket.share.amount };
+
+    ghost total = { λ total. total.total };
+
+    ghost counts = { λ _ _. ⊤ };
+
+    ghost allows_limit = { λ limit. limit ≡ M.limit };
+
+    // No list of steps runs in threads.
+    ghost allows_want = { λ want. want ≢ Stated };
+
+    fn amount_of(part: &LedgerPart<L>) -> u64 {
+        part.amount
+    }
+
+    fn sum_of(all: &LedgerSum<L>) -> u64 {
+        all.sum
+    }
+
+    fn empty(all: &mut LedgerSum<L>) -> LedgerPart<L> {
+        LedgerPart {
+            amount: 0,
+            share: all.rest.empty(),
+        }
+    }
+
+    fn split_one(part: &mut LedgerPart<L>) -> LedgerPart<L> {
+        let LedgerPart { amount, share } = part;
+        *amount -= 1;
+        LedgerPart {
+            amount: 1,
+            share: share.split_off(1, 1),
+        }
+    }
+
+    fn join(part: &mut LedgerPart<L>, other: LedgerPart<L>) {
+        let LedgerPart { amount, share } = other;
+        part.share.merge(share);
+        part.amount += amount;
+    }
+
+    fn draw(all: &mut LedgerSum<L>, part: &mut LedgerPart<L>, more: u64) {
+        all.book.audit(&mut part.share);
+        all.rest.give(&mut part.share, more, 0);
+        all.book.add(&mut part.share, more);
+        part.amount += more;
+        all.sum += more;
+    }
+
+    fn give_back(all: &mut LedgerSum<L>, part: &mut LedgerPart<L>) {
+        all.book.audit(&mut part.share);
+        let amount = part.amount;
+        all.book.sub(&mut part.share, amount);
+        part.share.give(&mut all.rest, amount, 0);
+        part.amount = 0;
+        all.sum -= amount;
+    }
+
+    fn audit(all: &mut LedgerSum<L>, part: &mut LedgerPart<L>) {
+        all.book.audit(&mut part.share);
+    }
+
+    fn total_of(all: &LedgerTotal<M>) -> u64 {
+        all.total
+    }
+
+    fn grant(all: &mut LedgerTotal<M>, ticket: &mut LedgerTicket<M>, more: u64) {
+        all.book.audit(&mut ticket.share);
+        all.book.add(&mut ticket.share, more);
+        all.total += more;
+    }
+}
+
+impl<L: Ledger, M: Capped> Tokens for Shares<L, M> {
+    ghost always = { λ _ _. tt };
+}
+
+impl<L: Ledger, M: Ledger> Shares<L, M> {
+    // The credit of a new ledger, and the part that has all of it, 1.
+    pub(crate) fn open_credit(blank: Blank) -> (LedgerSum<L>, LedgerPart<L>)
+        requires name { blank.name ≡ L.name }
+        requires parts { blank.parts ≡ L.parts }
+        requires all { blank.parts + 1 ≡ 2 ^ 64 }
+        ensures sum { result.0.sum ≡ 1 }
+        ensures amount { result.1.amount ≡ 1 }
+    {
+        let (mut book, mut rest) = blank.open::<L>();
+        let mut share = rest.split_off(1, 0);
+        book.add(&mut share, 1);
+        (
+            LedgerSum { sum: 1, book, rest },
+            LedgerPart { amount: 1, share },
+        )
+    }
+
+    // The total of a new ledger, nothing yet, and the share that has all parts of the ledger.
+    pub(crate) fn open_total(blank: Blank) -> (LedgerTotal<M>, Share<M>)
+        requires name { blank.name ≡ M.name }
+        requires parts { blank.parts ≡ M.parts }
+        ensures total { result.0.total ≡ 0 }
+        ensures parts { result.1.parts ≡ blank.parts }
+        ensures amount { result.1.amount ≡ 0 }
+    {
+        let (book, share) = blank.open::<M>();
+        (LedgerTotal { total: 0, book }, share)
+    }
+}
+
+// One part of a share that has no amount.
+pub(crate) fn split_ticket<M: Ledger>(share: &mut Share<M>) -> LedgerTicket<M>
+    requires some { 0 < share.old.parts }
+    requires none { share.old.amount ≡ 0 }
+    ensures left { share.new.parts + 1 ≡ share.old.parts }
+    ensures amount { share.new.amount ≡ 0 }
+    ensures granted { result.share.amount ≡ 0 }
+{
+    LedgerTicket {
+        share: share.split_off(1, 0),
+    }
+}
