@@ -2,6 +2,7 @@
 
 ghost use Rattle.std.specs.Prelude.{ℕ, ◌≡◌, ◌+◌, ◌^◌, ◌<◌, ◌≤◌};
 ghost use Rattle.outcomes.specs.declared.outcome.Want.{Want};
+ghost use Rattle.outcomes.specs.declared.outcome.Want.TheVariants.{Stated};
 
 /// A way of counting: parts of a credit and the sum of all of them, and in the same way what is
 /// granted of a limit.
@@ -39,6 +40,9 @@ pub trait Counting {
 
     /// Which limits a book may have.
     ghost allows_limit: { ℕ → Type 0 };
+
+    /// How many workers may share a book.
+    ghost allows_workers: { ℕ → Type 0 };
 
     /// By which wants of memory a book may stop.
     ghost allows_want: { Want → Type 0 };
@@ -102,8 +106,24 @@ pub trait Counting {
         ensures total { total all.new ≡ total all.old + more };
 }
 
-/// A way of counting in which each share is known to be counted, so that a caller owes nothing.
+/// A way of counting for threads. A caller owes nothing, and of a book that stands behind a lock
+/// its limit is known, how many workers share it, and that no list of steps stopped it.
 pub trait Tokens: Counting {
-    /// Whatever the sum and the amount are.
-    ghost always: { (sum amount : ℕ) → Self.counts sum amount };
+    /// The limit.
+    ghost limit: { ℕ };
+
+    /// How many workers there are.
+    ghost workers: { ℕ };
+
+    /// Each share is counted.
+    ghost counted: { (sum amount : ℕ) → Self.counts sum amount };
+
+    /// There is no other limit.
+    ghost one_limit: { (n : ℕ) → Self.allows_limit n → n ≡ limit };
+
+    /// There is no other number of workers.
+    ghost one_count: { (n : ℕ) → Self.allows_workers n → n ≡ workers };
+
+    /// Each want is a refusal of memory.
+    ghost no_list: { ¬ Self.allows_want Stated };
 }

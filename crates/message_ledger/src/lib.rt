@@ -1,5 +1,5 @@
 //! What workers send one another, and how a run tells that nothing is under way: each worker has a
-//! purse, each packet carries a share of 1, and the credit is the sum of them all. What a worker may
+//! purse, each packet carries a share of 1, and the credit is the sum of them all. What workers may
 //! expand is counted in the same way.
 #![tactic(auto)]
 

@@ -30,6 +30,8 @@ impl Counting for Plain {
 
     ghost allows_limit = { λ _. ⊤ };
 
+    ghost allows_workers = { λ _. ⊤ };
+
     ghost allows_want = { λ _. ⊤ };
 
     fn amount_of(part: &u64) -> u64 {

@@ -79,6 +79,9 @@ impl<L: Ledger, M: Capped> Counting for Shares<L, M> {
 
     ghost allows_limit = { λ limit. limit ≡ M.limit };
 
+    // Each has a ticket.
+    ghost allows_workers = { λ workers. workers ≡ M.parts };
+
     // No list of steps runs in threads.
     ghost allows_want = { λ want. want ≢ Stated };
 
@@ -145,7 +148,19 @@ impl<L: Ledger, M: Capped> Counting for Shares<L, M> {
 }
 
 impl<L: Ledger, M: Capped> Tokens for Shares<L, M> {
-    ghost always = { λ _ _. tt };
+    ghost use Rattle.std.specs.Prelude.{refl};
+
+    ghost limit = { M.limit };
+
+    ghost workers = { M.parts };
+
+    ghost counted = { λ _ _. tt };
+
+    ghost one_limit = { λ _ is. is };
+
+    ghost one_count = { λ _ is. is };
+
+    ghost no_list = { λ is_not. is_not refl };
 }
 
 impl<L: Ledger, M: Ledger> Shares<L, M> {
