@@ -1,0 +1,11 @@
+use Rattle.worker_tests.specs.declared.tests.TheConstants.{LIMIT}
+use Rattle.worker_tests.proofs.tests.calls_of_two_workers.Given as goal
+
+abbrev pub ghosts-shared_difference-L-Ledger : goal.ghosts-shared_difference-L-Ledger
+ghosts-shared_difference-L-Ledger g a = record { name = a.credit.name; parts = a.credit.parts }
+
+abbrev pub ghosts-shared_difference-M-Capped : goal.ghosts-shared_difference-M-Capped
+ghosts-shared_difference-M-Capped g a = record { limit = LIMIT }
+
+abbrev pub ghosts-shared_difference-M-Ledger : goal.ghosts-shared_difference-M-Ledger
+ghosts-shared_difference-M-Ledger g a = record { name = a.grants.name; parts = a.grants.parts }

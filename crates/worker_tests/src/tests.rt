@@ -1,0 +1,182 @@
+//! The book's calls by two workers, counted in whole numbers and by parts of ledgers.
+
+ghost use Rattle.std.specs.Prelude.{◌≡◌, ◌+◌, ◌^◌};
+
+use crate::calls::{Call, Row, make};
+use arrayvec::ArrayVec;
+use incumbent::Best;
+use message_ledger::{Allowance, Capped, Credit, Grants, Packet, Plain, Shares};
+use outcomes::Want;
+use quiescence::Book;
+use std::marker::Brand;
+use std::sync::ledger::{Blank, Ledger};
+use std::test::Fail;
+use world_model::{HaltCause, Item, Stop};
+
+const LIMIT: u64 = 300;
+
+const WORKERS: usize = 2;
+
+// A run that ends quietly, and is asked on.
+const QUIET: [Row; 20] = [
+    (1, Call::Draw, "Q2", 1, 0),
+    (0, Call::Draw, "ok", 65, 65),
+    (0, Call::Send, "ok", 65, 64),
+    (1, Call::Send, "ok", 65, 0),
+    (1, Call::Send, "refused", 65, 0),
+    (0, Call::Send, "ok", 65, 64),
+    (0, Call::Grant, "256", 65, 64),
+    (1, Call::HaltByLimit, "Q7", 65, 1),
+    (1, Call::Grant, "44", 65, 1),
+    (0, Call::Grant, "Q5", 65, 64),
+    (0, Call::Announce(20), "ok", 65, 64),
+    (1, Call::Announce(20), "Q4", 65, 1),
+    (1, Call::Announce(19), "ok", 65, 1),
+    (0, Call::Rest(Some(18)), "Q6", 65, 64),
+    (0, Call::Rest(Some(19)), "waits", 1, 0),
+    (0, Call::Rest(None), "Q2", 1, 0),
+    (1, Call::Rest(None), "quiet", 0, 0),
+    (0, Call::Draw, "Q1", 0, 0),
+    (0, Call::Rest(None), "Q1", 0, 0),
+    (1, Call::HaltByStart, "Q1", 0, 0),
+];
+
+// A run that is halted once all is granted.
+const HALTED: [Row; 6] = [
+    (0, Call::Grant, "256", 1, 1),
+    (0, Call::Grant, "44", 1, 1),
+    (1, Call::HaltByLimit, "ok", 1, 0),
+    (0, Call::Grant, "Q1", 1, 1),
+    (0, Call::Announce(2), "Q1", 1, 1),
+    (0, Call::HaltByLimit, "Q1", 1, 1),
+];
+
+// The place of the first row that is answered otherwise, counted in whole numbers.
+fn plain_difference(rows: &[Row]) -> Option<usize> {
+    let (mut credit, mut first) = Credit::plain();
+    let mut second = credit.empty_purse();
+    let mut book = Book::new(credit, Grants::plain(), LIMIT, WORKERS);
+    for (place, row) in rows.iter().enumerate() {
+        let (worker, call, want, credit, amount) = *row;
+        if first.amount() > book.credit() || second.amount() > book.credit() {
+            return Some(place);
+        }
+        let mut allowance = Allowance::plain();
+        let (got, purse) = if worker == 0 {
+            let got = make(&mut book, 0, &mut first, &mut second, &mut allowance, call);
+            (got, first.amount())
+        } else {
+            let got = make(&mut book, 1, &mut second, &mut first, &mut allowance, call);
+            (got, second.amount())
+        };
+        if got != want || book.credit() != credit || purse != amount {
+            return Some(place);
+        }
+    }
+    None
+}
+
+// The same, counted by parts of ledgers.
+fn shared_difference<L: Ledger + Send + Sync, M: Capped + Send + Sync>(
+    credit: Blank,
+    grants: Blank,
+    rows: &[Row],
+) -> Option<usize>
+    requires credit_name { credit.name ≡ L.name }
+    requires credit_parts { credit.parts ≡ L.parts }
+    requires credit_all { credit.parts + 1 ≡ 2 ^ 64 }
+    requires grants_name { grants.name ≡ M.name }
+    requires grants_parts { grants.parts ≡ M.parts }
+    requires workers { M.parts ≡ WORKERS }
+    requires limit { M.limit ≡ LIMIT }
+{
+    let (mut credit, mut first) = Credit::<Shares<L, M>>::shared(credit);
+    let mut second = credit.empty_purse();
+    let (grants, mut tickets) = Grants::<Shares<L, M>>::shared(grants);
+    let mut allowance = tickets.take::<L>();
+    let mut book = Book::new(credit, grants, LIMIT, WORKERS);
+    for (place, row) in rows.iter().enumerate() {
+        let (worker, call, want, credit, amount) = *row;
+        let (got, purse) = if worker == 0 {
+            let got = make(&mut book, 0, &mut first, &mut second, &mut allowance, call);
+            (got, first.amount())
+        } else {
+            let got = make(&mut book, 1, &mut second, &mut first, &mut allowance, call);
+            (got, second.amount())
+        };
+        if got != want || book.credit() != credit || purse != amount {
+            return Some(place);
+        }
+    }
+    None
+}
+
+// The credit, a purse of it, what is granted and what is spent, after a call of each kind.
+fn amounts() -> (u64, u64, u64, u64) {
+    let (mut credit, mut purse) = Credit::plain();
+    credit.draw(&mut purse, 4);
+    let part = purse.split_one();
+    purse.join(part);
+    credit.audit(&mut purse);
+    let mut items = ArrayVec::new();
+    items.push(Item::default());
+    let mut packet = Packet::seal(items, &mut purse);
+    credit.audit_packet(&mut packet);
+    packet.open(&mut purse);
+    let mut other = purse.split_one();
+    credit.give_back(&mut other);
+    let mut grants = Grants::plain();
+    let mut allowance = Allowance::plain();
+    allowance.grant(&mut grants, 7);
+    allowance.spend();
+    (
+        credit.sum(),
+        purse.amount(),
+        grants.total(),
+        allowance.spent(),
+    )
+}
+
+// What best costs are answered, and the limit then.
+fn best_costs(costs: [u32; 3]) -> ([bool; 3], Option<u32>, u32) {
+    let mut best = Best::new();
+    let lower = costs.map(|cost| best.announce(cost).is_ok());
+    (lower, best.cost(), best.limit())
+}
+
+// What stops a run for which a list of steps says that memory is wanting, and its best cost.
+fn stop_by_list() -> (Option<Stop>, Option<u32>) {
+    let credit = Credit::plain().0;
+    let mut book = Book::new(credit, Grants::<Plain>::plain(), LIMIT, WORKERS);
+    if book.announce(5).is_err() || book.halt(HaltCause::Memory(Want::Stated)).is_err() {
+        return (None, None);
+    }
+    (book.stop(), book.best().cost())
+}
+
+#[test]
+fn calls_of_two_workers(rt: HostRuntime) -> Result<(), Fail> {
+    for rows in [&QUIET[..], &HALTED[..]] {
+        assert_eq!(rt; plain_difference(rows), None);
+        let credit = Blank::new(u64::MAX);
+        let grants = Blank::new(2);
+        assert_eq!(rt;
+            shared_difference::<Brand, Brand>(credit, grants, rows),
+            None
+        );
+    }
+    assert_eq!(rt; amounts(), (4, 4, 7, 1));
+    for (costs, lower, best, limit) in [
+        ([9, 9, 8], [true, false, true], Some(8), 8),
+        (
+            [2_000_000, 3_000_000, 2_000_000],
+            [true, false, false],
+            Some(2_000_000),
+            1_048_321,
+        ),
+    ] {
+        assert_eq!(rt; best_costs(costs), (lower, best, limit));
+    }
+    assert_eq!(rt; stop_by_list(), (Some(Stop::Memory(Want::Stated)), Some(5)));
+    Ok(())
+}
