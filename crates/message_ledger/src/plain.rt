@@ -38,11 +38,11 @@ impl Counting for Plain {
         *part
     }
 
-    fn sum_of(all: &u64) -> u64 {
-        *all
+    fn sum_of(sum: &u64) -> u64 {
+        *sum
     }
 
-    fn empty(_all: &mut u64) -> u64 {
+    fn empty(_sum: &mut u64) -> u64 {
         0
     }
 
@@ -55,24 +55,24 @@ impl Counting for Plain {
         *part += other;
     }
 
-    fn draw(all: &mut u64, part: &mut u64, more: u64) {
+    fn draw(sum: &mut u64, part: &mut u64, more: u64) {
         *part += more;
-        *all += more;
+        *sum += more;
     }
 
-    fn give_back(all: &mut u64, part: &mut u64) {
-        *all -= *part;
+    fn give_back(sum: &mut u64, part: &mut u64) {
+        *sum -= *part;
         *part = 0;
     }
 
-    fn audit(_all: &mut u64, _part: &mut u64) {}
+    fn audit(_sum: &mut u64, _part: &mut u64) {}
 
-    fn total_of(all: &u64) -> u64 {
-        *all
+    fn total_of(total: &u64) -> u64 {
+        *total
     }
 
-    fn grant(all: &mut u64, ticket: &mut u64, more: u64) {
+    fn grant(total: &mut u64, ticket: &mut u64, more: u64) {
         *ticket += more;
-        *all += more;
+        *total += more;
     }
 }

@@ -18,12 +18,12 @@ pub struct LedgerPart<L: Ledger> {
 /// A credit: the book of a ledger, and the parts of it that no share has.
 #[derive(Drop)]
 pub struct LedgerSum<L: Ledger> {
-    sum: u64,
+    amount: u64,
     book: Book<L>,
     rest: Share<L>,
-    ghost counted: { book.total ≡ sum },
+    ghost counted: { book.total ≡ amount },
     ghost idle: { rest.amount ≡ 0 },
-    ghost parts: { rest.parts + sum + 1 ≡ 2 ^ 64 },
+    ghost parts: { rest.parts + amount + 1 ≡ 2 ^ 64 },
 }
 
 /// What was granted to one worker: one part of a ledger.
@@ -36,9 +36,9 @@ pub struct LedgerTicket<M: Ledger> {
 /// What was granted to all workers: the book of a ledger.
 #[derive(Drop)]
 pub struct LedgerTotal<M: Ledger> {
-    total: u64,
+    amount: u64,
     book: Book<M>,
-    ghost counted: { book.total ≡ total },
+    ghost counted: { book.total ≡ amount },
 }
 
 /// A ledger of what is granted of a limit. The limit is known by the ledger, so that it is known of
@@ -69,11 +69,11 @@ impl<L: Ledger, M: Capped> Counting for Shares<L, M> {
 
     ghost amount = { λ part. part.amount };
 
-    ghost sum = { λ sum. sum.sum };
+    ghost sum = { λ sum. sum.amount };
 
     ghost granted = { λ ticket. ticket.share.amount };
 
-    ghost total = { λ total. total.total };
+    ghost total = { λ total. total.amount };
 
     ghost counts = { λ _ _. ⊤ };
 
@@ -89,14 +89,14 @@ impl<L: Ledger, M: Capped> Counting for Shares<L, M> {
         part.amount
     }
 
-    fn sum_of(all: &LedgerSum<L>) -> u64 {
-        all.sum
+    fn sum_of(sum: &LedgerSum<L>) -> u64 {
+        sum.amount
     }
 
-    fn empty(all: &mut LedgerSum<L>) -> LedgerPart<L> {
+    fn empty(sum: &mut LedgerSum<L>) -> LedgerPart<L> {
         LedgerPart {
             amount: 0,
-            share: all.rest.empty(),
+            share: sum.rest.empty(),
         }
     }
 
@@ -115,35 +115,35 @@ impl<L: Ledger, M: Capped> Counting for Shares<L, M> {
         part.amount += amount;
     }
 
-    fn draw(all: &mut LedgerSum<L>, part: &mut LedgerPart<L>, more: u64) {
-        all.book.audit(&mut part.share);
-        all.rest.give(&mut part.share, more, 0);
-        all.book.add(&mut part.share, more);
+    fn draw(sum: &mut LedgerSum<L>, part: &mut LedgerPart<L>, more: u64) {
+        sum.book.audit(&mut part.share);
+        sum.rest.give(&mut part.share, more, 0);
+        sum.book.add(&mut part.share, more);
         part.amount += more;
-        all.sum += more;
+        sum.amount += more;
     }
 
-    fn give_back(all: &mut LedgerSum<L>, part: &mut LedgerPart<L>) {
-        all.book.audit(&mut part.share);
+    fn give_back(sum: &mut LedgerSum<L>, part: &mut LedgerPart<L>) {
+        sum.book.audit(&mut part.share);
         let amount = part.amount;
-        all.book.sub(&mut part.share, amount);
-        part.share.give(&mut all.rest, amount, 0);
+        sum.book.sub(&mut part.share, amount);
+        part.share.give(&mut sum.rest, amount, 0);
         part.amount = 0;
-        all.sum -= amount;
+        sum.amount -= amount;
     }
 
-    fn audit(all: &mut LedgerSum<L>, part: &mut LedgerPart<L>) {
-        all.book.audit(&mut part.share);
+    fn audit(sum: &mut LedgerSum<L>, part: &mut LedgerPart<L>) {
+        sum.book.audit(&mut part.share);
     }
 
-    fn total_of(all: &LedgerTotal<M>) -> u64 {
-        all.total
+    fn total_of(total: &LedgerTotal<M>) -> u64 {
+        total.amount
     }
 
-    fn grant(all: &mut LedgerTotal<M>, ticket: &mut LedgerTicket<M>, more: u64) {
-        all.book.audit(&mut ticket.share);
-        all.book.add(&mut ticket.share, more);
-        all.total += more;
+    fn grant(total: &mut LedgerTotal<M>, ticket: &mut LedgerTicket<M>, more: u64) {
+        total.book.audit(&mut ticket.share);
+        total.book.add(&mut ticket.share, more);
+        total.amount += more;
     }
 }
 
@@ -169,14 +169,18 @@ impl<L: Ledger, M: Ledger> Shares<L, M> {
         requires name { blank.name ≡ L.name }
         requires parts { blank.parts ≡ L.parts }
         requires all { blank.parts + 1 ≡ 2 ^ 64 }
-        ensures sum { result.0.sum ≡ 1 }
-        ensures amount { result.1.amount ≡ 1 }
+        ensures sum { result.0.amount ≡ 1 }
+        ensures part { result.1.amount ≡ 1 }
     {
         let (mut book, mut rest) = blank.open::<L>();
         let mut share = rest.split_off(1, 0);
         book.add(&mut share, 1);
         (
-            LedgerSum { sum: 1, book, rest },
+            LedgerSum {
+                amount: 1,
+                book,
+                rest,
+            },
             LedgerPart { amount: 1, share },
         )
     }
@@ -185,12 +189,12 @@ impl<L: Ledger, M: Ledger> Shares<L, M> {
     pub(crate) fn open_total(blank: Blank) -> (LedgerTotal<M>, Share<M>)
         requires name { blank.name ≡ M.name }
         requires parts { blank.parts ≡ M.parts }
-        ensures total { result.0.total ≡ 0 }
+        ensures total { result.0.amount ≡ 0 }
         ensures parts { result.1.parts ≡ blank.parts }
         ensures amount { result.1.amount ≡ 0 }
     {
         let (book, share) = blank.open::<M>();
-        (LedgerTotal { total: 0, book }, share)
+        (LedgerTotal { amount: 0, book }, share)
     }
 }
 

@@ -3,6 +3,7 @@
 ghost use Rattle.std.specs.Prelude.{◌≡◌};
 
 use arrayvec::ArrayVec;
+use board::Move;
 use message_ledger::{Allowance, Counting, Packet, Purse};
 use quiescence::{Book, Rested, book_code};
 use world_model::{BookFault, HaltCause, Item};
@@ -32,17 +33,24 @@ pub type Row = (usize, Call, &'static str, u64, u64);
 // An item goes from one purse's worker to the other's.
 fn send<C: Counting>(from: &mut Purse<C>, to: &mut Purse<C>) -> &'static str {
     let mut items = ArrayVec::new();
-    items.push(Item::default());
+    // The goal of 2 by 2.
+    let mut item = Item::default();
+    item.cost = 9;
+    item.via = Move::L;
+    items.push(item);
     if from.amount() == 0 || to.amount() == u64::MAX {
         return "refused";
     }
     let packet = Packet::seal(items, from);
-    let cost = packet.items()[0].g();
-    let item = packet.open(to)[0];
-    if item.g() != cost || item.key() != item.board.key() || item.via() != item.via {
-        return "changed";
+    if packet.items().len() != 1 {
+        return "other items";
     }
-    "ok"
+    let item = packet.open(to)[0];
+    if item.key() == 1091 && item.g() == 9 && item.via() == Move::L {
+        "ok"
+    } else {
+        "another item"
+    }
 }
 
 fn word(answer: Result<(), BookFault>) -> &'static str {
