@@ -68,7 +68,7 @@ differ_is : (ts : List ℕ) → all_differ ts ≡ true → AllPairs (λ x y. x �
 differ_is [] e = λ i j d lt j_in. absurd (omega arith)
 differ_is (t ∷ ts) e = let h = both (none_is t ts) (all_differ ts) e in AllPairs-cons (λ x y. x ≢ y) t ts (none_differs t ts h.0) (differ_is ts h.1)
 
-board_is : (b : Position) → IsShape b.grid → length b.tiles ≡ cell_count b.grid → all_below (cell_count b.grid) b.tiles ≡ true → all_differ b.tiles ≡ true → IsBoard b
+pub board_is : (b : Position) → IsShape b.grid → length b.tiles ≡ cell_count b.grid → all_below (cell_count b.grid) b.tiles ≡ true → all_differ b.tiles ≡ true → IsBoard b
 board_is b shape count low differ = record { sides = shape; one_each = count; in_range = below_is (cell_count b.grid) b.tiles low; different = differ_is b.tiles differ }
 
 ones : (n k : ℕ) → k < n → slice_index (replicate n 1) k ≡ 1
@@ -100,7 +100,7 @@ two_shape : IsShape (grid_of 2 2)
 two_shape = shape_of 2 2 (omega arith) (omega arith) (omega arith) (omega arith)
 
 -- the job of one move is one
-one_move_is : IsJob one_move
+pub one_move_is : IsJob one_move
 one_move_is = record {
   task = record {
     start = board_is (two_by_two 1 0 2 3) two_shape refl refl refl;
@@ -316,7 +316,7 @@ plan_given plan rows moves listed = (
   ),
 )
 
-three_shape : IsShape (grid_of 2 3)
+pub three_shape : IsShape (grid_of 2 3)
 three_shape = shape_of 2 3 (omega arith) (omega arith) (omega arith) (omega arith)
 
 far_goal_is : IsJob far_goal

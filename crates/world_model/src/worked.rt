@@ -5,6 +5,12 @@ ghost use Rattle.world_model.specs.Worked.{PlanIsGiven, CutIsGiven, HaltIsGiven,
 ghost use Rattle.world_model.specs.Worked.{RefusalsAreGiven, RefusalsOnTheWayAreGiven};
 ghost use Rattle.world_model.specs.Worked.{BoardIsExpandedAgain, RelaxationsLower};
 
+ghost use Rattle.world_model.specs.WorkedSteps.{FullLanesRefuse, FullPursesRefuse};
+ghost use Rattle.world_model.specs.WorkedSteps.{FullCreditsRefuse, FullPacketsRefuse};
+ghost use Rattle.world_model.specs.WorkedSteps.{LastIsSettled, SuccessorsAreInOrder};
+ghost use Rattle.world_model.specs.WorkedSteps.{LowerGoalsAreAnnounced, GrantsAreWhole};
+ghost use Rattle.world_model.specs.WorkedSteps.{FloorsAreKept, LimitsAreHaltedAt};
+
 use crate::limits::{CREDIT_DRAWN, GREATEST_GRANT, LANE_LIMIT, PACKET_LIMIT, WORKER_LIMIT};
 
 /// Two workers find a plan of one move; or the run is cut, or halted, before they do.
@@ -38,4 +44,26 @@ pub fn limits()
     ensures packets { LANE_LIMIT ≡ 64 }
     ensures credit { CREDIT_DRAWN ≡ 64 }
     ensures grant { GREATEST_GRANT ≡ 256 }
+{}
+
+/// What a step does at a limit, and just below it.
+pub fn full_parts()
+    ensures packets { FullPacketsRefuse }
+    ensures lanes { FullLanesRefuse }
+    ensures purses { FullPursesRefuse }
+    ensures credits { FullCreditsRefuse }
+{}
+
+/// The order in which items are settled and sent.
+pub fn item_order()
+    ensures settled { LastIsSettled }
+    ensures sent { SuccessorsAreInOrder }
+{}
+
+/// What a step leaves of a worker and the book, and what it refuses there.
+pub fn book_steps()
+    ensures announce { LowerGoalsAreAnnounced }
+    ensures grant { GrantsAreWhole }
+    ensures rest { FloorsAreKept }
+    ensures halt { LimitsAreHaltedAt }
 {}
