@@ -44,7 +44,7 @@ limit_falls (Some x) None a = absurd a
 limit_falls (Some x) (Some y) a = omega arith
 
 -- a cost that is not above another is below it or the same
-lower_best : (cost : ℕ) (best : Option ℕ) → ¬ IsNotBelow (Some cost) best → IsNotBelow best (Some cost)
+pub lower_best : (cost : ℕ) (best : Option ℕ) → ¬ IsNotBelow (Some cost) best → IsNotBelow best (Some cost)
 lower_best cost None lower = tt
 lower_best cost (Some best) lower = ⊎_elim (λ (lt : cost < best). omega arith) (λ (le : best ≤ cost). absurd (lower le)) (cases_lt cost best)
 

@@ -91,7 +91,7 @@ module _ (w : WorldState) (shaped : IsShaped w) (credited : IsCredited w) (stop 
     best = reached_at w.book.best refl;
   }
 
-least_unique : (P : ℕ → Type 0) (x y : Option ℕ) → IsLeastWith P x → IsLeastWith P y → x ≡ y
+pub least_unique : (P : ℕ → Type 0) (x y : Option ℕ) → IsLeastWith P x → IsLeastWith P y → x ≡ y
 least_unique P None None a b = refl
 least_unique P None (Some y) a b = absurd (a y b.0)
 least_unique P (Some x) None a b = absurd (b x a.0)

@@ -1,0 +1,153 @@
+-- The laws of steps: that each has one answer and leaves one world, and what it leaves alone.
+use Rattle.std.specs.Prelude.{◌≡◌, ◌≢◌, ◌↔◌, ⊤, ℕ, ◌<◌, ◌+◌, true, List, [], ◌∷◌, ◌++◌, All, Option, Some, None, slice_get}
+use Rattle.memory.specs.declared.OutOfMemory.{OutOfMemory}
+use Rattle.board.specs.declared.moves.Move.{Move}
+use Rattle.board.specs.Positions.{Position}
+use Rattle.world_model.specs.declared.parts.Known.{Known}
+use Rattle.world_model.specs.declared.steps.Refusal.{Refusal}
+use Rattle.world_model.specs.declared.steps.Refusal.TheVariants.{NoRoom, Memory}
+use Rattle.world_model.specs.declared.steps.Step.{Step}
+use Rattle.world_model.specs.declared.steps.Step.TheVariants.{Expand, Settle, Send, Deliver, Draw, Announce, Grant, Rest, Halt}
+use Rattle.world_model.specs.Turns.{Turn, turn}
+use Rattle.world_model.specs.Costs.{IsNotBelow, limit_of}
+use Rattle.world_model.specs.Workers.{WorkerState, Role, Lane, KnowsAs, IsOpen, IsNext, IsFloor}
+use Rattle.world_model.specs.Books.{BookState}
+use Rattle.world_model.specs.WorkerSteps.{ExpandStep}
+use Rattle.world_model.specs.Worlds.{WorldState, IsWorker, IsLane}
+use Rattle.world_model.specs.Steps.{Next, IsRun}
+use Rattle.world_model.specs.Openings.{Job, IsJob, opening}
+
+-- the worker that takes the step
+abbrev pub worker_of_step : Step → ℕ
+worker_of_step (Expand i) = i
+worker_of_step (Settle i) = i
+worker_of_step (Send i j) = i
+worker_of_step (Deliver i j) = i
+worker_of_step (Draw i) = i
+worker_of_step (Announce i) = i
+worker_of_step (Grant i) = i
+worker_of_step (Rest i) = i
+worker_of_step (Halt i cause) = i
+
+-- the step may change the lane from one worker to another
+abbrev pub UsesLane : Step → ℕ → ℕ → Type 0
+UsesLane (Expand i) from to = ⊥
+UsesLane (Settle i) from to = ⊥
+UsesLane (Send i j) from to = (from ≡ i) × (to ≡ j)
+UsesLane (Deliver i j) from to = (from ≡ j) × (to ≡ i)
+UsesLane (Draw i) from to = ⊥
+UsesLane (Announce i) from to = ⊥
+UsesLane (Grant i) from to = ⊥
+UsesLane (Rest i) from to = ⊥
+UsesLane (Halt i cause) from to = ⊥
+
+-- the step may change the book
+abbrev pub UsesBook : Step → Type 0
+UsesBook (Expand i) = ⊥
+UsesBook (Settle i) = ⊥
+UsesBook (Send i j) = ⊥
+UsesBook (Deliver i j) = ⊥
+UsesBook (Draw i) = ⊤
+UsesBook (Announce i) = ⊤
+UsesBook (Grant i) = ⊤
+UsesBook (Rest i) = ⊤
+UsesBook (Halt i cause) = ⊤
+
+-- the step may want memory
+abbrev pub TakesMemory : Step → Type 0
+TakesMemory (Expand i) = ⊤
+TakesMemory (Settle i) = ⊤
+TakesMemory (Send i j) = ⊥
+TakesMemory (Deliver i j) = ⊥
+TakesMemory (Draw i) = ⊥
+TakesMemory (Announce i) = ⊥
+TakesMemory (Grant i) = ⊥
+TakesMemory (Rest i) = ⊥
+TakesMemory (Halt i cause) = ⊥
+
+-- the answer hangs neither on memory, nor on which of several boards of least cost plus sum is expanded
+abbrev pub IsFirm : Option Refusal → Type 0
+IsFirm answer = (answer ≢ Some NoRoom) × ((refused : OutOfMemory) → answer ≢ Some (Memory refused))
+
+-- two such answers to one step agree: it is accepted, or refused for one cause
+abbrev pub AnswersAgree : Type 0
+AnswersAgree =
+    (step : Step) (w : WorldState) (answer other : Option Refusal) (w' w'' : WorldState)
+    → Next step (turn w answer w')
+    → Next step (turn w other w'')
+    → IsFirm answer
+    → IsFirm other
+    → answer ≡ other
+
+-- a step leaves one world, but for an expansion, where several boards may be of least cost plus sum
+abbrev pub StepsAreDetermined : Type 0
+StepsAreDetermined =
+    (step : Step) (w : WorldState) (answer : Option Refusal) (w' w'' : WorldState)
+    → ((i : ℕ) → step ≢ Expand i)
+    → Next step (turn w answer w')
+    → Next step (turn w answer w'')
+    → w' ≡ w''
+
+-- memory may be refused just where a step that takes it is accepted else
+abbrev pub MemoryIsLast : Type 0
+MemoryIsLast =
+    (step : Step) (w : WorldState) (refused : OutOfMemory)
+    → Next step (turn w (Some (Memory refused)) w) ↔ (TakesMemory step × ((w' : WorldState) × Next step (turn w None w')))
+
+-- the board that an expansion closes was open, of least cost plus sum, and below the limit of the worker's best cost
+abbrev pub LeastIsExpanded : Type 0
+LeastIsExpanded =
+    (role : Role) (it : Turn WorkerState Refusal) (b : Position) (before after : Known)
+    → ExpandStep role it
+    → IsOpen role.task it.before b before
+    → KnowsAs it.after b after
+    → after.expanded ≡ true
+    → IsNext role.task it.before b before × (before.cost + role.task.sum b < limit_of it.before.best) × (it.answer ≡ None)
+
+-- a step leaves each other worker, and the floor of each, as it was
+abbrev pub OthersAreLeft : Type 0
+OthersAreLeft =
+    (step : Step) (it : Turn WorldState Refusal) (j : ℕ)
+    → Next step it
+    → j ≢ worker_of_step step
+    → (slice_get it.after.workers j ≡ slice_get it.before.workers j) × (slice_get it.after.book.floors j ≡ slice_get it.before.book.floors j)
+
+-- and each lane that it does not use
+abbrev pub LanesAreLeft : Type 0
+LanesAreLeft =
+    (step : Step) (it : Turn WorldState Refusal) (from to : ℕ) (lane : Lane)
+    → Next step it
+    → ¬ UsesLane step from to
+    → IsLane it.before from to lane ↔ IsLane it.after from to lane
+
+-- and the book, where it does not use that
+abbrev pub BooksAreLeft : Type 0
+BooksAreLeft = (step : Step) (it : Turn WorldState Refusal) → Next step it → ¬ UsesBook step → it.after.book ≡ it.before.book
+
+-- a worker that rests leaves its floor in the book
+abbrev pub RestsKeepTheFloor : Type 0
+RestsKeepTheFloor =
+    (i : ℕ) (w w' : WorldState) (old : Option ℕ)
+    → slice_get w.book.floors i ≡ Some old
+    → Next (Rest i) (turn w None w')
+    → (worker : WorkerState) × (floor : Option ℕ) × IsWorker w i worker × IsFloor w.task worker floor × (slice_get w'.book.floors i ≡ Some floor)
+
+-- no floor that the book keeps is below the limit of its best cost
+abbrev pub HasHighFloors : BookState → Type 0
+HasHighFloors book = All (λ floor. IsNotBelow floor (Some (limit_of book.best))) book.floors
+
+-- so it is in the opening world, and each step keeps it
+abbrev pub FloorsAreHigh : Type 0
+FloorsAreHigh =
+    ((job : Job) (via : Move) → HasHighFloors (opening job via).book)
+    × ((step : Step) (it : Turn WorldState Refusal) → Next step it → HasHighFloors it.before.book → HasHighFloors it.after.book)
+
+-- a run of one step is that step
+abbrev pub RunsAreOfSteps : Type 0
+RunsAreOfSteps = (w w' : WorldState) (step : Step) (answer : Option Refusal) → IsRun w ((step, answer) ∷ []) w' ↔ Next step (turn w answer w')
+
+-- and runs are joined where one ends and the next begins
+abbrev pub RunsAreJoined : Type 0
+RunsAreJoined =
+    (w w' : WorldState) (made more : List (Step × Option Refusal))
+    → IsRun w (made ++ more) w' ↔ ((middle : WorldState) × IsRun w made middle × IsRun middle more w')
