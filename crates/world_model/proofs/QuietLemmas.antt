@@ -104,10 +104,7 @@ too_high w (Some f) None bound high is below = lt-ltb GREATEST_EXPANDED_COST f (
 too_high w (Some f) (Some c) bound high is below =
     lt-ltb GREATEST_EXPANDED_COST f (let le = high f refl in let lt = below c refl in let e : min f c ≡ is.0 = cc (is.1) in omega (arith, is.2))
 
-module _ (w : WorldState) (shaped : IsShaped w) (sound : IsSound w) (credited : IsCredited w) (lower : IsLowerBound w.task.rule w.task.sum w.task.goal) (stop : w.book.stop ≡ Some Quiet) (lowest reached : Option ℕ) (is_lowest : IsLowest w lowest) (is_reached : IsReached w reached) where
-  quiet : IsQuiet w
-  quiet = quiet_true w shaped credited stop
-
+module _ (w : WorldState) (shaped : IsShaped w) (sound : IsSound w) (quiet : IsQuiet w) (lower : IsLowerBound w.task.rule w.task.sum w.task.goal) (stop : w.book.stop ≡ Some Quiet) (lowest reached : Option ℕ) (is_lowest : IsLowest w lowest) (is_reached : IsReached w reached) where
   same_best : w.book.best ≡ reached
   same_best = least_unique (λ cost. (known : Known) × Knows w (w.owner w.task.goal) w.task.goal known × (known.cost ≡ cost)) w.book.best reached quiet.best is_reached
 
@@ -131,8 +128,12 @@ module _ (w : WorldState) (shaped : IsShaped w) (sound : IsSound w) (credited : 
       let above = above_bound w shaped sound lower lowest reached is_lowest is_reached bound best.0 best.1.items given.0 followed given.2 in
       inl (quiet_cause cause (too_high w lowest reached bound frontier_high given.0 (λ goal at. let e : Some followed.goal ≡ Some goal = sym followed.is ∙ at in let e' : followed.goal ≡ goal = cc in omega (arith, followed.within))) given.3)
 
+-- and so for each world that is quiet
+pub quiet_bounds : (w : WorldState) (bound : ℕ) (best : Option (ℕ × Vec Move Global)) (cause : Cause) → IsShaped w → IsSound w → IsQuiet w → IsLowerBound w.task.rule w.task.sum w.task.goal → w.book.stop ≡ Some Quiet → IsGiven w (Bounded bound best cause) → (cause ≡ ForCost) ⊎ ((best ≡ None) × ((refused : OutOfMemory) × (cause ≡ ForMemory (Refused refused))))
+quiet_bounds w bound best cause shaped sound quiet lower stop given = for_cost_at w shaped sound quiet lower stop given.0 given.1 given.2 given.3 bound best cause given.4
+
 pub quiet_for_cost : (w : WorldState) (bound : ℕ) (best : Option (ℕ × Vec Move Global)) (cause : Cause) → IsShaped w → IsSound w → IsCredited w → IsLowerBound w.task.rule w.task.sum w.task.goal → w.book.stop ≡ Some Quiet → IsGiven w (Bounded bound best cause) → (cause ≡ ForCost) ⊎ ((best ≡ None) × ((refused : OutOfMemory) × (cause ≡ ForMemory (Refused refused))))
-quiet_for_cost w bound best cause shaped sound credited lower stop given = for_cost_at w shaped sound credited lower stop given.0 given.1 given.2 given.3 bound best cause given.4
+quiet_for_cost w bound best cause shaped sound credited lower stop given = quiet_bounds w bound best cause shaped sound (quiet_true w shaped credited stop) lower stop given
 
 not_cut : (best : Option (ℕ × Vec Move Global)) → (ForCut ≡ ForCost) ⊎ ((best ≡ None) × ((refused : OutOfMemory) × (ForCut ≡ ForMemory (Refused refused)))) → ⊥
 not_cut best (inl cost) = cc

@@ -1,0 +1,143 @@
+-- What quiet and kept worlds give, and the causes of bounds.
+use Rattle.std.proofs.Common.{◌≡◌, ◌≢◌, ◌⊎◌, ℕ, ◌+◌, ◌*◌, ◌<◌, ◌≤◌, Bool, true, false, List, [], ◌∷◌, length, refl, sym, ap, ◌∙◌, subst, inl, inr, arith, Option, Some, None}
+use Rattle.std.specs.Prelude.{All, if◌then◌else◌, slice_get, sum_by, Vec}
+use Rattle.std.specs.declared.alloc.Global.{Global}
+use Rattle.std.proofs.lemmas.List.Sums.{sum_by-le}
+use Rattle.std.proofs.lemmas.Option.{slice_get_within, get_or_from_slice_get}
+use Rattle.memory.specs.declared.OutOfMemory.{OutOfMemory}
+use Rattle.board.specs.declared.moves.Move.{Move}
+use Rattle.board.specs.Rows.{IsLowerBound}
+use Rattle.outcomes.specs.declared.outcome.Cause.{Cause}
+use Rattle.outcomes.specs.declared.outcome.Cause.TheVariants.{Limit as ForLimit, Memory as ForMemory, Start as ForStart, Cost as ForCost, Cut as ForCut}
+use Rattle.outcomes.specs.declared.outcome.Want.{Want}
+use Rattle.outcomes.specs.declared.outcome.Want.TheVariants.{Refused}
+use Rattle.outcomes.specs.declared.outcome.Outcome.TheVariants.{Bounded}
+use Rattle.world_model.specs.declared.parts.Item.{Item}
+use Rattle.world_model.specs.declared.parts.Known.{Known}
+use Rattle.world_model.specs.declared.steps.Stop.{Stop}
+use Rattle.world_model.specs.declared.steps.Stop.TheVariants.{Quiet, Limit, Memory, Start}
+use Rattle.world_model.specs.Costs.{IsLeastWith}
+use Rattle.world_model.specs.Credit.{packet_count, purse_total}
+use Rattle.world_model.specs.Frontiers.{IsReached}
+use Rattle.world_model.specs.KeptLaws.{CausesAreTheStops, KeptWorldsAreNeverCut, KeptWorldsHaveBegun, LimitBoundsAreSpent, MemoryBoundsAreWanted, QuietWorldsAreAtRest}
+use Rattle.world_model.specs.Outcomes.{IsGivenAt, LacksMemory, cause_of, is_too_high}
+use Rattle.world_model.specs.Quiet.{HasBegun, IsKept, IsKeptAt, IsQuiet}
+use Rattle.world_model.specs.Shapes.{IsShaped}
+use Rattle.world_model.specs.Soundness.{IsSound}
+use Rattle.world_model.specs.Workers.{Lane, WorkerState}
+use Rattle.world_model.specs.Worlds.{IsUnderWay, IsWorker, Knows, LiesIn, WorldState}
+use Rattle.world_model.proofs.ListLemmas.{all_from_places, none_in_empty, part_le}
+use Rattle.world_model.proofs.OutcomeLemmas.{end_at}
+use Rattle.world_model.proofs.QuietLemmas.{quiet_bounds, limit_spent}
+
+module _ (w : WorldState) (quiet : IsQuiet w) where
+  none_lies : (from to : ℕ) (packet : List Item) → LiesIn w from to packet → ⊥
+  none_lies from to packet lies =
+      let row = part_le (λ (r : List Lane). sum_by length r) w.lanes from lies.is.from_lanes lies.is.of_sender in
+      let lane = part_le (λ (l : List (List Item)). length l) lies.is.from_lanes to lies.lane lies.is.of_receiver in
+      let z = quiet.lanes in
+      omega (arith, lies.lies.1)
+
+  emptied : (xs : List (List Item)) (to : ℕ) (packet : List Item) → All (λ p. p ≡ []) xs → slice_get xs to ≡ Some packet → packet ≡ []
+  emptied xs to packet all at = subst (λ (p : List Item). p ≡ []) (get_or_from_slice_get xs to packet packet at) (all to packet (slice_get_within xs to packet at))
+
+  none_way : (to : ℕ) (item : Item) → ¬ IsUnderWay w to item
+  none_way to item (inl has) = none_in_empty has.0.held item (quiet.workers to has.0 has.1).held has.2
+  none_way to item (inr (inl has)) = none_in_empty has.2 item (emptied has.1.unsent to has.2 (quiet.workers has.0 has.1 has.3).unsent has.4) has.5
+  none_way to item (inr (inr has)) = none_lies has.0 to has.1 has.2
+
+no_purses : (xs : List WorkerState) → ((i : ℕ) (x : WorkerState) → slice_get xs i ≡ Some x → x.purse ≡ 0) → sum_by (λ (x : WorkerState). x.purse) xs ≡ 0
+no_purses xs each = let le = sum_by-le (λ (x : WorkerState). x.purse) 0 xs (all_from_places (λ x. x.purse ≤ 0) xs (λ i x at. let none = each i x at in omega arith)) in omega arith
+
+pub quiet_at_rest : QuietWorldsAreAtRest
+quiet_at_rest w quiet = (none_way w quiet, (let purses = no_purses w.workers (λ i x at. (quiet.workers i x at).purse) in let lanes = quiet.lanes in omega arith))
+
+-- which stop a cause tells of
+module _ (lowest : Option ℕ) where
+  quiet_not : (b : Bool) (cause : Cause) → cause ≢ ForCost → cause ≢ ForCut → (if b then ForCost else ForCut) ≡ cause → ⊥
+  quiet_not true cause cost cut is = cost (sym is)
+  quiet_not false cause cost cut is = cut (sym is)
+
+  limit_only : (stop : Option Stop) → cause_of stop lowest ≡ ForLimit → stop ≡ Some Limit
+  limit_only (Some Limit) is = refl
+  limit_only (Some (Memory want)) is = absurd (cc)
+  limit_only (Some Start) is = absurd (cc)
+  limit_only (Some Quiet) is = absurd (quiet_not (is_too_high lowest) ForLimit (λ e. cc) (λ e. cc) is)
+  limit_only None is = absurd (cc)
+
+  start_only : (stop : Option Stop) → cause_of stop lowest ≡ ForStart → stop ≡ Some Start
+  start_only (Some Limit) is = absurd (cc)
+  start_only (Some (Memory want)) is = absurd (cc)
+  start_only (Some Start) is = refl
+  start_only (Some Quiet) is = absurd (quiet_not (is_too_high lowest) ForStart (λ e. cc) (λ e. cc) is)
+  start_only None is = absurd (cc)
+
+  memory_only : (want : Want) (stop : Option Stop) → cause_of stop lowest ≡ ForMemory want → stop ≡ Some (Memory want)
+  memory_only want (Some Limit) is = absurd (cc)
+  memory_only want (Some (Memory other)) is = let e : other ≡ want = cc in ap (λ (x : Want). Some (Memory x)) e
+  memory_only want (Some Start) is = absurd (cc)
+  memory_only want (Some Quiet) is = absurd (quiet_not (is_too_high lowest) (ForMemory want) (λ e. cc) (λ e. cc) is)
+  memory_only want None is = absurd (cc)
+
+-- the cause is that of the stop, or memory was refused
+abbrev IsCaused : WorldState → Option ℕ → Option ℕ → Option (ℕ × Vec Move Global) → Cause → Type 0
+IsCaused w lowest reached best cause = (cause ≡ cause_of w.book.stop lowest) ⊎ ((best ≡ None) × LacksMemory (end_at w lowest reached) cause)
+
+caused : (w : WorldState) (lowest reached : Option ℕ) (bound : ℕ) (best : Option (ℕ × Vec Move Global)) (cause : Cause) → IsGivenAt (end_at w lowest reached) (Bounded bound best cause) → IsCaused w lowest reached best cause
+caused w lowest reached bound None cause (is, inl given) = inl given.1
+caused w lowest reached bound None cause (is, inr lacks) = inr (refl, lacks)
+caused w lowest reached bound (Some best) cause given = inl given.3
+
+pub causes_stop : CausesAreTheStops
+causes_stop w bound best cause given = (λ is. limit_at is (caused w given.0 given.1 bound best cause given.4), λ is. start_at is (caused w given.0 given.1 bound best cause given.4))
+  where
+    limit_at : cause ≡ ForLimit → IsCaused w given.0 given.1 best cause → w.book.stop ≡ Some Limit
+    limit_at is (inl by) = limit_only given.0 w.book.stop (sym by ∙ is)
+    limit_at is (inr lacks) = absurd (let e : ForLimit ≡ ForMemory (Refused lacks.1.1.0) = sym is ∙ lacks.1.1.1 in cc)
+
+    start_at : cause ≡ ForStart → IsCaused w given.0 given.1 best cause → w.book.stop ≡ Some Start
+    start_at is (inl by) = start_only given.0 w.book.stop (sym by ∙ is)
+    start_at is (inr lacks) = absurd (let e : ForStart ≡ ForMemory (Refused lacks.1.1.0) = sym is ∙ lacks.1.1.1 in cc)
+
+pub limit_bounds : LimitBoundsAreSpent
+limit_bounds w bound best credited given = limit_spent w credited ((causes_stop w bound best ForLimit given).0 refl)
+
+-- where a goal has a cost, it is known
+goal_there : (w : WorldState) (reached : Option ℕ) → IsReached w reached → reached ≢ None → (i : ℕ) × (known : Known) × Knows w i w.task.goal known
+goal_there w None is some = absurd (some refl)
+goal_there w (Some cost) is some = (w.owner w.task.goal, is.0.0, is.0.1)
+
+pub memory_bounds : MemoryBoundsAreWanted
+memory_bounds w bound best want given = split (caused w given.0 given.1 bound best (ForMemory want) given.4)
+  where
+    split : IsCaused w given.0 given.1 best (ForMemory want) → (w.book.stop ≡ Some (Memory want)) ⊎ ((best ≡ None) × ((refused : OutOfMemory) × (want ≡ Refused refused)) × ((i : ℕ) × (known : Known) × Knows w i w.task.goal known))
+    split (inl by) = inl (memory_only given.0 want w.book.stop (sym by))
+    split (inr lacks) = let e : want ≡ Refused lacks.1.1.0 = cc (lacks.1.1.1) in inr (lacks.0, (lacks.1.1.0, e), goal_there w given.1 given.3 lacks.1.0)
+
+-- kept worlds
+not_cut : (cause : Cause) (best : Option (ℕ × Vec Move Global)) → (cause ≡ ForCost) ⊎ ((best ≡ None) × ((refused : OutOfMemory) × (cause ≡ ForMemory (Refused refused)))) → (cause ≢ ForCut) × (cause ≢ ForStart)
+not_cut cause best (inl cost) = (λ e. let e' : ForCost ≡ ForCut = sym cost ∙ e in cc, λ e. let e' : ForCost ≡ ForStart = sym cost ∙ e in cc)
+not_cut cause best (inr memory) = (λ e. let e' : ForMemory (Refused memory.1.0) ≡ ForCut = sym memory.1.1 ∙ e in cc, λ e. let e' : ForMemory (Refused memory.1.0) ≡ ForStart = sym memory.1.1 ∙ e in cc)
+
+plain : (cause other : Cause) → cause ≡ other → other ≢ ForCut → other ≢ ForStart → (cause ≢ ForCut) × (cause ≢ ForStart)
+plain cause other is cut start = (λ e. cut (sym is ∙ e), λ e. start (sym is ∙ e))
+
+lacking : (cause : Cause) (refused : OutOfMemory) → cause ≡ ForMemory (Refused refused) → (cause ≢ ForCut) × (cause ≢ ForStart)
+lacking cause refused is = plain cause (ForMemory (Refused refused)) is (λ e. cc) (λ e. cc)
+
+pub kept_never_cut : KeptWorldsAreNeverCut
+kept_never_cut w bound best cause shaped sound kept lower given = at w.book.stop refl kept
+  where
+    by_stop : (stop : Option Stop) → w.book.stop ≡ stop → (other : Cause) → cause_of stop given.0 ≡ other → other ≢ ForCut → other ≢ ForStart → IsCaused w given.0 given.1 best cause → (cause ≢ ForCut) × (cause ≢ ForStart)
+    by_stop stop is other same cut start (inl by) = plain cause other (by ∙ ap (λ (s : Option Stop). cause_of s given.0) is ∙ same) cut start
+    by_stop stop is other same cut start (inr lacks) = lacking cause lacks.1.1.0 lacks.1.1.1
+
+    at : (stop : Option Stop) → w.book.stop ≡ stop → IsKeptAt w stop → (cause ≢ ForCut) × (cause ≢ ForStart)
+    at None is kept = absurd kept
+    at (Some Quiet) is kept = not_cut cause best (quiet_bounds w bound best cause shaped sound kept lower is given)
+    at (Some Limit) is kept = by_stop (Some Limit) is ForLimit refl (λ e. cc) (λ e. cc) (caused w given.0 given.1 bound best cause given.4)
+    at (Some (Memory want)) is kept = by_stop (Some (Memory want)) is (ForMemory want) refl (λ e. cc) (λ e. cc) (caused w given.0 given.1 bound best cause given.4)
+    at (Some Start) is kept = absurd kept
+
+pub kept_begun : KeptWorldsHaveBegun
+kept_begun w kept stop more = (subst (IsKeptAt w) stop kept) more
