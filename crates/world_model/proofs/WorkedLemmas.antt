@@ -84,7 +84,7 @@ weight_low : (n tile : ℕ) → tile < suc n → slice_index (0 ∷ replicate n 
 weight_low n zero lt = omega arith
 weight_low n (suc tile) lt = let e = ones n tile (omega arith) in omega arith
 
-unit_is : (grid : Grid) → IsShape grid → suc (cell_count grid - 1) ≡ cell_count grid → IsCostRule (unit_rule grid)
+pub unit_is : (grid : Grid) → IsShape grid → suc (cell_count grid - 1) ≡ cell_count grid → IsCostRule (unit_rule grid)
 unit_is grid shape some = record {
   sides = shape;
   one_each = ap suc (length-replicate (cell_count grid - 1) 1) ∙ some;
@@ -96,7 +96,7 @@ unit_is grid shape some = record {
 shape_of : (rows cols : ℕ) → 2 ≤ rows → rows ≤ 5 → 2 ≤ cols → cols ≤ 5 → IsShape (grid_of rows cols)
 shape_of rows cols a b c d = record { rows_low = a; rows_high = b; cols_low = c; cols_high = d }
 
-two_shape : IsShape (grid_of 2 2)
+pub two_shape : IsShape (grid_of 2 2)
 two_shape = shape_of 2 2 (omega arith) (omega arith) (omega arith) (omega arith)
 
 -- the job of one move is one
@@ -114,10 +114,10 @@ one_move_is = record {
   owners = λ b. mod-lt (blank_of b) (omega arith);
 }
 
-abbrev small_idle : ℕ → Small
+abbrev pub small_idle : ℕ → Small
 small_idle n = record { entries = []; held = []; unsent = replicate n []; purse = 0; allowance = 0; expansions = 0; best = None }
 
-abbrev small_opening : Job → SmallWorld
+abbrev pub small_opening : Job → SmallWorld
 small_opening job = record {
   workers = slice_set (replicate job.count (small_idle job.count)) (job.owner job.task.start) (record (small_idle job.count) { entries = (job.task.start, record { cost = 0; expanded = false; via = U }) ∷ []; purse = 1 });
   book = record { credit = 1; best = None; floors = replicate job.count None; granted = 0; limit = job.limit; stop = None };
@@ -126,34 +126,34 @@ small_opening job = record {
 
 -- the run of a job by these steps
 module _ (job : Job) (is : IsJob job) (same : world_of job.task job.owner (small_opening job) ≡ opening job U) (boards : AllBoards job.task (small_opening job).workers) (steps : List Step) where
-  abbrev end_by : SmallWorld
+  abbrev pub end_by : SmallWorld
   end_by = end_of job.task job.owner steps (small_opening job)
 
-  run_by : IsRun (opening job U) (made job.task job.owner steps (small_opening job)) (world_of job.task job.owner end_by) × AllBoards job.task end_by.workers
+  pub run_by : IsRun (opening job U) (made job.task job.owner steps (small_opening job)) (world_of job.task job.owner end_by) × AllBoards job.task end_by.workers
   run_by =
       let run = run_is job.task job.owner is.task steps (small_opening job) (subst IsShaped (sym same) (opening_shaped job U is)) boards in
       (subst (λ w. IsRun w (made job.task job.owner steps (small_opening job)) (world_of job.task job.owner end_by)) same run.0, run.1)
 
-  lowest_by : IsLowest (world_of job.task job.owner end_by) (least_number (all_costs job.task end_by))
+  pub lowest_by : IsLowest (world_of job.task job.owner end_by) (least_number (all_costs job.task end_by))
   lowest_by = lowest_is job.task job.owner is.task.goal end_by run_by.1
 
-  reached_by : (x : Small) → slice_get end_by.workers (job.owner job.task.goal) ≡ Some x → IsReached (world_of job.task job.owner end_by) (option_map (λ (k : Known). k.cost) (look_up x.entries (key_of job.task.goal)))
+  pub reached_by : (x : Small) → slice_get end_by.workers (job.owner job.task.goal) ≡ Some x → IsReached (world_of job.task job.owner end_by) (option_map (λ (k : Known). k.cost) (look_up x.entries (key_of job.task.goal)))
   reached_by x at = reached_is job.task job.owner is.task.goal end_by run_by.1 x at
 
 one_boards : AllBoards one_move.task (small_opening one_move).workers
 one_boards = (tt, (((one_move_is.task.start, refl), tt), tt))
 
 module _ (steps : List Step) where
-  abbrev one_end : SmallWorld
+  abbrev pub one_end : SmallWorld
   one_end = end_of one_move.task one_move.owner steps (small_opening one_move)
 
-  one_run : IsRun (opening one_move U) (made one_move.task one_move.owner steps (small_opening one_move)) (world_of one_move.task one_move.owner one_end) × AllBoards one_move.task one_end.workers
+  pub one_run : IsRun (opening one_move U) (made one_move.task one_move.owner steps (small_opening one_move)) (world_of one_move.task one_move.owner one_end) × AllBoards one_move.task one_end.workers
   one_run = run_by one_move one_move_is refl one_boards steps
 
-  one_lowest : IsLowest (world_of one_move.task one_move.owner one_end) (least_number (all_costs one_move.task one_end))
+  pub one_lowest : IsLowest (world_of one_move.task one_move.owner one_end) (least_number (all_costs one_move.task one_end))
   one_lowest = lowest_by one_move one_move_is refl one_boards steps
 
-  one_reached : (x : Small) → slice_get one_end.workers 0 ≡ Some x → IsReached (world_of one_move.task one_move.owner one_end) (option_map (λ (k : Known). k.cost) (look_up x.entries (key_of one_move.task.goal)))
+  pub one_reached : (x : Small) → slice_get one_end.workers 0 ≡ Some x → IsReached (world_of one_move.task one_move.owner one_end) (option_map (λ (k : Known). k.cost) (look_up x.entries (key_of one_move.task.goal)))
   one_reached x at = reached_by one_move one_move_is refl one_boards steps x at
 
 abbrev sent_steps : List Step
@@ -208,13 +208,13 @@ relaxations_lower key =
       relaxed_at known key 4 L (Some closed) true (get_inserted map.empty key closed) refl,
     )
 
-abbrev all_steps : List Step
+abbrev pub all_steps : List Step
 all_steps = Grant 1 ∷ Expand 1 ∷ Send 1 0 ∷ Draw 1 ∷ Send 1 0 ∷ Deliver 0 1 ∷ Settle 0 ∷ Announce 0 ∷ Rest 0 ∷ Rest 1 ∷ []
 
-abbrev all_end : SmallWorld
+abbrev pub all_end : SmallWorld
 all_end = one_end all_steps
 
-abbrev all_world : WorldState
+abbrev pub all_world : WorldState
 all_world = world_of one_move.task one_move.owner all_end
 
 first_small : Small

@@ -10,6 +10,11 @@ ghost use Rattle.world_model.specs.WorkedSteps.{FullCreditsRefuse, FullPacketsRe
 ghost use Rattle.world_model.specs.WorkedSteps.{LastIsSettled, SuccessorsAreInOrder};
 ghost use Rattle.world_model.specs.WorkedSteps.{LowerGoalsAreAnnounced, GrantsAreWhole};
 ghost use Rattle.world_model.specs.WorkedSteps.{FloorsAreKept, LimitsAreHaltedAt};
+ghost use Rattle.world_model.specs.WorkedOutcomes.{WorldsAreReached, MemoryIsGiven};
+ghost use Rattle.world_model.specs.WorkedOutcomes.{StartIsGiven, EmptyPlanIsGiven};
+ghost use Rattle.world_model.specs.WorkedOutcomes.{PlanAboveIsGiven, NoRowsAreGiven};
+ghost use Rattle.world_model.specs.WorkedOutcomes.{ThreeRowsAreGiven, UnsolvableIsGiven};
+ghost use Rattle.world_model.specs.WorkedOutcomes.{CostIsGiven, OpeningsAreNotKept};
 
 use crate::limits::{CREDIT_DRAWN, GREATEST_GRANT, LANE_LIMIT, PACKET_LIMIT, WORKER_LIMIT};
 
@@ -66,4 +71,24 @@ pub fn book_steps()
     ensures grant { GrantsAreWhole }
     ensures rest { FloorsAreKept }
     ensures halt { LimitsAreHaltedAt }
+{}
+
+/// The worlds of the run of one move, in full, half-way and at its end.
+pub fn whole_worlds()
+    ensures { WorldsAreReached }
+{}
+
+/// The plans that short runs give, above the bound or least, with their rows or without.
+pub fn plans()
+    ensures empty { EmptyPlanIsGiven }
+    ensures above { PlanAboveIsGiven }
+    ensures no_rows { NoRowsAreGiven }
+{}
+
+/// The other ends of a run: no plan, a cost too high, memory refused, a thread not started.
+pub fn other_ends()
+    ensures unsolvable { UnsolvableIsGiven }
+    ensures cost { CostIsGiven }
+    ensures memory { MemoryIsGiven }
+    ensures start { StartIsGiven }
 {}

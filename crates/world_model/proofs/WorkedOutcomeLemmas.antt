@@ -1,0 +1,231 @@
+-- The worked outcomes: each run is computed, and what it ends with.
+use Rattle.std.proofs.Common.{◌≡◌, ◌≢◌, ◌⊎◌, ℕ, ◌+◌, ◌-◌, ◌<◌, ◌≤◌, Bool, true, false, List, [], ◌∷◌, ◌++◌, length, refl, sym, ap, ◌∙◌, subst, inl, inr, arith, Some, None, replicate, lit<}
+use Rattle.std.specs.Prelude.{AllPairs, Contains, Option, Vec, slice_get, map as each_of, option_map}
+use Rattle.std.specs.FinMap as map
+use Rattle.std.proofs.Math.Nat.{mod-lt}
+use Rattle.board.specs.declared.costs.TheConstants.{GREATEST_EXPANDED_COST}
+use Rattle.board.specs.declared.moves.Move.{Move}
+use Rattle.board.specs.declared.moves.Move.TheVariants.{U, L, D}
+use Rattle.board.specs.Positions.{Position, blank_of, goal_of}
+use Rattle.board.specs.Plans.{Leads}
+use Rattle.board.specs.Keys.{key_of}
+use Rattle.board.specs.Worked.{grid_of, two_by_two}
+use Rattle.outcomes.specs.declared.outcome.Want.TheVariants.{Refused}
+use Rattle.world_model.specs.declared.parts.Known.{Known}
+use Rattle.world_model.specs.declared.steps.HaltCause.TheVariants.{Limit, Start}
+use Rattle.world_model.specs.declared.steps.Step.{Step}
+use Rattle.world_model.specs.declared.steps.Step.TheVariants.{Expand, Settle, Send, Deliver, Draw, Announce, Grant, Rest, Halt}
+use Rattle.world_model.specs.Openings.{IsJob, Job, opening}
+use Rattle.world_model.specs.Outcomes.{AreRowsFor, IsKnownBelow}
+use Rattle.world_model.specs.Steps.{IsRun}
+use Rattle.world_model.specs.Worked.{first_half, one_move, plain_job}
+use Rattle.world_model.specs.WorkedOutcomes.{CostIsGiven, EmptyPlanIsGiven, MemoryIsGiven, NoRowsAreGiven, OpeningsAreNotKept, PlanAboveIsGiven, StartIsGiven, ThreeRowsAreGiven, UnsolvableIsGiven, WorldsAreReached, ended, far_start, halfway, known_start, two_expansions, two_moves}
+use Rattle.world_model.specs.Workers.{WorkerState}
+use Rattle.world_model.specs.Worlds.{Knows, WorldState}
+use Rattle.world_model.proofs.RunLemmas.{runs_sound}
+use Rattle.world_model.proofs.SmallWorkers.{In, Small, current, current_complete, found, look_up}
+use Rattle.world_model.proofs.SmallFrontiers.{contained_in, in_contained, in_place, small_worker}
+use Rattle.world_model.proofs.SmallWorlds.{AllBoards, SmallWorld, boards_at, end_of, made, run_is, world_of}
+use Rattle.world_model.proofs.WorkedLemmas.{all_steps, all_world, board_is, lowest_by, one_end, one_lowest, one_move_is, one_reached, one_run, reached_by, run_by, small_opening, two_shape, unit_is}
+
+abbrev second_steps : List Step
+second_steps = Deliver 0 1 ∷ Settle 0 ∷ Announce 0 ∷ Rest 0 ∷ Rest 1 ∷ []
+
+abbrev first_steps : List Step
+first_steps = Grant 1 ∷ Expand 1 ∷ Send 1 0 ∷ Draw 1 ∷ Send 1 0 ∷ []
+
+abbrev half_small : SmallWorld
+half_small = one_end first_steps
+
+half_run : IsRun (opening one_move U) first_half halfway
+half_run = (one_run first_steps).0
+
+pub worlds_reached : WorldsAreReached
+worlds_reached = (half_run, (run_is one_move.task one_move.owner one_move_is.task second_steps half_small (runs_sound one_move U first_half halfway one_move_is half_run).0 (one_run first_steps).1).0)
+
+pub memory_given : MemoryIsGiven
+memory_given refused = (
+  all_world,
+  (one_run all_steps).0,
+  (Some 1, Some 1, one_lowest all_steps, one_reached all_steps _ refl, ((1, refl, refl), inr ((λ e. cc), (refused, refl)))),
+)
+
+pub start_given : StartIsGiven
+start_given =
+    let steps : List Step = Halt 0 Start ∷ [] in (
+      world_of one_move.task one_move.owner (one_end steps),
+      (one_run steps).0,
+      (Some 0, None, one_lowest steps, one_reached steps _ refl, ((0, refl, refl), inl (refl, refl))),
+    )
+
+-- jobs of one worker on boards of 2 by 2
+abbrev empty_job : Job
+empty_job = record (plain_job (goal_of (grid_of 2 2)) (goal_of (grid_of 2 2)) 1) { limit = 0 }
+
+empty_is : IsJob empty_job
+empty_is = record {
+  task = record { start = one_move_is.task.goal; goal = one_move_is.task.goal; sides = refl; rule = one_move_is.task.rule; costs = refl };
+  some = omega arith;
+  few = omega arith;
+  owners = λ b. mod-lt (blank_of b) (omega arith);
+}
+
+abbrev empty_steps : List Step
+empty_steps = Grant 0 ∷ Rest 0 ∷ Announce 0 ∷ Rest 0 ∷ []
+
+pub empty_given : EmptyPlanIsGiven
+empty_given plan rows moves listed =
+    let boards : AllBoards empty_job.task (small_opening empty_job).workers = (((empty_is.task.start, refl), tt), tt) in (
+      world_of empty_job.task empty_job.owner (end_of empty_job.task empty_job.owner empty_steps (small_opening empty_job)),
+      (run_by empty_job empty_is refl boards empty_steps).0,
+      (
+        None,
+        Some 0,
+        lowest_by empty_job empty_is refl boards empty_steps,
+        reached_by empty_job empty_is refl boards empty_steps _ refl,
+        (
+          (0, refl, refl),
+          record { goal = 0; is = refl; leads = subst (λ ms. Leads empty_job.task.rule empty_job.task.start ms empty_job.task.goal 0) (sym moves) (refl, refl); within = omega arith },
+          inl (omega arith, listed),
+        ),
+      ),
+    )
+
+two_is : IsJob two_moves
+two_is = record {
+  task = record {
+    start = board_is (two_by_two 1 3 2 0) two_shape refl refl refl;
+    goal = board_is (two_by_two 0 3 1 2) two_shape refl refl refl;
+    sides = refl;
+    rule = one_move_is.task.rule;
+    costs = refl;
+  };
+  some = omega arith;
+  few = omega arith;
+  owners = λ b. mod-lt (blank_of b) (omega arith);
+}
+
+two_boards : AllBoards two_moves.task (small_opening two_moves).workers
+two_boards = (((two_is.task.start, refl), tt), tt)
+
+abbrev LeadsTwice : List Move → Type 0
+LeadsTwice moves = Leads two_moves.task.rule two_moves.task.start moves two_moves.task.goal 2
+
+leads_twice : LeadsTwice (L ∷ U ∷ [])
+leads_twice = (
+  two_by_two 1 3 0 2,
+  1,
+  1,
+  record { cell = 2; towards = (lit< tt, refl, refl); after = refl; cost = refl },
+  (two_by_two 0 3 1 2, 1, 0, record { cell = 0; towards = (lit< tt, refl, refl); after = refl; cost = refl }, (refl, refl), refl),
+  refl,
+)
+
+pub above_given : PlanAboveIsGiven
+above_given plan moves = (
+  world_of two_moves.task two_moves.owner (end_of two_moves.task two_moves.owner two_expansions (small_opening two_moves)),
+  (run_by two_moves two_is refl two_boards two_expansions).0,
+  (
+    Some 1,
+    Some 2,
+    lowest_by two_moves two_is refl two_boards two_expansions,
+    reached_by two_moves two_is refl two_boards two_expansions _ refl,
+    ((1, refl, refl), record { goal = 2; is = refl; leads = subst LeadsTwice (sym moves) leads_twice; within = omega arith }, (λ e. omega (arith, e)), refl),
+  ),
+)
+
+known_is : IsJob known_start
+known_is = record {
+  task = record { start = two_is.task.start; goal = two_is.task.goal; sides = refl; rule = one_move_is.task.rule; costs = refl };
+  some = omega arith;
+  few = omega arith;
+  owners = two_is.owners;
+}
+
+known_boards : AllBoards known_start.task (small_opening known_start).workers
+known_boards = (((two_is.task.start, refl), tt), tt)
+
+pub no_rows_given : NoRowsAreGiven
+no_rows_given plan rows moves listed = (
+  world_of known_start.task known_start.owner (end_of known_start.task known_start.owner two_expansions (small_opening known_start)),
+  (run_by known_start known_is refl known_boards two_expansions).0,
+  (
+    Some 1,
+    Some 2,
+    lowest_by known_start known_is refl known_boards two_expansions,
+    reached_by known_start known_is refl known_boards two_expansions _ refl,
+    ((1, refl, refl), record { goal = 2; is = refl; leads = subst LeadsTwice (sym moves) leads_twice; within = omega arith }, inl (omega arith, listed)),
+  ),
+)
+
+-- no plan leads from here
+abbrev lost : Job
+lost = plain_job (two_by_two 0 2 1 3) (goal_of (grid_of 2 2)) 1
+
+lost_is : IsJob lost
+lost_is = record {
+  task = record { start = board_is (two_by_two 0 2 1 3) two_shape refl refl refl; goal = one_move_is.task.goal; sides = refl; rule = one_move_is.task.rule; costs = refl };
+  some = omega arith;
+  few = omega arith;
+  owners = λ b. mod-lt (blank_of b) (omega arith);
+}
+
+lost_boards : AllBoards lost.task (small_opening lost).workers
+lost_boards = (((lost_is.task.start, refl), tt), tt)
+
+abbrev lost_steps : List Step
+lost_steps = Grant 0 ∷ replicate 12 (Expand 0) ++ Expand 0 ∷ Rest 0 ∷ []
+
+pub unsolvable_given : UnsolvableIsGiven
+unsolvable_given = (
+  world_of lost.task lost.owner (end_of lost.task lost.owner lost_steps (small_opening lost)),
+  (run_by lost lost_is refl lost_boards lost_steps).0,
+  (None, None, lowest_by lost lost_is refl lost_boards lost_steps, reached_by lost lost_is refl lost_boards lost_steps _ refl, (refl, refl)),
+)
+
+module _ (sum : ℕ) where
+  far_is : IsJob (far_start sum)
+  far_is = record {
+    task = record { start = lost_is.task.start; goal = lost_is.task.goal; sides = refl; rule = one_move_is.task.rule; costs = refl };
+    some = omega arith;
+    few = omega arith;
+    owners = lost_is.owners;
+  }
+
+  far_boards : AllBoards (far_start sum).task (small_opening (far_start sum)).workers
+  far_boards = (((lost_is.task.start, refl), tt), tt)
+
+abbrev high_sum : ℕ
+high_sum = GREATEST_EXPANDED_COST + 1
+
+abbrev high_steps : List Step
+high_steps = Grant 0 ∷ Rest 0 ∷ []
+
+abbrev low_steps : List Step
+low_steps = Rest 0 ∷ Grant 0 ∷ []
+
+pub cost_given : CostIsGiven
+cost_given = (
+  (
+    world_of (far_start high_sum).task (far_start high_sum).owner (end_of (far_start high_sum).task (far_start high_sum).owner high_steps (small_opening (far_start high_sum))),
+    (run_by (far_start high_sum) (far_is high_sum) refl (far_boards high_sum) high_steps).0,
+    (
+      Some high_sum,
+      None,
+      lowest_by (far_start high_sum) (far_is high_sum) refl (far_boards high_sum) high_steps,
+      reached_by (far_start high_sum) (far_is high_sum) refl (far_boards high_sum) high_steps _ refl,
+      ((high_sum, refl, refl), inl (refl, refl)),
+    ),
+  ),
+  (
+    world_of (far_start GREATEST_EXPANDED_COST).task (far_start GREATEST_EXPANDED_COST).owner (end_of (far_start GREATEST_EXPANDED_COST).task (far_start GREATEST_EXPANDED_COST).owner low_steps (small_opening (far_start GREATEST_EXPANDED_COST))),
+    (run_by (far_start GREATEST_EXPANDED_COST) (far_is GREATEST_EXPANDED_COST) refl (far_boards GREATEST_EXPANDED_COST) low_steps).0,
+    (
+      Some GREATEST_EXPANDED_COST,
+      None,
+      lowest_by (far_start GREATEST_EXPANDED_COST) (far_is GREATEST_EXPANDED_COST) refl (far_boards GREATEST_EXPANDED_COST) low_steps,
+      reached_by (far_start GREATEST_EXPANDED_COST) (far_is GREATEST_EXPANDED_COST) refl (far_boards GREATEST_EXPANDED_COST) low_steps _ refl,
+      ((GREATEST_EXPANDED_COST, refl, refl), inl (refl, refl)),
+    ),
+  ),
+)
