@@ -83,6 +83,7 @@ pub fn plans()
     ensures empty { EmptyPlanIsGiven }
     ensures above { PlanAboveIsGiven }
     ensures no_rows { NoRowsAreGiven }
+    ensures three { ThreeRowsAreGiven }
 {}
 
 /// The other ends of a run: no plan, a cost too high, memory refused, a thread not started.
@@ -91,4 +92,9 @@ pub fn other_ends()
     ensures cost { CostIsGiven }
     ensures memory { MemoryIsGiven }
     ensures start { StartIsGiven }
+{}
+
+/// An opening world is not kept, whatever stops it but memory.
+pub fn unkept()
+    ensures { OpeningsAreNotKept }
 {}
