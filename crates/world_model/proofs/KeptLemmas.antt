@@ -1,12 +1,11 @@
 -- What quiet and kept worlds give, and the causes of bounds.
-use Rattle.std.proofs.Common.{◌≡◌, ◌≢◌, ◌⊎◌, ℕ, ◌+◌, ◌*◌, ◌<◌, ◌≤◌, Bool, true, false, List, [], ◌∷◌, length, refl, sym, ap, ◌∙◌, subst, inl, inr, arith, Option, Some, None}
+use Rattle.std.proofs.Common.{◌≡◌, ◌≢◌, ◌⊎◌, ℕ, ◌≤◌, Bool, true, false, List, [], length, refl, sym, ap, ◌∙◌, subst, inl, inr, arith, Option, Some, None}
 use Rattle.std.specs.Prelude.{All, if◌then◌else◌, slice_get, sum_by, Vec}
 use Rattle.std.specs.declared.alloc.Global.{Global}
 use Rattle.std.proofs.lemmas.List.Sums.{sum_by-le}
 use Rattle.std.proofs.lemmas.Option.{slice_get_within, get_or_from_slice_get}
 use Rattle.memory.specs.declared.OutOfMemory.{OutOfMemory}
 use Rattle.board.specs.declared.moves.Move.{Move}
-use Rattle.board.specs.Rows.{IsLowerBound}
 use Rattle.outcomes.specs.declared.outcome.Cause.{Cause}
 use Rattle.outcomes.specs.declared.outcome.Cause.TheVariants.{Limit as ForLimit, Memory as ForMemory, Start as ForStart, Cost as ForCost, Cut as ForCut}
 use Rattle.outcomes.specs.declared.outcome.Want.{Want}
@@ -16,16 +15,12 @@ use Rattle.world_model.specs.declared.parts.Item.{Item}
 use Rattle.world_model.specs.declared.parts.Known.{Known}
 use Rattle.world_model.specs.declared.steps.Stop.{Stop}
 use Rattle.world_model.specs.declared.steps.Stop.TheVariants.{Quiet, Limit, Memory, Start}
-use Rattle.world_model.specs.Costs.{IsLeastWith}
-use Rattle.world_model.specs.Credit.{packet_count, purse_total}
 use Rattle.world_model.specs.Frontiers.{IsReached}
 use Rattle.world_model.specs.KeptLaws.{CausesAreTheStops, KeptWorldsAreNeverCut, KeptWorldsHaveBegun, LimitBoundsAreSpent, MemoryBoundsAreWanted, QuietWorldsAreAtRest}
 use Rattle.world_model.specs.Outcomes.{IsGivenAt, LacksMemory, cause_of, is_too_high}
-use Rattle.world_model.specs.Quiet.{HasBegun, IsKept, IsKeptAt, IsQuiet}
-use Rattle.world_model.specs.Shapes.{IsShaped}
-use Rattle.world_model.specs.Soundness.{IsSound}
+use Rattle.world_model.specs.Quiet.{IsKeptAt, IsQuiet}
 use Rattle.world_model.specs.Workers.{Lane, WorkerState}
-use Rattle.world_model.specs.Worlds.{IsUnderWay, IsWorker, Knows, LiesIn, WorldState}
+use Rattle.world_model.specs.Worlds.{IsUnderWay, Knows, LiesIn, WorldState}
 use Rattle.world_model.proofs.ListLemmas.{all_from_places, none_in_empty, part_le}
 use Rattle.world_model.proofs.OutcomeLemmas.{end_at}
 use Rattle.world_model.proofs.QuietLemmas.{quiet_bounds, limit_spent}

@@ -1,11 +1,10 @@
 -- What steps leave alone, what they do last, and what runs are.
-use Rattle.std.proofs.Common.{◌≡◌, ◌≢◌, ◌⊎◌, ℕ, ◌+◌, ◌<◌, ◌≤◌, Bool, true, false, List, [], ◌∷◌, ◌++◌, length, refl, sym, ap, ◌∙◌, subst, inl, inr, ⊎_elim, arith, Option, Some, None, replicate}
-use Rattle.std.specs.Prelude.{◌↔◌, ⊤, All, fold, slice_get, slice_set}
+use Rattle.std.proofs.Common.{◌≡◌, ◌≢◌, ℕ, ◌+◌, ◌<◌, ◌≤◌, true, false, List, [], ◌∷◌, ◌++◌, refl, sym, ap, ◌∙◌, subst, inl, inr, ⊎_elim, arith, Option, Some, None, replicate}
+use Rattle.std.specs.Prelude.{◌↔◌, ⊤, All, slice_get}
 use Rattle.std.specs.FinMap as map
 use Rattle.std.proofs.lemmas.Bool.{cases_lt}
 use Rattle.std.proofs.lemmas.List.Elements.{All-set}
 use Rattle.memory.specs.declared.OutOfMemory.{OutOfMemory}
-use Rattle.board.specs.declared.moves.Move.{Move}
 use Rattle.board.specs.Positions.{Position}
 use Rattle.board.specs.Keys.{key_of}
 use Rattle.outcomes.specs.Outcomes.{Task}
@@ -19,14 +18,13 @@ use Rattle.world_model.specs.declared.steps.Step.TheVariants.{Expand, Settle, Se
 use Rattle.world_model.specs.BookSteps.{AnnounceStep, AtBook, DrawStep, GrantStep, HaltStep, RestStep}
 use Rattle.world_model.specs.Books.{BookState}
 use Rattle.world_model.specs.Costs.{IsNotBelow, limit_of}
-use Rattle.world_model.specs.Expansions.{expansion, successor_items, with_closure, with_successor}
+use Rattle.world_model.specs.Expansions.{expansion, successor_items, with_closure}
 use Rattle.world_model.specs.Knowledge.{relaxation}
-use Rattle.world_model.specs.Openings.{Job, opening}
-use Rattle.world_model.specs.StepLaws.{BooksAreLeft, FloorsAreHigh, HasHighFloors, LanesAreLeft, LeastIsExpanded, MemoryIsLast, OthersAreLeft, RestsKeepTheFloor, RunsAreJoined, RunsAreOfSteps, TakesMemory, UsesBook, UsesLane, worker_of_step}
-use Rattle.world_model.specs.Steps.{ByWorker, Ends, IsRun, Next, OnBook, OnLane, from_to, with_lane, with_worker}
+use Rattle.world_model.specs.StepLaws.{BooksAreLeft, FloorsAreHigh, HasHighFloors, LanesAreLeft, LeastIsExpanded, MemoryIsLast, OthersAreLeft, RestsKeepTheFloor, RunsAreJoined, RunsAreOfSteps, UsesBook, UsesLane, worker_of_step}
+use Rattle.world_model.specs.Steps.{ByWorker, Ends, IsRun, Next, OnBook, OnLane, from_to, with_worker}
 use Rattle.world_model.specs.Turns.{Turn, turn}
 use Rattle.world_model.specs.WorkerSteps.{AtLane, DeliverStep, ExpandStep, SendStep, SettleStep}
-use Rattle.world_model.specs.Workers.{HasNothingBelow, IsFloor, IsIdle, IsNext, IsOpen, KnowsAs, Lane, Role, WorkerState}
+use Rattle.world_model.specs.Workers.{HasNothingBelow, IsFloor, IsNext, IsOpen, KnowsAs, Lane, Role, WorkerState}
 use Rattle.world_model.specs.Worlds.{IsLane, IsWorker, WorldState, role_of}
 use Rattle.world_model.proofs.ListLemmas.{all_from_places, at_replicate, get_set_other, get_set_same, set_same}
 use Rattle.world_model.proofs.TableLemmas.{entry, same_key, same_known, with_insert}

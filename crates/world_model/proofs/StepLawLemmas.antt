@@ -1,5 +1,5 @@
 -- Steps have one answer and leave one world.
-use Rattle.std.proofs.Common.{◌≡◌, ◌≢◌, ◌⊎◌, ℕ, suc, ◌+◌, ◌<◌, ◌≤◌, List, [], ◌∷◌, ◌++◌, length, refl, sym, ap, ◌∙◌, subst, inl, inr, ⊎_elim, arith, Option, Some, None}
+use Rattle.std.proofs.Common.{◌≡◌, ◌≢◌, ◌⊎◌, ℕ, suc, ◌+◌, List, [], ◌∷◌, ◌++◌, length, refl, sym, ap, ◌∙◌, subst, inl, inr, arith, Option, Some, None}
 use Rattle.std.specs.Prelude.{slice_get}
 use Rattle.memory.specs.declared.OutOfMemory.{OutOfMemory}
 use Rattle.world_model.specs.declared.parts.Item.{Item}
@@ -9,14 +9,14 @@ use Rattle.world_model.specs.declared.steps.Refusal.{Refusal}
 use Rattle.world_model.specs.declared.steps.Refusal.TheVariants.{NoRoom, Memory}
 use Rattle.world_model.specs.declared.steps.Step.{Step}
 use Rattle.world_model.specs.declared.steps.Step.TheVariants.{Expand, Settle, Send, Deliver, Draw, Announce, Grant, Rest, Halt}
-use Rattle.world_model.specs.BookSteps.{AnnounceStep, AtBook, DrawStep, GrantStep, HaltStep, MayAnnounce, RestStep, at_book}
-use Rattle.world_model.specs.Books.{BookState, with_rest}
+use Rattle.world_model.specs.BookSteps.{AnnounceStep, AtBook, DrawStep, GrantStep, HaltStep, RestStep, at_book}
+use Rattle.world_model.specs.Books.{with_rest}
 use Rattle.world_model.specs.Knowledge.{relaxation}
 use Rattle.world_model.specs.StepLaws.{AnswersAgree, IsFirm, StepsAreDetermined}
 use Rattle.world_model.specs.Steps.{ByWorker, Ends, Next, OnBook, OnLane, from_to, with_lane, with_worker}
-use Rattle.world_model.specs.Turns.{Becomes, IsRefused, Turn, Unless, turn}
+use Rattle.world_model.specs.Turns.{Becomes, Turn, Unless, turn}
 use Rattle.world_model.specs.WorkerSteps.{AtLane, DeliverStep, ExpandStep, SendStep, SettleStep, WithMemory}
-use Rattle.world_model.specs.Workers.{Lane, Packet, Role, WorkerState}
+use Rattle.world_model.specs.Workers.{Lane, Role, WorkerState}
 use Rattle.world_model.specs.Worlds.{IsLane, IsWorker, WorldState, role_of}
 use Rattle.world_model.proofs.TableLemmas.{same_known}
 use Rattle.world_model.proofs.QuietLemmas.{least_unique}

@@ -1,6 +1,6 @@
 -- The worked outcomes: each run is computed, and what it ends with.
-use Rattle.std.proofs.Common.{◌≡◌, ◌≢◌, ◌⊎◌, ℕ, zero, suc, ◌+◌, ◌-◌, ◌<◌, ◌≤◌, Bool, true, false, List, [], ◌∷◌, ◌++◌, length, refl, sym, ap, ◌∙◌, subst, inl, inr, arith, Some, None, replicate, lit<}
-use Rattle.std.specs.Prelude.{AllPairs, Contains, Option, Vec, nat_lt, slice_get, map as each_of, option_map}
+use Rattle.std.proofs.Common.{◌≡◌, ℕ, zero, suc, ◌+◌, ◌<◌, Bool, true, false, List, [], ◌∷◌, ◌++◌, refl, sym, ap, ◌∙◌, subst, inl, inr, arith, Some, None, replicate, lit<}
+use Rattle.std.specs.Prelude.{AllPairs, Contains, Option, nat_lt}
 use Rattle.std.specs.FinMap as map
 use Rattle.std.specs.Ordering.{nat_cmp}
 use Rattle.std.proofs.lemmas.List.Elements.{All-cons}
@@ -8,14 +8,13 @@ use Rattle.std.proofs.lemmas.List.Kept.{AllPairs-cons}
 use Rattle.std.proofs.Math.Nat.{mod-lt}
 use Rattle.board.specs.declared.costs.TheConstants.{GREATEST_EXPANDED_COST}
 use Rattle.board.specs.declared.moves.Move.{Move}
-use Rattle.board.specs.declared.moves.Move.TheVariants.{U, L, D}
+use Rattle.board.specs.declared.moves.Move.TheVariants.{U, L}
 use Rattle.board.specs.Positions.{Position, blank_of, goal_of}
 use Rattle.board.specs.Plans.{Leads}
 use Rattle.board.specs.Keys.{key_of}
 use Rattle.board.specs.Worked.{grid_of, two_by_two}
-use Rattle.outcomes.specs.declared.outcome.Want.TheVariants.{Refused}
 use Rattle.world_model.specs.declared.parts.Known.{Known}
-use Rattle.world_model.specs.declared.steps.HaltCause.TheVariants.{Limit, Start}
+use Rattle.world_model.specs.declared.steps.HaltCause.TheVariants.{Start}
 use Rattle.world_model.specs.declared.steps.Step.{Step}
 use Rattle.world_model.specs.declared.steps.Step.TheVariants.{Expand, Settle, Send, Deliver, Draw, Announce, Grant, Rest, Halt}
 use Rattle.world_model.specs.Openings.{IsJob, Job, first_worker, idle_worker, opening}
@@ -25,7 +24,7 @@ use Rattle.world_model.specs.declared.steps.Stop.TheVariants.{Limit as StopLimit
 use Rattle.world_model.specs.Outcomes.{AreRowsFor, IsKnownBelow}
 use Rattle.world_model.specs.Steps.{IsRun}
 use Rattle.world_model.specs.Worked.{first_half, one_move, plain_job}
-use Rattle.world_model.specs.WorkedOutcomes.{CostIsGiven, EmptyPlanIsGiven, MemoryIsGiven, NoRowsAreGiven, OpeningsAreNotKept, PlanAboveIsGiven, StartIsGiven, ThreeRowsAreGiven, UnsolvableIsGiven, WorldsAreReached, ended, far_start, halfway, known_start, two_expansions, two_moves}
+use Rattle.world_model.specs.WorkedOutcomes.{CostIsGiven, EmptyPlanIsGiven, MemoryIsGiven, NoRowsAreGiven, OpeningsAreNotKept, PlanAboveIsGiven, StartIsGiven, ThreeRowsAreGiven, UnsolvableIsGiven, WorldsAreReached, far_start, halfway, known_start, two_expansions, two_moves}
 use Rattle.world_model.specs.Workers.{IsTaskBoard, WorkerState}
 use Rattle.world_model.proofs.TableLemmas.{get_inserted}
 use Rattle.world_model.proofs.SmallSteps.{lt_tests}
@@ -34,7 +33,7 @@ use Rattle.world_model.proofs.RunLemmas.{runs_sound}
 use Rattle.world_model.proofs.SmallWorkers.{In, Small, current, current_complete, found, look_up, worker_of}
 use Rattle.world_model.proofs.SmallFrontiers.{contained_in, in_contained, in_place, small_worker}
 use Rattle.world_model.proofs.SmallWorlds.{AllBoards, SmallWorld, boards_at, end_of, made, run_is, world_of}
-use Rattle.world_model.proofs.WorkedLemmas.{all_steps, all_world, board_is, lowest_by, one_end, one_lowest, one_move_is, one_reached, one_run, reached_by, run_by, small_opening, two_shape, unit_is}
+use Rattle.world_model.proofs.WorkedLemmas.{all_steps, all_world, board_is, lowest_by, one_end, one_lowest, one_move_is, one_reached, one_run, reached_by, run_by, small_opening, two_shape}
 
 abbrev second_steps : List Step
 second_steps = Deliver 0 1 ∷ Settle 0 ∷ Announce 0 ∷ Rest 0 ∷ Rest 1 ∷ []
@@ -254,15 +253,15 @@ known_as cost expanded via = record { cost = cost; expanded = expanded; via = vi
 three_small : Small
 three_small = record {
   entries =
-    (two_by_two 0 1 2 3, known_as 2 false L)
-    ∷ (two_by_two 1 0 2 3, known_as 1 true U)
-    ∷ (two_by_two 0 3 1 2, known_as 2 false U)
-    ∷ (two_by_two 1 3 0 2, known_as 1 true L)
-    ∷ (two_by_two 1 3 0 2, known_as 1 false L)
-    ∷ (two_by_two 1 0 2 3, known_as 1 false U)
-    ∷ (two_by_two 1 3 2 0, known_as 0 true U)
-    ∷ (two_by_two 1 3 2 0, known_as 0 false U)
-    ∷ [];
+      (two_by_two 0 1 2 3, known_as 2 false L)
+      ∷ (two_by_two 1 0 2 3, known_as 1 true U)
+      ∷ (two_by_two 0 3 1 2, known_as 2 false U)
+      ∷ (two_by_two 1 3 0 2, known_as 1 true L)
+      ∷ (two_by_two 1 3 0 2, known_as 1 false L)
+      ∷ (two_by_two 1 0 2 3, known_as 1 false U)
+      ∷ (two_by_two 1 3 2 0, known_as 0 true U)
+      ∷ (two_by_two 1 3 2 0, known_as 0 false U)
+      ∷ [];
   held = [];
   unsent = [] ∷ [];
   purse = 1;

@@ -1,14 +1,13 @@
 -- Worked steps: each is computed.
-use Rattle.std.proofs.Common.{◌≡◌, ℕ, ◌+◌, ◌-◌, ◌^◌, true, false, List, [], ◌∷◌, refl, Option, Some, None, replicate}
+use Rattle.std.proofs.Common.{ℕ, ◌+◌, ◌-◌, ◌^◌, false, List, [], ◌∷◌, refl, Option, Some, None, replicate}
 use Rattle.board.specs.declared.moves.Move.TheVariants.{U, L, R, D}
 use Rattle.board.specs.Positions.{IsBoard, goal_of}
 use Rattle.board.specs.Worked.{grid_of, two_by_three}
 use Rattle.world_model.specs.declared.limits.TheConstants.{PACKET_LIMIT, LANE_LIMIT, GREATEST_GRANT}
 use Rattle.world_model.specs.declared.parts.Item.{Item}
-use Rattle.world_model.specs.declared.parts.Known.{Known}
 use Rattle.world_model.specs.declared.steps.Stop.TheVariants.{Quiet}
 use Rattle.world_model.specs.declared.steps.HaltCause.TheVariants.{Limit, Start}
-use Rattle.world_model.specs.Workers.{Lane, Packet, Role}
+use Rattle.world_model.specs.Workers.{Packet, Role}
 use Rattle.world_model.specs.Worked.{entry_of, one_move}
 use Rattle.world_model.specs.WorkedSteps.{FullLanesRefuse, FullPursesRefuse, FullCreditsRefuse, LastIsSettled, FullPacketsRefuse, SuccessorsAreInOrder, LowerGoalsAreAnnounced, GrantsAreWhole, FloorsAreKept, LimitsAreHaltedAt, starter, finisher, goal_at, lane_of, greatest_sum, book_with, book_best, book_rested, start_board, three_ways}
 use Rattle.world_model.proofs.SmallWorkers.{AreBoards, Entries, Small}
@@ -132,6 +131,7 @@ halted_limits = (
   halt_is Limit (small_expands 0 0 None) (book_with 1 (GREATEST_GRANT + 44) None),
   halt_is Limit (small_expands 1 0 None) (book_with 1 (GREATEST_GRANT + 44) None),
   halt_is Limit (small_expands 0 0 None) (book_with 1 (GREATEST_GRANT + 43) None),
+  halt_is Start (small_expands 1 0 None) (book_best 9 None),
   halt_is Limit (small_expands 1 0 None) (book_with 1 0 (Some Quiet)),
   halt_is Start (small_expands 1 0 None) (book_with 1 0 (Some Quiet)),
 )

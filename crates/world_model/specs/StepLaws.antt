@@ -15,7 +15,7 @@ use Rattle.world_model.specs.Books.{BookState}
 use Rattle.world_model.specs.WorkerSteps.{ExpandStep}
 use Rattle.world_model.specs.Worlds.{WorldState, IsWorker, IsLane}
 use Rattle.world_model.specs.Steps.{Next, IsRun}
-use Rattle.world_model.specs.Openings.{Job, IsJob, opening}
+use Rattle.world_model.specs.Openings.{Job, opening}
 
 -- the worker that takes the step
 abbrev pub worker_of_step : Step → ℕ

@@ -1,5 +1,5 @@
 -- Worked outcomes: short runs that end in each of the ways in which a run may end, and two worlds in full.
-use Rattle.std.specs.Prelude.{◌≡◌, ℕ, ◌+◌, ◌-◌, ◌^◌, List, [], ◌∷◌, ◌++◌, true, false, replicate, map as each_of, Option, None, Some, Vec, ◌==◌, if◌then◌else◌}
+use Rattle.std.specs.Prelude.{◌≡◌, ℕ, ◌+◌, ◌-◌, ◌^◌, List, [], ◌∷◌, ◌++◌, false, replicate, map as each_of, None, Some, Vec, ◌==◌, if◌then◌else◌}
 use Rattle.std.specs.FinMap as map
 use Rattle.std.specs.declared.alloc.Global.{Global}
 use Rattle.memory.specs.declared.OutOfMemory.{OutOfMemory}
@@ -15,19 +15,17 @@ use Rattle.outcomes.specs.declared.outcome.Want.TheVariants.{Refused}
 use Rattle.outcomes.specs.declared.outcome.Outcome.TheVariants.{Optimal, Unsolvable, Bounded}
 use Rattle.world_model.specs.declared.limits.TheConstants.{GREATEST_GRANT}
 use Rattle.world_model.specs.declared.steps.Stop.TheVariants.{Quiet, Limit as StopLimit, Start as StopStart}
-use Rattle.world_model.specs.declared.steps.HaltCause.TheVariants.{Limit, Start}
-use Rattle.world_model.specs.declared.steps.Refusal.{Refusal}
+use Rattle.world_model.specs.declared.steps.HaltCause.TheVariants.{Start}
 use Rattle.world_model.specs.declared.steps.Refusal.TheVariants.{NothingBelowLimit, NotIdle}
 use Rattle.world_model.specs.declared.steps.Step.{Step}
 use Rattle.world_model.specs.declared.steps.Step.TheVariants.{Expand, Announce, Grant, Rest, Halt}
-use Rattle.world_model.specs.declared.parts.Item.{Item}
 use Rattle.world_model.specs.Workers.{WorkerState}
 use Rattle.world_model.specs.Worlds.{WorldState}
 use Rattle.world_model.specs.Steps.{IsRun}
 use Rattle.world_model.specs.Openings.{Job, opening}
 use Rattle.world_model.specs.Quiet.{IsKept}
 use Rattle.world_model.specs.Worked.{plain_job, one_move, first_half, second_half, ok, not_ok, entry_of, Gives}
-use Rattle.world_model.specs.WorkedSteps.{goal_at, start_open, start_closed}
+use Rattle.world_model.specs.WorkedSteps.{goal_at, start_closed}
 
 -- worker 1 has expanded the start; it has drawn 64, and 1 of that is in the lane
 abbrev pub starter_halfway : WorkerState
@@ -60,9 +58,9 @@ abbrev pub ended : WorldState
 ended =
     record halfway {
       workers =
-        record finisher_halfway { known = map.insert map.empty (key_of (goal_of (grid_of 2 2))) (entry_of 1 false L); best = Some 1 }
-        ∷ record starter_halfway { purse = 0; best = Some 1 }
-        ∷ [];
+          record finisher_halfway { known = map.insert map.empty (key_of (goal_of (grid_of 2 2))) (entry_of 1 false L); best = Some 1 }
+          ∷ record starter_halfway { purse = 0; best = Some 1 }
+          ∷ [];
       book = record { credit = 0; best = Some 1; floors = None ∷ Some 1 ∷ []; granted = GREATEST_GRANT; limit = 2 ^ 64 - 1; stop = Some Quiet };
       lanes = ([] ∷ [] ∷ []) ∷ ([] ∷ [] ∷ []) ∷ [];
     }

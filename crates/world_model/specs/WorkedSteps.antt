@@ -9,10 +9,10 @@ use Rattle.board.specs.Worked.{grid_of, two_by_two, two_by_three}
 use Rattle.world_model.specs.declared.limits.TheConstants.{PACKET_LIMIT, LANE_LIMIT, GREATEST_GRANT}
 use Rattle.world_model.specs.declared.parts.Item.{Item}
 use Rattle.world_model.specs.declared.steps.Stop.{Stop}
-use Rattle.world_model.specs.declared.steps.Stop.TheVariants.{Quiet, Limit as StopLimit}
+use Rattle.world_model.specs.declared.steps.Stop.TheVariants.{Quiet, Limit as StopLimit, Start as StopStart}
 use Rattle.world_model.specs.declared.steps.HaltCause.TheVariants.{Limit, Start}
 use Rattle.world_model.specs.declared.steps.Refusal.{Refusal}
-use Rattle.world_model.specs.declared.steps.Refusal.TheVariants.{NothingBelowLimit, NoAllowance, NoRoom, RingFull, RingEmpty, PurseTooSmall, StillHolding, NothingToAnnounce, NotIdle, Stopped, PurseEmpty, NothingThere, AllowanceLeft, PurseFull}
+use Rattle.world_model.specs.declared.steps.Refusal.TheVariants.{NothingBelowLimit, NoAllowance, NoRoom, RingFull, PurseTooSmall, StillHolding, NothingToAnnounce, NotIdle, Stopped, PurseEmpty, NothingThere, AllowanceLeft, PurseFull}
 use Rattle.world_model.specs.Turns.{Turn, turn}
 use Rattle.world_model.specs.Knowledge.{Knowledge}
 use Rattle.world_model.specs.Workers.{WorkerState, Role, Packet, Lane}
@@ -209,5 +209,6 @@ LimitsAreHaltedAt =
     HaltStep Limit (accepted (beside (expands 0 0) (book_with 1 (GREATEST_GRANT + 44) None)) (beside (expands 0 0) (book_with 1 (GREATEST_GRANT + 44) (Some StopLimit))))
     × HaltStep Limit (refused (beside (expands 1 0) (book_with 1 (GREATEST_GRANT + 44) None)) AllowanceLeft)
     × HaltStep Limit (refused (beside (expands 0 0) (book_with 1 (GREATEST_GRANT + 43) None)) AllowanceLeft)
+    × HaltStep Start (accepted (beside (expands 1 0) (book_best 9 None)) (beside (record (expands 1 0) { best = Some 9 }) (book_best 9 (Some StopStart))))
     × HaltStep Limit (refused (beside (expands 1 0) (book_with 1 0 (Some Quiet))) Stopped)
     × HaltStep Start (refused (beside (expands 1 0) (book_with 1 0 (Some Quiet))) Stopped)

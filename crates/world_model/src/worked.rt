@@ -4,7 +4,6 @@ ghost use Rattle.std.specs.Prelude.{◌≡◌};
 ghost use Rattle.world_model.specs.Worked.{PlanIsGiven, CutIsGiven, HaltIsGiven, LimitIsGiven};
 ghost use Rattle.world_model.specs.Worked.{RefusalsAreGiven, RefusalsOnTheWayAreGiven};
 ghost use Rattle.world_model.specs.Worked.{BoardIsExpandedAgain, RelaxationsLower};
-
 ghost use Rattle.world_model.specs.WorkedSteps.{FullLanesRefuse, FullPursesRefuse};
 ghost use Rattle.world_model.specs.WorkedSteps.{FullCreditsRefuse, FullPacketsRefuse};
 ghost use Rattle.world_model.specs.WorkedSteps.{LastIsSettled, SuccessorsAreInOrder};
