@@ -16,13 +16,16 @@ use Rattle.world_model.specs.declared.parts.Known.{Known}
 use Rattle.world_model.specs.declared.steps.Stop.{Stop}
 use Rattle.world_model.specs.declared.steps.Stop.TheVariants.{Quiet, Limit, Memory, Start}
 use Rattle.world_model.specs.Frontiers.{IsReached}
-use Rattle.world_model.specs.KeptLaws.{CausesAreTheStops, KeptWorldsAreNeverCut, KeptWorldsHaveBegun, LimitBoundsAreSpent, MemoryBoundsAreWanted, QuietWorldsAreAtRest}
+use Rattle.world_model.specs.KeptLaws.{CausesAreTheStops, KeptWorldsAreNeverCut, KeptWorldsHaveBegun, LimitBoundsAreSpent, MemoryBoundsAreWanted, QuietWorldsAreAtRest, RunsStayWithinLimits}
 use Rattle.world_model.specs.Outcomes.{IsGivenAt, LacksMemory, cause_of, is_too_high}
 use Rattle.world_model.specs.Quiet.{IsKeptAt, IsQuiet}
 use Rattle.world_model.specs.Workers.{Lane, WorkerState}
 use Rattle.world_model.specs.Worlds.{IsUnderWay, Knows, LiesIn, WorldState}
 use Rattle.world_model.proofs.ListLemmas.{all_from_places, none_in_empty, part_le}
 use Rattle.world_model.proofs.OutcomeLemmas.{end_at}
+use Rattle.world_model.proofs.RunLemmas.{runs_sound}
+use Rattle.world_model.proofs.ShapeLemmas.{knows_owned, offer_owned}
+use Rattle.board.specs.Positions.{Position}
 use Rattle.world_model.proofs.QuietLemmas.{quiet_bounds, limit_spent}
 
 module _ (w : WorldState) (quiet : IsQuiet w) where
@@ -136,3 +139,13 @@ kept_never_cut w bound best cause shaped sound kept lower given = at w.book.stop
 
 pub kept_begun : KeptWorldsHaveBegun
 kept_begun w kept stop more = (subst (IsKeptAt w) stop kept) more
+
+pub runs_within : RunsStayWithinLimits
+runs_within job via made w is run =
+    let h = runs_sound job via made w is run in
+    let shaped = h.0 in (
+      λ from to lane at. let l = shaped.lanes from to lane at in (l.few, λ packet has. let p = l.packets packet has in (p.0, p.1.few)),
+      λ i worker at. let x = shaped.workers i worker at in (x.held.few, λ to packet there. (x.unsent to packet there).few),
+      λ i b known knows. let own = knows_owned w shaped i b known knows in (own.0, own.1, λ goal. h.1.goal_kept i known (subst (λ (p : Position). Knows w i p known) goal knows)),
+      offer_owned w shaped,
+    )

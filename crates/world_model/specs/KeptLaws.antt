@@ -1,19 +1,27 @@
 -- The laws of worlds whose outcome is a run's own: what quiet and kept worlds give, and which cause a bound has.
-use Rattle.std.specs.Prelude.{◌≡◌, ◌≢◌, ◌⊎◌, ℕ, ◌+◌, ◌*◌, ◌-◌, ◌≤◌, ◌<◌, length, Vec, Option, Some, None}
+use Rattle.std.specs.Prelude.{◌≡◌, ◌≢◌, ◌⊎◌, ℕ, ◌+◌, ◌*◌, ◌-◌, ◌≤◌, ◌<◌, false, List, length, Contains, Vec, Option, Some, None, slice_get}
 use Rattle.std.specs.declared.alloc.Global.{Global}
 use Rattle.memory.specs.declared.OutOfMemory.{OutOfMemory}
+use Rattle.board.specs.declared.costs.TheConstants.{GREATEST_COST}
 use Rattle.board.specs.declared.moves.Move.{Move}
+use Rattle.board.specs.Positions.{Position}
 use Rattle.board.specs.Rows.{IsLowerBound}
 use Rattle.outcomes.specs.declared.outcome.Cause.{Cause}
 use Rattle.outcomes.specs.declared.outcome.Cause.TheVariants.{Limit as ForLimit, Memory as ForMemory, Start as ForStart, Cost as ForCost, Cut as ForCut}
 use Rattle.outcomes.specs.declared.outcome.Want.{Want}
 use Rattle.outcomes.specs.declared.outcome.Want.TheVariants.{Refused}
+use Rattle.outcomes.specs.declared.outcome.Outcome.{Outcome}
 use Rattle.outcomes.specs.declared.outcome.Outcome.TheVariants.{Bounded}
-use Rattle.world_model.specs.declared.limits.TheConstants.{GREATEST_GRANT}
+use Rattle.world_model.specs.declared.limits.TheConstants.{LANE_LIMIT, PACKET_LIMIT, GREATEST_GRANT}
 use Rattle.world_model.specs.declared.parts.Item.{Item}
 use Rattle.world_model.specs.declared.parts.Known.{Known}
 use Rattle.world_model.specs.declared.steps.Stop.TheVariants.{Quiet, Limit, Memory, Start}
-use Rattle.world_model.specs.Worlds.{WorldState, Knows, IsUnderWay}
+use Rattle.world_model.specs.declared.steps.Refusal.{Refusal}
+use Rattle.world_model.specs.declared.steps.Step.{Step}
+use Rattle.world_model.specs.Workers.{WorkerState, Packet, Lane, IsTaskBoard}
+use Rattle.world_model.specs.Worlds.{WorldState, IsWorker, Knows, IsLane, IsUnderWay}
+use Rattle.world_model.specs.Steps.{IsRun}
+use Rattle.world_model.specs.Openings.{Job, IsJob, opening}
 use Rattle.world_model.specs.Shapes.{IsShaped}
 use Rattle.world_model.specs.Soundness.{IsSound}
 use Rattle.world_model.specs.Credit.{IsCredited, purse_total, packet_count, expansion_count}
@@ -72,3 +80,25 @@ MemoryBoundsAreWanted =
     (w : WorldState) (bound : ℕ) (best : Option (ℕ × Vec Move Global)) (want : Want)
     → IsGiven w (Bounded bound best (ForMemory want))
     → (w.book.stop ≡ Some (Memory want)) ⊎ ((best ≡ None) × ((refused : OutOfMemory) × (want ≡ Refused refused)) × ((i : ℕ) × (known : Known) × Knows w i w.task.goal known))
+
+-- a sound world gives some outcome, if vectors have the plan and the rows
+abbrev pub WorldsGiveOutcomes : Type 0
+WorldsGiveOutcomes =
+    (w : WorldState)
+    → IsShaped w
+    → IsSound w
+    → ¬ ((moves : List Move) (listed : List (Position × ℕ))
+    → ¬ ((plan : Vec Move Global) (rows : Vec (Position × ℕ) Global) → plan.items ≡ moves → rows.items ≡ listed → (outcome : Outcome) × IsGiven w outcome))
+
+-- In every world that a run reaches: no lane has too many packets; no packet is empty in a lane, or has too many items, there, held or
+-- unsent; each board is known to its owner alone, and each item is under way to it, at no cost above the greatest; and the goal is not
+-- closed.
+abbrev pub RunsStayWithinLimits : Type 0
+RunsStayWithinLimits =
+    (job : Job) (via : Move) (made : List (Step × Option Refusal)) (w : WorldState)
+    → IsJob job
+    → IsRun (opening job via) made w
+    → ((from to : ℕ) (lane : Lane) → IsLane w from to lane → (length lane ≤ LANE_LIMIT) × ((packet : Packet) → Contains lane packet → (1 ≤ length packet) × (length packet ≤ PACKET_LIMIT)))
+    × ((i : ℕ) (worker : WorkerState) → IsWorker w i worker → (length worker.held ≤ PACKET_LIMIT) × ((to : ℕ) (packet : Packet) → slice_get worker.unsent to ≡ Some packet → length packet ≤ PACKET_LIMIT))
+    × ((i : ℕ) (b : Position) (known : Known) → Knows w i b known → (w.owner b ≡ i) × (known.cost ≤ GREATEST_COST) × (b ≡ w.task.goal → known.expanded ≡ false))
+    × ((to : ℕ) (item : Item) → IsUnderWay w to item → IsTaskBoard w.task item.board × (w.owner item.board ≡ to) × (item.cost ≤ GREATEST_COST))

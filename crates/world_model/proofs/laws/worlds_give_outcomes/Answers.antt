@@ -1,0 +1,5 @@
+use Rattle.world_model.proofs.GivenLemmas.{worlds_give}
+use Rattle.world_model.proofs.laws.worlds_give_outcomes.Goals as goal
+
+pub returns : goal.returns
+returns c = worlds_give
