@@ -1,10 +1,12 @@
 -- The laws of worlds whose outcome is a run's own: what quiet and kept worlds give, and which cause a bound has.
-use Rattle.std.specs.Prelude.{◌≡◌, ◌≢◌, ◌⊎◌, ℕ, ◌+◌, ◌*◌, ◌-◌, ◌≤◌, ◌<◌, false, List, length, Contains, Vec, Option, Some, None, slice_get}
+use Rattle.std.specs.Prelude.{◌≡◌, ◌≢◌, ◌⊎◌, ℕ, ◌+◌, ◌*◌, ◌-◌, ◌≤◌, ◌<◌, false, List, [], ◌∷◌, length, Contains, Vec, Option, Some, None, slice_get}
 use Rattle.std.specs.declared.alloc.Global.{Global}
 use Rattle.memory.specs.declared.OutOfMemory.{OutOfMemory}
 use Rattle.board.specs.declared.costs.TheConstants.{GREATEST_COST}
 use Rattle.board.specs.declared.moves.Move.{Move}
 use Rattle.board.specs.Positions.{Position}
+use Rattle.board.specs.Moves.{Moves}
+use Rattle.board.specs.Plans.{Leads}
 use Rattle.board.specs.Rows.{IsLowerBound}
 use Rattle.outcomes.specs.declared.outcome.Cause.{Cause}
 use Rattle.outcomes.specs.declared.outcome.Cause.TheVariants.{Limit as ForLimit, Memory as ForMemory, Start as ForStart, Cost as ForCost, Cut as ForCut}
@@ -102,3 +104,19 @@ RunsStayWithinLimits =
     × ((i : ℕ) (worker : WorkerState) → IsWorker w i worker → (length worker.held ≤ PACKET_LIMIT) × ((to : ℕ) (packet : Packet) → slice_get worker.unsent to ≡ Some packet → length packet ≤ PACKET_LIMIT))
     × ((i : ℕ) (b : Position) (known : Known) → Knows w i b known → (w.owner b ≡ i) × (known.cost ≤ GREATEST_COST) × (b ≡ w.task.goal → known.expanded ≡ false))
     × ((to : ℕ) (item : Item) → IsUnderWay w to item → IsTaskBoard w.task item.board × (w.owner item.board ≡ to) × (item.cost ≤ GREATEST_COST))
+
+-- each move of the plan from one board to another is the last move with which the board that it leads to is known to its owner
+abbrev pub IsByLastMoves : WorldState → Position → List Move → Position → Type 0
+IsByLastMoves w b [] q = b ≡ q
+IsByLastMoves w b (m ∷ plan) q =
+    (next : Position) × (c : ℕ) × (known : Known) × Moves w.task.rule b m next c × Knows w (w.owner next) next known × (known.via ≡ m) × IsByLastMoves w next plan q
+
+-- from each board that a sound world knows last moves lead back to the start, along a plan that costs no more than is known
+abbrev pub LastMovesLeadBack : Type 0
+LastMovesLeadBack =
+    (w : WorldState)
+    → IsShaped w
+    → IsSound w
+    → (i : ℕ) (b : Position) (known : Known)
+    → Knows w i b known
+    → (plan : List Move) × (cost : ℕ) × Leads w.task.rule w.task.start plan b cost × (cost ≤ known.cost) × IsByLastMoves w w.task.start plan b
