@@ -1,14 +1,14 @@
 -- A worker's step on the book is the book's own call.
 use Rattle.outcomes.specs.Outcomes.{Task}
 use Rattle.world_model.specs.declared.parts.Known.{Known}
-use Rattle.std.proofs.Common.{◌≡◌, ℕ, ◌+◌, [], refl, sym, ap, ◌∙◌, subst, inl, inr, arith, Option, Some, None}
+use Rattle.std.proofs.Common.{◌≡◌, ◌≢◌, ℕ, ◌+◌, ◌^◌, ◌<◌, [], refl, sym, ap, ◌∙◌, subst, inl, inr, arith, Option, Some, None}
 use Rattle.std.specs.Prelude.{All, option_map}
 use Rattle.world_model.specs.declared.steps.HaltCause.{HaltCause}
 use Rattle.world_model.specs.declared.steps.HaltCause as causes
 use Rattle.world_model.specs.declared.steps.BookFault.{BookFault}
 use Rattle.world_model.specs.declared.steps.BookFault.TheVariants.{RunStopped, NoPurse, CreditFull, NotLower, NothingLeft, FloorBelowLimit, AllowanceRemains}
 use Rattle.world_model.specs.BookCalls.{Account, BookAnnounce, BookDraw, BookGrant, BookHalt, BookRest}
-use Rattle.world_model.specs.BookLaws.{account_of}
+use Rattle.world_model.specs.BookLaws.{CallsHaveAnswers, account_of}
 use Rattle.world_model.specs.BookSteps.{AnnounceStep, AtBook, DrawStep, GrantStep, HaltStep, MayAnnounce, MayGoOn, RestStep, after_call, at_book, refusal_of}
 use Rattle.world_model.specs.Books.{BookState, HasMoreToGrant, grant_of}
 use Rattle.world_model.specs.Costs.{IsNotBelow, limit_of}
@@ -98,3 +98,30 @@ pub halts : (cause : HaltCause) (at : AtBook) (fault : Option BookFault) (book :
 halts cause at fault book spent (inl out) = inl (out.0, refused at _ fault RunStopped out.1.0)
 halts cause at fault book spent (inr (runs, inl out)) = inr (runs, inl (may_go_on cause at out.0, refused at _ fault AllowanceRemains out.1.0))
 halts cause at fault book spent (inr (runs, inr (all, new))) = inr (runs, inr (may_halt cause at spent all, accepted at _ _ fault new.0 (ap (at_book at.worker) new.1)))
+
+-- each call has an answer
+pub calls_answer : CallsHaveAnswers
+calls_answer = (
+  λ x none.
+      let runs : ¬ (x.book.stop ≢ None) = λ h. none (Some RunStopped) x (inl (h, (refl, refl))) in
+      let some : ¬ (x.purse ≡ 0) = λ h. none (Some NoPurse) x (inr (runs, inl (h, (refl, refl)))) in
+      let fits : ¬ (2 ^ 63 < x.book.credit) = λ h. none (Some CreditFull) x (inr (runs, inr (some, inl (h, (refl, refl))))) in
+      none None _ (inr (runs, inr (some, inr (fits, (refl, refl))))),
+  λ cost book none.
+      let runs : ¬ (book.stop ≢ None) = λ h. none (Some RunStopped) book (inl (h, (refl, refl))) in
+      let lower : ¬ IsNotBelow (Some cost) book.best = λ h. none (Some NotLower) book (inr (runs, inl (h, (refl, refl)))) in
+      none None _ (inr (runs, inr (lower, (refl, refl)))),
+  λ book none.
+      let runs : ¬ (book.stop ≢ None) = λ h. none (Some RunStopped) book (inl (h, (refl, refl))) in
+      let more : ¬ (book.granted ≡ book.limit) = λ h. none (Some NothingLeft) book (inr (runs, inl (h, (refl, refl)))) in
+      none None _ (inr (runs, inr (more, (refl, refl)))),
+  λ i floor x none.
+      let runs : ¬ (x.book.stop ≢ None) = λ h. none (Some RunStopped) x (inl (h, (refl, refl))) in
+      let some : ¬ (x.purse ≡ 0) = λ h. none (Some NoPurse) x (inr (runs, inl (h, (refl, refl)))) in
+      let high : ¬ (¬ IsNotBelow floor (Some (limit_of x.book.best))) = λ h. none (Some FloorBelowLimit) x (inr (runs, inr (some, inl (h, (refl, refl))))) in
+      none None _ (inr (runs, inr (some, inr (high, (refl, refl))))),
+  λ cause book none.
+      let runs : ¬ (book.stop ≢ None) = λ h. none (Some RunStopped) book (inl (h, (refl, refl))) in
+      let spent : ¬ HasMoreToGrant book cause = λ h. none (Some AllowanceRemains) book (inr (runs, inl (h, (refl, refl)))) in
+      none None _ (inr (runs, inr (spent, (refl, refl)))),
+)

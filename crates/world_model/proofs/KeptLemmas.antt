@@ -16,8 +16,8 @@ use Rattle.world_model.specs.declared.parts.Known.{Known}
 use Rattle.world_model.specs.declared.steps.Stop.{Stop}
 use Rattle.world_model.specs.declared.steps.Stop.TheVariants.{Quiet, Limit, Memory, Start}
 use Rattle.world_model.specs.Frontiers.{IsReached}
-use Rattle.world_model.specs.KeptLaws.{CausesAreTheStops, KeptWorldsAreNeverCut, KeptWorldsHaveBegun, LimitBoundsAreSpent, MemoryBoundsAreWanted, QuietWorldsAreAtRest, RunsStayWithinLimits}
-use Rattle.world_model.specs.Outcomes.{IsGivenAt, LacksMemory, cause_of, is_too_high}
+use Rattle.world_model.specs.KeptLaws.{CausesAreTheStops, KeptWorldsAreNeverCut, KeptWorldsHaveBegun, LimitBoundsAreSpent, MemoryBoundsAreWanted, QuietWorldsAreAtRest, RunsStayWithinLimits, IsWithinReach, PlansAreWithinReach}
+use Rattle.world_model.specs.Outcomes.{IsFollowedBack, IsGivenAt, LacksMemory, cause_of, is_too_high}
 use Rattle.world_model.specs.Quiet.{IsKeptAt, IsQuiet}
 use Rattle.world_model.specs.Workers.{Lane, WorkerState}
 use Rattle.world_model.specs.Worlds.{IsUnderWay, Knows, LiesIn, WorldState}
@@ -149,3 +149,14 @@ runs_within job via made w is run =
       λ i b known knows. let own = knows_owned w shaped i b known knows in (own.0, own.1, λ goal. h.1.goal_kept i known (subst (λ (p : Position). Knows w i p known) goal knows)),
       offer_owned w shaped,
     )
+
+within_reach : (w : WorldState) (lowest reached : Option ℕ) (cost : ℕ) (plan : Vec Move Global) → IsReached w reached → IsFollowedBack (end_at w lowest reached) cost plan.items → IsWithinReach w cost plan
+within_reach w lowest reached cost plan at followed =
+    let there : IsReached w (Some followed.goal) = subst (IsReached w) followed.is at in
+    (followed.leads, (there.0.0, there.0.1, omega (arith, followed.within, there.0.2)))
+
+pub plans_within : PlansAreWithinReach
+plans_within = (
+  λ w cost plan rows given. within_reach w given.0 given.1 cost plan given.3 given.4.1,
+  λ w bound best cause given. within_reach w given.0 given.1 best.0 best.1 given.3 given.4.1,
+)

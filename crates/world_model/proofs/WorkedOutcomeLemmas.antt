@@ -24,7 +24,7 @@ use Rattle.world_model.specs.declared.steps.Stop.TheVariants.{Limit as StopLimit
 use Rattle.world_model.specs.Outcomes.{AreRowsFor, IsKnownBelow}
 use Rattle.world_model.specs.Steps.{IsRun}
 use Rattle.world_model.specs.Worked.{first_half, one_move, plain_job}
-use Rattle.world_model.specs.WorkedOutcomes.{CostIsGiven, EmptyPlanIsGiven, MemoryIsGiven, NoRowsAreGiven, OpeningsAreNotKept, PlanAboveIsGiven, StartIsGiven, ThreeRowsAreGiven, UnsolvableIsGiven, WorldsAreReached, far_start, halfway, known_start, two_expansions, two_moves}
+use Rattle.world_model.specs.WorkedOutcomes.{CostIsGiven, EmptyPlanIsGiven, JobsAreOfAllCounts, MemoryIsGiven, NoRowsAreGiven, OpeningsAreNotKept, PlanAboveIsGiven, StartIsGiven, ThreeRowsAreGiven, UnsolvableIsGiven, WorldsAreReached, far_start, halfway, known_start, two_expansions, two_moves}
 use Rattle.world_model.specs.Workers.{IsTaskBoard, WorkerState}
 use Rattle.world_model.proofs.TableLemmas.{get_inserted}
 use Rattle.world_model.proofs.SmallSteps.{lt_tests}
@@ -386,3 +386,9 @@ opening_unbegun stop (suc (suc i), known, knows, expanded) = let none : 鈼屸墶鈼
 
 pub not_kept : OpeningsAreNotKept
 not_kept = ((位 kept. kept), (位 kept. kept), 位 kept. opening_unbegun (Some StopLimit) (kept (omega arith)))
+
+pub jobs_of_all : JobsAreOfAllCounts
+jobs_of_all count = (
+  (位 is. (is.some, is.few)),
+  位 counts. record { task = one_move_is.task; some = counts.0; few = counts.1; owners = 位 b. mod-lt (blank_of b) counts.0 },
+)

@@ -57,3 +57,12 @@ HaltsAreTheBooks =
     → (cause ≡ Limit → at.worker.allowance ≡ 0)
     → BookHalt cause (turn at.book fault book)
     → HaltStep cause (turn at (option_map refusal_of fault) (after_call fault at (at_book at.worker book)))
+
+-- no call is without an answer
+abbrev pub CallsHaveAnswers : Type 0
+CallsHaveAnswers =
+    ((before : Account) → ¬ ((fault : Option BookFault) (after : Account) → ¬ BookDraw (turn before fault after)))
+    × ((cost : ℕ) (before : BookState) → ¬ ((fault : Option BookFault) (after : BookState) → ¬ BookAnnounce cost (turn before fault after)))
+    × ((before : BookState) → ¬ ((fault : Option BookFault) (after : BookState) → ¬ BookGrant (turn before fault after)))
+    × ((i : ℕ) (floor : Option ℕ) (before : Account) → ¬ ((fault : Option BookFault) (after : Account) → ¬ BookRest i floor (turn before fault after)))
+    × ((cause : HaltCause) (before : BookState) → ¬ ((fault : Option BookFault) (after : BookState) → ¬ BookHalt cause (turn before fault after)))

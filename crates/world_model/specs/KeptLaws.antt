@@ -13,7 +13,7 @@ use Rattle.outcomes.specs.declared.outcome.Cause.TheVariants.{Limit as ForLimit,
 use Rattle.outcomes.specs.declared.outcome.Want.{Want}
 use Rattle.outcomes.specs.declared.outcome.Want.TheVariants.{Refused}
 use Rattle.outcomes.specs.declared.outcome.Outcome.{Outcome}
-use Rattle.outcomes.specs.declared.outcome.Outcome.TheVariants.{Bounded}
+use Rattle.outcomes.specs.declared.outcome.Outcome.TheVariants.{Optimal, Bounded}
 use Rattle.world_model.specs.declared.limits.TheConstants.{LANE_LIMIT, PACKET_LIMIT, GREATEST_GRANT}
 use Rattle.world_model.specs.declared.parts.Item.{Item}
 use Rattle.world_model.specs.declared.parts.Known.{Known}
@@ -120,3 +120,14 @@ LastMovesLeadBack =
     → (i : ℕ) (b : Position) (known : Known)
     → Knows w i b known
     → (plan : List Move) × (cost : ℕ) × Leads w.task.rule w.task.start plan b cost × (cost ≤ known.cost) × IsByLastMoves w w.task.start plan b
+
+-- the plan leads to the goal at this cost, and the goal is known to its owner at no less
+abbrev pub IsWithinReach : WorldState → ℕ → Vec Move Global → Type 0
+IsWithinReach w cost plan =
+    Leads w.task.rule w.task.start plan.items w.task.goal cost × ((known : Known) × Knows w (w.owner w.task.goal) w.task.goal known × (cost ≤ known.cost))
+
+-- each plan that a world gives is such a one
+abbrev pub PlansAreWithinReach : Type 0
+PlansAreWithinReach =
+    ((w : WorldState) (cost : ℕ) (plan : Vec Move Global) (rows : Vec (Position × ℕ) Global) → IsGiven w (Optimal cost plan rows) → IsWithinReach w cost plan)
+    × ((w : WorldState) (bound : ℕ) (best : ℕ × Vec Move Global) (cause : Cause) → IsGiven w (Bounded bound (Some best) cause) → IsWithinReach w best.0 best.1)

@@ -1,5 +1,5 @@
 -- Worked outcomes: short runs that end in each of the ways in which a run may end, and two worlds in full.
-use Rattle.std.specs.Prelude.{◌≡◌, ℕ, ◌+◌, ◌-◌, ◌^◌, List, [], ◌∷◌, ◌++◌, false, replicate, map as each_of, None, Some, Vec, ◌==◌, if◌then◌else◌}
+use Rattle.std.specs.Prelude.{◌≡◌, ◌↔◌, ◌≤◌, ℕ, ◌+◌, ◌-◌, ◌^◌, List, [], ◌∷◌, ◌++◌, false, replicate, map as each_of, None, Some, Vec, ◌==◌, if◌then◌else◌}
 use Rattle.std.specs.FinMap as map
 use Rattle.std.specs.declared.alloc.Global.{Global}
 use Rattle.memory.specs.declared.OutOfMemory.{OutOfMemory}
@@ -22,7 +22,7 @@ use Rattle.world_model.specs.declared.steps.Step.TheVariants.{Expand, Announce, 
 use Rattle.world_model.specs.Workers.{WorkerState}
 use Rattle.world_model.specs.Worlds.{WorldState}
 use Rattle.world_model.specs.Steps.{IsRun}
-use Rattle.world_model.specs.Openings.{Job, opening}
+use Rattle.world_model.specs.Openings.{Job, IsJob, opening}
 use Rattle.world_model.specs.Quiet.{IsKept}
 use Rattle.world_model.specs.Worked.{plain_job, one_move, first_half, second_half, ok, not_ok, entry_of, Gives}
 use Rattle.world_model.specs.WorkedSteps.{goal_at, start_closed}
@@ -142,3 +142,7 @@ abbrev pub OpeningsAreNotKept : Type 0
 OpeningsAreNotKept =
     let w : WorldState = opening one_move U in
     (¬ IsKept w) × (¬ IsKept (record w { book = record w.book { stop = Some StopStart } })) × (¬ IsKept (record w { book = record w.book { stop = Some StopLimit } }))
+
+-- the job of one move, by so many workers, is one just where they are 1 to 16
+abbrev pub JobsAreOfAllCounts : Type 0
+JobsAreOfAllCounts = (count : ℕ) → IsJob (plain_job (two_by_two 1 0 2 3) (goal_of (grid_of 2 2)) count) ↔ ((1 ≤ count) × (count ≤ 16))

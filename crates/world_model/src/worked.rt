@@ -14,6 +14,7 @@ ghost use Rattle.world_model.specs.WorkedOutcomes.{StartIsGiven, EmptyPlanIsGive
 ghost use Rattle.world_model.specs.WorkedOutcomes.{PlanAboveIsGiven, NoRowsAreGiven};
 ghost use Rattle.world_model.specs.WorkedOutcomes.{ThreeRowsAreGiven, UnsolvableIsGiven};
 ghost use Rattle.world_model.specs.WorkedOutcomes.{CostIsGiven, OpeningsAreNotKept};
+ghost use Rattle.world_model.specs.WorkedOutcomes.{JobsAreOfAllCounts};
 
 use crate::limits::{CREDIT_DRAWN, GREATEST_GRANT, LANE_LIMIT, PACKET_LIMIT, WORKER_LIMIT};
 
@@ -96,4 +97,9 @@ pub fn other_ends()
 /// An opening world is not kept, whatever stops it but memory.
 pub fn unkept()
     ensures { OpeningsAreNotKept }
+{}
+
+/// How many workers a job may have.
+pub fn jobs()
+    ensures { JobsAreOfAllCounts }
 {}

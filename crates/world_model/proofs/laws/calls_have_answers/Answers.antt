@@ -1,0 +1,5 @@
+use Rattle.world_model.proofs.BookLemmas.{calls_answer}
+use Rattle.world_model.proofs.laws.calls_have_answers.Goals as goal
+
+pub returns : goal.returns
+returns c = calls_answer
