@@ -1,5 +1,5 @@
 -- The laws of worlds whose outcome is a run's own: what quiet and kept worlds give, and which cause a bound has.
-use Rattle.std.specs.Prelude.{◌≡◌, ◌≢◌, ◌⊎◌, ℕ, ◌+◌, ◌*◌, ◌-◌, ◌≤◌, ◌<◌, false, List, [], ◌∷◌, length, Contains, Vec, Option, Some, None, slice_get}
+use Rattle.std.specs.Prelude.{◌≡◌, ◌≢◌, ◌⊎◌, ℕ, ◌+◌, ◌*◌, ◌-◌, ◌^◌, ◌≤◌, ◌<◌, false, List, [], ◌∷◌, length, Contains, Vec, Option, Some, None, slice_get}
 use Rattle.std.specs.declared.alloc.Global.{Global}
 use Rattle.memory.specs.declared.OutOfMemory.{OutOfMemory}
 use Rattle.board.specs.declared.costs.TheConstants.{GREATEST_COST}
@@ -14,15 +14,18 @@ use Rattle.outcomes.specs.declared.outcome.Want.{Want}
 use Rattle.outcomes.specs.declared.outcome.Want.TheVariants.{Refused}
 use Rattle.outcomes.specs.declared.outcome.Outcome.{Outcome}
 use Rattle.outcomes.specs.declared.outcome.Outcome.TheVariants.{Optimal, Bounded}
-use Rattle.world_model.specs.declared.limits.TheConstants.{LANE_LIMIT, PACKET_LIMIT, GREATEST_GRANT}
+use Rattle.world_model.specs.declared.limits.TheConstants.{LANE_LIMIT, PACKET_LIMIT, CREDIT_DRAWN, GREATEST_GRANT}
 use Rattle.world_model.specs.declared.parts.Item.{Item}
 use Rattle.world_model.specs.declared.parts.Known.{Known}
 use Rattle.world_model.specs.declared.steps.Stop.TheVariants.{Quiet, Limit, Memory, Start}
 use Rattle.world_model.specs.declared.steps.Refusal.{Refusal}
+use Rattle.world_model.specs.declared.steps.Refusal.TheVariants.{PurseFull}
 use Rattle.world_model.specs.declared.steps.Step.{Step}
+use Rattle.world_model.specs.declared.steps.Step.TheVariants.{Deliver}
+use Rattle.world_model.specs.Turns.{turn}
 use Rattle.world_model.specs.Workers.{WorkerState, Packet, Lane, IsTaskBoard}
 use Rattle.world_model.specs.Worlds.{WorldState, IsWorker, Knows, IsLane, IsUnderWay}
-use Rattle.world_model.specs.Steps.{IsRun}
+use Rattle.world_model.specs.Steps.{Next, IsRun}
 use Rattle.world_model.specs.Openings.{Job, IsJob, opening}
 use Rattle.world_model.specs.Shapes.{IsShaped}
 use Rattle.world_model.specs.Soundness.{IsSound}
@@ -131,3 +134,14 @@ abbrev pub PlansAreWithinReach : Type 0
 PlansAreWithinReach =
     ((w : WorldState) (cost : ℕ) (plan : Vec Move Global) (rows : Vec (Position × ℕ) Global) → IsGiven w (Optimal cost plan rows) → IsWithinReach w cost plan)
     × ((w : WorldState) (bound : ℕ) (best : ℕ × Vec Move Global) (cause : Cause) → IsGiven w (Bounded bound (Some best) cause) → IsWithinReach w best.0 best.1)
+
+-- In no world that a run reaches is the credit above 2^63 and what is drawn at once. So no purse is the greatest u64 there, and no packet
+-- is refused for a full purse.
+abbrev pub CreditStaysLow : Type 0
+CreditStaysLow =
+    (job : Job) (via : Move) (made : List (Step × Option Refusal)) (w : WorldState)
+    → IsJob job
+    → IsRun (opening job via) made w
+    → (w.book.credit ≤ 2 ^ 63 + CREDIT_DRAWN)
+    × ((i : ℕ) (worker : WorkerState) → IsWorker w i worker → worker.purse + 1 < 2 ^ 64)
+    × ((i j : ℕ) (w' : WorldState) → ¬ Next (Deliver i j) (turn w (Some PurseFull) w'))
