@@ -19,14 +19,14 @@ use Rattle.world_model.specs.declared.parts.Known.{Known}
 use Rattle.world_model.specs.Costs.{IsLeastWith, lesser}
 use Rattle.world_model.specs.Frontiers.{IsInFrontier, IsLowest, IsReached}
 use Rattle.world_model.specs.KeptLaws.{WorldsGiveOutcomes}
-use Rattle.world_model.specs.Outcomes.{AreRowsBelow, AreRowsFor, IsGiven, IsKnownBelow, cause_at}
+use Rattle.world_model.specs.Outcomes.{AreRowsBelow, AreRowsFor, IsByLastMoves, IsGiven, IsKnownBelow, cause_at}
 use Rattle.world_model.specs.Shapes.{IsShaped}
 use Rattle.world_model.specs.Soundness.{IsSound}
 use Rattle.world_model.specs.Workers.{WorkerState}
 use Rattle.world_model.specs.Worlds.{Knows, WorldState}
 use Rattle.world_model.proofs.ListLemmas.{none_in}
 use Rattle.world_model.proofs.OutcomeLemmas.{end_at}
-use Rattle.world_model.proofs.ReachLemmas.{known_reached}
+use Rattle.world_model.proofs.ReachLemmas.{leads_back}
 use Rattle.world_model.proofs.ShapeLemmas.{knows_owned}
 use Rattle.world_model.proofs.TableLemmas.{same_key, same_known}
 
@@ -130,6 +130,9 @@ module _ (w : WorldState) (shaped : IsShaped w) (sound : IsSound w) (none : (mov
   abbrev LeadsAt : List Move → ℕ → Type 0
   LeadsAt moves cost = Leads w.task.rule w.task.start moves w.task.goal cost
 
+  abbrev TracedBy : List Move → Type 0
+  TracedBy moves = IsByLastMoves w w.task.start moves w.task.goal
+
   unreached : (lowest : Option ℕ) → IsLowest w lowest → IsReached w None → ⊥
   unreached None low reached = none [] [] (λ plan rows moves listed. (Unsolvable Exhausted, (None, None, low, reached, (refl, refl))))
   unreached (Some f) low reached =
@@ -141,13 +144,13 @@ module _ (w : WorldState) (shaped : IsShaped w) (sound : IsSound w) (none : (mov
 
   reached_at : (lowest : Option ℕ) (goal : ℕ) → IsLowest w lowest → IsReached w (Some goal) → ⊥
   reached_at lowest goal low reached =
-      let led = known_reached w shaped sound (w.owner w.task.goal) w.task.goal reached.0.0 reached.0.1 in
+      let led = leads_back w shaped sound (w.owner w.task.goal) w.task.goal reached.0.0 reached.0.1 in
       let under : led.1 ≤ goal = omega (arith, led.3, reached.0.2) in
       let n = floor_there lowest goal in
-      ⊎_elim (λ (same : led.1 ≡ max (w.task.sum w.task.start) n.0). optimal led.0 led.1 led.2 under n.0 n.1 same) (λ (other : led.1 ≢ max (w.task.sum w.task.start) n.0). bounded led.0 led.1 led.2 under n.0 n.1 other) (cases_eq led.1 (max (w.task.sum w.task.start) n.0))
+      ⊎_elim (λ (same : led.1 ≡ max (w.task.sum w.task.start) n.0). optimal led.0 led.1 led.2 led.4 under n.0 n.1 same) (λ (other : led.1 ≢ max (w.task.sum w.task.start) n.0). bounded led.0 led.1 led.2 led.4 under n.0 n.1 other) (cases_eq led.1 (max (w.task.sum w.task.start) n.0))
     where
-      optimal : (moves : List Move) (cost : ℕ) → LeadsAt moves cost → cost ≤ goal → (n : ℕ) → lesser lowest (Some goal) ≡ Some n → cost ≡ max (w.task.sum w.task.start) n → ⊥
-      optimal moves cost leads under n is same =
+      optimal : (moves : List Move) (cost : ℕ) → LeadsAt moves cost → TracedBy moves → cost ≤ goal → (n : ℕ) → lesser lowest (Some goal) ≡ Some n → cost ≡ max (w.task.sum w.task.start) n → ⊥
+      optimal moves cost leads traced under n is same =
           no_rows_for w shaped cost
           (λ rows are. none moves rows
           (λ plan vector is_plan is_rows. (
@@ -157,12 +160,12 @@ module _ (w : WorldState) (shaped : IsShaped w) (sound : IsSound w) (none : (mov
               Some goal,
               low,
               reached,
-              ((n, is, same), record { goal = goal; is = refl; leads = subst (λ ms. LeadsAt ms cost) (sym is_plan) leads; within = under }, subst (AreRowsFor w cost) (sym is_rows) are),
+              ((n, is, same), record { goal = goal; is = refl; traced = subst TracedBy (sym is_plan) traced; leads = subst (λ ms. LeadsAt ms cost) (sym is_plan) leads; within = under }, subst (AreRowsFor w cost) (sym is_rows) are),
             ),
           )))
 
-      bounded : (moves : List Move) (cost : ℕ) → LeadsAt moves cost → cost ≤ goal → (n : ℕ) → lesser lowest (Some goal) ≡ Some n → cost ≢ max (w.task.sum w.task.start) n → ⊥
-      bounded moves cost leads under n is other =
+      bounded : (moves : List Move) (cost : ℕ) → LeadsAt moves cost → TracedBy moves → cost ≤ goal → (n : ℕ) → lesser lowest (Some goal) ≡ Some n → cost ≢ max (w.task.sum w.task.start) n → ⊥
+      bounded moves cost leads traced under n is other =
           none moves []
           (λ plan vector is_plan is_rows. (
             Bounded (max (w.task.sum w.task.start) n) (Some (cost, plan)) (cause_at (end_at w lowest (Some goal))),
@@ -171,7 +174,7 @@ module _ (w : WorldState) (shaped : IsShaped w) (sound : IsSound w) (none : (mov
               Some goal,
               low,
               reached,
-              ((n, is, refl), record { goal = goal; is = refl; leads = subst (λ ms. LeadsAt ms cost) (sym is_plan) leads; within = under }, other, refl),
+              ((n, is, refl), record { goal = goal; is = refl; traced = subst TracedBy (sym is_plan) traced; leads = subst (λ ms. LeadsAt ms cost) (sym is_plan) leads; within = under }, other, refl),
             ),
           ))
 

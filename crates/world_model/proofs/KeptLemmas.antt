@@ -153,7 +153,7 @@ runs_within job via made w is run =
 within_reach : (w : WorldState) (lowest reached : Option ℕ) (cost : ℕ) (plan : Vec Move Global) → IsReached w reached → IsFollowedBack (end_at w lowest reached) cost plan.items → IsWithinReach w cost plan
 within_reach w lowest reached cost plan at followed =
     let there : IsReached w (Some followed.goal) = subst (IsReached w) followed.is at in
-    (followed.leads, (there.0.0, there.0.1, omega (arith, followed.within, there.0.2)))
+    (followed.leads, followed.traced, (there.0.0, there.0.1, omega (arith, followed.within, there.0.2)))
 
 pub plans_within : PlansAreWithinReach
 plans_within = (

@@ -7,7 +7,8 @@ use Rattle.board.specs.Plans.{Leads}
 use Rattle.board.proofs.PlanLemmas.{one_more}
 use Rattle.world_model.specs.declared.parts.Item.{Item}
 use Rattle.world_model.specs.declared.parts.Known.{Known}
-use Rattle.world_model.specs.KeptLaws.{IsByLastMoves, LastMovesLeadBack}
+use Rattle.world_model.specs.KeptLaws.{LastMovesLeadBack}
+use Rattle.world_model.specs.Outcomes.{IsByLastMoves}
 use Rattle.world_model.specs.Shapes.{IsShaped}
 use Rattle.world_model.specs.Soundness.{HasPredecessor, IsLedTo, IsSound}
 use Rattle.world_model.specs.Worlds.{IsUnderWay, Knows, WorldState}

@@ -53,6 +53,11 @@ pub record Small : Type 0 where
 abbrev pub worker_of : Small → WorkerState
 worker_of s = record { known = knowledge_of s.entries; held = s.held; unsent = s.unsent; purse = s.purse; allowance = s.allowance; expansions = s.expansions; best = s.best }
 
+-- what the first of some workers knows
+abbrev pub look_first : List Small → ℕ → Option Known
+look_first [] key = None
+look_first (x ∷ xs) key = look_up x.entries key
+
 pub if_kept : {A B : Type 0} (f : A → B) (b : Bool) (x y : A) → (if b then f x else f y) ≡ f (if b then x else y)
 if_kept f true x y = refl
 if_kept f false x y = refl

@@ -4,6 +4,7 @@ use Rattle.std.specs.Prelude.{⊤, Contains, if◌then◌else◌, ◌==◌, fold
 use Rattle.std.proofs.lemmas.Bool.{cases_lt, eqb-true, eqb-false}
 use Rattle.std.proofs.lemmas.Option.{slice_get-map, slice_get_within}
 use Rattle.std.proofs.lemmas.List.Elements.{Contains-push}
+use Rattle.board.specs.Keys.{key_of}
 use Rattle.board.specs.Positions.{Position, IsBoard}
 use Rattle.outcomes.specs.Outcomes.{Task}
 use Rattle.world_model.specs.declared.parts.Item.{Item}
@@ -20,13 +21,13 @@ use Rattle.world_model.specs.Steps.{ByWorker, Ends, IsRun, Next, OnBook, OnLane,
 use Rattle.world_model.specs.Turns.{Turn, turn}
 use Rattle.world_model.specs.WorkerSteps.{AtLane, DeliverStep, ExpandStep, SendStep, SettleStep}
 use Rattle.world_model.specs.Workers.{IsTaskBoard, Lane, Role, WorkerState}
-use Rattle.world_model.specs.Worlds.{IsLane, IsWorker, WorldState}
+use Rattle.world_model.specs.Worlds.{IsLane, IsWorker, Knows, WorldState}
 use Rattle.world_model.proofs.ListLemmas.{get_below}
 use Rattle.world_model.proofs.TableLemmas.{entry}
 use Rattle.world_model.proofs.ExpandLemmas.{Among}
 use Rattle.world_model.proofs.ExpandOffers.{offered_board}
 use Rattle.world_model.proofs.StepsShaped.{steps_shaped}
-use Rattle.world_model.proofs.SmallWorkers.{Entries, Small, worker_of, relax, small_successor, small_closed, small_expansion, AreBoards, open_list, open_there, IsLeastIn, least_is}
+use Rattle.world_model.proofs.SmallWorkers.{Entries, Small, worker_of, look_up, look_first, found, relax, small_successor, small_closed, small_expansion, AreBoards, open_list, open_there, IsLeastIn, least_is}
 use Rattle.world_model.proofs.SmallSteps.{any_over, expand_room, expand_by, IsLastOf, last_is, settle_by, send_entries, deliver_entries, draw_entries, announce_entries, grant_entries, rest_entries, halt_entries, Done, own_turn, LaneDone, lane_turn, BookDone, book_turn, small_expand, expand_is, small_settle, settle_is, small_send, send_is, small_deliver, deliver_is, small_draw, draw_is, small_announce, announce_is, small_grant, grant_is, small_rest, rest_is, small_halt, halt_is}
 
 get_none : {X : Type 0} (xs : List X) (i : ℕ) → slice_get xs i ≡ None → length xs ≤ i
@@ -110,6 +111,18 @@ module _ (task : Task) (owner : Position → ℕ) where
 
   pub worker_is : (s : SmallWorld) (i : ℕ) (x : Small) → slice_get s.workers i ≡ Some x → IsWorker (world_of s) i (worker_of x)
   worker_is s i x at = slice_get-map worker_of s.workers i ∙ ap (option_map worker_of) at
+
+  -- what a worker has among its entries it knows
+  pub known_in : (s : SmallWorld) (i : ℕ) (x : Small) (b : Position) (known : Known) → slice_get s.workers i ≡ Some x → IsTaskBoard task b → look_up x.entries (key_of b) ≡ Some known → Knows (world_of s) i b known
+  known_in s i x b known at board is = record { worker = worker_of x; is = worker_is s i x at; board = board; knows = found x.entries (key_of b) ∙ is }
+
+  -- the same of the first worker, computed
+  pub known_first : (s : SmallWorld) (b : Position) (known : Known) → look_first s.workers (key_of b) ≡ Some known → IsTaskBoard task b → Knows (world_of s) 0 b known
+  known_first s b known is board = first s.workers refl is
+    where
+      first : (workers : List Small) → s.workers ≡ workers → look_first workers (key_of b) ≡ Some known → Knows (world_of s) 0 b known
+      first [] same none = absurd (cc)
+      first (x ∷ xs) same there = known_in s 0 x b known (ap (λ (ws : List Small). slice_get ws 0) same) board there
 
   no_worker : (s : SmallWorld) (i : ℕ) → slice_get s.workers i ≡ None → length (world_of s).workers ≤ i
   no_worker s i none = let le = get_none s.workers i none in omega (arith, map_length worker_of s.workers)

@@ -11,7 +11,7 @@ use Rattle.board.specs.declared.moves.Move.{Move}
 use Rattle.world_model.specs.Frontiers.{IsLowest, IsReached}
 use Rattle.world_model.specs.Knowledge.{Knowledge, is_news, relaxation_at}
 use Rattle.world_model.specs.Openings.{IsJob, Job, opening}
-use Rattle.world_model.specs.Outcomes.{AreRowsFor, IsKnownBelow}
+use Rattle.world_model.specs.Outcomes.{AreRowsFor, IsByLastMoves, IsKnownBelow}
 use Rattle.world_model.specs.Shapes.{IsShaped}
 use Rattle.world_model.specs.Steps.{IsRun}
 use Rattle.world_model.specs.Worked.{BoardIsExpandedAgain, CutIsGiven, HaltIsGiven, LimitIsGiven, PlanIsGiven, RefusalsAreGiven, RefusalsOnTheWayAreGiven, RelaxationsLower, far_goal, one_move, one_way, other_way}
@@ -36,7 +36,7 @@ use Rattle.world_model.specs.declared.steps.Step.TheVariants.{Expand, Settle, Se
 use Rattle.world_model.proofs.OpeningLemmas.{opening_shaped}
 use Rattle.world_model.proofs.SmallWorkers.{In, Small, worker_of, look_up, found, current, current_complete}
 use Rattle.world_model.proofs.SmallSteps.{eq_tests, lt_tests, not_tests}
-use Rattle.world_model.proofs.SmallWorlds.{SmallWorld, AllBoards, boards_at, world_of, made, end_of, run_is}
+use Rattle.world_model.proofs.SmallWorlds.{SmallWorld, AllBoards, boards_at, known_first, world_of, made, end_of, run_is}
 use Rattle.world_model.proofs.SmallFrontiers.{in_place, in_contained, contained_in, small_worker, all_costs, least_number, lowest_is, reached_is}
 
 -- whether a list of numbers is a board's
@@ -308,6 +308,7 @@ plan_given plan rows moves listed = (
       record {
         goal = 1;
         is = refl;
+        traced = subst (λ ms. IsByLastMoves all_world one_move.task.start ms one_move.task.goal) (sym moves) (goal_of (grid_of 2 2), 1, record { cost = 1; expanded = false; via = L }, record { cell = 0; towards = (lit< tt, refl, refl); after = refl; cost = refl }, known_first one_move.task one_move.owner all_end (goal_of (grid_of 2 2)) (record { cost = 1; expanded = false; via = L }) refl (one_move_is.task.goal, refl), refl, refl);
         leads = subst (λ ms. Leads one_move.task.rule one_move.task.start ms one_move.task.goal 1) (sym moves) (goal_of (grid_of 2 2), 1, 0, record { cell = 0; towards = (lit< tt, refl, refl); after = refl; cost = refl }, (refl, refl), refl);
         within = omega arith;
       },

@@ -10,6 +10,8 @@ use Rattle.board.specs.declared.costs.TheConstants.{GREATEST_EXPANDED_COST}
 use Rattle.board.specs.declared.moves.Move.{Move}
 use Rattle.board.specs.declared.moves.Move.TheVariants.{U, L}
 use Rattle.board.specs.Positions.{Position, blank_of, goal_of}
+use Rattle.board.specs.CostRules.{CostRule}
+use Rattle.board.specs.Moves.{Moves}
 use Rattle.board.specs.Plans.{Leads}
 use Rattle.board.specs.Keys.{key_of}
 use Rattle.board.specs.Worked.{grid_of, two_by_two}
@@ -21,7 +23,7 @@ use Rattle.world_model.specs.Openings.{IsJob, Job, first_worker, idle_worker, op
 use Rattle.world_model.specs.Quiet.{HasBegun}
 use Rattle.world_model.specs.declared.steps.Stop.{Stop}
 use Rattle.world_model.specs.declared.steps.Stop.TheVariants.{Limit as StopLimit}
-use Rattle.world_model.specs.Outcomes.{AreRowsFor, IsKnownBelow}
+use Rattle.world_model.specs.Outcomes.{AreRowsFor, IsByLastMoves, IsKnownBelow}
 use Rattle.world_model.specs.Steps.{IsRun}
 use Rattle.world_model.specs.Worked.{first_half, one_move, plain_job}
 use Rattle.world_model.specs.WorkedOutcomes.{CostIsGiven, EmptyPlanIsGiven, JobsAreOfAllCounts, MemoryIsGiven, NoRowsAreGiven, OpeningsAreNotKept, PlanAboveIsGiven, StartIsGiven, ThreeRowsAreGiven, UnsolvableIsGiven, WorldsAreReached, far_start, halfway, known_start, two_expansions, two_moves}
@@ -30,9 +32,9 @@ use Rattle.world_model.proofs.TableLemmas.{get_inserted}
 use Rattle.world_model.proofs.SmallSteps.{lt_tests}
 use Rattle.world_model.specs.Worlds.{Knows, WorldState}
 use Rattle.world_model.proofs.RunLemmas.{runs_sound}
-use Rattle.world_model.proofs.SmallWorkers.{In, Small, current, current_complete, found, look_up, worker_of}
+use Rattle.world_model.proofs.SmallWorkers.{In, Small, current, current_complete, found, look_first, look_up, worker_of}
 use Rattle.world_model.proofs.SmallFrontiers.{contained_in, in_contained, in_place, small_worker}
-use Rattle.world_model.proofs.SmallWorlds.{AllBoards, SmallWorld, boards_at, end_of, made, run_is, world_of}
+use Rattle.world_model.proofs.SmallWorlds.{AllBoards, SmallWorld, boards_at, end_of, known_first, made, run_is, world_of}
 use Rattle.world_model.proofs.WorkedLemmas.{all_steps, all_world, board_is, lowest_by, one_end, one_lowest, one_move_is, one_reached, one_run, reached_by, run_by, small_opening, two_shape}
 
 abbrev second_steps : List Step
@@ -92,7 +94,7 @@ empty_given plan rows moves listed =
         reached_by empty_job empty_is refl boards empty_steps _ refl,
         (
           (0, refl, refl),
-          record { goal = 0; is = refl; leads = subst (λ ms. Leads empty_job.task.rule empty_job.task.start ms empty_job.task.goal 0) (sym moves) (refl, refl); within = omega arith },
+          record { goal = 0; is = refl; traced = subst (λ ms. IsByLastMoves (world_of empty_job.task empty_job.owner (end_of empty_job.task empty_job.owner empty_steps (small_opening empty_job))) empty_job.task.start ms empty_job.task.goal) (sym moves) refl; leads = subst (λ ms. Leads empty_job.task.rule empty_job.task.start ms empty_job.task.goal 0) (sym moves) (refl, refl); within = omega arith },
           inl (omega arith, listed),
         ),
       ),
@@ -128,6 +130,42 @@ leads_twice = (
   refl,
 )
 
+abbrev known_as : ℕ → Bool → Move → Known
+known_as cost expanded via = record { cost = cost; expanded = expanded; via = via }
+
+-- the two last moves lead back to the start
+traced_twice : (w : WorldState) → w.task.rule ≡ two_moves.task.rule → Knows w (w.owner (two_by_two 1 3 0 2)) (two_by_two 1 3 0 2) (known_as 1 true L) → Knows w (w.owner (two_by_two 0 3 1 2)) (two_by_two 0 3 1 2) (known_as 2 false U) → IsByLastMoves w (two_by_two 1 3 2 0) (L ∷ U ∷ []) (two_by_two 0 3 1 2)
+traced_twice w same first second = (
+  two_by_two 1 3 0 2,
+  1,
+  known_as 1 true L,
+  subst (λ (rule : CostRule). Moves rule (two_by_two 1 3 2 0) L (two_by_two 1 3 0 2) 1) (sym same) (record { cell = 2; towards = (lit< tt, refl, refl); after = refl; cost = refl }),
+  first,
+  refl,
+  (
+    two_by_two 0 3 1 2,
+    1,
+    known_as 2 false U,
+    subst (λ (rule : CostRule). Moves rule (two_by_two 1 3 0 2) U (two_by_two 0 3 1 2) 1) (sym same) (record { cell = 0; towards = (lit< tt, refl, refl); after = refl; cost = refl }),
+    second,
+    refl,
+    refl,
+  ),
+)
+
+half_board : IsTaskBoard two_moves.task (two_by_two 1 3 0 2)
+half_board = (board_is (two_by_two 1 3 0 2) two_shape refl refl refl, refl)
+
+-- the world in which a job of these two moves ends, traced
+traced_at : (job : Job) (s : SmallWorld) → job.task.rule ≡ two_moves.task.rule → job.task.goal ≡ two_moves.task.goal → look_first s.workers (key_of (two_by_two 1 3 0 2)) ≡ Some (known_as 1 true L) → look_first s.workers (key_of (two_by_two 0 3 1 2)) ≡ Some (known_as 2 false U) → job.owner (two_by_two 1 3 0 2) ≡ 0 → job.owner (two_by_two 0 3 1 2) ≡ 0 → (moves : List Move) → moves ≡ L ∷ U ∷ [] → IsByLastMoves (world_of job.task job.owner s) (two_by_two 1 3 2 0) moves (two_by_two 0 3 1 2)
+traced_at job s rule goal first second own own' moves is =
+    let sides = ap (λ (b : Position). b.grid) (sym goal) in
+    let w = world_of job.task job.owner s in
+    subst (λ (ms : List Move). IsByLastMoves w (two_by_two 1 3 2 0) ms (two_by_two 0 3 1 2)) (sym is)
+    (traced_twice w rule
+    (subst (λ (i : ℕ). Knows w i (two_by_two 1 3 0 2) (known_as 1 true L)) (sym own) (known_first job.task job.owner s (two_by_two 1 3 0 2) (known_as 1 true L) first (half_board.0, sides)))
+    (subst (λ (i : ℕ). Knows w i (two_by_two 0 3 1 2) (known_as 2 false U)) (sym own') (known_first job.task job.owner s (two_by_two 0 3 1 2) (known_as 2 false U) second (two_is.task.goal, sides))))
+
 pub above_given : PlanAboveIsGiven
 above_given plan moves = (
   world_of two_moves.task two_moves.owner (end_of two_moves.task two_moves.owner two_expansions (small_opening two_moves)),
@@ -137,7 +175,7 @@ above_given plan moves = (
     Some 2,
     lowest_by two_moves two_is refl two_boards two_expansions,
     reached_by two_moves two_is refl two_boards two_expansions _ refl,
-    ((1, refl, refl), record { goal = 2; is = refl; leads = subst LeadsTwice (sym moves) leads_twice; within = omega arith }, (λ e. omega (arith, e)), refl),
+    ((1, refl, refl), record { goal = 2; is = refl; traced = traced_at two_moves (end_of two_moves.task two_moves.owner two_expansions (small_opening two_moves)) refl refl refl refl refl refl plan.items moves; leads = subst LeadsTwice (sym moves) leads_twice; within = omega arith }, (λ e. omega (arith, e)), refl),
   ),
 )
 
@@ -161,7 +199,7 @@ no_rows_given plan rows moves listed = (
     Some 2,
     lowest_by known_start known_is refl known_boards two_expansions,
     reached_by known_start known_is refl known_boards two_expansions _ refl,
-    ((1, refl, refl), record { goal = 2; is = refl; leads = subst LeadsTwice (sym moves) leads_twice; within = omega arith }, inl (omega arith, listed)),
+    ((1, refl, refl), record { goal = 2; is = refl; traced = traced_at known_start (end_of known_start.task known_start.owner two_expansions (small_opening known_start)) refl refl refl refl refl refl plan.items moves; leads = subst LeadsTwice (sym moves) leads_twice; within = omega arith }, inl (omega arith, listed)),
   ),
 )
 
@@ -246,9 +284,6 @@ three_end = end_of two_moves.task two_moves.owner three_steps (small_opening two
 
 abbrev three_world : WorldState
 three_world = world_of two_moves.task two_moves.owner three_end
-
-abbrev known_as : ℕ → Bool → Move → Known
-known_as cost expanded via = record { cost = cost; expanded = expanded; via = via }
 
 three_small : Small
 three_small = record {
@@ -359,7 +394,7 @@ three_given plan rows moves listed = (
     reached_by two_moves two_is refl two_boards three_steps _ refl,
     (
       (2, refl, refl),
-      record { goal = 2; is = refl; leads = subst LeadsTwice (sym moves) leads_twice; within = omega arith },
+      record { goal = 2; is = refl; traced = traced_at two_moves three_end refl refl refl refl refl refl plan.items moves; leads = subst LeadsTwice (sym moves) leads_twice; within = omega arith },
       subst (AreRowsFor three_world 2) (sym listed) (inr (omega arith, record { rising = rows_rise; each = λ b cost. (rows_listed b cost, rows_alone b cost) })),
     ),
   ),

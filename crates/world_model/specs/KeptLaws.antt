@@ -1,11 +1,10 @@
 -- The laws of worlds whose outcome is a run's own: what quiet and kept worlds give, and which cause a bound has.
-use Rattle.std.specs.Prelude.{◌≡◌, ◌≢◌, ◌⊎◌, ℕ, ◌+◌, ◌*◌, ◌-◌, ◌^◌, ◌≤◌, ◌<◌, false, List, [], ◌∷◌, length, Contains, Vec, Option, Some, None, slice_get}
+use Rattle.std.specs.Prelude.{◌≡◌, ◌≢◌, ◌⊎◌, ℕ, ◌+◌, ◌*◌, ◌-◌, ◌^◌, ◌≤◌, ◌<◌, false, List, length, Contains, Vec, Option, Some, None, slice_get}
 use Rattle.std.specs.declared.alloc.Global.{Global}
 use Rattle.memory.specs.declared.OutOfMemory.{OutOfMemory}
 use Rattle.board.specs.declared.costs.TheConstants.{GREATEST_COST}
 use Rattle.board.specs.declared.moves.Move.{Move}
 use Rattle.board.specs.Positions.{Position}
-use Rattle.board.specs.Moves.{Moves}
 use Rattle.board.specs.Plans.{Leads}
 use Rattle.board.specs.Rows.{IsLowerBound}
 use Rattle.outcomes.specs.declared.outcome.Cause.{Cause}
@@ -31,7 +30,7 @@ use Rattle.world_model.specs.Shapes.{IsShaped}
 use Rattle.world_model.specs.Soundness.{IsSound}
 use Rattle.world_model.specs.Credit.{IsCredited, purse_total, packet_count, expansion_count}
 use Rattle.world_model.specs.Quiet.{IsQuiet, IsKept, HasBegun}
-use Rattle.world_model.specs.Outcomes.{IsGiven}
+use Rattle.world_model.specs.Outcomes.{IsByLastMoves, IsGiven}
 
 -- in a quiet world nothing is under way, and no credit is left
 abbrev pub QuietWorldsAreAtRest : Type 0
@@ -108,12 +107,6 @@ RunsStayWithinLimits =
     × ((i : ℕ) (b : Position) (known : Known) → Knows w i b known → (w.owner b ≡ i) × (known.cost ≤ GREATEST_COST) × (b ≡ w.task.goal → known.expanded ≡ false))
     × ((to : ℕ) (item : Item) → IsUnderWay w to item → IsTaskBoard w.task item.board × (w.owner item.board ≡ to) × (item.cost ≤ GREATEST_COST))
 
--- each move of the plan from one board to another is the last move with which the board that it leads to is known to its owner
-abbrev pub IsByLastMoves : WorldState → Position → List Move → Position → Type 0
-IsByLastMoves w b [] q = b ≡ q
-IsByLastMoves w b (m ∷ plan) q =
-    (next : Position) × (c : ℕ) × (known : Known) × Moves w.task.rule b m next c × Knows w (w.owner next) next known × (known.via ≡ m) × IsByLastMoves w next plan q
-
 -- from each board that a sound world knows last moves lead back to the start, along a plan that costs no more than is known
 abbrev pub LastMovesLeadBack : Type 0
 LastMovesLeadBack =
@@ -124,10 +117,12 @@ LastMovesLeadBack =
     → Knows w i b known
     → (plan : List Move) × (cost : ℕ) × Leads w.task.rule w.task.start plan b cost × (cost ≤ known.cost) × IsByLastMoves w w.task.start plan b
 
--- the plan leads to the goal at this cost, and the goal is known to its owner at no less
+-- the plan leads to the goal at this cost by last moves, and the goal is known to its owner at no less
 abbrev pub IsWithinReach : WorldState → ℕ → Vec Move Global → Type 0
 IsWithinReach w cost plan =
-    Leads w.task.rule w.task.start plan.items w.task.goal cost × ((known : Known) × Knows w (w.owner w.task.goal) w.task.goal known × (cost ≤ known.cost))
+    Leads w.task.rule w.task.start plan.items w.task.goal cost
+    × IsByLastMoves w w.task.start plan.items w.task.goal
+    × ((known : Known) × Knows w (w.owner w.task.goal) w.task.goal known × (cost ≤ known.cost))
 
 -- each plan that a world gives is such a one
 abbrev pub PlansAreWithinReach : Type 0

@@ -1,9 +1,10 @@
 -- Which outcome a world gives, at any moment.
-use Rattle.std.specs.Prelude.{ℕ, ◌≡◌, ◌≢◌, ◌⊎◌, ◌↔◌, ◌+◌, ◌≤◌, ◌<◌, nat_lt, max, Bool, true, List, [], AllPairs, Contains, Option, Some, None, if◌then◌else◌}
+use Rattle.std.specs.Prelude.{ℕ, ◌≡◌, ◌≢◌, ◌⊎◌, ◌↔◌, ◌+◌, ◌≤◌, ◌<◌, nat_lt, max, Bool, true, List, [], ◌∷◌, AllPairs, Contains, Option, Some, None, if◌then◌else◌}
 use Rattle.memory.specs.declared.OutOfMemory.{OutOfMemory}
 use Rattle.board.specs.declared.costs.TheConstants.{GREATEST_EXPANDED_COST}
 use Rattle.board.specs.declared.moves.Move.{Move}
 use Rattle.board.specs.Positions.{Position}
+use Rattle.board.specs.Moves.{Moves}
 use Rattle.board.specs.Plans.{Leads}
 use Rattle.board.specs.Keys.{key_of}
 use Rattle.outcomes.specs.declared.outcome.Why.TheVariants.{Exhausted}
@@ -33,10 +34,17 @@ floor end = lesser end.lowest end.reached
 abbrev pub IsBoundOf : End → ℕ → Type 0
 IsBoundOf end bound = (n : ℕ) × (floor end ≡ Some n) × (bound ≡ max (end.world.task.sum end.world.task.start) n)
 
--- a plan that leads from the start to the goal at this cost, which is no more than that at which the goal is known
+-- each move of the plan from one board to another is the last move with which the board that it leads to is known to its owner
+abbrev pub IsByLastMoves : WorldState → Position → List Move → Position → Type 0
+IsByLastMoves w b [] q = b ≡ q
+IsByLastMoves w b (m ∷ plan) q =
+    (next : Position) × (c : ℕ) × (known : Known) × Moves w.task.rule b m next c × Knows w (w.owner next) next known × (known.via ≡ m) × IsByLastMoves w next plan q
+
+-- the plan that last moves make from the start to the goal; its cost is no more than that at which the goal is known
 pub record IsFollowedBack (end : End) (cost : ℕ) (plan : List Move) : Type 0 where
   pub goal : ℕ
   pub is : end.reached ≡ Some goal
+  pub traced : IsByLastMoves end.world end.world.task.start plan end.world.task.goal
   pub leads : Leads end.world.task.rule end.world.task.start plan end.world.task.goal cost
   pub within : cost ≤ goal
 
