@@ -73,6 +73,51 @@ fn a_board_that_is_met_again(rt: HostRuntime) -> Result<(), Fail> {
     Ok(())
 }
 
+// The board at a place is closed; None where there is no such place.
+fn close_at(table: &mut Closed, place: usize) -> Option<()> {
+    if place >= table.len() {
+        return None;
+    }
+    table.mark_expanded_at(place);
+    Some(())
+}
+
+// Whether the board with a key is closed; None where it is unknown.
+fn is_closed(table: &Closed, key: u128) -> Option<bool> {
+    Some(table.get(key)?.expanded)
+}
+
+#[test]
+fn boards_that_are_closed_at_their_places(rt: HostRuntime) -> Result<(), Fail> {
+    let mut table = Closed::new(rt.alloc());
+    for (key, place) in [(7, 0), (9, 1), (8, 2)] {
+        assert_eq!(rt;
+            meet(rt.alloc(), &mut table, key, 5, Move::U),
+            Some(('N', place))
+        );
+    }
+    // The place, whether there is one, and which boards are closed after it.
+    for (place, is_there, closed) in [
+        (1, true, [false, true, false]),
+        (3, false, [false, true, false]),
+        (0, true, [true, true, false]),
+        (0, true, [true, true, false]),
+    ] {
+        assert_eq!(rt; close_at(&mut table, place).is_some(), is_there);
+        for (key, is) in [7, 9, 8].into_iter().zip(closed) {
+            assert_eq!(rt; is_closed(&table, key), Some(is));
+        }
+        assert_eq!(rt; at(&table, 1), Some((9, 5)));
+    }
+    // One that is met at a lower cost is open again, at its place.
+    assert_eq!(rt;
+        meet(rt.alloc(), &mut table, 9, 4, Move::D),
+        Some(('L', 1))
+    );
+    assert_eq!(rt; is_closed(&table, 9), Some(false));
+    Ok(())
+}
+
 // The next of a row of pseudo-random numbers (Marsaglia 2003).
 fn draw(state: u64) -> u64 {
     let mut next = state;

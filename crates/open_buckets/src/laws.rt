@@ -1,8 +1,14 @@
-//! The law of open lists: the contract of a function that does nothing.
+//! The laws of open lists, which are contracts of functions that do nothing.
 
-ghost use Rattle.open_buckets.specs.Laws.{TheNextIsTaken};
+ghost use Rattle.open_buckets.specs.Laws.{TheNextIsTaken, TheLastPutIsTaken};
 
 /// The entry that is taken is the one that was looked at.
 pub fn the_next_is_taken<K: Copy>()
     ensures { TheNextIsTaken K }
+{}
+
+/// What is taken where an entry was put is that entry, and then all entries are as before it, and no
+/// place is lost.
+pub fn the_last_put_is_taken<K: Copy>()
+    ensures { TheLastPutIsTaken K }
 {}
