@@ -9,6 +9,8 @@ use std::process::ExitCode;
 
 const FACTOR: u128 = 0x9E37_79B9_7F4A_7C15_F39C_C060_5CED_C835;
 const PAGE: usize = 4096;
+const FIRST_AHEAD: usize = 6;
+const SECOND_AHEAD: usize = 3;
 
 #[derive(Clone, Copy, PartialEq)]
 enum Answer {
@@ -139,20 +141,24 @@ impl Closed {
         None
     }
 
+    fn set_link(&mut self, place: usize, slot: Slot, link: u32) {
+        if slot.next != link {
+            self.slots.set(place, Slot { next: link, ..slot });
+        }
+    }
+
     fn relink(&mut self, chains: usize, from: usize, link: u32) -> (Head, Head) {
         if link == 0 {
             return (NO_HEAD, NO_HEAD);
         }
         let place = link as usize - 1;
-        let mut slot = self.slots.get(place);
+        let slot = self.slots.get(place);
         let halves = self.relink(chains, from, slot.next);
         if chain_of(slot.hash, self.bits, chains + 1) == from {
-            slot.next = halves.0.first;
-            self.slots.set(place, slot);
+            self.set_link(place, slot, halves.0.first);
             (with_first(halves.0, link, slot.hash), halves.1)
         } else {
-            slot.next = halves.1.first;
-            self.slots.set(place, slot);
+            self.set_link(place, slot, halves.1.first);
             (halves.0, with_first(halves.1, link, slot.hash))
         }
     }
@@ -184,19 +190,13 @@ impl Closed {
         self.len = place + 1;
     }
 
-    fn first_link(&self, chain: usize, bit: u32) -> u32 {
-        if chain >= self.len {
-            return 0;
-        }
-        let head = self.heads.get(chain);
-        if head.filter & bit == 0 { 0 } else { head.first }
+    fn first_link(&self, chain: usize) -> u32 {
+        self.heads.get(chain.min(self.len - 1)).first
     }
 
     fn link_after(&self, link: u32) -> u32 {
-        if link == 0 || link as usize > self.len {
-            return 0;
-        }
-        self.slots.get(link as usize - 1).next
+        let place = link.saturating_sub(1) as usize;
+        self.slots.get(place.min(self.len - 1)).next
     }
 }
 
@@ -232,17 +232,20 @@ impl Table for Closed {
     }
 
     fn read_ahead(&mut self, keys: &[u128]) {
-        let mut links = [0u32; 8];
-        let mut count = 0usize;
-        let divided = self.len.wrapping_sub((1 << self.bits) / 2);
-        for key in keys {
-            let hash = hash_of(*key);
-            links[count & 7] = self.first_link(chain_of(hash, self.bits, self.len), 1 << (hash >> 27));
-            count += 1;
-            links[count & 7] = self.first_link(divided.wrapping_add(count / 2), u32::MAX);
-            count += 1;
+        if self.len == 0 {
+            self.ahead = 0;
+            return;
         }
-        self.ahead = links.iter().fold(0, |all, link| all ^ self.link_after(*link));
+        let mut all = 0;
+        let mut divided = self.len - (1 << self.bits) / 2;
+        for key in keys {
+            all ^= self.link_after(self.first_link(divided.wrapping_add(FIRST_AHEAD)));
+            let first = self.first_link(divided.wrapping_add(SECOND_AHEAD));
+            all ^= self.link_after(self.link_after(first));
+            all ^= self.first_link(chain_of(hash_of(*key), self.bits, self.len));
+            divided = divided.wrapping_add(1);
+        }
+        self.ahead = all;
     }
 
     fn len(&self) -> usize {

@@ -2,6 +2,7 @@
 
 ghost use Rattle.std.specs.Prelude.{◌≡◌, ◌≢◌, ◌<◌, ◌≤◌, ◌+◌, ◌-◌, ◌/◌, ◌^◌, ◌++◌, ◌∷◌, [], ℕ};
 ghost use Rattle.std.specs.Prelude.{false, length, List, map, MatchOption, OnOk};
+ghost use Rattle.std.specs.Prelude.{slice_index_or, slice_set};
 ghost use Rattle.world_model.specs.declared.parts.Known.{Known};
 ghost use Rattle.closed_table.specs.Chains.{hash_of, place, head_with, IsIndexed, key_at};
 ghost use Rattle.closed_table.specs.Chains.{without_link, rows_of, IsRelinked, MayBeRelinked};
@@ -121,56 +122,60 @@ pub(crate) fn find(index: &Index, key: u128, hash: u32) -> Option<usize>
     None
 }
 
-// The first link of a chain that may have a hash, or 0.
-fn first_link(index: &Index, chain: usize, bit: u32) -> u32
-    requires { index.now.len ≤ length index.now.heads }
+// The first link of a chain, or of the last one where there are not so many.
+fn first_link(index: &Index, chain: usize) -> u32
+    requires some { 0 < index.now.len }
+    requires heads { index.now.len ≤ length index.now.heads }
 {
-    if chain >= index.len {
-        return 0;
-    }
-    let head = index.heads.get(chain);
-    if head.filter & bit == 0 {
-        0
-    } else {
-        head.first
-    }
+    index.heads.get(chain.min(index.len - 1)).first
 }
 
-// The link of a slot.
+// The link of the slot to which a link leads, or of some slot where it leads to none: no branch
+// waits for what was read.
 fn link_after(index: &Index, link: u32) -> u32
-    requires { index.now.len ≤ length index.now.slots }
+    requires some { 0 < index.now.len }
+    requires slots { index.now.len ≤ length index.now.slots }
 {
-    if link == 0 || link as usize > index.len {
-        return 0;
-    }
-    index.slots.get(link as usize - 1).next
+    let place = link.saturating_sub(1) as usize;
+    index.slots.get(place.min(index.len - 1)).next
 }
 
-// Reads what `find` will read of these keys, and what `add` will read of the chains that come next
-// to be divided, so that the reads of memory overlap. The answer means nothing.
+// How many chains before it is divided a chain's first slot is read ahead, and its second one.
+const FIRST_AHEAD: usize = 6;
+
+const SECOND_AHEAD: usize = 3;
+
+// Reads the heads that `find` will read of these keys, and the slots that `add` will read of the
+// chains that come next to be divided, so that the reads of memory overlap. The answer means
+// nothing.
 pub(crate) fn read_ahead(index: &Index, keys: &[u128]) -> u32
     requires indexed { IsIndexed index.now.slots index.now.heads index.now.len index.now.len
         index.now.bits }
 {
-    let mut links = [0u32; 8];
-    let mut count = 0usize;
-    let divided = index.len.wrapping_sub((1usize << index.bits) / 2);
-    'keys: for key in keys {
-        let hash = hash(*key);
-        links[count & 7] = first_link(
-            index,
-            chain_of(hash, index.bits, index.len),
-            1u32 << (hash >> 27),
-        );
-        count = count.wrapping_add(1);
-        links[count & 7] = first_link(index, divided.wrapping_add(count / 2), 4_294_967_295);
-        count = count.wrapping_add(1);
+    if index.len == 0 {
+        return 0;
     }
     let mut all = 0;
-    'links: for link in links {
-        all ^= link_after(index, link);
+    let mut divided = index.len - (1usize << index.bits) / 2;
+    'keys: for key in keys {
+        all ^= link_after(index, first_link(index, divided.wrapping_add(FIRST_AHEAD)));
+        let first = first_link(index, divided.wrapping_add(SECOND_AHEAD));
+        all ^= link_after(index, link_after(index, first));
+        all ^= first_link(index, chain_of(hash(*key), index.bits, index.len));
+        divided = divided.wrapping_add(1);
     }
     all
+}
+
+// Gives a slot this link, and writes nothing where it has it.
+fn set_link(slots: &mut Pages<Slot>, place: usize, slot: Slot, link: u32)
+    requires within { place < length slots.old }
+    requires slot { slot ≡ slice_index_or slots.old place slot }
+    ensures { slots.new ≡ slice_set slots.old place (record slot { next = link }) }
+{
+    if slot.next != link {
+        slots.set(place, Slot { next: link, ..slot });
+    }
 }
 
 // Divides what is left of a chain, from a link on, in two: the slots that stay, and those that
@@ -192,15 +197,13 @@ fn relink(slots: &mut Pages<Slot>, bits: u32, chains: usize, from: usize, link: 
         );
     }
     let place = link as usize - 1;
-    let mut slot = slots.get(place);
+    let slot = slots.get(place);
     let halves = relink(slots, bits, chains, from, slot.next);
     if chain_of(slot.hash, bits, chains + 1) == from {
-        slot.next = halves.0.first;
-        slots.set(place, slot);
+        set_link(slots, place, slot, halves.0.first);
         (with_first(halves.0, link, slot.hash), halves.1)
     } else {
-        slot.next = halves.1.first;
-        slots.set(place, slot);
+        set_link(slots, place, slot, halves.1.first);
         (halves.0, with_first(halves.1, link, slot.hash))
     }
 }

@@ -110,10 +110,7 @@ fn boards_that_are_closed_at_their_places(rt: HostRuntime) -> Result<(), Fail> {
         assert_eq!(rt; at(&table, 1), Some((9, 5)));
     }
     // One that is met at a lower cost is open again, at its place.
-    assert_eq!(rt;
-        meet(rt.alloc(), &mut table, 9, 4, Move::D),
-        Some(('L', 1))
-    );
+    assert_eq!(rt; meet(rt.alloc(), &mut table, 9, 4, Move::D), Some(('L', 1)));
     assert_eq!(rt; is_closed(&table, 9), Some(false));
     Ok(())
 }
