@@ -4,3 +4,4 @@ pub mod FindLemmas
 pub mod RelinkLemmas
 pub mod IndexLemmas
 pub mod TableLemmas
+pub mod SlotLemmas
