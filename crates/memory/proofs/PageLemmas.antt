@@ -1,11 +1,11 @@
 -- A list that stands in pages: the item at a place, and a change there.
-use Rattle.std.proofs.Common.{◌≡◌, ℕ, ◌+◌, ◌-◌, ◌*◌, ◌<◌, ◌≤◌, ◌∙◌, zero, suc, List, [], ◌∷◌, ◌++◌, length, get_or, sym, ap, arith, length-append, length-set, zero-mul}
+use Rattle.std.proofs.Common.{◌≡◌, ℕ, ◌+◌, ◌-◌, ◌*◌, ◌/◌, ◌%◌, ◌<◌, ◌≤◌, ◌∙◌, zero, suc, List, [], ◌∷◌, ◌++◌, length, get_or, sym, ap, subst, arith, length-append, length-set, zero-mul}
 use Rattle.std.specs.Prelude.{set}
 use Rattle.std.specs.List.{AllByRecursion}
-use Rattle.std.specs.Vec.{with_item}
+use Rattle.std.specs.Vec.{vec_len, with_item}
 use Rattle.std.specs.declared.vec.Vec.{Vec}
 use Rattle.std.proofs.lemmas.List.{get_or_append_left, get_or-append-add, set-append_left, set-append_right}
-use Rattle.memory.specs.Pages.{items_of}
+use Rattle.memory.specs.Pages.{items_of, ArePages}
 
 -- each page has this many items
 abbrev pub HaveSize : {T Z : Type 0} → ℕ → List (Vec T Z) → Type 0
@@ -64,3 +64,36 @@ size_of_page size (p ∷ ps) (suc q) e full lt =
 pub page_more : {T Z : Type 0} (size : ℕ) (ps : List (Vec T Z)) (p : Vec T Z) → HaveSize size ps → length p.items ≡ size → HaveSize size (ps ++ p ∷ [])
 page_more size [] p full here = (here, tt)
 page_more size (q ∷ ps) p full here = (full.0, page_more size ps p full.1 here)
+
+-- a place in the list is that of an item in a page
+module _ {T Z : Type 0} (ps : List (Vec T Z)) (pages : ArePages ps) (xs : List T) (view : items_of ps ≡ xs) (place : ℕ) (lt : place < length xs) where
+  pub has_page : place / 4096 < length ps
+  has_page =
+      let size : length xs ≡ length ps * 4096 = ap length (sym view) ∙ length_of_pages 4096 ps pages.full in
+      omega arith
+
+  pub in_page : (page : Vec T Z) → page ≡ get_or ps (place / 4096) page → place % 4096 < vec_len page
+  in_page page is =
+      let full : length page.items ≡ 4096 = ap (λ p. length p.items) is ∙ size_of_page 4096 ps (place / 4096) page pages.full has_page in
+      let len : vec_len page ≡ length page.items = page.ok.0 in
+      omega arith
+
+  pub item_there : (page : Vec T Z) (item : T) → page ≡ get_or ps (place / 4096) page → get_or page.items (place % 4096) item ≡ get_or xs place item
+  item_there page item is =
+      let cut : place / 4096 * 4096 + place % 4096 ≡ place = omega arith in
+      ap (λ p. get_or p.items (place % 4096) item) is ∙ sym (at_page 4096 ps (place / 4096) (place % 4096) page item pages.full has_page (omega arith)) ∙ ap (λ i. get_or (items_of ps) i item) cut ∙ ap (λ ys. get_or ys place item) view
+
+  module _ (page : Vec T Z) (item : T) (is : page ≡ get_or ps (place / 4096) page) where
+    pub put_there : items_of (set ps (place / 4096) (with_item page (place % 4096) item)) ≡ set xs place item
+    put_there =
+        let cut : place / 4096 * 4096 + place % 4096 ≡ place = omega arith in
+        ap (λ p. items_of (set ps (place / 4096) (with_item p (place % 4096) item))) is ∙ put_page 4096 ps (place / 4096) (place % 4096) page item pages.full has_page (omega arith)
+        ∙ ap (λ i. set (items_of ps) i item) cut ∙ ap (λ ys. set ys place item) view
+
+    pub pages_there : ArePages (set ps (place / 4096) (with_item page (place % 4096) item))
+    pages_there =
+        let same : length (set ps (place / 4096) (with_item page (place % 4096) item)) ≡ length ps = length-set ps (place / 4096) (with_item page (place % 4096) item) in
+        record {
+          full = subst (λ (p : Vec T Z). HaveSize 4096 (set ps (place / 4096) (with_item p (place % 4096) item))) (sym is) (size_kept 4096 ps (place / 4096) (place % 4096) page item pages.full has_page);
+          few = subst (λ (n : ℕ). n ≤ 1048576) (sym same) pages.few;
+        }
