@@ -128,8 +128,11 @@ impl Board {
         requires { (b : Position) × HasKey shape key b }
         ensures { HasKey shape key result }
     {
-        let tiles = last_digits(shape.cells(), key);
-        Board { shape, tiles }
+        let digits = last_digits(shape.cells(), key);
+        Board {
+            shape,
+            tiles: digits,
+        }
     }
 
     /// The numbers on the cells, from cell 0 on.

@@ -7,7 +7,7 @@ ghost use Rattle.successor_sums.specs.Ranks.{AreRanks, sum_at};
 
 use database_build::{NO_VALUE, Table};
 
-/// The most tables that a bound may have.
+// The most tables that a bound may have.
 pub(crate) const MOST_TABLES: usize = 24;
 
 // The rank in each table of what its group sees of a board, by the cell of each number.
