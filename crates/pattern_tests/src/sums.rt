@@ -11,6 +11,7 @@ use plain_search::solve;
 use std::alloc::Global;
 use std::process::Abort;
 use std::test::Fail;
+use successor_sums::UnpackedBoard;
 
 // The groups of these tiles.
 fn partition_of(alloc: Global, shape: Shape, tiles: &[&[u8]]) -> Result<Partition, Fail>
@@ -48,6 +49,32 @@ fn the_hardest_board_of_three_by_three(rt: HostRuntime) -> Result<(), Fail> {
     for (weights, sum) in [(Weights::unit(shape), 21), (Weights::face(shape), 97)] {
         let bound = bound_of(rt.alloc(), &goal, &weights, &singles)?;
         assert!(rt; bound.of(&start) == sum && bound.of(&goal) == 0);
+    }
+    Ok(())
+}
+
+// The blank can't go up. To the left and to the right a tile comes one cell nearer to its own, and
+// below tile 4 leaves its own.
+#[test]
+fn successors_of_the_hardest_board(rt: HostRuntime) -> Result<(), Fail> {
+    let shape = Shape::new(3, 3)?;
+    let weights = Weights::unit(shape);
+    let singles: [&[u8]; 8] = [&[1], &[2], &[3], &[4], &[5], &[6], &[7], &[8]];
+    let bound = bound_of(rt.alloc(), &Board::goal(shape), &weights, &singles)?;
+    let start = Board::from_tiles(shape, &[8, 0, 6, 5, 4, 7, 2, 3, 1])?;
+    let unpacked = UnpackedBoard::new(&start);
+    assert!(rt; unpacked.key() == start.key() && *unpacked.board() == start);
+    assert!(rt; unpacked.sum(&bound) == 21);
+    let [up, left, right, down] = unpacked.successors(&weights, &bound);
+    assert!(rt; up.is_none());
+    for (told, tiles, sum) in [
+        (left, [0, 8, 6, 5, 4, 7, 2, 3, 1], 20),
+        (right, [8, 6, 0, 5, 4, 7, 2, 3, 1], 20),
+        (down, [8, 4, 6, 5, 0, 7, 2, 3, 1], 22),
+    ] {
+        let successor = told.ok_or("the blank stays on the board")?;
+        let key = Board::from_tiles(shape, &tiles)?.key();
+        assert!(rt; successor.key == key && successor.cost == 1 && successor.sum == sum);
     }
     Ok(())
 }
