@@ -1,6 +1,15 @@
 //! The laws of sums: each is the contract of a function that does nothing.
 
+ghost use Rattle.std.specs.Prelude.{◌≡◌, ◌*◌};
 ghost use Rattle.lower_bound.specs.Laws.{SumsAreLowerBounds, TablesAreLowerBounds};
+
+use crate::bound::GREATEST_SUM;
+use database_build::NO_VALUE;
+
+/// The greatest sum is that of 24 values, as many as a partition may have groups.
+pub fn greatest_sum_is_of_24_values()
+    ensures { GREATEST_SUM ≡ 24 * NO_VALUE }
+{}
 
 /// A sum of potentials of groups that share no tile is admissible: never above the cost of a plan.
 pub fn sums_are_lower_bounds()
