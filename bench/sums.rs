@@ -33,12 +33,16 @@ struct Table {
 
 struct Successor {
     key: u128,
+    tile: u8,
+    cell: usize,
     cost: u32,
     sum: u32,
 }
 
 struct Reached {
     key: u128,
+    tile: u8,
+    cell: usize,
     cost: u32,
     ranks: [u32; MOST_TABLES],
 }
@@ -154,7 +158,13 @@ impl UnpackedBoard {
         for (rank, table) in ranks.iter_mut().zip(tables) {
             *rank = table.group.rank_at(&cells) as u32;
         }
-        Some(Reached { key, cost, ranks })
+        Some(Reached {
+            key,
+            tile,
+            cell: to,
+            cost,
+            ranks,
+        })
     }
 }
 
@@ -166,6 +176,8 @@ fn look_up(tables: &[Table], reached: &Option<Reached>) -> Option<Successor> {
     }
     Some(Successor {
         key: found.key,
+        tile: found.tile,
+        cell: found.cell,
         cost: found.cost,
         sum,
     })
@@ -222,13 +234,18 @@ fn expand_all(shape: Shape, tables: &[Table], keys: &[u128], rounds: u32) -> u64
         for key in keys {
             let board = UnpackedBoard::of_key(shape, *key);
             for successor in board.successors(&weights, tables).iter().flatten() {
-                let folded = successor.key as u64 ^ (successor.key >> 64) as u64;
-                let more = folded ^ (successor.cost as u64) << 32 ^ successor.sum as u64;
-                check = check.wrapping_mul(31).wrapping_add(more);
+                check = check.wrapping_mul(31).wrapping_add(folded(successor));
             }
         }
     }
     check
+}
+
+/// What is told of a successor as one number.
+fn folded(told: &Successor) -> u64 {
+    let key = told.key as u64 ^ (told.key >> 64) as u64;
+    let moved = (told.tile as u64) << 56 ^ (told.cell as u64) << 48;
+    key ^ moved ^ (told.cost as u64) << 32 ^ told.sum as u64
 }
 
 fn main() -> ExitCode {

@@ -67,14 +67,16 @@ fn successors_of_the_hardest_board(rt: HostRuntime) -> Result<(), Fail> {
     assert!(rt; unpacked.sum(&bound) == 21);
     let [up, left, right, down] = unpacked.successors(&weights, &bound);
     assert!(rt; up.is_none());
-    for (told, tiles, sum) in [
-        (left, [0, 8, 6, 5, 4, 7, 2, 3, 1], 20),
-        (right, [8, 6, 0, 5, 4, 7, 2, 3, 1], 20),
-        (down, [8, 4, 6, 5, 0, 7, 2, 3, 1], 22),
+    assert!(rt; unpacked.blank() == 1);
+    for (told, tile, tiles, sum) in [
+        (left, 8, [0, 8, 6, 5, 4, 7, 2, 3, 1], 20),
+        (right, 6, [8, 6, 0, 5, 4, 7, 2, 3, 1], 20),
+        (down, 4, [8, 4, 6, 5, 0, 7, 2, 3, 1], 22),
     ] {
         let successor = told.ok_or("the blank stays on the board")?;
-        let key = Board::from_tiles(shape, &tiles)?.key();
-        assert!(rt; successor.key == key && successor.cost == 1 && successor.sum == sum);
+        let board = Board::from_tiles(shape, &tiles)?;
+        assert!(rt; successor.key == board.key() && successor.cell == board.blank());
+        assert!(rt; successor.tile == tile && successor.cost == 1 && successor.sum == sum);
     }
     Ok(())
 }

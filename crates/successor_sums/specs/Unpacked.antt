@@ -16,13 +16,14 @@ use Rattle.successor_sums.specs.declared.unpacked.Successor.{Successor}
 use Rattle.successor_sums.specs.declared.unpacked.Reached.{Reached}
 use Rattle.successor_sums.specs.declared.unpacked.UnpackedBoard.TheInside.{Inside}
 
--- what is told of a successor: its key, the cost of the move, and its sum
-abbrev pub told_of : List Part → Position × ℕ → Successor
-told_of parts moved = record { key = key_of moved.0; cost = moved.1; sum = sum_of parts moved.0 }
+-- what is told of a successor of a board: its key, the tile that is moved and the cell that it leaves, which is the
+-- blank's then, the cost of the move, and its sum
+abbrev pub told_of : List Part → Position → Position × ℕ → Successor
+told_of parts b moved = record { key = key_of moved.0; tile = slice_index b.tiles (blank_of moved.0); cell = blank_of moved.0; cost = moved.1; sum = sum_of parts moved.0 }
 
 -- what is told of the successors of a board, by the four moves in the order in which they are tried
 abbrev pub successors_of : CostRule → List Part → Position → List (Option Successor)
-successors_of rule parts b = map (λ m. option_map (told_of parts) (successor rule b m)) all_moves
+successors_of rule parts b = map (λ m. option_map (told_of parts b) (successor rule b m)) all_moves
 
 -- ---- what lies in memory
 
@@ -43,7 +44,13 @@ pub record IsUnpacked (inside : Inside) : Type 0 where
 pub record IsReached (rule : CostRule) (lookups : List Lookup) (b : Position) (m : Move) (reached : Reached) : Type 0 where
   pub to : ℕ
   pub found : neighbour b.grid m (blank_of b) ≡ Some to
+  pub below : to < cell_count b.grid
   pub board : IsBoard (blank_exchange b to)
+  pub blank : blank_of (blank_exchange b to) ≡ to
+  pub cell : reached.cell ≡ to
+  pub tile : reached.tile ≡ slice_index b.tiles to
+  pub tile_some : 0 < reached.tile
+  pub tile_low : reached.tile < cell_count b.grid
   pub key : reached.key ≡ key_of (blank_exchange b to)
   pub cost : reached.cost ≡ weight_of rule (slice_index b.tiles to)
   pub low : 1 ≤ reached.cost
@@ -53,4 +60,4 @@ pub record IsReached (rule : CostRule) (lookups : List Lookup) (b : Position) (m
 
 -- the successor that is told by the values at the ranks
 abbrev pub told_by : List Lookup → Reached → Successor
-told_by lookups reached = record { key = reached.key; cost = reached.cost; sum = sum_at lookups reached.ranks }
+told_by lookups reached = record { key = reached.key; tile = reached.tile; cell = reached.cell; cost = reached.cost; sum = sum_at lookups reached.ranks }

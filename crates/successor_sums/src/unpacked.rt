@@ -2,6 +2,7 @@
 
 ghost use Rattle.std.specs.Prelude.{ℕ, ◌≡◌, ◌*◌, ◌^◌, ◌<◌, ◌≤◌, length, All, IfSome, None};
 ghost use Rattle.std.specs.Prelude.{MatchOption, option_map};
+ghost use Rattle.board.specs.Grids.{cell_count};
 ghost use Rattle.board.specs.Positions.{Position, IsBoard, blank_of};
 ghost use Rattle.board.specs.CostRules.{CostRule};
 ghost use Rattle.board.specs.Neighbours.{neighbour};
@@ -24,6 +25,10 @@ use std::marker::Model;
 pub struct Successor {
     /// Its key.
     pub key: u128,
+    /// The tile that is moved, to where the blank was.
+    pub tile: u8,
+    /// The cell that the tile leaves, and to which the blank goes.
+    pub cell: usize,
     /// What the move costs.
     pub cost: u32,
     /// Its sum.
@@ -34,6 +39,8 @@ pub struct Successor {
 #[derive(Clone, Copy, Debug)]
 struct Reached {
     key: u128,
+    tile: u8,
+    cell: usize,
     cost: u32,
     ranks: [u32; MOST_TABLES],
 }
@@ -95,6 +102,14 @@ impl UnpackedBoard {
         self.key
     }
 
+    /// The cell of the blank.
+    pub fn blank(&self) -> usize
+        ensures value { result ≡ blank_of self.now }
+        ensures within { result < cell_count self.now.grid }
+    {
+        self.cells[0] as usize
+    }
+
     /// Its sum, as `Bound::of` answers it.
     pub fn sum(&self, bound: &Bound) -> u32
         requires { bound.now.split.grid ≡ self.now.grid }
@@ -118,6 +133,10 @@ impl UnpackedBoard {
         ensures value { result ≡ successors_of weights.now (parts_of bound.now) self.now }
         ensures keys { All
             (λ told. IfSome told (λ s. (b : Position) × HasKey self.now.grid s.key b)) result }
+        ensures tiles { All
+            (λ told. IfSome told (λ s. (0 < s.tile) × (s.tile < cell_count self.now.grid)))
+            result }
+        ensures cells { All (λ told. IfSome told (λ s. s.cell < cell_count self.now.grid)) result }
         ensures costs { All
             (λ told. IfSome told (λ s. (1 ≤ s.cost) × (s.cost ≤ 255))) result }
         ensures sums { All (λ told. IfSome told (λ s. s.sum ≤ GREATEST_SUM)) result }
@@ -154,7 +173,13 @@ impl UnpackedBoard {
         let key = self.key - digit_at(tile, last - to) + digit_at(tile, last - from as usize);
         let cost = weights.of(tile);
         let ranks = ranks_in(bound.tables(), &cells);
-        Some(Reached { key, cost, ranks })
+        Some(Reached {
+            key,
+            tile,
+            cell: to,
+            cost,
+            ranks,
+        })
     }
 }
 
@@ -170,6 +195,8 @@ fn look_up(tables: &[Table], reached: &Option<Reached>) -> Option<Successor>
     };
     Some(Successor {
         key: found.key,
+        tile: found.tile,
+        cell: found.cell,
         cost: found.cost,
         sum: sum_ranks(tables, &found.ranks),
     })

@@ -10,7 +10,7 @@ use database_build::Table;
 use lower_bound::Bound;
 use pattern_index::{Group, Partition};
 use std::alloc::Global;
-use successor_sums::UnpackedBoard;
+use successor_sums::{Successor, UnpackedBoard};
 
 // The numbers on the boards of some shape.
 const NUMBERS: [u8; 25] = [
@@ -89,7 +89,7 @@ pub fn expand_all(bound: &Bound, keys: &[u128], rounds: u32) -> u64
             let board = UnpackedBoard::of_key(shape, *key);
             for told in &board.successors(&weights, bound) {
                 if let Some(successor) = told {
-                    check = mixed(check, successor.key, successor.cost, successor.sum);
+                    check = check.wrapping_mul(31).wrapping_add(folded(successor));
                 }
             }
         }
@@ -97,9 +97,9 @@ pub fn expand_all(bound: &Bound, keys: &[u128], rounds: u32) -> u64
     check
 }
 
-// A number into which a successor is mixed.
-fn mixed(check: u64, key: u128, cost: u32, sum: u32) -> u64 {
-    let folded = (key % WORD) as u64 ^ (key / WORD) as u64;
-    let more = folded ^ (cost as u64) << 32 ^ sum as u64;
-    check.wrapping_mul(31).wrapping_add(more)
+// What is told of a successor as one number.
+fn folded(told: &Successor) -> u64 {
+    let key = (told.key % WORD) as u64 ^ (told.key / WORD) as u64;
+    let moved = (told.tile as u64) << 56 ^ (told.cell as u64) << 48;
+    key ^ moved ^ (told.cost as u64) << 32 ^ told.sum as u64
 }

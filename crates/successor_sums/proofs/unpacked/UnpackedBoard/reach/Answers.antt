@@ -1,4 +1,4 @@
-use Rattle.std.proofs.Common.{◌≡◌, ◌-◌, ◌+◌, ◌*◌, ◌^◌, ◌<◌, ℕ, List, Some, length, map, set, take, sym, ap, ◌∙◌, subst, arith}
+use Rattle.std.proofs.Common.{◌≡◌, ◌-◌, ◌+◌, ◌*◌, ◌^◌, ◌<◌, ℕ, List, Some, length, map, set, take, refl, sym, ap, ◌∙◌, subst, arith}
 use Rattle.std.specs.Prelude.{All, slice_index}
 use Rattle.board.specs.Grids.{cell_count}
 use Rattle.board.specs.Neighbours.{neighbour}
@@ -6,6 +6,7 @@ use Rattle.board.specs.Positions.{Position, blank_of}
 use Rattle.board.specs.CostRules.{weight_of}
 use Rattle.board.specs.Keys.{key_of}
 use Rattle.board.specs.Moves.{blank_exchange}
+use Rattle.board.proofs.MoveLemmas.{blank_after}
 use Rattle.pattern_index.specs.Views.{IsView, view_at}
 use Rattle.pattern_index.specs.Selections.{rank_in}
 use Rattle.database_build.specs.Tables.{Lookup}
@@ -79,11 +80,17 @@ returns c =
     (λ i. neighbour (sym c.shape-shape.ensures.value i) c.args.direction (sym led.blank i)) ∙ sym c.neighbour.ensures.value ∙ c.in_ok-to.was in
     let ranks : take (length c.args.bound.now.lookups) c.ranks_in-ranks.result ≡ map (λ table. rank_in table.selection.grid (view_at table.selection.tiles cells)) c.args.bound.now.lookups =
     subst (λ (ls : List Lookup). take (length ls) c.ranks_in-ranks.result ≡ map (λ table. rank_in table.selection.grid (view_at table.selection.tiles cells)) ls) c.tables.ensures.value c.ranks_in-ranks.ensures.value in
-    subst (λ (p : Position). IsReached c.args.weights.now c.args.bound.now.lookups p c.args.direction (record { key = c.self.inside.key - c.digit_at.result + c.digit_at-2.result; cost = c.of-cost.result; ranks = c.ranks_in-ranks.result })) c.self.view_is
+    subst (λ (p : Position). IsReached c.args.weights.now c.args.bound.now.lookups p c.args.direction (record { key = c.self.inside.key - c.digit_at.result + c.digit_at-2.result; tile = c.tile-tile.result; cell = c.in_ok-to.to; cost = c.of-cost.result; ranks = c.ranks_in-ranks.result })) c.self.view_is
     (record {
       to = c.in_ok-to.to;
       found = found;
+      below = led.below;
       board = led.board;
+      blank = blank_after c.self.inside.board c.self.invariant.board c.in_ok-to.to led.below;
+      cell = refl;
+      tile = sym led.tile_is;
+      tile_some = led.tile_some;
+      tile_low = led.tile_low;
       key = (λ i. c.self.inside.key - from i + to i) ∙ led.key_is;
       cost = c.of-cost.ensures.value ∙ ap (weight_of c.args.weights.now) (sym led.tile_is);
       low = c.of-cost.ensures.low;
