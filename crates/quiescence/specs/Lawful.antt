@@ -1,5 +1,5 @@
 -- What a book keeps, whatever calls are made on it.
-use Rattle.std.specs.Prelude.{ℕ, ◌≡◌, ◌≤◌, length, All, Option, Some}
+use Rattle.std.specs.Prelude.{ℕ, ◌≡◌, ◌≤◌, length, All, Some}
 use Rattle.outcomes.specs.declared.outcome.Want.{Want}
 use Rattle.world_model.specs.declared.steps.Stop.TheVariants.{Quiet, Limit, Memory}
 use Rattle.world_model.specs.Costs.{IsNotBelow, limit_of}
