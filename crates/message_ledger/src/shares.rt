@@ -6,39 +6,74 @@ use crate::counting::{Counting, Tokens};
 use std::marker::{Brand, Model, PhantomData};
 use std::sync::ledger::{Blank, Book, Ledger, Share};
 
-/// A part of a credit. It has one part of the ledger for each 1 of its amount.
+/// A part of a credit. It has one part of the ledger for each 1 of its amount, which is what
+/// contracts see.
 #[derive(Drop)]
 pub struct LedgerPart<L: Ledger> {
     amount: u64,
     share: Share<L>,
-    ghost counted: { share.amount ≡ amount },
-    ghost backed: { share.parts ≡ amount },
 }
 
-/// A credit: the book of a ledger, and the parts of it that no share has.
+impl<L: Ledger> Model for LedgerPart<L> {
+    ghost use Rattle.std.specs.Prelude.{ℕ, ◌≡◌};
+
+    ghost Value = { ℕ };
+
+    ghost view = { λ p. p.amount };
+
+    ghost invariant = { λ p. (p.share.amount ≡ p.amount) × (p.share.parts ≡ p.amount) };
+}
+
+/// A credit: the book of a ledger, and the parts of it that no share has. Contracts see the sum.
 #[derive(Drop)]
 pub struct LedgerSum<L: Ledger> {
     amount: u64,
     book: Book<L>,
     rest: Share<L>,
-    ghost counted: { book.total ≡ amount },
-    ghost idle: { rest.amount ≡ 0 },
-    ghost parts: { rest.parts + amount + 1 ≡ 2 ^ 64 },
 }
 
-/// What was granted to one worker: one part of a ledger.
+impl<L: Ledger> Model for LedgerSum<L> {
+    ghost use Rattle.std.specs.Prelude.{ℕ, ◌≡◌, ◌+◌, ◌^◌};
+
+    ghost Value = { ℕ };
+
+    ghost view = { λ s. s.amount };
+
+    ghost invariant = { λ s. (s.book.total ≡ s.amount) × (s.rest.amount ≡ 0)
+        × (s.rest.parts + s.amount + 1 ≡ 2 ^ 64) };
+}
+
+/// What was granted to one worker: one part of a ledger. Contracts see the amount.
 #[derive(Drop)]
 pub struct LedgerTicket<M: Ledger> {
     share: Share<M>,
-    ghost one: { share.parts ≡ 1 },
 }
 
-/// What was granted to all workers: the book of a ledger.
+impl<M: Ledger> Model for LedgerTicket<M> {
+    ghost use Rattle.std.specs.Prelude.{ℕ, ◌≡◌};
+
+    ghost Value = { ℕ };
+
+    ghost view = { λ t. t.share.amount };
+
+    ghost invariant = { λ t. t.share.parts ≡ 1 };
+}
+
+/// What was granted to all workers: the book of a ledger. Contracts see the amount.
 #[derive(Drop)]
 pub struct LedgerTotal<M: Ledger> {
     amount: u64,
     book: Book<M>,
-    ghost counted: { book.total ≡ amount },
+}
+
+impl<M: Ledger> Model for LedgerTotal<M> {
+    ghost use Rattle.std.specs.Prelude.{ℕ, ◌≡◌};
+
+    ghost Value = { ℕ };
+
+    ghost view = { λ t. t.amount };
+
+    ghost invariant = { λ t. t.book.total ≡ t.amount };
 }
 
 /// A ledger of what is granted of a limit. The limit is known by the ledger, so that it is known of
@@ -67,13 +102,13 @@ impl<L: Ledger, M: Capped> Counting for Shares<L, M> {
 
     type Total = LedgerTotal<M>;
 
-    ghost amount = { λ part. part.amount };
+    ghost amount = { λ part. part };
 
-    ghost sum = { λ sum. sum.amount };
+    ghost sum = { λ sum. sum };
 
-    ghost granted = { λ ticket. ticket.share.amount };
+    ghost granted = { λ ticket. ticket };
 
-    ghost total = { λ total. total.amount };
+    ghost total = { λ total. total };
 
     ghost counts = { λ _ _. ⊤ };
 
@@ -169,8 +204,8 @@ impl<L: Ledger, M: Ledger> Shares<L, M> {
         requires name { blank.name ≡ L.name }
         requires parts { blank.parts ≡ L.parts }
         requires all { blank.parts + 1 ≡ 2 ^ 64 }
-        ensures sum { result.0.amount ≡ 1 }
-        ensures part { result.1.amount ≡ 1 }
+        ensures sum { result.0 ≡ 1 }
+        ensures part { result.1 ≡ 1 }
     {
         let (mut book, mut rest) = blank.open::<L>();
         let mut share = rest.split_off(1, 0);
@@ -189,7 +224,7 @@ impl<L: Ledger, M: Ledger> Shares<L, M> {
     pub(crate) fn open_total(blank: Blank) -> (LedgerTotal<M>, Share<M>)
         requires name { blank.name ≡ M.name }
         requires parts { blank.parts ≡ M.parts }
-        ensures total { result.0.amount ≡ 0 }
+        ensures total { result.0 ≡ 0 }
         ensures parts { result.1.parts ≡ blank.parts }
         ensures amount { result.1.amount ≡ 0 }
     {
@@ -204,7 +239,7 @@ pub(crate) fn split_ticket<M: Ledger>(share: &mut Share<M>) -> LedgerTicket<M>
     requires none { share.old.amount ≡ 0 }
     ensures left { share.new.parts + 1 ≡ share.old.parts }
     ensures amount { share.new.amount ≡ 0 }
-    ensures granted { result.share.amount ≡ 0 }
+    ensures granted { result ≡ 0 }
 {
     LedgerTicket {
         share: share.split_off(1, 0),
