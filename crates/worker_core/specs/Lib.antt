@@ -1,0 +1,2 @@
+-- One worker and its steps.
+pub mod Lanes
