@@ -1,2 +1,4 @@
 -- One worker and its steps.
 pub mod Lanes
+pub mod Workers
+pub mod Roles

@@ -2,6 +2,11 @@
 //! packets.
 #![tactic(auto)]
 
+mod book_steps;
+mod lane_steps;
 mod lanes;
+mod packets;
+mod worker;
 
 pub use lanes::{LaneIn, LaneOut, Queue};
+pub use worker::Worker;

@@ -1,0 +1,2 @@
+mod PacketLemmas
+mod CallLemmas

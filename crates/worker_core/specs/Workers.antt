@@ -1,0 +1,27 @@
+-- What contracts see of a worker.
+use Rattle.std.specs.Prelude.{ℕ, List, map}
+use Rattle.arrayvec.specs.ArrayVec.{ArrayVec}
+use Rattle.message_ledger.specs.Spending.{spent}
+use Rattle.world_model.specs.declared.parts.Item.{Item}
+use Rattle.world_model.specs.Books.{BookState}
+use Rattle.world_model.specs.BookSteps.{AtBook}
+use Rattle.world_model.specs.Workers.{WorkerState, Packet, Lane}
+use Rattle.world_model.specs.WorkerSteps.{AtLane}
+use Rattle.worker_core.specs.declared.worker.Worker.{Worker}
+
+-- the packets of lists of items
+abbrev pub packets_of : List (ArrayVec Item) → List Packet
+packets_of lists = map (λ list. list.items) lists
+
+module _ {C D S K G : Type 0} where
+  -- a worker, as worlds have it
+  abbrev pub state_of : Worker C D S K G → WorkerState
+  state_of w = record { known = w.lists.closed.known; held = w.held.items; unsent = packets_of w.unsent.items; purse = w.purse; allowance = w.allowance.left; expansions = spent w.allowance; best = w.best }
+
+-- a worker, and a lane that it is lent
+abbrev pub at_lane : WorkerState → Lane → AtLane
+at_lane worker lane = record { worker = worker; lane = lane }
+
+-- a worker, and the book that it is lent
+abbrev pub with_book : WorkerState → BookState → AtBook
+with_book worker book = record { worker = worker; book = book }

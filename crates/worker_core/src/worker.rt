@@ -1,0 +1,119 @@
+//! A worker.
+
+ghost use Rattle.std.specs.Prelude.{◌≡◌, ◌≤◌, [], IfOk, replicate, length};
+ghost use Rattle.std.specs.FinMap as map;
+ghost use Rattle.message_ledger.specs.Spending.{spent};
+ghost use Rattle.world_model.specs.declared.limits.TheConstants.{WORKER_LIMIT};
+ghost use Rattle.world_model.specs.Costs.{limit_of};
+ghost use Rattle.world_model.specs.Openings.{idle_worker};
+ghost use Rattle.search_lists.specs.Lists.{empty_lists};
+ghost use Rattle.worker_core.specs.Workers.{state_of};
+
+use crate::packets::{Items, new_packets};
+use arrayvec::ArrayVec;
+use incumbent::Best;
+use memory::OutOfMemory;
+use message_ledger::{Allowance, Counting, Purse};
+use search_lists::SearchLists;
+use std::alloc::Global;
+use world_model::{Item, WORKER_LIMIT};
+
+/// One worker: what it knows, holds and may do. Its steps leave it as it was where they are
+/// refused.
+#[derive(Drop)]
+pub struct Worker<C: Counting> {
+    /// The boards that it knows, and which of them are open.
+    pub(crate) lists: SearchLists,
+    /// What is left of the packet that it took in last.
+    pub(crate) held: Items,
+    /// For each worker what is to be sent to it next.
+    pub(crate) unsent: Vec<Items>,
+    pub(crate) purse: Purse<C>,
+    pub(crate) allowance: Allowance<C>,
+    /// Its copy of the best cost.
+    pub(crate) best: Best,
+}
+
+impl<C: Counting> Worker<C> {
+    /// One of so many workers. It knows nothing and holds nothing.
+    pub fn new(
+        alloc: Global,
+        workers: usize,
+        purse: Purse<C>,
+        allowance: Allowance<C>,
+    ) -> Result<Self, OutOfMemory>
+        requires { workers ≤ WORKER_LIMIT }
+        ensures state { IfOk result (λ worker. state_of worker ≡ record (idle_worker workers) {
+          purse = purse;
+          allowance = allowance.left;
+          expansions = spent allowance;
+        }) }
+        ensures lists { IfOk result (λ worker. worker.lists ≡ empty_lists) }
+    {
+        let unsent = new_packets(alloc, workers)?;
+        Ok(Worker {
+            lists: SearchLists::new(alloc),
+            held: ArrayVec::new(),
+            unsent,
+            purse,
+            allowance,
+            best: Best::new(),
+        })
+    }
+
+    /// How many workers there are.
+    pub fn workers(&self) -> usize
+        ensures { result ≡ length self.now.unsent.items }
+    {
+        self.unsent.len()
+    }
+
+    /// The boards that it knows.
+    pub fn lists(&self) -> &SearchLists
+        ensures { result.now ≡ self.now.lists }
+    {
+        &self.lists
+    }
+
+    /// The items that it holds.
+    pub fn held(&self) -> &[Item]
+        ensures { result.now ≡ (state_of self.now).held }
+    {
+        self.held.as_slice()
+    }
+
+    /// What it has of the credit.
+    pub fn purse(&self) -> u64
+        ensures { result ≡ (state_of self.now).purse }
+    {
+        self.purse.amount()
+    }
+
+    /// How many boards it may still expand.
+    pub fn allowance(&self) -> u32
+        ensures { result ≡ (state_of self.now).allowance }
+    {
+        self.allowance.left()
+    }
+
+    /// How many boards it has expanded.
+    pub fn expansions(&self) -> u64
+        ensures { result ≡ (state_of self.now).expansions }
+    {
+        self.allowance.spent()
+    }
+
+    /// Its copy of the best cost.
+    pub fn best(&self) -> Best
+        ensures { result ≡ (state_of self.now).best }
+    {
+        self.best
+    }
+
+    /// A board with this cost plus sum, or a greater one, is not expanded by this worker.
+    pub fn limit(&self) -> u32
+        ensures { result ≡ limit_of (state_of self.now).best }
+    {
+        self.best.limit()
+    }
+}
