@@ -1,2 +1,4 @@
 mod PacketLemmas
 mod CallLemmas
+mod GuideLemmas
+mod SettleLemmas

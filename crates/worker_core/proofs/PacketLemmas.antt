@@ -1,7 +1,7 @@
 -- Lists of items, one for each worker, seen as packets.
-use Rattle.std.proofs.Common.{refl, arith, ◌≡◌, ◌≢◌, ℕ, zero, suc, ◌+◌, ◌<◌, List, [], ◌∷◌, ◌++◌, map, set, get_or, length, replicate, ap, sym, ◌∙◌, Some}
+use Rattle.std.proofs.Common.{refl, arith, ◌≡◌, ℕ, zero, suc, ◌<◌, List, [], ◌∷◌, set, get_or, length, ap, sym, ◌∙◌}
 use Rattle.std.specs.Prelude.{slice_get, unwrap_or}
-use Rattle.std.proofs.lemmas.List.{map-set, get_or-map, set-set, set-get_or, length-map}
+use Rattle.std.proofs.lemmas.List.{map-set, get_or-map, set-set, set-get_or}
 use Rattle.arrayvec.specs.ArrayVec.{ArrayVec}
 use Rattle.world_model.specs.declared.parts.Item.{Item}
 use Rattle.world_model.specs.Workers.{Packet}
@@ -21,8 +21,8 @@ packet_at (x ∷ xs) zero d = refl
 packet_at (x ∷ xs) (suc i) d = packet_at xs i d
 
 -- one list is read
-pub packet_read : (xs : List Items) (i : ℕ) (q : Items) → i < length xs → q ≡ get_or xs i q → get_or (packets_of xs) i [] ≡ q.items
-packet_read xs i q inside is = get_or-map (λ (a : Items). a.items) xs i q [] inside ∙ ap (λ (a : Items). a.items) (sym is)
+pub packet_read : (xs : List Items) (i : ℕ) (q : Items) (d : Packet) → i < length xs → q ≡ get_or xs i q → get_or (packets_of xs) i d ≡ q.items
+packet_read xs i q d inside is = get_or-map (λ (a : Items). a.items) xs i q d inside ∙ ap (λ (a : Items). a.items) (sym is)
 
 -- what was taken out is put back
 pub packet_back : (packets taken : List Packet) (i : ℕ) (items : Packet) → taken ≡ set packets i [] → items ≡ get_or packets i [] → set taken i items ≡ packets

@@ -1,9 +1,48 @@
--- What a worker is lent of the task that it shares.
-use Rattle.std.specs.Prelude.{ℕ, ◌≡◌}
-use Rattle.board.specs.Positions.{Position}
-use Rattle.world_model.specs.Workers.{Role}
+-- What a worker is lent of the task that it shares, and how its lists stand to it.
+use Rattle.std.specs.Prelude.{ℕ, ◌≡◌, ◌≤◌, Some, List, length, Contains}
+use Rattle.std.specs.FinMap as map
+use Rattle.board.specs.declared.costs.TheConstants.{GREATEST_COST}
+use Rattle.board.specs.CostRules.{CostRule}
+use Rattle.board.specs.Keys.{key_of}
+use Rattle.board.specs.Positions.{Position, IsBoard}
+use Rattle.outcomes.specs.Outcomes.{Task}
+use Rattle.lower_bound.specs.Bounds.{sum_of}
+use Rattle.lower_bound.specs.Tables.{Tables, parts_of}
+use Rattle.closed_table.specs.Tables.{Table}
+use Rattle.search_lists.specs.Lists.{Lists}
+use Rattle.search_lists.specs.Orders.{Guide, IsInOrder}
+use Rattle.world_model.specs.declared.limits.TheConstants.{PACKET_LIMIT}
+use Rattle.world_model.specs.declared.parts.Item.{Item}
+use Rattle.world_model.specs.declared.parts.Known.{Known}
+use Rattle.world_model.specs.Workers.{Role, IsTaskBoard}
 
 -- the role is that of the worker with this number, and its task has this goal
 pub record IsRoleOf (number : ℕ) (goal : Position) (role : Role) : Type 0 where
   pub me : role.me ≡ number
   pub ends : role.task.goal ≡ goal
+
+-- what is asked, where the sums are those of these tables
+abbrev pub task_of : Position → Position → CostRule → Tables → Task
+task_of start goal rule tables = record { start = start; goal = goal; rule = rule; sum = sum_of (parts_of tables) }
+
+-- the guide leads to the task's goal: it has the sum of each board of the task under the board's key
+pub record IsGuideOf (task : Task) (guide : Guide) : Type 0 where
+  pub ends : guide.goal ≡ key_of task.goal
+  pub board : IsBoard task.goal
+  pub sums : (b : Position) → IsTaskBoard task b → guide.sum (key_of b) ≡ task.sum b
+
+-- each known key is that of a board of the task
+abbrev pub AreTaskBoards : Task → Table → Type 0
+AreTaskBoards task closed = (key : ℕ) (known : Known) → map.get closed.known key ≡ Some known → (b : Position) × IsTaskBoard task b × (key_of b ≡ key)
+
+-- by this guide the lists are in order, and what they know is boards of the task
+pub record IsGuided (task : Task) (guide : Guide) (lists : Lists) : Type 0 where
+  pub guides : IsGuideOf task guide
+  pub order : IsInOrder guide lists
+  pub boards : AreTaskBoards task lists.closed
+
+-- at most `PACKET_LIMIT` items, whose boards have the goal's sides, at costs of at most `GREATEST_COST`
+pub record AreAtHome (goal : Position) (items : List Item) : Type 0 where
+  pub few : length items ≤ PACKET_LIMIT
+  pub sides : (item : Item) → Contains items item → item.board.grid ≡ goal.grid
+  pub costs : (item : Item) → Contains items item → item.cost ≤ GREATEST_COST

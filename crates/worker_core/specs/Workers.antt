@@ -1,5 +1,5 @@
 -- What contracts see of a worker.
-use Rattle.std.specs.Prelude.{ℕ, List, map}
+use Rattle.std.specs.Prelude.{List, map}
 use Rattle.arrayvec.specs.ArrayVec.{ArrayVec}
 use Rattle.message_ledger.specs.Spending.{spent}
 use Rattle.world_model.specs.declared.parts.Item.{Item}

@@ -1,19 +1,28 @@
 //! The steps on the book.
 
-ghost use Rattle.std.specs.Prelude.{◌≡◌, ◌<◌, ◌%◌, length};
+ghost use Rattle.std.specs.Prelude.{◌≡◌, ◌<◌, ◌%◌, length, IsTrue, IsFalse, IfOk, Some};
+ghost use Rattle.std.specs.FinMap as map;
+ghost use Rattle.board.specs.Keys.{key_of};
 ghost use Rattle.outcomes.specs.declared.outcome.Want.{Want};
 ghost use Rattle.world_model.specs.declared.steps.HaltCause.{HaltCause};
 ghost use Rattle.world_model.specs.Turns.{turn, refusal_in};
 ghost use Rattle.world_model.specs.Workers.{Role};
-ghost use Rattle.world_model.specs.BookSteps.{DrawStep, AnnounceStep, HaltStep, refusal_of};
-ghost use Rattle.worker_core.specs.Roles.{IsRoleOf};
+ghost use Rattle.world_model.specs.BookSteps.{DrawStep, AnnounceStep, GrantStep, RestStep};
+ghost use Rattle.world_model.specs.BookSteps.{HaltStep, refusal_of};
+ghost use Rattle.world_model.specs.Costs.{IsNotBelow};
+ghost use Rattle.world_model.specs.declared.parts.Known.{Known};
+ghost use Rattle.quiescence.specs.Answers.{rested};
+ghost use Rattle.search_lists.specs.Orders.{Guide, IsInOrder};
+ghost use Rattle.worker_core.specs.Roles.{IsRoleOf, IsGuided};
 ghost use Rattle.worker_core.specs.Workers.{state_of, with_book};
 
+use crate::packets::are_empty;
 use crate::worker::Worker;
 use board::Board;
+use incumbent::Best;
 use message_ledger::Counting;
 use owners::Spread;
-use quiescence::Book;
+use quiescence::{Book, Rested};
 use world_model::{BookFault, HaltCause, Refusal};
 
 impl<C: Counting> Worker<C> {
@@ -62,6 +71,90 @@ impl<C: Counting> Worker<C> {
         }
         self.best = book.best();
         Ok(())
+    }
+
+    /// Is granted expansions. Refusals: S11 the run is stopped, S1 no board may be expanded below
+    /// the limit, S14 allowance is left, S2 all of the limit is granted.
+    pub fn grant(&mut self, book: &mut Book<C>) -> Result<(), Refusal>
+        requires counted { C.counts book.old.granted self.old.allowance.granted }
+        ensures step { (role : Role) (guide : Guide) → IsGuided role.task guide self.old.lists
+            → GrantStep role (turn (with_book (state_of self.old) book.old) (refusal_in result)
+            (with_book (state_of self.new) book.new)) }
+        ensures closed { self.new.lists.closed ≡ self.old.lists.closed }
+        ensures order { (guide : Guide) → IsInOrder guide self.old.lists
+            → IsInOrder guide self.new.lists }
+    {
+        if book.stop().is_some() {
+            return Err(Refusal::Stopped);
+        }
+        let Some(_) = self.lists.next(book.best().limit()) else {
+            return Err(Refusal::NothingBelowLimit);
+        };
+        if self.allowance.left() != 0 {
+            return Err(Refusal::AllowanceLeft);
+        }
+        if let Err(fault) = book.grant(&mut self.allowance) {
+            return Err(refusal_for(fault));
+        }
+        self.best = book.best();
+        Ok(())
+    }
+
+    /// Rests: gives the purse back. Refusals: S11 the run is stopped, S12 the purse is empty, S10
+    /// something is held or unsent, a better goal is known, or a board may be expanded.
+    pub fn rest(&mut self, me: usize, goal: &Board, book: &mut Book<C>) -> Result<Rested, Refusal>
+        requires counted { C.counts book.old.credit self.old.purse }
+        requires there { me < length book.old.floors }
+        ensures step { (role : Role) (guide : Guide) → IsRoleOf me goal.now role
+            → IsGuided role.task guide self.old.lists
+            → RestStep role (turn (with_book (state_of self.old) book.old) (refusal_in result)
+            (with_book (state_of self.new) book.new)) }
+        ensures answer { IfOk result (λ answer. answer ≡ rested book.new) }
+        ensures closed { self.new.lists.closed ≡ self.old.lists.closed }
+        ensures order { (guide : Guide) → IsInOrder guide self.old.lists
+            → IsInOrder guide self.new.lists }
+    {
+        if book.stop().is_some() {
+            return Err(Refusal::Stopped);
+        }
+        if self.purse.amount() == 0 {
+            return Err(Refusal::PurseEmpty);
+        }
+        if !self.held.is_empty() {
+            return Err(Refusal::NotIdle);
+        }
+        if !are_empty(&self.unsent) {
+            return Err(Refusal::NotIdle);
+        }
+        if self.knows_better(goal, book.best()) {
+            return Err(Refusal::NotIdle);
+        }
+        let floor = self.lists.floor();
+        match book.rest(me, &mut self.purse, floor) {
+            Ok(rested) => {
+                self.best = book.best();
+                Ok(rested)
+            }
+            Err(fault) => Err(refusal_for(fault)),
+        }
+    }
+
+    // Whether the goal is known at a cost below the best one.
+    fn knows_better(&self, goal: &Board, best: Best) -> bool
+        ensures yes { IsTrue result → (known : Known)
+            × (map.get self.now.lists.closed.known (key_of goal.now) ≡ Some known)
+            × (¬ IsNotBelow (Some known.cost) best) }
+        ensures no { IsFalse result → (known : Known)
+            → map.get self.now.lists.closed.known (key_of goal.now) ≡ Some known
+            → IsNotBelow (Some known.cost) best }
+    {
+        let Some(known) = self.lists.get(goal.key()) else {
+            return false;
+        };
+        match best.cost() {
+            Some(cost) => known.cost < cost,
+            None => true,
+        }
     }
 
     /// Halts the run. Refusals: S11 the run is stopped, S14 it is to be halted for the limit, and

@@ -6,6 +6,7 @@ mod book_steps;
 mod lane_steps;
 mod lanes;
 mod packets;
+mod settling;
 mod worker;
 
 pub use lanes::{LaneIn, LaneOut, Queue};

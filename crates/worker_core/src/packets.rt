@@ -1,7 +1,7 @@
 //! The items that wait to be sent, for each worker a list of them.
 
 ghost use Rattle.std.specs.Prelude.{◌≡◌, ◌<◌, ◌≤◌, [], IfOk, replicate, slice_set, slice_index_or};
-ghost use Rattle.std.specs.Prelude.{length};
+ghost use Rattle.std.specs.Prelude.{length, IsTrue, ◌↔◌, All};
 ghost use Rattle.world_model.specs.declared.limits.TheConstants.{WORKER_LIMIT};
 ghost use Rattle.worker_core.specs.Workers.{packets_of};
 
@@ -42,4 +42,16 @@ pub(crate) fn put_packet(packets: &mut Vec<Items>, to: usize, items: Items)
     ensures { packets_of packets.new.items ≡ slice_set (packets_of packets.old.items) to items.items }
 {
     packets[to] = items;
+}
+
+/// Whether nothing is to be sent.
+pub(crate) fn are_empty(packets: &[Items]) -> bool
+    ensures { IsTrue result ↔ All (λ packet. packet ≡ []) (packets_of packets.now) }
+{
+    'packets: for to in 0..packets.len() {
+        if !packets[to].is_empty() {
+            return false;
+        }
+    }
+    true
 }

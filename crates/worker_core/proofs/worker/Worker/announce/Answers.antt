@@ -1,8 +1,8 @@
-use Rattle.std.proofs.Common.{◌≡◌, ◌%◌, ℕ, None, Some, Option, refl, sym, ap, ◌∙◌, subst}
+use Rattle.std.proofs.Common.{◌≡◌, ◌%◌, ℕ, None, Option, refl, sym, ap, ◌∙◌, subst}
 use Rattle.std.specs.FinMap as map
 use Rattle.board.specs.Keys.{key_of}
 use Rattle.world_model.specs.Turns.{turn}
-use Rattle.world_model.specs.Workers.{Role, KnowsGoalAt}
+use Rattle.world_model.specs.Workers.{KnowsGoalAt}
 use Rattle.world_model.specs.BookCalls.{BookAnnounce}
 use Rattle.world_model.specs.BookSteps.{AnnounceStep}
 use Rattle.world_model.proofs.BookLemmas.{announces}

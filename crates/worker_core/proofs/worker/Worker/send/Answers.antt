@@ -1,7 +1,7 @@
-use Rattle.std.proofs.Common.{rules, ◌≡◌, ◌≢◌, ◌+◌, ◌-◌, ◌<◌, ℕ, List, [], ◌∷◌, ◌++◌, length, get_or, set, refl, sym, ap, ◌∙◌, inl, inr, arith}
-use Rattle.world_model.specs.Workers.{WorkerState, Packet, Lane, packet_for}
+use Rattle.std.proofs.Common.{rules, ◌≡◌, ◌≢◌, ◌-◌, [], ◌∷◌, ◌++◌, length, refl, sym, ap, ◌∙◌, inl, inr, arith}
+use Rattle.world_model.specs.Workers.{Packet, packet_for}
 use Rattle.worker_core.specs.Workers.{state_of, at_lane, packets_of}
-use Rattle.worker_core.proofs.PacketLemmas.{Items, nothing, packet_at, packet_read, packet_back}
+use Rattle.worker_core.proofs.PacketLemmas.{nothing, packet_at, packet_read, packet_back}
 use Rattle.worker_core.proofs.worker.Worker.send.Goals as goal
 
 -- src/lane_steps.rt:29:13
@@ -9,7 +9,7 @@ pub returns-then-is_empty-clause-step : goal.returns-then-is_empty-clause-step
 returns-then-is_empty-clause-step g c = λ before after lane.
     let xs = c.args.self.now.unsent.items in
     let p = c.index.result.now.items in
-    let there = packet_at xs c.args.to [] ∙ packet_read xs c.args.to c.index.result.now c.requires.there c.index.ensures in
+    let there = packet_at xs c.args.to [] ∙ packet_read xs c.args.to c.index.result.now [] c.requires.there c.index.ensures in
     let zero : length c.index.result.now.items ≡ 0 = search rules in
     inl (there ∙ nothing p zero, (refl, ap (at_lane (state_of c.args.self.now)) (lane.kept (g.L.LaneOut.reflexive c.args.lane.now))))
 
@@ -17,7 +17,7 @@ returns-then-is_empty-clause-step g c = λ before after lane.
 pub returns-then-amount-lt2-clause-step : goal.returns-then-amount-lt2-clause-step
 returns-then-amount-lt2-clause-step g c = λ before after lane.
     let xs = c.args.self.now.unsent.items in
-    let there = packet_at xs c.args.to [] ∙ packet_read xs c.args.to c.index.result.now c.requires.there c.index.ensures in
+    let there = packet_at xs c.args.to [] ∙ packet_read xs c.args.to c.index.result.now [] c.requires.there c.index.ensures in
     let some : c.index.result.now.items ≢ [] = search rules in
     inr (
       λ none. some (sym there ∙ none),
@@ -29,7 +29,7 @@ pub returns-in-Err-clause-step : goal.returns-in-Err-clause-step
 returns-in-Err-clause-step g c = λ before after lane.
     let xs = c.args.self.now.unsent.items in
     let to = c.args.to in
-    let there = packet_at xs to [] ∙ packet_read xs to c.index.result.now c.requires.there c.index.ensures in
+    let there = packet_at xs to [] ∙ packet_read xs to c.index.result.now [] c.requires.there c.index.ensures in
     let some : c.index.result.now.items ≢ [] = search rules in
     let items = c.open-items.ensures.items ∙ c.in-Err.ensures.back ∙ c.seal-packet.ensures.items ∙ c.take_packet-items.ensures.items in
     let left = c.take_packet-items.ensures.left in
@@ -49,7 +49,7 @@ pub returns-clause-step : goal.returns-clause-step
 returns-clause-step g c = λ before after lane.
     let xs = c.args.self.now.unsent.items in
     let to = c.args.to in
-    let there = packet_at xs to [] ∙ packet_read xs to c.index.result.now c.requires.there c.index.ensures in
+    let there = packet_at xs to [] ∙ packet_read xs to c.index.result.now [] c.requires.there c.index.ensures in
     let some : c.index.result.now.items ≢ [] = search rules in
     let took = lane.taken c.seal-packet.result c.in_default.ensures.ok in
     let left = c.take_packet-items.ensures.left in
