@@ -3,6 +3,8 @@ use Rattle.std.specs.Prelude.{ℕ, ◌≡◌, ◌≤◌, Some, List, length, Con
 use Rattle.std.specs.FinMap as map
 use Rattle.board.specs.declared.costs.TheConstants.{GREATEST_COST}
 use Rattle.board.specs.CostRules.{CostRule}
+use Rattle.board.specs.Digits.{digits_of}
+use Rattle.board.specs.Grids.{cell_count}
 use Rattle.board.specs.Keys.{key_of}
 use Rattle.board.specs.Positions.{Position, IsBoard}
 use Rattle.outcomes.specs.Outcomes.{Task}
@@ -30,6 +32,14 @@ pub record IsGuideOf (task : Task) (guide : Guide) : Type 0 where
   pub ends : guide.goal ≡ key_of task.goal
   pub board : IsBoard task.goal
   pub sums : (b : Position) → IsTaskBoard task b → guide.sum (key_of b) ≡ task.sum b
+
+-- A guide of a task: the sum of the board of which a key has the digits.
+abbrev pub guide_of : Task → Guide
+guide_of task = record { sum = λ key. task.sum (record { grid = task.goal.grid; tiles = digits_of (cell_count task.goal.grid) key }); goal = key_of task.goal }
+
+-- it leads to the task's goal
+abbrev pub TasksHaveGuides : Type 0
+TasksHaveGuides = (task : Task) → IsBoard task.goal → IsGuideOf task (guide_of task)
 
 -- each known key is that of a board of the task
 abbrev pub AreTaskBoards : Task → Table → Type 0

@@ -5,6 +5,7 @@
 mod book_steps;
 mod lane_steps;
 mod lanes;
+pub mod laws;
 mod packets;
 mod settling;
 mod worker;

@@ -1,12 +1,14 @@
 //! The step that takes an item in.
 
-ghost use Rattle.std.specs.Prelude.{◌≡◌, ◌<◌, ◌≤◌, OnOk};
+ghost use Rattle.std.specs.Prelude.{◌≡◌, ◌<◌, ◌≤◌, OnOk, OnErr};
+ghost use Rattle.board.specs.declared.costs.TheConstants.{GREATEST_COST};
 ghost use Rattle.board.specs.Positions.{Position};
 ghost use Rattle.board.specs.CostRules.{CostRule};
 ghost use Rattle.open_buckets.specs.OpenLists.{places_at};
 ghost use Rattle.open_buckets.specs.declared.open.TheConstants.{GREATEST_F};
 ghost use Rattle.search_lists.specs.Lists.{HasMoreRoom};
 ghost use Rattle.search_lists.specs.Orders.{Guide, IsInOrder};
+ghost use Rattle.world_model.specs.Knowledge.{relaxation};
 ghost use Rattle.world_model.specs.Turns.{turn, refusal_in};
 ghost use Rattle.world_model.specs.WorkerSteps.{SettleStep};
 ghost use Rattle.worker_core.specs.Roles.{IsGuideOf, AreAtHome, task_of};
@@ -19,7 +21,7 @@ use memory::OutOfMemory;
 use message_ledger::Counting;
 use search_lists::{Met, SearchLists};
 use std::alloc::Global;
-use world_model::Refusal;
+use world_model::{Item, Refusal};
 
 impl<C: Counting> Worker<C> {
     /// Takes the last held item out, and relaxes its board. Refusals: S13 nothing is held, S8
@@ -36,19 +38,62 @@ impl<C: Counting> Worker<C> {
         let Some(item) = self.held.pop() else {
             return Err(Refusal::NothingThere);
         };
-        let met = Met {
-            key: item.board.key(),
-            cost: item.cost,
-            via: item.via,
-            f: item.cost + bound.of(&item.board),
-        };
-        if let Err(refused) = make_place(&mut self.lists, alloc, met.f) {
+        if let Err(refused) = relax_item(&mut self.lists, alloc, goal, bound, &item) {
             self.held.push(item);
             return Err(Refusal::Memory(refused));
         }
-        self.lists.relax(goal.key(), met);
         Ok(())
     }
+
+    /// Relaxes a board, as the start before the first step. After a refusal nothing has changed.
+    pub fn meet(
+        &mut self,
+        alloc: Global,
+        goal: &Board,
+        bound: &Bound,
+        item: &Item,
+    ) -> Result<(), OutOfMemory>
+        requires sides { bound.now.split.grid ≡ goal.now.grid }
+        requires board { item.now.board.grid ≡ goal.now.grid }
+        requires cost { item.now.cost ≤ GREATEST_COST }
+        ensures ok { OnOk result (state_of self.new ≡ record (state_of self.old) {
+          known = relaxation (state_of self.old).known item.now;
+        }) }
+        ensures err { OnErr result (state_of self.new ≡ state_of self.old) }
+        ensures order { (start : Position) (rule : CostRule) (guide : Guide)
+            → IsGuideOf (task_of start goal.now rule bound.now) guide
+            → IsInOrder guide self.old.lists → IsInOrder guide self.new.lists }
+    {
+        relax_item(&mut self.lists, alloc, goal, bound, item)
+    }
+}
+
+// Relaxes the board of an item. All memory is taken before the first change.
+fn relax_item(
+    lists: &mut SearchLists,
+    alloc: Global,
+    goal: &Board,
+    bound: &Bound,
+    item: &Item,
+) -> Result<(), OutOfMemory>
+    requires sides { bound.now.split.grid ≡ goal.now.grid }
+    requires board { item.now.board.grid ≡ goal.now.grid }
+    requires cost { item.now.cost ≤ GREATEST_COST }
+    ensures ok { OnOk result (lists.new.closed.known ≡ relaxation lists.old.closed.known item.now) }
+    ensures err { OnErr result (lists.new.closed.known ≡ lists.old.closed.known) }
+    ensures order { (start : Position) (rule : CostRule) (guide : Guide)
+        → IsGuideOf (task_of start goal.now rule bound.now) guide
+        → IsInOrder guide lists.old → IsInOrder guide lists.new }
+{
+    let met = Met {
+        key: item.board.key(),
+        cost: item.cost,
+        via: item.via,
+        f: item.cost + bound.of(&item.board),
+    };
+    make_place(lists, alloc, met.f)?;
+    lists.relax(goal.key(), met);
+    Ok(())
 }
 
 // Makes a place for one board more, which waits at an f.
