@@ -24,6 +24,10 @@ packet_at (x ∷ xs) (suc i) d = packet_at xs i d
 pub packet_read : (xs : List Items) (i : ℕ) (q : Items) (d : Packet) → i < length xs → q ≡ get_or xs i q → get_or (packets_of xs) i d ≡ q.items
 packet_read xs i q d inside is = get_or-map (λ (a : Items). a.items) xs i q d inside ∙ ap (λ (a : Items). a.items) (sym is)
 
+-- what is to be sent to a worker, where its list was read
+pub packet_for_read : (xs : List Items) (i : ℕ) (q : Items) → i < length xs → q ≡ get_or xs i q → q.items ≡ unwrap_or (slice_get (packets_of xs) i) []
+packet_for_read xs i q inside is = sym (packet_at xs i [] ∙ packet_read xs i q [] inside is)
+
 -- what was taken out is put back
 pub packet_back : (packets taken : List Packet) (i : ℕ) (items : Packet) → taken ≡ set packets i [] → items ≡ get_or packets i [] → set taken i items ≡ packets
 packet_back packets taken i items out is =

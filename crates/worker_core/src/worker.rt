@@ -1,11 +1,12 @@
 //! A worker.
 
-ghost use Rattle.std.specs.Prelude.{◌≡◌, ◌≤◌, [], IfOk, replicate, length};
+ghost use Rattle.std.specs.Prelude.{◌≡◌, ◌<◌, ◌≤◌, [], IfOk, replicate, length};
 ghost use Rattle.std.specs.FinMap as map;
 ghost use Rattle.message_ledger.specs.Spending.{spent};
 ghost use Rattle.world_model.specs.declared.limits.TheConstants.{WORKER_LIMIT};
 ghost use Rattle.world_model.specs.Costs.{limit_of};
 ghost use Rattle.world_model.specs.Openings.{idle_worker};
+ghost use Rattle.world_model.specs.Workers.{packet_for};
 ghost use Rattle.search_lists.specs.Lists.{empty_lists};
 ghost use Rattle.worker_core.specs.Workers.{state_of};
 
@@ -80,6 +81,15 @@ impl<C: Counting> Worker<C> {
         ensures { result.now ≡ (state_of self.now).held }
     {
         self.held.as_slice()
+    }
+
+    /// What is to be sent to worker `to` next.
+    #[tactic(auto, using(crate::proofs::PacketLemmas::packet_for_read))]
+    pub fn unsent(&self, to: usize) -> &[Item]
+        requires { to < length self.now.unsent.items }
+        ensures { result.now ≡ packet_for (state_of self.now) to }
+    {
+        self.unsent[to].as_slice()
     }
 
     /// What it has of the credit.
