@@ -13,10 +13,9 @@ use Rattle.worker_core.specs.declared.worker.Worker.{Worker}
 abbrev pub packets_of : List (ArrayVec Item) → List Packet
 packets_of lists = map (λ list. list.items) lists
 
-module _ {C D S K G : Type 0} where
-  -- a worker, as worlds have it
-  abbrev pub state_of : Worker C D S K G → WorkerState
-  state_of w = record { known = w.lists.closed.known; held = w.held.items; unsent = packets_of w.unsent.items; purse = w.purse; allowance = w.allowance.left; expansions = spent w.allowance; best = w.best }
+-- a worker, as worlds have it
+abbrev pub state_of : {C D S K G : Type 0} → Worker C D S K G → WorkerState
+state_of w = record { known = w.lists.closed.known; held = w.held.items; unsent = packets_of w.unsent.items; purse = w.purse; allowance = w.allowance.left; expansions = spent w.allowance; best = w.best }
 
 -- a worker, and a lane that it is lent
 abbrev pub at_lane : WorkerState → Lane → AtLane
