@@ -96,7 +96,7 @@ fn offer_by<S: Spread>(
     requires hash { hashed.hash ≡ S.hash_of owners.now board.now }
     ensures within { IfSome result (IsWithin board.now.grid cost hashed.workers) }
     ensures offered { (rule : CostRule) (parts : List Part)
-        → told ≡ option_map (told_of parts) (successor rule board.now direction)
+        → told ≡ option_map (told_of parts board.now) (successor rule board.now direction)
         → IsOffered (sum_of parts) (λ b. S.hash_of owners.now b % hashed.workers)
         (item_by rule board.now cost direction) result }
 {
