@@ -2,3 +2,4 @@
 pub mod Lanes
 pub mod Workers
 pub mod Roles
+pub mod Expanding

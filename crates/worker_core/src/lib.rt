@@ -3,11 +3,13 @@
 #![tactic(auto)]
 
 mod book_steps;
+mod expanding;
 mod lane_steps;
 mod lanes;
 pub mod laws;
 mod packets;
 mod settling;
+mod taking;
 mod worker;
 
 pub use lanes::{LaneIn, LaneOut, Queue};

@@ -1,0 +1,53 @@
+-- How a worker takes what the moves from a board offer, one after the other.
+use Rattle.std.specs.Prelude.{⊤, ℕ, ◌≡◌, ◌+◌, ◌%◌, ◌<◌, ◌≤◌, List, [], ◌∷◌, length, slice_index_or, Option, Some, None, IfSome}
+use Rattle.board.specs.Grids.{Grid}
+use Rattle.board.specs.Keys.{HasKey}
+use Rattle.board.specs.Positions.{Position}
+use Rattle.open_buckets.specs.declared.open.TheConstants.{GREATEST_F}
+use Rattle.open_buckets.specs.OpenLists.{places_at}
+use Rattle.offers.specs.declared.offer.Offer.{Offer}
+use Rattle.offers.specs.declared.offer.Offers.{Offers}
+use Rattle.offers.specs.Room.{goes}
+use Rattle.outcomes.specs.Outcomes.{Task}
+use Rattle.search_lists.specs.Lists.{Lists}
+use Rattle.search_lists.specs.Orders.{Guide}
+use Rattle.world_model.specs.declared.limits.TheConstants.{PACKET_LIMIT}
+use Rattle.world_model.specs.declared.parts.Item.{Item}
+use Rattle.world_model.specs.Expansions.{with_successor}
+use Rattle.world_model.specs.Workers.{WorkerState, Packet, Role}
+
+-- the worker with one successor more, where there is one
+abbrev pub taken : Role → WorkerState → Option Item → WorkerState
+taken role worker None = worker
+taken role worker (Some item) = with_successor role worker item
+
+-- what the four moves offer, in their order
+abbrev pub in_turn : Offers → List (Option Offer)
+in_turn offers = offers.up ∷ offers.left ∷ offers.right ∷ offers.down ∷ []
+
+-- how many items of what some moves offer go from worker `me` to another, `to`
+abbrev pub all_go : ℕ → ℕ → List (Option Offer) → ℕ
+all_go me to [] = 0
+all_go me to (offer ∷ rest) = goes me to offer + all_go me to rest
+
+-- each offer that there is has this
+abbrev pub OfAll : (Offer → Type 0) → List (Option Offer) → Type 0
+OfAll P [] = ⊤
+OfAll P (offer ∷ rest) = IfSome offer P × OfAll P rest
+
+-- Worker `me` has what it takes to take these offers: the lists have places for as many boards, and the packets for the items. The
+-- offers have keys of boards of the grid.
+pub record IsReady (me : ℕ) (grid : Grid) (lists : Lists) (unsent : List Packet) (offers : List (Option Offer)) : Type 0 where
+  pub there : OfAll (λ offer. offer.owner < length unsent) offers
+  pub keys : OfAll (λ offer. (b : Position) × HasKey grid offer.key b) offers
+  pub boards : length offers ≤ lists.closed.room
+  pub places : OfAll (λ offer. offer.owner ≡ me → length offers ≤ places_at lists.waiting offer.f) offers
+  pub room : (to : ℕ) → to < length unsent → length (slice_index_or unsent to []) + all_go me to offers ≤ PACKET_LIMIT
+
+-- what is offered adds up by this guide
+abbrev pub AddsUpBy : Guide → Offer → Type 0
+AddsUpBy guide offer = (offer.f ≡ offer.cost + guide.sum offer.key) × (offer.f ≤ GREATEST_F)
+
+-- the role of worker `me`, where boards are owned by a hash, modulo the number of workers
+abbrev pub role_by : Task → (Position → ℕ) → ℕ → ℕ → Role
+role_by task hash workers me = record { task = task; owner = λ b. hash b % workers; me = me }

@@ -1,0 +1,157 @@
+//! The step that expands a board.
+
+ghost use Rattle.std.specs.Prelude.{ℕ, ◌≡◌, ◌<◌, ◌≤◌, [], length, slice_index_or, IfSome, OnOk};
+ghost use Rattle.board.specs.Keys.{key_of};
+ghost use Rattle.board.specs.Positions.{Position, IsBoard};
+ghost use Rattle.open_buckets.specs.OpenLists.{places_at};
+ghost use Rattle.open_buckets.specs.declared.open.TheConstants.{GREATEST_F};
+ghost use Rattle.offers.specs.Offers.{item_by, AreOffered, OfEach};
+ghost use Rattle.outcomes.specs.Outcomes.{Task};
+ghost use Rattle.search_lists.specs.Lists.{HasMoreRoom};
+ghost use Rattle.search_lists.specs.Orders.{Guide, IsFirst};
+ghost use Rattle.world_model.specs.declared.limits.TheConstants.{PACKET_LIMIT};
+ghost use Rattle.world_model.specs.declared.parts.Known.{Known};
+ghost use Rattle.world_model.specs.Expansions.{expansion};
+ghost use Rattle.world_model.specs.Turns.{turn, refusal_in};
+ghost use Rattle.world_model.specs.Workers.{Role, KnowsAs};
+ghost use Rattle.world_model.specs.WorkerSteps.{ExpandStep};
+ghost use Rattle.worker_core.specs.Expanding.{IsReady, AddsUpBy, in_turn, role_by};
+ghost use Rattle.worker_core.specs.Roles.{IsGuided, task_of};
+ghost use Rattle.worker_core.specs.Workers.{state_of, packets_of};
+
+use crate::worker::Worker;
+use board::{Board, Weights};
+use lower_bound::Bound;
+use memory::OutOfMemory;
+use message_ledger::Counting;
+use offers::{Offer, Offers, has_room, offers_of};
+use owners::Spread;
+use search_lists::{Next, SearchLists};
+use std::alloc::Global;
+use successor_sums::UnpackedBoard;
+use world_model::Refusal;
+
+// The most moves from a board.
+const MOVES: usize = 4;
+
+impl<C: Counting> Worker<C> {
+    /// Expands a board of least cost plus sum: relaxes the successors that this worker owns, and
+    /// puts the others into the packets for their owners. Refusals: S1 no board may be expanded
+    /// below the limit, S2 no allowance is left, S3 a packet has no room, S8 memory was refused.
+    pub fn expand<S: Spread>(
+        &mut self,
+        alloc: Global,
+        me: usize,
+        goal: &Board,
+        weights: &Weights,
+        bound: &Bound,
+        owners: &S,
+    ) -> Result<(), Refusal>
+        requires rule { weights.now.grid ≡ goal.now.grid }
+        requires sides { bound.now.split.grid ≡ goal.now.grid }
+        requires there { me < length self.old.unsent.items }
+        requires few { (to : ℕ)
+            → length (slice_index_or (packets_of self.old.unsent.items) to []) ≤ PACKET_LIMIT }
+        requires guided { (start : Position) × (guide : Guide)
+            × IsGuided (task_of start goal.now weights.now bound.now) guide self.old.lists }
+        ensures step { (start : Position)
+            → ExpandStep (role_by (task_of start goal.now weights.now bound.now)
+            (S.hash_of owners.now) (length self.old.unsent.items) me)
+            (turn (state_of self.old) (refusal_in result) (state_of self.new)) }
+        ensures order { (start : Position) (guide : Guide)
+            → IsGuided (task_of start goal.now weights.now bound.now) guide self.old.lists
+            → IsGuided (task_of start goal.now weights.now bound.now) guide self.new.lists }
+    {
+        let Some(next) = self.lists.next(self.best.limit()) else {
+            return Err(Refusal::NothingBelowLimit);
+        };
+        if self.allowance.left() == 0 {
+            return Err(Refusal::NoAllowance);
+        }
+        let unpacked = UnpackedBoard::of_key(goal.shape(), next.key);
+        let offers = offers_of(
+            &unpacked,
+            next.cost,
+            weights,
+            bound,
+            owners,
+            self.unsent.len(),
+        );
+        if !has_room(&self.unsent, me, &offers) {
+            return Err(Refusal::NoRoom);
+        }
+        if let Err(refused) = make_places(&mut self.lists, alloc, me, &offers) {
+            return Err(Refusal::Memory(refused));
+        }
+        self.expand_next(me, goal, next, offers);
+        Ok(())
+    }
+
+    // Closes a board, which counts as an expansion, and takes what its moves offer.
+    fn expand_next(&mut self, me: usize, goal: &Board, next: Next, offers: Offers)
+        requires first { IsFirst self.old.lists next }
+        requires allowed { 0 < self.old.allowance.left }
+        requires granted { self.old.allowance.left ≤ self.old.allowance.granted }
+        requires ready { IsReady me goal.now.grid self.old.lists
+            (packets_of self.old.unsent.items) (in_turn offers) }
+        ensures state { (role : Role) (sum : Position → ℕ) (b : Position) (known : Known)
+            → role.me ≡ me → IsBoard b → b.grid ≡ goal.now.grid → key_of b ≡ next.key
+            → KnowsAs (state_of self.old) b known
+            → AreOffered sum role.owner (item_by role.task.rule b known.cost) offers
+            → state_of self.new ≡ expansion role (state_of self.old) b known }
+        ensures guided { (task : Task) (guide : Guide) → task.goal ≡ goal.now
+            → OfEach (AddsUpBy guide) offers
+            → IsGuided task guide self.old.lists → IsGuided task guide self.new.lists }
+    {
+        self.lists.close(next);
+        self.allowance.spend();
+        let shape = goal.shape();
+        let goal_key = goal.key();
+        self.take(me, shape, goal_key, offers.up);
+        self.take(me, shape, goal_key, offers.left);
+        self.take(me, shape, goal_key, offers.right);
+        self.take(me, shape, goal_key, offers.down);
+    }
+}
+
+// Makes places for as many boards more as there are moves, and for as many at the f of each that
+// this worker owns: several may have the same.
+fn make_places(
+    lists: &mut SearchLists,
+    alloc: Global,
+    me: usize,
+    offers: &Offers,
+) -> Result<(), OutOfMemory>
+    requires { OfEach (λ offer. offer.f ≤ GREATEST_F) offers.now }
+    ensures boards { OnOk result (4 ≤ lists.new.closed.room) }
+    ensures places { OnOk result (OfEach
+        (λ offer. offer.owner ≡ me → 4 ≤ places_at lists.new.waiting offer.f) offers.now) }
+    ensures same { HasMoreRoom lists.old lists.new }
+{
+    lists.reserve_boards(alloc, MOVES)?;
+    make_places_at(lists, alloc, me, &offers.up)?;
+    make_places_at(lists, alloc, me, &offers.left)?;
+    make_places_at(lists, alloc, me, &offers.right)?;
+    make_places_at(lists, alloc, me, &offers.down)
+}
+
+// Makes as many places as there are moves at the f of what is offered, where this worker owns it.
+fn make_places_at(
+    lists: &mut SearchLists,
+    alloc: Global,
+    me: usize,
+    offer: &Option<Offer>,
+) -> Result<(), OutOfMemory>
+    requires { IfSome offer.now (λ some. some.f ≤ GREATEST_F) }
+    ensures places { OnOk result (IfSome offer.now
+        (λ some. some.owner ≡ me → 4 ≤ places_at lists.new.waiting some.f)) }
+    ensures same { HasMoreRoom lists.old lists.new }
+{
+    let Some(offer) = *offer else {
+        return Ok(());
+    };
+    if offer.owner != me {
+        return Ok(());
+    }
+    lists.reserve_places(alloc, offer.f, MOVES)
+}

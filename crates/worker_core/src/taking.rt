@@ -1,0 +1,84 @@
+//! How a worker takes what the moves from a board offer.
+
+ghost use Rattle.std.specs.Prelude.{◌≡◌, ◌≢◌, ◌<◌, ◌≤◌, ◌∷◌, ◌++◌, [], List, Option, IfSome, length};
+ghost use Rattle.std.specs.Prelude.{ℕ, slice_set, slice_index_or};
+ghost use Rattle.board.specs.Keys.{key_of};
+ghost use Rattle.board.specs.Positions.{Position, IsBoard};
+ghost use Rattle.outcomes.specs.Outcomes.{Task};
+ghost use Rattle.offers.specs.declared.offer.Offer.{Offer};
+ghost use Rattle.offers.specs.Offers.{IsOffered};
+ghost use Rattle.search_lists.specs.Orders.{Guide};
+ghost use Rattle.world_model.specs.declared.limits.TheConstants.{PACKET_LIMIT};
+ghost use Rattle.world_model.specs.declared.parts.Item.{Item};
+ghost use Rattle.world_model.specs.Workers.{Role};
+ghost use Rattle.worker_core.specs.Expanding.{IsReady, AddsUpBy, taken};
+ghost use Rattle.worker_core.specs.Roles.{IsGuided};
+ghost use Rattle.worker_core.specs.Workers.{state_of, packets_of};
+
+use crate::packets::Items;
+use crate::worker::Worker;
+use board::{Board, Shape};
+use message_ledger::Counting;
+use offers::Offer;
+use search_lists::Met;
+use world_model::Item;
+
+impl<C: Counting> Worker<C> {
+    // Takes what a move offers, where it offers anything: its own is relaxed, another's goes to the
+    // end of the packet for that one.
+    pub(crate) fn take(&mut self, me: usize, shape: Shape, goal_key: u128, offer: Option<Offer>)
+        requires { (rest : List (Option Offer)) × IsReady me shape self.old.lists
+            (packets_of self.old.unsent.items) (offer ∷ rest) }
+        ensures ready { (rest : List (Option Offer)) → IsReady me shape self.old.lists
+            (packets_of self.old.unsent.items) (offer ∷ rest)
+            → IsReady me shape self.new.lists (packets_of self.new.unsent.items) rest }
+        ensures state { (role : Role) (sum : Position → ℕ) (item : Option Item)
+            → role.me ≡ me → IsOffered sum role.owner item offer
+            → IfSome item (λ i. IsBoard i.board × (i.board.grid ≡ shape))
+            → state_of self.new ≡ taken role (state_of self.old) item }
+        ensures allowance { self.new.allowance ≡ self.old.allowance }
+        ensures guided { (task : Task) (guide : Guide) → task.goal.grid ≡ shape
+            → key_of task.goal ≡ goal_key → IfSome offer (AddsUpBy guide)
+            → IsGuided task guide self.old.lists → IsGuided task guide self.new.lists }
+    {
+        let Some(offer) = offer else {
+            return;
+        };
+        if offer.owner == me {
+            self.lists.relax(goal_key, met_by(offer));
+            return;
+        }
+        let item = Item {
+            board: Board::of_key(shape, offer.key),
+            cost: offer.cost,
+            via: offer.via,
+        };
+        put_item(&mut self.unsent, offer.owner, item);
+    }
+}
+
+// What is offered, as a board that was met.
+fn met_by(offer: Offer) -> Met
+    ensures key { result.key ≡ offer.key }
+    ensures cost { result.cost ≡ offer.cost }
+    ensures via { result.via ≡ offer.via }
+    ensures f { result.f ≡ offer.f }
+{
+    Met {
+        key: offer.key,
+        cost: offer.cost,
+        via: offer.via,
+        f: offer.f,
+    }
+}
+
+// Puts an item at the end of the packet for one worker.
+#[tactic(auto, using(crate::proofs::PacketLemmas::packet_replaced))]
+fn put_item(packets: &mut Vec<Items>, to: usize, item: Item)
+    requires there { to < length packets.old.items }
+    requires room { length (slice_index_or (packets_of packets.old.items) to []) < PACKET_LIMIT }
+    ensures { packets_of packets.new.items ≡ slice_set (packets_of packets.old.items) to
+        (slice_index_or (packets_of packets.old.items) to [] ++ item ∷ []) }
+{
+    packets[to].push(item);
+}
