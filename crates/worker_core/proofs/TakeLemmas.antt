@@ -10,22 +10,22 @@ use Rattle.board.specs.Grids.{Grid}
 use Rattle.board.specs.Keys.{key_of, HasKey}
 use Rattle.board.specs.Positions.{Position, IsBoard}
 use Rattle.board.proofs.KeyLemmas.{same_board}
-use Rattle.closed_table.specs.Tables.{table_relaxation, table_closure, room_after}
+use Rattle.closed_table.specs.Tables.{Table, table_relaxation, table_closure, room_after}
 use Rattle.open_buckets.specs.OpenLists.{places_at}
 use Rattle.offers.specs.declared.offer.Offer.{Offer}
 use Rattle.offers.specs.Offers.{IsOfferOf, IsOffered}
 use Rattle.offers.specs.Room.{goes}
 use Rattle.outcomes.specs.Outcomes.{Task}
+use Rattle.search_lists.specs.declared.lists.Met.{Met}
 use Rattle.search_lists.specs.Lists.{Lists}
-use Rattle.search_lists.specs.Orders.{Guide, IsInOrder}
-use Rattle.world_model.specs.declared.limits.TheConstants.{PACKET_LIMIT}
+use Rattle.search_lists.specs.Orders.{Guide, IsInOrder, AddsUp}
 use Rattle.world_model.specs.declared.parts.Item.{Item}
 use Rattle.world_model.specs.declared.parts.Known.{Known}
 use Rattle.world_model.specs.Knowledge.{Knowledge, is_news, relaxation_at}
 use Rattle.world_model.specs.Expansions.{with_successor}
 use Rattle.world_model.specs.Workers.{WorkerState, Packet, Role, IsTaskBoard}
 use Rattle.world_model.proofs.TableLemmas.{with_insert}
-use Rattle.worker_core.specs.Expanding.{IsReady, OfAll, taken}
+use Rattle.worker_core.specs.Expanding.{IsReady, OfAll, taken, AddsUpBy}
 use Rattle.worker_core.specs.Roles.{IsGuided, AreTaskBoards}
 
 -- ---- packets
@@ -60,6 +60,11 @@ each : (P Q : Offer → Type 0) → ((offer : Offer) → P offer → Q offer) �
 each P Q weaker [] all = all
 each P Q weaker (offer ∷ rest) all = (if_some P Q weaker offer all.0, each P Q weaker rest all.1)
 
+-- a board that is relaxed takes one place at most
+room_left : (known : Option Known) (room : ℕ) → room ≤ room_after known room + 1
+room_left None room = omega arith
+room_left (Some known) room = omega arith
+
 module _ (me : ℕ) (grid : Grid) (lists : Lists) (unsent : List Packet) (rest : List (Option Offer)) where
   -- nothing was offered
   pub ready_past : IsReady me grid lists unsent (None ∷ rest) → IsReady me grid lists unsent rest
@@ -79,11 +84,15 @@ module _ (me : ℕ) (grid : Grid) (lists : Lists) (unsent : List Packet) (rest :
 
   module _ (offer : Offer) (ready : IsReady me grid lists unsent (Some offer ∷ rest)) where
     -- an own board was relaxed
-    pub ready_own : (lists' : Lists) → lists.closed.room ≤ lists'.closed.room + 1 → ((h : ℕ) → places_at lists.waiting h ≤ places_at lists'.waiting h + 1) → IsReady me grid lists' unsent rest
-    ready_own lists' left places = record {
+    pub ready_own : (lists' : Lists) (key cost : ℕ) (via : Move) → lists'.closed ≡ table_relaxation lists.closed key cost via → ((h : ℕ) → places_at lists.waiting h ≤ places_at lists'.waiting h + 1) → IsReady me grid lists' unsent rest
+    ready_own lists' key cost via relaxed places = record {
       there = ready.there.1;
       keys = ready.keys.1;
-      boards = let few = ready.boards in omega (arith, few, left);
+      boards =
+          let few = ready.boards in
+          let room : lists'.closed.room ≡ room_after (map.get lists.closed.known key) lists.closed.room = ap (λ (t : Table). t.room) relaxed in
+          let left = room_left (map.get lists.closed.known key) lists.closed.room in
+          omega (arith, few, room, left);
       places =
           each
           (λ some. some.owner ≡ me → length (Some offer ∷ rest) ≤ places_at lists.waiting some.f)
@@ -93,13 +102,6 @@ module _ (me : ℕ) (grid : Grid) (lists : Lists) (unsent : List Packet) (rest :
           ready.places.1;
       room = λ to within. let fits = ready.room to within in omega (arith, fits);
     }
-
-    -- another's packet has room
-    pub room_for : offer.owner ≢ me → length (get_or unsent offer.owner []) < PACKET_LIMIT
-    room_for other =
-        let fits = ready.room offer.owner ready.there.0 in
-        let one = goes_there me offer.owner offer other refl in
-        omega (arith, fits, one)
 
     -- another's item was put into its packet
     pub ready_other : offer.owner ≢ me → (item : Item) (unsent' : List Packet) → unsent' ≡ put unsent offer.owner item → IsReady me grid lists unsent' rest
@@ -151,20 +153,10 @@ module _ (me : ℕ) (grid : Grid) (lists : Lists) (unsent : List Packet) (rest :
     room = ready.room;
   }
 
--- a board that is relaxed takes one place at most
-pub room_left : (known : Option Known) (room : ℕ) → room ≤ room_after known room + 1
-room_left None room = omega arith
-room_left (Some known) room = omega arith
-
 -- ---- what becomes of the worker
 
 module _ (role : Role) (worker : WorkerState) (sum : Position → ℕ) (item : Item) (offer : Offer) (is : IsOfferOf sum role.owner item offer) where
-  pub own_taken : offer.owner ≡ role.me → record worker { known = relaxation_at worker.known offer.key offer.cost offer.via } ≡ with_successor role worker item
-  own_taken own =
-      (λ t. record worker { known = relaxation_at worker.known (is.key t) (is.cost t) (is.via t) })
-      ∙ sym (cond-true _ _ _ (eq-eqb (role.owner item.board) role.me (sym is.owned ∙ own)))
-
-  pub other_taken : (b : Position) → HasKey item.board.grid offer.key b → IsBoard item.board → offer.owner ≢ role.me → record worker { unsent = put worker.unsent offer.owner (record { board = b; cost = offer.cost; via = offer.via }) } ≡ with_successor role worker item
+  other_taken : (b : Position) → HasKey item.board.grid offer.key b → IsBoard item.board → offer.owner ≢ role.me → record worker { unsent = put worker.unsent offer.owner (record { board = b; cost = offer.cost; via = offer.via }) } ≡ with_successor role worker item
   other_taken b has board other =
       let same : b ≡ item.board = same_board b item.board has.board board has.sides (has.packed ∙ is.key) in
       (λ t. record worker { unsent = put worker.unsent (is.owned t) (record { board = same t; cost = is.cost t; via = is.via t }) })
@@ -172,10 +164,11 @@ module _ (role : Role) (worker : WorkerState) (sum : Position → ℕ) (item : I
       ∙ sym (cond-false _ _ _ (ne_eqb (role.owner item.board) role.me (λ own. other (is.owned ∙ own))))
 
 -- the same, where an offer is there
-pub other_option : (role : Role) (worker : WorkerState) (sum : Position → ℕ) (item : Option Item) (offer : Offer) → IsOffered sum role.owner item (Some offer) → (grid : Grid) → IfSome item (λ i. IsBoard i.board × (i.board.grid ≡ grid)) → (b : Position) → HasKey grid offer.key b → offer.owner ≢ role.me → record worker { unsent = put worker.unsent offer.owner (record { board = b; cost = offer.cost; via = offer.via }) } ≡ taken role worker item
-other_option role worker sum None offer is grid board b has other = absurd is
-other_option role worker sum (Some item) offer is grid board b has other =
-    other_taken role worker sum item offer is b (subst (λ (g : Grid). HasKey g offer.key b) (sym board.1) has) board.0 other
+pub other_option : (role : Role) (worker : WorkerState) (sum : Position → ℕ) (item : Option Item) (offer : Offer) → IsOffered sum role.owner item (Some offer) → (grid : Grid) → IfSome item (λ i. IsBoard i.board × (i.board.grid ≡ grid)) → (b : Position) → HasKey grid offer.key b → offer.owner ≢ role.me → (unsent' : List Packet) → unsent' ≡ put worker.unsent offer.owner (record { board = b; cost = offer.cost; via = offer.via }) → record worker { unsent = unsent' } ≡ taken role worker item
+other_option role worker sum None offer is grid board b has other unsent' at = absurd is
+other_option role worker sum (Some item) offer is grid board b has other unsent' at =
+    ap (λ (unsent : List Packet). record worker { unsent = unsent }) at
+    ∙ other_taken role worker sum item offer is b (subst (λ (g : Grid). HasKey g offer.key b) (sym board.1) has) board.0 other
 
 -- ---- what the lists are led by
 
@@ -200,12 +193,18 @@ module _ (task : Task) (known : Knowledge) (all : (key : ℕ) (k : Known) → ma
 
 module _ (task : Task) (guide : Guide) (lists lists' : Lists) (is : IsGuided task guide lists) where
   -- where a board was relaxed
-  pub guided_relaxed : (key cost : ℕ) (via : Move) → (b : Position) → HasKey task.goal.grid key b → lists'.closed ≡ table_relaxation lists.closed key cost via → IsInOrder guide lists' → IsGuided task guide lists'
+  guided_relaxed : (key cost : ℕ) (via : Move) → (b : Position) → HasKey task.goal.grid key b → lists'.closed ≡ table_relaxation lists.closed key cost via → IsInOrder guide lists' → IsGuided task guide lists'
   guided_relaxed key cost via b has relaxed order = record {
     guides = is.guides;
     order = order;
     boards = subst (AreTaskBoards task) (sym relaxed) (relaxed_boards task lists.closed.known is.boards key (b, (has.board, has.sides), has.packed) cost via);
   }
+
+  -- where an own board was met, that adds up
+  pub guided_met : (offer : Offer) (met : Met) → met ≡ record { key = offer.key; cost = offer.cost; via = offer.via; f = offer.f } → AddsUpBy guide offer → (b : Position) → HasKey task.goal.grid offer.key b → lists'.closed ≡ table_relaxation lists.closed met.key met.cost met.via → (AddsUp guide met → IsInOrder guide lists → IsInOrder guide lists') → IsGuided task guide lists'
+  guided_met offer met same adds b has relaxed order =
+      let adds_up : AddsUp guide met = subst (λ (m : Met). AddsUp guide m) (sym same) (record { adds = adds.0; within = adds.1 }) in
+      guided_relaxed offer.key offer.cost offer.via b has (relaxed ∙ ap (λ (m : Met). table_relaxation lists.closed m.key m.cost m.via) same) (order adds_up is.order)
 
   -- where a board was closed
   pub guided_closed : (key : ℕ) → lists'.closed ≡ table_closure lists.closed key (map.get lists.closed.known key) → IsInOrder guide lists' → IsGuided task guide lists'

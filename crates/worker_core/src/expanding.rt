@@ -1,14 +1,16 @@
 //! The step that expands a board.
 
-ghost use Rattle.std.specs.Prelude.{ℕ, ◌≡◌, ◌<◌, ◌≤◌, [], length, slice_index_or, IfSome, OnOk};
+ghost use Rattle.std.specs.Prelude.{ℕ, ◌≡◌, ◌<◌, ◌≤◌, ◌+◌, [], length, slice_index_or, IfSome, OnOk};
+ghost use Rattle.std.specs.FinMap as map;
 ghost use Rattle.board.specs.Keys.{key_of};
 ghost use Rattle.board.specs.Positions.{Position, IsBoard};
+ghost use Rattle.closed_table.specs.Tables.{table_closure};
 ghost use Rattle.open_buckets.specs.OpenLists.{places_at};
 ghost use Rattle.open_buckets.specs.declared.open.TheConstants.{GREATEST_F};
 ghost use Rattle.offers.specs.Offers.{item_by, AreOffered, OfEach};
 ghost use Rattle.outcomes.specs.Outcomes.{Task};
 ghost use Rattle.search_lists.specs.Lists.{HasMoreRoom};
-ghost use Rattle.search_lists.specs.Orders.{Guide, IsFirst};
+ghost use Rattle.search_lists.specs.Orders.{Guide, IsInOrder, IsFirst};
 ghost use Rattle.world_model.specs.declared.limits.TheConstants.{PACKET_LIMIT};
 ghost use Rattle.world_model.specs.declared.parts.Known.{Known};
 ghost use Rattle.world_model.specs.Expansions.{expansion};
@@ -23,7 +25,7 @@ use crate::worker::Worker;
 use board::{Board, Weights};
 use lower_bound::Bound;
 use memory::OutOfMemory;
-use message_ledger::Counting;
+use message_ledger::{Allowance, Counting};
 use offers::{Offer, Offers, has_room, offers_of};
 use owners::Spread;
 use search_lists::{Next, SearchLists};
@@ -83,6 +85,7 @@ impl<C: Counting> Worker<C> {
         if let Err(refused) = make_places(&mut self.lists, alloc, me, &offers) {
             return Err(Refusal::Memory(refused));
         }
+        read_ahead(&mut self.lists, me, &offers);
         self.expand_next(me, goal, next, offers);
         Ok(())
     }
@@ -103,8 +106,7 @@ impl<C: Counting> Worker<C> {
             → OfEach (AddsUpBy guide) offers
             → IsGuided task guide self.old.lists → IsGuided task guide self.new.lists }
     {
-        self.lists.close(next);
-        self.allowance.spend();
+        close_next(&mut self.lists, &mut self.allowance, next);
         let shape = goal.shape();
         let goal_key = goal.key();
         self.take(me, shape, goal_key, offers.up);
@@ -112,6 +114,21 @@ impl<C: Counting> Worker<C> {
         self.take(me, shape, goal_key, offers.right);
         self.take(me, shape, goal_key, offers.down);
     }
+}
+
+// Closes the board that is next, which takes 1 of the allowance.
+fn close_next<C: Counting>(lists: &mut SearchLists, allowance: &mut Allowance<C>, next: Next)
+    requires first { IsFirst lists.old next }
+    requires allowed { 0 < allowance.old.left }
+    ensures closed { lists.new.closed ≡ table_closure lists.old.closed next.key
+        (map.get lists.old.closed.known next.key) }
+    ensures places { (h : ℕ) → places_at lists.old.waiting h ≤ places_at lists.new.waiting h }
+    ensures order { (guide : Guide) → IsInOrder guide lists.old → IsInOrder guide lists.new }
+    ensures granted { allowance.new.granted ≡ allowance.old.granted }
+    ensures left { allowance.new.left + 1 ≡ allowance.old.left }
+{
+    lists.close(next);
+    allowance.spend();
 }
 
 // Makes places for as many boards more as there are moves, and for as many at the f of each that
@@ -154,4 +171,26 @@ fn make_places_at(
         return Ok(());
     }
     lists.reserve_places(alloc, offer.f, MOVES)
+}
+
+// Reads ahead what is read of the boards that this worker owns, so that the reads of memory
+// overlap.
+fn read_ahead(lists: &mut SearchLists, me: usize, offers: &Offers)
+    ensures { lists.new ≡ lists.old }
+{
+    let keys = [
+        own_key(&offers.up, me),
+        own_key(&offers.left, me),
+        own_key(&offers.right, me),
+        own_key(&offers.down, me),
+    ];
+    lists.read_ahead(&keys);
+}
+
+// The key of what is offered, where this worker owns it, and else one of no board.
+fn own_key(offer: &Option<Offer>, me: usize) -> u128 {
+    match *offer {
+        Some(offer) if offer.owner == me => offer.key,
+        _ => 0,
+    }
 }

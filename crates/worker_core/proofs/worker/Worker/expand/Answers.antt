@@ -8,8 +8,9 @@ use Rattle.world_model.specs.Costs.{limit_of}
 use Rattle.world_model.specs.Knowledge.{Knowledge}
 use Rattle.world_model.specs.Expansions.{expansion}
 use Rattle.world_model.specs.Workers.{HasNothingBelow}
-use Rattle.worker_core.specs.Expanding.{role_by}
-use Rattle.worker_core.specs.Roles.{task_of}
+use Rattle.search_lists.specs.Lists.{Lists}
+use Rattle.worker_core.specs.Expanding.{IsReady, in_turn, role_by}
+use Rattle.worker_core.specs.Roles.{IsGuided, task_of}
 use Rattle.worker_core.specs.Workers.{state_of, packets_of}
 use Rattle.worker_core.proofs.ChosenLemmas.{chosen, chosen_adds, cost_low, all_low, guided_by_next, guided_with_room}
 use Rattle.worker_core.proofs.ExpandLemmas.{ready_for, restarted}
@@ -129,7 +130,7 @@ expand_next-requires-clause-ready g c κs within =
     let it = chosen task guide lists is worker refl hash c.len.result workers c.args.me (c.len.ensures ∙ c.args.self.now.unsent.ok.0) c.limit.result c.limit.ensures next first c.in-Some.ensures.below b c.shape.result c.shape.ensures.value c.of_key-unpacked.ensures offers c.offers_of-offers.ensures.offered c.offers_of-offers.ensures.within in
     let all : length worker.unsent ≡ workers = length-map c.args.self.now.unsent.items (λ v. v.items) in
     let room = subst (λ (xs : List Items). HasRoom c.args.me (packets_of xs) offers) c.deref.ensures.value (c.has_room.ensures.0 (search rules)) in
-    ready_for c.args.me c.args.goal.now.grid known.cost workers c.make_places.new.lists worker.unsent offers room it.within all c.in_default-make_places.ensures.boards c.in_default-make_places.ensures.places
+    subst (λ (made : Lists). IsReady c.args.me c.args.goal.now.grid made worker.unsent (in_turn offers)) (sym c.read_ahead.ensures) (ready_for c.args.me c.args.goal.now.grid known.cost workers c.make_places.new.lists worker.unsent offers room it.within all c.in_default-make_places.ensures.boards c.in_default-make_places.ensures.places)
 
 -- src/expanding.rt:41:5
 pub returns-clause-step : goal.returns-clause-step
@@ -152,7 +153,7 @@ returns-clause-step g c = λ start.
     let room = subst (λ (xs : List Items). HasRoom c.args.me (packets_of xs) offers) c.deref.ensures.value (c.has_room.ensures.0 (search rules)) in
     let some : worker.allowance ≡ 0 → ⊥ = λ none. c.if-left-eq0.false (c.left.ensures.value ∙ none) in
     let fits = none_overfull role worker b known task.sum offers it.offered c.args.goal.now.grid workers it.within all room in
-    let same = c.make_places.ensures.same.known ∙ ap (λ (t : Table). t.known) c.next.ensures.closed in
+    let same = ap (λ (made : Lists). made.closed.known) c.read_ahead.ensures ∙ c.make_places.ensures.same.known ∙ ap (λ (t : Table). t.known) c.next.ensures.closed in
     let knows = ap (λ (m : Knowledge). map.get m (key_of b)) same ∙ it.at.opens.knows in
     let done = c.expand_next.ensures.state role task.sum b known refl it.at.opens.board.0 it.at.opens.board.1 c.of_key-unpacked.ensures.packed knows it.offered in
     inr (it.waits, inr (some, (b, known, it.at, inr (fits, inl (refl, done ∙ ap (λ (m : Knowledge). expansion role (record worker { known = m }) b known) same)))))
@@ -176,5 +177,5 @@ returns-clause-order g c = λ start guide is.
     let low = cost_low guide lists.closed next c.limit.result c.args.self.now.best first c.in-Some.ensures.below c.limit.ensures in
     let cost = first.opens.2 in
     let adds = chosen_adds role guide lists is worker b known offers workers it (omega (arith, cost, low)) in
-    let made = guided_with_room task guide c.next.new.self c.make_places.new.lists (guided_by_next task guide lists c.next.new.self is c.next.ensures.closed (c.next.ensures.order guide)) c.make_places.ensures.same in
+    let made = subst (IsGuided task guide) (sym c.read_ahead.ensures) (guided_with_room task guide c.next.new.self c.make_places.new.lists (guided_by_next task guide lists c.next.new.self is c.next.ensures.closed (c.next.ensures.order guide)) c.make_places.ensures.same) in
     c.expand_next.ensures.guided task guide refl adds made

@@ -20,9 +20,9 @@ take-requires-after_bounds g c κs within =
     let all = offers.up ∷ offers.left ∷ offers.right ∷ offers.down ∷ [] in (
       offers.left ∷ offers.right ∷ offers.down ∷ [],
       subst
-          (λ (grid : Grid). IsReady c.args.me grid c.close.new.self packets all)
+          (λ (grid : Grid). IsReady c.args.me grid c.close_next.new.lists packets all)
           (sym c.shape-shape.ensures.value)
-          (ready_closed c.args.me c.args.goal.now.grid c.args.self.now.lists c.close.new.self packets all c.args.next.key c.close.ensures.closed c.close.ensures.places c.requires.ready),
+          (ready_closed c.args.me c.args.goal.now.grid c.args.self.now.lists c.close_next.new.lists packets all c.args.next.key c.close_next.ensures.closed c.close_next.ensures.places c.requires.ready),
     )
 
 -- src/expanding.rt:111:9
@@ -33,9 +33,9 @@ take-requires-2-after_bounds g c κs within =
     let all = offers.up ∷ offers.left ∷ offers.right ∷ offers.down ∷ [] in
     let first =
     subst
-    (λ (grid : Grid). IsReady c.args.me grid c.close.new.self packets all)
+    (λ (grid : Grid). IsReady c.args.me grid c.close_next.new.lists packets all)
     (sym c.shape-shape.ensures.value)
-    (ready_closed c.args.me c.args.goal.now.grid c.args.self.now.lists c.close.new.self packets all c.args.next.key c.close.ensures.closed c.close.ensures.places c.requires.ready) in
+    (ready_closed c.args.me c.args.goal.now.grid c.args.self.now.lists c.close_next.new.lists packets all c.args.next.key c.close_next.ensures.closed c.close_next.ensures.places c.requires.ready) in
     (offers.right ∷ offers.down ∷ [], c.take.ensures.ready (offers.left ∷ offers.right ∷ offers.down ∷ []) first)
 
 -- src/expanding.rt:112:9
@@ -46,9 +46,9 @@ take-requires-3-after_bounds g c κs within =
     let all = offers.up ∷ offers.left ∷ offers.right ∷ offers.down ∷ [] in
     let first =
     subst
-    (λ (grid : Grid). IsReady c.args.me grid c.close.new.self packets all)
+    (λ (grid : Grid). IsReady c.args.me grid c.close_next.new.lists packets all)
     (sym c.shape-shape.ensures.value)
-    (ready_closed c.args.me c.args.goal.now.grid c.args.self.now.lists c.close.new.self packets all c.args.next.key c.close.ensures.closed c.close.ensures.places c.requires.ready) in
+    (ready_closed c.args.me c.args.goal.now.grid c.args.self.now.lists c.close_next.new.lists packets all c.args.next.key c.close_next.ensures.closed c.close_next.ensures.places c.requires.ready) in
     let second = c.take.ensures.ready (offers.left ∷ offers.right ∷ offers.down ∷ []) first in
     (offers.down ∷ [], c.take-2.ensures.ready (offers.right ∷ offers.down ∷ []) second)
 
@@ -60,9 +60,9 @@ take-requires-4-after_bounds g c κs within =
     let all = offers.up ∷ offers.left ∷ offers.right ∷ offers.down ∷ [] in
     let first =
     subst
-    (λ (grid : Grid). IsReady c.args.me grid c.close.new.self packets all)
+    (λ (grid : Grid). IsReady c.args.me grid c.close_next.new.lists packets all)
     (sym c.shape-shape.ensures.value)
-    (ready_closed c.args.me c.args.goal.now.grid c.args.self.now.lists c.close.new.self packets all c.args.next.key c.close.ensures.closed c.close.ensures.places c.requires.ready) in
+    (ready_closed c.args.me c.args.goal.now.grid c.args.self.now.lists c.close_next.new.lists packets all c.args.next.key c.close_next.ensures.closed c.close_next.ensures.places c.requires.ready) in
     let second = c.take.ensures.ready (offers.left ∷ offers.right ∷ offers.down ∷ []) first in
     let third = c.take-2.ensures.ready (offers.right ∷ offers.down ∷ []) second in
     ([], c.take-3.ensures.ready (offers.down ∷ []) third)
@@ -74,10 +74,10 @@ returns-clause-state g c = λ role sum b known me board sides packed at offered.
     let old = c.args.self.now.allowance in
     let item = item_by role.task.rule b known.cost in
     let boards = λ (m : Move). item_board role.task.rule b known.cost m c.shape-shape.result board (sides ∙ sym c.shape-shape.ensures.value) in
-    let closed = one_spent worker b known old.granted old.left c.spend.new.self.left c.close.new.self c.args.self.now.lists c.args.next.key refl refl refl c.spend.ensures.left c.requires.granted packed at c.close.ensures.closed in
-    let made = c.close.new.self.closed.known in
-    let left = c.spend.new.self.left in
-    let spent = ap (λ (granted : ℕ). record worker { known = made; allowance = left; expansions = granted - left }) c.spend.ensures.granted in
+    let closed = one_spent worker b known old.granted old.left c.close_next.new.allowance.left c.close_next.new.lists c.args.self.now.lists c.args.next.key refl refl refl c.close_next.ensures.left c.requires.granted packed at c.close_next.ensures.closed in
+    let made = c.close_next.new.lists.closed.known in
+    let left = c.close_next.new.allowance.left in
+    let spent = ap (λ (granted : ℕ). record worker { known = made; allowance = left; expansions = granted - left }) c.close_next.ensures.granted in
     let s1 = c.take.ensures.state role sum (item U) me offered.up (boards U) ∙ ap (λ (w : WorkerState). taken role w (item U)) (spent ∙ closed) in
     let s2 = c.take-2.ensures.state role sum (item L) me offered.left (boards L) ∙ ap (λ (w : WorkerState). taken role w (item L)) s1 in
     let s3 = c.take-3.ensures.state role sum (item R) me offered.right (boards R) ∙ ap (λ (w : WorkerState). taken role w (item R)) s2 in
@@ -89,7 +89,7 @@ pub returns-clause-guided : goal.returns-clause-guided
 returns-clause-guided g c = λ task guide goal adds is.
     let sides : task.goal.grid ≡ c.shape-shape.result = ap (λ (b : Position). b.grid) goal ∙ sym c.shape-shape.ensures.value in
     let ends : key_of task.goal ≡ c.key-goal_key.result = ap key_of goal ∙ sym c.key-goal_key.ensures.value in
-    let closed = guided_closed task guide c.args.self.now.lists c.close.new.self is c.args.next.key c.close.ensures.closed (c.close.ensures.order guide is.order) in
+    let closed = guided_closed task guide c.args.self.now.lists c.close_next.new.lists is c.args.next.key c.close_next.ensures.closed (c.close_next.ensures.order guide is.order) in
     c.take-4.ensures.guided task guide sides ends adds.3 (
     c.take-3.ensures.guided task guide sides ends adds.2 (
     c.take-2.ensures.guided task guide sides ends adds.1 (
