@@ -28,7 +28,7 @@ use Rattle.world_model.specs.declared.parts.Item.{Item}
 use Rattle.world_model.specs.declared.parts.Known.{Known}
 use Rattle.world_model.specs.Expansions.{with_successor, with_closure, expansion}
 use Rattle.world_model.specs.Workers.{WorkerState, Packet, Role, IsTaskBoard, IsOpen, IsNext}
-use Rattle.worker_core.specs.Expanding.{IsReady, AddsUpBy, in_turn, taken}
+use Rattle.worker_core.specs.Expanding.{IsReady, stock, AddsUpBy, in_turn, taken}
 use Rattle.worker_core.specs.Roles.{IsGuided, IsGuideOf, task_of}
 use Rattle.worker_core.proofs.GuideLemmas.{none_below}
 use Rattle.worker_core.proofs.TakeLemmas.{ready_with_room, if_some}
@@ -66,7 +66,7 @@ closure_room : (t : Table) (key : ℕ) (known : Option Known) → (table_closure
 closure_room t key None = refl
 closure_room t key (Some known) = refl
 
-pub ready_closed : (me : ℕ) (grid : Grid) (lists lists' : Lists) (unsent : List Packet) (offers : List (Option Offer)) (key : ℕ) → lists'.closed ≡ table_closure lists.closed key (map.get lists.closed.known key) → ((h : ℕ) → places_at lists.waiting h ≤ places_at lists'.waiting h) → IsReady me grid lists unsent offers → IsReady me grid lists' unsent offers
+pub ready_closed : (me : ℕ) (grid : Grid) (lists lists' : Lists) (unsent : List Packet) (offers : List (Option Offer)) (key : ℕ) → lists'.closed ≡ table_closure lists.closed key (map.get lists.closed.known key) → ((h : ℕ) → places_at lists.waiting h ≤ places_at lists'.waiting h) → IsReady me grid (stock lists unsent) offers → IsReady me grid (stock lists' unsent) offers
 ready_closed me grid lists lists' unsent offers key closed places ready =
     let room : lists'.closed.room ≡ lists.closed.room = ap (λ (t : Table). t.room) closed ∙ closure_room lists.closed key (map.get lists.closed.known key) in
     ready_with_room me grid lists unsent offers lists' (omega (arith, room)) places ready
@@ -82,7 +82,7 @@ one_spent worker b known granted left left' lists' lists key knows allowed made 
 
 -- ---- what is ready before
 
-pub ready_for : (me : ℕ) (grid : Grid) (cost n : ℕ) (lists : Lists) (unsent : List Packet) (offers : Offers) → HasRoom me unsent offers → OfEach (IsWithin grid cost n) offers → length unsent ≡ n → 4 ≤ lists.closed.room → OfEach (λ offer. offer.owner ≡ me → 4 ≤ places_at lists.waiting offer.f) offers → IsReady me grid lists unsent (in_turn offers)
+pub ready_for : (me : ℕ) (grid : Grid) (cost n : ℕ) (lists : Lists) (unsent : List Packet) (offers : Offers) → HasRoom me unsent offers → OfEach (IsWithin grid cost n) offers → length unsent ≡ n → 4 ≤ lists.closed.room → OfEach (λ offer. offer.owner ≡ me → 4 ≤ places_at lists.waiting offer.f) offers → IsReady me grid (stock lists unsent) (in_turn offers)
 ready_for me grid cost n lists unsent offers room within all boards places = record {
   there = (owned offers.up within.0, (owned offers.left within.1, (owned offers.right within.2, (owned offers.down within.3, tt))));
   keys = (keyed offers.up within.0, (keyed offers.left within.1, (keyed offers.right within.2, (keyed offers.down within.3, tt))));

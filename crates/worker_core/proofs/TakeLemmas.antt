@@ -25,7 +25,7 @@ use Rattle.world_model.specs.Knowledge.{Knowledge, is_news, relaxation_at}
 use Rattle.world_model.specs.Expansions.{with_successor}
 use Rattle.world_model.specs.Workers.{WorkerState, Packet, Role, IsTaskBoard}
 use Rattle.world_model.proofs.TableLemmas.{with_insert}
-use Rattle.worker_core.specs.Expanding.{IsReady, OfAll, taken, AddsUpBy}
+use Rattle.worker_core.specs.Expanding.{IsReady, stock, OfAll, taken, AddsUpBy}
 use Rattle.worker_core.specs.Roles.{IsGuided, AreTaskBoards}
 
 -- ---- packets
@@ -67,7 +67,7 @@ room_left (Some known) room = omega arith
 
 module _ (me : ℕ) (grid : Grid) (lists : Lists) (unsent : List Packet) (rest : List (Option Offer)) where
   -- nothing was offered
-  pub ready_past : IsReady me grid lists unsent (None ∷ rest) → IsReady me grid lists unsent rest
+  pub ready_past : IsReady me grid (stock lists unsent) (None ∷ rest) → IsReady me grid (stock lists unsent) rest
   ready_past ready = record {
     there = ready.there.1;
     keys = ready.keys.1;
@@ -82,9 +82,9 @@ module _ (me : ℕ) (grid : Grid) (lists : Lists) (unsent : List Packet) (rest :
     room = λ to within. let fits = ready.room to within in omega (arith, fits);
   }
 
-  module _ (offer : Offer) (ready : IsReady me grid lists unsent (Some offer ∷ rest)) where
+  module _ (offer : Offer) (ready : IsReady me grid (stock lists unsent) (Some offer ∷ rest)) where
     -- an own board was relaxed
-    pub ready_own : (lists' : Lists) (key cost : ℕ) (via : Move) → lists'.closed ≡ table_relaxation lists.closed key cost via → ((h : ℕ) → places_at lists.waiting h ≤ places_at lists'.waiting h + 1) → IsReady me grid lists' unsent rest
+    pub ready_own : (lists' : Lists) (key cost : ℕ) (via : Move) → lists'.closed ≡ table_relaxation lists.closed key cost via → ((h : ℕ) → places_at lists.waiting h ≤ places_at lists'.waiting h + 1) → IsReady me grid (stock lists' unsent) rest
     ready_own lists' key cost via relaxed places = record {
       there = ready.there.1;
       keys = ready.keys.1;
@@ -104,9 +104,9 @@ module _ (me : ℕ) (grid : Grid) (lists : Lists) (unsent : List Packet) (rest :
     }
 
     -- another's item was put into its packet
-    pub ready_other : offer.owner ≢ me → (item : Item) (unsent' : List Packet) → unsent' ≡ put unsent offer.owner item → IsReady me grid lists unsent' rest
+    pub ready_other : offer.owner ≢ me → (item : Item) (unsent' : List Packet) → unsent' ≡ put unsent offer.owner item → IsReady me grid (stock lists unsent') rest
     ready_other other item unsent' is =
-        subst (λ (xs : List Packet). IsReady me grid lists xs rest) (sym is) (record {
+        subst (λ (xs : List Packet). IsReady me grid (stock lists xs) rest) (sym is) (record {
           there =
               each
               (λ some. some.owner < length unsent)
@@ -138,7 +138,7 @@ module _ (me : ℕ) (grid : Grid) (lists : Lists) (unsent : List Packet) (rest :
         same = length-set unsent offer.owner (get_or unsent offer.owner [] ++ item ∷ [])
 
   -- more places are no less
-  pub ready_with_room : (lists' : Lists) → lists.closed.room ≤ lists'.closed.room → ((h : ℕ) → places_at lists.waiting h ≤ places_at lists'.waiting h) → IsReady me grid lists unsent rest → IsReady me grid lists' unsent rest
+  pub ready_with_room : (lists' : Lists) → lists.closed.room ≤ lists'.closed.room → ((h : ℕ) → places_at lists.waiting h ≤ places_at lists'.waiting h) → IsReady me grid (stock lists unsent) rest → IsReady me grid (stock lists' unsent) rest
   ready_with_room lists' boards places ready = record {
     there = ready.there;
     keys = ready.keys;

@@ -35,14 +35,22 @@ abbrev pub OfAll : (Offer → Type 0) → List (Option Offer) → Type 0
 OfAll P [] = ⊤
 OfAll P (offer ∷ rest) = IfSome offer P × OfAll P rest
 
+-- what a worker takes offers into: its lists, and for each worker the packet under construction
+pub record Stock : Type 0 where
+  pub lists : Lists
+  pub unsent : List Packet
+
+abbrev pub stock : Lists → List Packet → Stock
+stock lists unsent = record { lists = lists; unsent = unsent }
+
 -- Worker `me` has what it takes to take these offers: the lists have places for as many boards, and the packets for the items. The
 -- offers have keys of boards of the grid.
-pub record IsReady (me : ℕ) (grid : Grid) (lists : Lists) (unsent : List Packet) (offers : List (Option Offer)) : Type 0 where
-  pub there : OfAll (λ offer. offer.owner < length unsent) offers
+pub record IsReady (me : ℕ) (grid : Grid) (into : Stock) (offers : List (Option Offer)) : Type 0 where
+  pub there : OfAll (λ offer. offer.owner < length into.unsent) offers
   pub keys : OfAll (λ offer. (b : Position) × HasKey grid offer.key b) offers
-  pub boards : length offers ≤ lists.closed.room
-  pub places : OfAll (λ offer. offer.owner ≡ me → length offers ≤ places_at lists.waiting offer.f) offers
-  pub room : (to : ℕ) → to < length unsent → length (slice_index_or unsent to []) + all_go me to offers ≤ PACKET_LIMIT
+  pub boards : length offers ≤ into.lists.closed.room
+  pub places : OfAll (λ offer. offer.owner ≡ me → length offers ≤ places_at into.lists.waiting offer.f) offers
+  pub room : (to : ℕ) → to < length into.unsent → length (slice_index_or into.unsent to []) + all_go me to offers ≤ PACKET_LIMIT
 
 -- what is offered adds up by this guide
 abbrev pub AddsUpBy : Guide → Offer → Type 0

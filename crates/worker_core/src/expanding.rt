@@ -17,7 +17,7 @@ ghost use Rattle.world_model.specs.Expansions.{expansion};
 ghost use Rattle.world_model.specs.Turns.{turn, refusal_in};
 ghost use Rattle.world_model.specs.Workers.{Role, KnowsAs};
 ghost use Rattle.world_model.specs.WorkerSteps.{ExpandStep};
-ghost use Rattle.worker_core.specs.Expanding.{IsReady, AddsUpBy, in_turn, role_by};
+ghost use Rattle.worker_core.specs.Expanding.{IsReady, stock, AddsUpBy, in_turn, role_by};
 ghost use Rattle.worker_core.specs.Roles.{IsGuided, task_of};
 ghost use Rattle.worker_core.specs.Workers.{state_of, packets_of};
 
@@ -95,8 +95,8 @@ impl<C: Counting> Worker<C> {
         requires first { IsFirst self.old.lists next }
         requires allowed { 0 < self.old.allowance.left }
         requires granted { self.old.allowance.left ≤ self.old.allowance.granted }
-        requires ready { IsReady me goal.now.grid self.old.lists
-            (packets_of self.old.unsent.items) (in_turn offers) }
+        requires ready { IsReady me goal.now.grid (stock self.old.lists
+            (packets_of self.old.unsent.items)) (in_turn offers) }
         ensures state { (role : Role) (sum : Position → ℕ) (b : Position) (known : Known)
             → role.me ≡ me → IsBoard b → b.grid ≡ goal.now.grid → key_of b ≡ next.key
             → KnowsAs (state_of self.old) b known

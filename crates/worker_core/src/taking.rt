@@ -11,7 +11,7 @@ ghost use Rattle.search_lists.specs.Orders.{Guide};
 ghost use Rattle.world_model.specs.declared.limits.TheConstants.{PACKET_LIMIT};
 ghost use Rattle.world_model.specs.declared.parts.Item.{Item};
 ghost use Rattle.world_model.specs.Workers.{Role};
-ghost use Rattle.worker_core.specs.Expanding.{IsReady, AddsUpBy, taken};
+ghost use Rattle.worker_core.specs.Expanding.{IsReady, stock, AddsUpBy, taken};
 ghost use Rattle.worker_core.specs.Roles.{IsGuided};
 ghost use Rattle.worker_core.specs.Workers.{state_of, packets_of};
 
@@ -27,11 +27,11 @@ impl<C: Counting> Worker<C> {
     // Takes what a move offers, where it offers anything: its own is relaxed, another's goes to the
     // end of the packet for that one.
     pub(crate) fn take(&mut self, me: usize, shape: Shape, goal_key: u128, offer: Option<Offer>)
-        requires { (rest : List (Option Offer)) × IsReady me shape self.old.lists
-            (packets_of self.old.unsent.items) (offer ∷ rest) }
-        ensures ready { (rest : List (Option Offer)) → IsReady me shape self.old.lists
-            (packets_of self.old.unsent.items) (offer ∷ rest)
-            → IsReady me shape self.new.lists (packets_of self.new.unsent.items) rest }
+        requires { (rest : List (Option Offer)) × IsReady me shape (stock self.old.lists
+            (packets_of self.old.unsent.items)) (offer ∷ rest) }
+        ensures ready { (rest : List (Option Offer)) → IsReady me shape (stock self.old.lists
+            (packets_of self.old.unsent.items)) (offer ∷ rest)
+            → IsReady me shape (stock self.new.lists (packets_of self.new.unsent.items)) rest }
         ensures state { (role : Role) (sum : Position → ℕ) (item : Option Item)
             → role.me ≡ me → IsOffered sum role.owner item offer
             → IfSome item (λ i. IsBoard i.board × (i.board.grid ≡ shape))

@@ -9,7 +9,7 @@ use Rattle.world_model.specs.Knowledge.{Knowledge}
 use Rattle.world_model.specs.Expansions.{expansion}
 use Rattle.world_model.specs.Workers.{HasNothingBelow}
 use Rattle.search_lists.specs.Lists.{Lists}
-use Rattle.worker_core.specs.Expanding.{IsReady, in_turn, role_by}
+use Rattle.worker_core.specs.Expanding.{IsReady, stock, in_turn, role_by}
 use Rattle.worker_core.specs.Roles.{IsGuided, task_of}
 use Rattle.worker_core.specs.Workers.{state_of, packets_of}
 use Rattle.worker_core.proofs.ChosenLemmas.{chosen, chosen_adds, cost_low, all_low, guided_by_next, guided_with_room}
@@ -130,7 +130,7 @@ expand_next-requires-clause-ready g c κs within =
     let it = chosen task guide lists is worker refl hash c.len.result workers c.args.me (c.len.ensures ∙ c.args.self.now.unsent.ok.0) c.limit.result c.limit.ensures next first c.in-Some.ensures.below b c.shape.result c.shape.ensures.value c.of_key-unpacked.ensures offers c.offers_of-offers.ensures.offered c.offers_of-offers.ensures.within in
     let all : length worker.unsent ≡ workers = length-map c.args.self.now.unsent.items (λ v. v.items) in
     let room = subst (λ (xs : List Items). HasRoom c.args.me (packets_of xs) offers) c.deref.ensures.value (c.has_room.ensures.0 (search rules)) in
-    subst (λ (made : Lists). IsReady c.args.me c.args.goal.now.grid made worker.unsent (in_turn offers)) (sym c.read_ahead.ensures) (ready_for c.args.me c.args.goal.now.grid known.cost workers c.make_places.new.lists worker.unsent offers room it.within all c.in_default-make_places.ensures.boards c.in_default-make_places.ensures.places)
+    subst (λ (made : Lists). IsReady c.args.me c.args.goal.now.grid (stock made worker.unsent) (in_turn offers)) (sym c.read_ahead.ensures) (ready_for c.args.me c.args.goal.now.grid known.cost workers c.make_places.new.lists worker.unsent offers room it.within all c.in_default-make_places.ensures.boards c.in_default-make_places.ensures.places)
 
 -- src/expanding.rt:41:5
 pub returns-clause-step : goal.returns-clause-step

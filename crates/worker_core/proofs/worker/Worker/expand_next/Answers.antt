@@ -6,7 +6,7 @@ use Rattle.board.specs.Keys.{key_of}
 use Rattle.board.specs.Positions.{Position}
 use Rattle.offers.specs.Offers.{item_by}
 use Rattle.world_model.specs.Workers.{WorkerState}
-use Rattle.worker_core.specs.Expanding.{IsReady, taken}
+use Rattle.worker_core.specs.Expanding.{IsReady, stock, taken}
 use Rattle.worker_core.specs.Workers.{state_of, packets_of}
 use Rattle.worker_core.proofs.ExpandLemmas.{in_four, item_board, ready_closed, one_spent}
 use Rattle.worker_core.proofs.TakeLemmas.{guided_closed}
@@ -20,7 +20,7 @@ take-requires-after_bounds g c κs within =
     let all = offers.up ∷ offers.left ∷ offers.right ∷ offers.down ∷ [] in (
       offers.left ∷ offers.right ∷ offers.down ∷ [],
       subst
-          (λ (grid : Grid). IsReady c.args.me grid c.close_next.new.lists packets all)
+          (λ (grid : Grid). IsReady c.args.me grid (stock c.close_next.new.lists packets) all)
           (sym c.shape-shape.ensures.value)
           (ready_closed c.args.me c.args.goal.now.grid c.args.self.now.lists c.close_next.new.lists packets all c.args.next.key c.close_next.ensures.closed c.close_next.ensures.places c.requires.ready),
     )
@@ -33,7 +33,7 @@ take-requires-2-after_bounds g c κs within =
     let all = offers.up ∷ offers.left ∷ offers.right ∷ offers.down ∷ [] in
     let first =
     subst
-    (λ (grid : Grid). IsReady c.args.me grid c.close_next.new.lists packets all)
+    (λ (grid : Grid). IsReady c.args.me grid (stock c.close_next.new.lists packets) all)
     (sym c.shape-shape.ensures.value)
     (ready_closed c.args.me c.args.goal.now.grid c.args.self.now.lists c.close_next.new.lists packets all c.args.next.key c.close_next.ensures.closed c.close_next.ensures.places c.requires.ready) in
     (offers.right ∷ offers.down ∷ [], c.take.ensures.ready (offers.left ∷ offers.right ∷ offers.down ∷ []) first)
@@ -46,7 +46,7 @@ take-requires-3-after_bounds g c κs within =
     let all = offers.up ∷ offers.left ∷ offers.right ∷ offers.down ∷ [] in
     let first =
     subst
-    (λ (grid : Grid). IsReady c.args.me grid c.close_next.new.lists packets all)
+    (λ (grid : Grid). IsReady c.args.me grid (stock c.close_next.new.lists packets) all)
     (sym c.shape-shape.ensures.value)
     (ready_closed c.args.me c.args.goal.now.grid c.args.self.now.lists c.close_next.new.lists packets all c.args.next.key c.close_next.ensures.closed c.close_next.ensures.places c.requires.ready) in
     let second = c.take.ensures.ready (offers.left ∷ offers.right ∷ offers.down ∷ []) first in
@@ -60,7 +60,7 @@ take-requires-4-after_bounds g c κs within =
     let all = offers.up ∷ offers.left ∷ offers.right ∷ offers.down ∷ [] in
     let first =
     subst
-    (λ (grid : Grid). IsReady c.args.me grid c.close_next.new.lists packets all)
+    (λ (grid : Grid). IsReady c.args.me grid (stock c.close_next.new.lists packets) all)
     (sym c.shape-shape.ensures.value)
     (ready_closed c.args.me c.args.goal.now.grid c.args.self.now.lists c.close_next.new.lists packets all c.args.next.key c.close_next.ensures.closed c.close_next.ensures.places c.requires.ready) in
     let second = c.take.ensures.ready (offers.left ∷ offers.right ∷ offers.down ∷ []) first in

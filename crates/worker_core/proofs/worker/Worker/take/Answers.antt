@@ -5,7 +5,7 @@ use Rattle.board.specs.Grids.{Grid}
 use Rattle.board.specs.Keys.{HasKey}
 use Rattle.offers.specs.declared.offer.Offer.{Offer}
 use Rattle.offers.specs.Offers.{IsOffered}
-use Rattle.worker_core.specs.Expanding.{IsReady, AddsUpBy}
+use Rattle.worker_core.specs.Expanding.{IsReady, stock, AddsUpBy}
 use Rattle.worker_core.specs.Workers.{state_of, packets_of}
 use Rattle.worker_core.proofs.TakeLemmas.{ready_past, ready_own, ready_other, other_option, guided_met}
 use Rattle.worker_core.proofs.worker.Worker.take.Goals as goal
@@ -15,14 +15,14 @@ pub returns-in_default-clause-ready : goal.returns-in_default-clause-ready
 returns-in_default-clause-ready g c = λ rest ready.
     let none : c.args.offer ≡ None = c.in_default.is in
     let packets = packets_of c.args.self.now.unsent.items in
-    ready_past c.args.me c.args.shape c.args.self.now.lists packets rest (subst (λ (o : Option Offer). IsReady c.args.me c.args.shape c.args.self.now.lists packets (o ∷ rest)) none ready)
+    ready_past c.args.me c.args.shape c.args.self.now.lists packets rest (subst (λ (o : Option Offer). IsReady c.args.me c.args.shape (stock c.args.self.now.lists packets) (o ∷ rest)) none ready)
 
 -- src/taking.rt:49:13
 pub returns-then-offer-me-clause-ready : goal.returns-then-offer-me-clause-ready
 returns-then-offer-me-clause-ready g c = λ rest ready.
     let lists = c.args.self.now.lists in
     let packets = packets_of c.args.self.now.unsent.items in
-    let here = subst (λ (o : Option Offer). IsReady c.args.me c.args.shape lists packets (o ∷ rest)) c.in-Some.is ready in
+    let here = subst (λ (o : Option Offer). IsReady c.args.me c.args.shape (stock lists packets) (o ∷ rest)) c.in-Some.is ready in
     ready_own c.args.me c.args.shape lists packets rest c.in-Some.offer here c.relax.new.self c.met_by.result.key c.met_by.result.cost c.met_by.result.via c.relax.ensures.closed c.relax.ensures.places
 
 -- src/taking.rt:49:13
@@ -31,7 +31,7 @@ returns-then-offer-me-clause-guided g c = λ task guide sides ends adds is.
     let lists = c.args.self.now.lists in
     let offer = c.in-Some.offer in
     let packets = packets_of c.args.self.now.unsent.items in
-    let ready = subst (λ (o : Option Offer). IsReady c.args.me c.args.shape lists packets (o ∷ c.requires.0)) c.in-Some.is c.requires.1 in
+    let ready = subst (λ (o : Option Offer). IsReady c.args.me c.args.shape (stock lists packets) (o ∷ c.requires.0)) c.in-Some.is c.requires.1 in
     let adds_up : AddsUpBy guide offer = subst (λ (o : Option Offer). IfSome o (AddsUpBy guide)) c.in-Some.is adds in
     let met = c.met_by.result in
     let same : met ≡ record { key = offer.key; cost = offer.cost; via = offer.via; f = offer.f } = λ t. record { key = c.met_by.ensures.key t; cost = c.met_by.ensures.cost t; via = c.met_by.ensures.via t; f = c.met_by.ensures.f t } in
@@ -43,7 +43,7 @@ pub put_item-requires-clause-there : goal.put_item-requires-clause-there
 put_item-requires-clause-there g c =
     let lists = c.args.self.now.lists in
     let packets = packets_of c.args.self.now.unsent.items in
-    let ready = subst (λ (o : Option Offer). IsReady c.args.me c.args.shape lists packets (o ∷ c.requires.0)) c.in-Some.is c.requires.1 in
+    let ready = subst (λ (o : Option Offer). IsReady c.args.me c.args.shape (stock lists packets) (o ∷ c.requires.0)) c.in-Some.is c.requires.1 in
     subst (λ (n : ℕ). c.in-Some.offer.owner < n) (length-map c.args.self.now.unsent.items (λ v. v.items)) ready.there.0
 
 -- src/taking.rt:29:5
@@ -51,7 +51,7 @@ pub returns-clause-ready : goal.returns-clause-ready
 returns-clause-ready g c = λ rest ready.
     let lists = c.args.self.now.lists in
     let packets = packets_of c.args.self.now.unsent.items in
-    let here = subst (λ (o : Option Offer). IsReady c.args.me c.args.shape lists packets (o ∷ rest)) c.in-Some.is ready in
+    let here = subst (λ (o : Option Offer). IsReady c.args.me c.args.shape (stock lists packets) (o ∷ rest)) c.in-Some.is ready in
     ready_other c.args.me c.args.shape lists packets rest c.in-Some.offer here c.if-offer-me.false _ (packets_of c.put_item.new.packets.items) c.put_item.ensures
 
 -- src/taking.rt:29:5
