@@ -6,12 +6,13 @@ ghost use Rattle.board.specs.Positions.{Position};
 ghost use Rattle.board.specs.CostRules.{CostRule};
 ghost use Rattle.open_buckets.specs.OpenLists.{places_at};
 ghost use Rattle.open_buckets.specs.declared.open.TheConstants.{GREATEST_F};
+ghost use Rattle.outcomes.specs.Outcomes.{Task};
 ghost use Rattle.search_lists.specs.Lists.{HasMoreRoom};
 ghost use Rattle.search_lists.specs.Orders.{Guide, IsInOrder};
 ghost use Rattle.world_model.specs.Knowledge.{relaxation};
 ghost use Rattle.world_model.specs.Turns.{turn, refusal_in};
 ghost use Rattle.world_model.specs.WorkerSteps.{SettleStep};
-ghost use Rattle.worker_core.specs.Roles.{IsGuideOf, AreAtHome, task_of};
+ghost use Rattle.worker_core.specs.Roles.{IsGuideOf, AreTaskBoards, AreAtHome, task_of};
 ghost use Rattle.worker_core.specs.Workers.{state_of};
 
 use crate::worker::Worker;
@@ -34,6 +35,9 @@ impl<C: Counting> Worker<C> {
         ensures order { (start : Position) (rule : CostRule) (guide : Guide)
             → IsGuideOf (task_of start goal.now rule bound.now) guide
             → IsInOrder guide self.old.lists → IsInOrder guide self.new.lists }
+        ensures boards { (task : Task) → task.goal ≡ goal.now
+            → AreTaskBoards task self.old.lists.closed
+            → AreTaskBoards task self.new.lists.closed }
     {
         let Some(item) = self.held.pop() else {
             return Err(Refusal::NothingThere);
@@ -63,6 +67,9 @@ impl<C: Counting> Worker<C> {
         ensures order { (start : Position) (rule : CostRule) (guide : Guide)
             → IsGuideOf (task_of start goal.now rule bound.now) guide
             → IsInOrder guide self.old.lists → IsInOrder guide self.new.lists }
+        ensures boards { (task : Task) → task.goal ≡ goal.now
+            → AreTaskBoards task self.old.lists.closed
+            → AreTaskBoards task self.new.lists.closed }
     {
         relax_item(&mut self.lists, alloc, goal, bound, item)
     }
@@ -84,6 +91,8 @@ fn relax_item(
     ensures order { (start : Position) (rule : CostRule) (guide : Guide)
         → IsGuideOf (task_of start goal.now rule bound.now) guide
         → IsInOrder guide lists.old → IsInOrder guide lists.new }
+    ensures boards { (task : Task) → task.goal ≡ goal.now
+        → AreTaskBoards task lists.old.closed → AreTaskBoards task lists.new.closed }
 {
     let met = Met {
         key: item.board.key(),

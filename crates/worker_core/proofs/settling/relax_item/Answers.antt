@@ -1,4 +1,9 @@
-use Rattle.std.proofs.Common.{◌≡◌, ◌+◌, ℕ, arith, sym, ap, ◌∙◌}
+use Rattle.std.proofs.Common.{◌≡◌, ◌+◌, ℕ, arith, sym, ap, ◌∙◌, subst}
+use Rattle.std.specs.FinMap as map
+use Rattle.board.specs.Positions.{Position}
+use Rattle.world_model.specs.Knowledge.{Knowledge}
+use Rattle.worker_core.specs.Roles.{AreTaskBoards}
+use Rattle.worker_core.proofs.TakeLemmas.{relaxed_boards}
 use Rattle.worker_core.proofs.SettleLemmas.{order_with_room}
 use Rattle.worker_core.proofs.settling.relax_item.Goals as goal
 
@@ -13,3 +18,14 @@ returns-clause-order c = λ start rule guide leads order.
     let before = order_with_room guide c.args.lists.now c.make_place.new.lists c.make_place.ensures.same order in
     let sum : c.of.result ≡ guide.sum c.key.result = c.of.ensures.value ∙ sym (leads.sums item.board (c.key.ensures.board, c.requires.board)) ∙ ap guide.sum (sym c.key.ensures.value) in
     c.relax.ensures.order guide (leads.ends ∙ sym c.key-2.ensures.value) (record { adds = ap (λ (n : ℕ). item.cost + n) sum; within = omega (arith, low, high) }) before
+
+pub returns-in_err-make_place-clause-boards : goal.returns-in_err-make_place-clause-boards
+returns-in_err-make_place-clause-boards c = λ task goal_is boards key known at. boards key known (ap (λ (m : Knowledge). map.get m key) (sym c.make_place.ensures.same.known) ∙ at)
+
+pub returns-clause-boards : goal.returns-clause-boards
+returns-clause-boards c = λ task goal_is boards.
+    let item = c.args.item.now in
+    let made = c.make_place.new.lists.closed in
+    let before : AreTaskBoards task made = λ key known at. boards key known (ap (λ (m : Knowledge). map.get m key) (sym c.make_place.ensures.same.known) ∙ at) in
+    let sides = c.requires.board ∙ ap (λ (b : Position). b.grid) (sym goal_is) in
+    subst (AreTaskBoards task) (sym c.relax.ensures.closed) (relaxed_boards task made.known before c.key.result (item.board, (c.key.ensures.board, sides), sym c.key.ensures.value) item.cost item.via)
