@@ -1,0 +1,2 @@
+-- How the worker stands while it searches.
+pub mod Searches

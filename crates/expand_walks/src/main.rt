@@ -1,0 +1,67 @@
+//! A whole search (hash-distributed A*, Kishimoto, Fukunaga, Botea 2013) by one worker on 4 by 4,
+//! with nobody to send packets to. `bench/expand` times it beside the same search in plain Rust.
+//!
+//!     expand_walks COUNT    expands this many boards, with tables of the tiles 1 to 5, 6 to 10
+//!                           and 11 to 15
+//!
+//! It prints a line when the tables are built, and another when it has stopped: after so many
+//! expansions, or where the goal is known and no open board can lead to it at a lower cost. Without
+//! a word it expands 1,000 boards with tables of three tiles each.
+#![tactic(auto)]
+
+mod search;
+mod tables;
+
+use board::{Board, Shape, Weights};
+use search::{Stop, search};
+use std::env;
+use std::io::{self, Print};
+use std::process::ExitCode;
+use tables::{LARGE_GROUPS, SMALL_GROUPS, bound_of};
+
+// A board of which no plan costs less than 57 (Korf 1985, the first of his hundred).
+const START: [u8; 16] = [14, 13, 15, 7, 11, 12, 9, 5, 6, 0, 2, 1, 4, 8, 10, 3];
+
+// The count of expansions that the words name, and the groups for it; or None where they name none.
+fn read_words(rt: &(impl std::rt::Env + AllocGlobal)) -> Option<(u64, &'static [&'static [u8]])> {
+    let mut words = env::args(rt).ok()?.skip(1);
+    let Some(word) = words.next() else {
+        return Some((1000, &SMALL_GROUPS));
+    };
+    let count = word.parse().ok()?;
+    Some((count, &LARGE_GROUPS))
+}
+
+fn tell(rt: &impl Print, stop: Stop) -> io::Result<()> {
+    let expanded = stop.expanded;
+    let known = stop.known;
+    match stop.cost {
+        Some(cost) => println!(rt; "expanded {expanded} known {known} cost {cost}"),
+        None => println!(rt; "expanded {expanded} known {known}"),
+    }
+}
+
+// Searches, and prints; None where there is no memory, or nothing can be printed.
+fn run(rt: &(impl Print + AllocGlobal), count: u64, groups: &[&[u8]]) -> Option<()> {
+    let shape = Shape::new(4, 4).ok()?;
+    let goal = Board::goal(shape);
+    let weights = Weights::unit(shape);
+    let Ok(start) = Board::from_tiles(shape, &START) else {
+        return None;
+    };
+    let bound = bound_of(rt.alloc(), &goal, &weights, groups)?;
+    let sum = bound.of(&start);
+    println!(rt; "sum {sum}").ok()?;
+    let stop = search(rt.alloc(), &goal, &weights, &bound, start, count)?;
+    tell(rt, stop).ok()
+}
+
+fn main(rt: HostRuntime) -> ExitCode {
+    let Some((count, groups)) = read_words(&rt) else {
+        return ExitCode::from(2);
+    };
+    if run(&rt, count, groups).is_none() {
+        return ExitCode::from(1);
+    }
+    ExitCode::from(0)
+}

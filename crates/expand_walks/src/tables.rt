@@ -1,0 +1,57 @@
+//! The tables by which the search is led.
+
+ghost use Rattle.std.specs.Prelude.{◌≡◌, All, IfSome};
+
+use board::{Board, Shape, Weights};
+use database_build::{Table, build};
+use lower_bound::Bound;
+use pattern_index::{Group, Partition};
+use std::alloc::Global;
+
+/// Groups whose tables have some 43,000 values each.
+pub const SMALL_GROUPS: [&[u8]; 5] = [
+    &[1, 2, 3],
+    &[4, 5, 6],
+    &[7, 8, 9],
+    &[10, 11, 12],
+    &[13, 14, 15],
+];
+
+/// Groups whose tables have some 5.8 million values each.
+pub const LARGE_GROUPS: [&[u8]; 3] = [&[1, 2, 3, 4, 5], &[6, 7, 8, 9, 10], &[11, 12, 13, 14, 15]];
+
+/// The bound of these groups by their tables, or None where they make no partition, or find no
+/// memory.
+pub fn bound_of(alloc: Global, goal: &Board, weights: &Weights, lists: &[&[u8]]) -> Option<Bound>
+    requires { weights.now.grid ≡ goal.now.grid }
+    ensures { IfSome result (λ bound. bound.split.grid ≡ goal.now.grid) }
+{
+    let shape = goal.shape();
+    let groups = groups_of(alloc, shape, lists)?;
+    let mut tables = Vec::new(alloc);
+    'tables: for tiles in lists {
+        tables.push(table_of(alloc, goal, weights, tiles)?).ok()?;
+    }
+    let partition = Partition::new(shape, groups).ok()?;
+    Bound::new(partition, tables).ok()
+}
+
+// Groups of these tiles.
+fn groups_of(alloc: Global, shape: Shape, lists: &[&[u8]]) -> Option<Vec<Group>>
+    ensures { IfSome result (λ groups. All (λ g. g.grid ≡ shape) groups.items) }
+{
+    let mut groups = Vec::new(alloc);
+    'groups: for tiles in lists {
+        let group = Group::new(shape, tiles).ok()?;
+        groups.push(group).ok()?;
+    }
+    Some(groups)
+}
+
+// The table of the group of these tiles.
+fn table_of(alloc: Global, goal: &Board, weights: &Weights, tiles: &[u8]) -> Option<Table>
+    requires { weights.now.grid ≡ goal.now.grid }
+{
+    let group = Group::new(goal.shape(), tiles).ok()?;
+    build(alloc, &group, goal, weights).ok()
+}
