@@ -1,5 +1,5 @@
 //! Tests of the crates `message_ledger`, `incumbent` and `quiescence`: what two workers are
-//! answered, counted in both ways.
+//! answered, counted in both ways; and of `owners`.
 #![tactic(auto)]
 
 #[cfg(test)]

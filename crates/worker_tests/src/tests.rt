@@ -1,12 +1,15 @@
-//! The book's calls by two workers, counted in whole numbers and by parts of ledgers.
+//! The book's calls by two workers, counted in whole numbers and by parts of ledgers; the owners of
+//! some boards.
 
 ghost use Rattle.std.specs.Prelude.{◌≡◌, ◌+◌, ◌^◌};
 
 use crate::calls::{Call, Row, make};
 use arrayvec::ArrayVec;
+use board::{Board, Shape};
 use incumbent::Best;
 use message_ledger::{Allowance, Capped, Credit, Grants, Packet, Plain, Shares};
 use outcomes::Want;
+use owners::{ByBlank, Spread, Zobrist};
 use quiescence::Book;
 use std::marker::Brand;
 use std::sync::ledger::{Blank, Ledger};
@@ -178,5 +181,52 @@ fn calls_of_two_workers(rt: HostRuntime) -> Result<(), Fail> {
         assert_eq!(rt; best_costs(costs), (lower, best, limit));
     }
     assert_eq!(rt; stop_by_list(), (Some(Stop::Memory(Want::Stated)), Some(5)));
+    Ok(())
+}
+
+// The sides and the numbers of a board, and its owners of 2, 3, 7 and 16 workers by its hash and by
+// its blank. The hashes were computed by another program, from the words of SplitMix64.
+type OwnerRow = (u8, u8, &'static [u8], [usize; 4], [usize; 4]);
+
+const OWNERS: [OwnerRow; 4] = [
+    (2, 2, &[3, 2, 1, 0], [0, 2, 1, 6], [1, 0, 3, 3]),
+    (2, 3, &[2, 3, 5, 0, 1, 4], [1, 2, 1, 9], [1, 0, 3, 3]),
+    (
+        4,
+        4,
+        &[14, 13, 15, 7, 11, 12, 9, 5, 6, 0, 2, 1, 4, 8, 10, 3],
+        [0, 0, 6, 10],
+        [1, 0, 2, 9],
+    ),
+    (
+        5,
+        5,
+        &[
+            14, 5, 9, 2, 18, 8, 23, 19, 12, 17, 15, 0, 10, 20, 4, 6, 11, 21, 1, 7, 24, 3, 16, 22,
+            13,
+        ],
+        [0, 2, 2, 10],
+        [1, 2, 4, 11],
+    ),
+];
+
+// The owners of a board of 2, 3, 7 and 16 workers.
+fn owners_of<S: Spread>(spread: &S, board: &Board) -> [usize; 4] {
+    [
+        spread.owner(board, 2),
+        spread.owner(board, 3),
+        spread.owner(board, 7),
+        spread.owner(board, 16),
+    ]
+}
+
+#[test]
+fn owners_of_boards(rt: HostRuntime) -> Result<(), Fail> {
+    for (rows, cols, tiles, by_hash, by_blank) in OWNERS {
+        let shape = Shape::new(rows, cols)?;
+        let board = Board::from_tiles(shape, tiles)?;
+        assert_eq!(rt; owners_of(&Zobrist::new(shape), &board), by_hash);
+        assert_eq!(rt; owners_of(&ByBlank, &board), by_blank);
+    }
     Ok(())
 }
