@@ -12,7 +12,7 @@ ghost use Rattle.search_lists.specs.Orders.{Guide, IsInOrder};
 ghost use Rattle.world_model.specs.Knowledge.{relaxation};
 ghost use Rattle.world_model.specs.Turns.{turn, refusal_in};
 ghost use Rattle.world_model.specs.WorkerSteps.{SettleStep};
-ghost use Rattle.worker_core.specs.Roles.{IsGuideOf, AreTaskBoards, AreAtHome, task_of};
+ghost use Rattle.worker_core.specs.Roles.{IsGuideOf, IsGuided, AreTaskBoards, AreAtHome, task_of};
 ghost use Rattle.worker_core.specs.Workers.{state_of};
 
 use crate::worker::Worker;
@@ -38,6 +38,10 @@ impl<C: Counting> Worker<C> {
         ensures boards { (task : Task) → task.goal ≡ goal.now
             → AreTaskBoards task self.old.lists.closed
             → AreTaskBoards task self.new.lists.closed }
+        ensures guided { (start : Position) (rule : CostRule) (guide : Guide)
+            → IsGuided (task_of start goal.now rule bound.now) guide self.old.lists
+            → IsGuided (task_of start goal.now rule bound.now) guide self.new.lists }
+        ensures unsent { self.new.unsent ≡ self.old.unsent }
     {
         let Some(item) = self.held.pop() else {
             return Err(Refusal::NothingThere);
@@ -70,6 +74,10 @@ impl<C: Counting> Worker<C> {
         ensures boards { (task : Task) → task.goal ≡ goal.now
             → AreTaskBoards task self.old.lists.closed
             → AreTaskBoards task self.new.lists.closed }
+        ensures guided { (start : Position) (rule : CostRule) (guide : Guide)
+            → IsGuided (task_of start goal.now rule bound.now) guide self.old.lists
+            → IsGuided (task_of start goal.now rule bound.now) guide self.new.lists }
+        ensures unsent { self.new.unsent ≡ self.old.unsent }
     {
         relax_item(&mut self.lists, alloc, goal, bound, item)
     }
@@ -93,6 +101,9 @@ fn relax_item(
         → IsInOrder guide lists.old → IsInOrder guide lists.new }
     ensures boards { (task : Task) → task.goal ≡ goal.now
         → AreTaskBoards task lists.old.closed → AreTaskBoards task lists.new.closed }
+    ensures guided { (start : Position) (rule : CostRule) (guide : Guide)
+        → IsGuided (task_of start goal.now rule bound.now) guide lists.old
+        → IsGuided (task_of start goal.now rule bound.now) guide lists.new }
 {
     let met = Met {
         key: item.board.key(),

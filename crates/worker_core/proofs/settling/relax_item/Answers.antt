@@ -1,8 +1,8 @@
-use Rattle.std.proofs.Common.{◌≡◌, ◌+◌, ℕ, arith, sym, ap, ◌∙◌, subst}
+use Rattle.std.proofs.Common.{◌≡◌, ◌+◌, ℕ, arith, refl, sym, ap, ◌∙◌, subst}
 use Rattle.std.specs.FinMap as map
 use Rattle.board.specs.Positions.{Position}
 use Rattle.world_model.specs.Knowledge.{Knowledge}
-use Rattle.worker_core.specs.Roles.{AreTaskBoards}
+use Rattle.worker_core.specs.Roles.{AreTaskBoards, task_of}
 use Rattle.worker_core.proofs.TakeLemmas.{relaxed_boards}
 use Rattle.worker_core.proofs.SettleLemmas.{order_with_room}
 use Rattle.worker_core.proofs.settling.relax_item.Goals as goal
@@ -29,3 +29,17 @@ returns-clause-boards c = λ task goal_is boards.
     let before : AreTaskBoards task made = λ key known at. boards key known (ap (λ (m : Knowledge). map.get m key) (sym c.make_place.ensures.same.known) ∙ at) in
     let sides = c.requires.board ∙ ap (λ (b : Position). b.grid) (sym goal_is) in
     subst (AreTaskBoards task) (sym c.relax.ensures.closed) (relaxed_boards task made.known before c.key.result (item.board, (c.key.ensures.board, sides), sym c.key.ensures.value) item.cost item.via)
+
+pub returns-in_err-make_place-clause-guided : goal.returns-in_err-make_place-clause-guided
+returns-in_err-make_place-clause-guided c = λ start rule guide is. record {
+  guides = is.guides;
+  order = returns-in_err-make_place-clause-order c start rule guide is.guides is.order;
+  boards = returns-in_err-make_place-clause-boards c (task_of start c.args.goal.now rule c.args.bound.now) refl is.boards;
+}
+
+pub returns-clause-guided : goal.returns-clause-guided
+returns-clause-guided c = λ start rule guide is. record {
+  guides = is.guides;
+  order = returns-clause-order c start rule guide is.guides is.order;
+  boards = returns-clause-boards c (task_of start c.args.goal.now rule c.args.bound.now) refl is.boards;
+}
