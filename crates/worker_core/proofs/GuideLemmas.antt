@@ -1,17 +1,19 @@
 -- What the lists of a worker say of its boards: which of them are open, and the least cost plus sum of these.
-use Rattle.std.proofs.Common.{◌≡◌, ℕ, ◌+◌, ◌<◌, Option, Some, None, sym, ap, ◌∙◌, arith}
+use Rattle.std.proofs.Common.{◌≡◌, ℕ, ◌+◌, ◌<◌, Option, Some, None, sym, ap, ◌∙◌, subst, arith}
+use Rattle.std.specs.Ordering.{nat_cmp}
 use Rattle.std.specs.FinMap as map
 use Rattle.board.specs.Keys.{key_of}
 use Rattle.board.specs.Positions.{Position}
 use Rattle.board.proofs.KeyLemmas.{same_board}
 use Rattle.outcomes.specs.Outcomes.{Task}
 use Rattle.search_lists.specs.declared.lists.Next.{Next}
-use Rattle.search_lists.specs.Lists.{Lists}
+use Rattle.search_lists.specs.Lists.{Lists, empty_lists}
 use Rattle.search_lists.specs.Orders as orders
-use Rattle.search_lists.specs.Orders.{Guide, NoneBelow, IsLeastOpen}
+use Rattle.search_lists.specs.Orders.{Guide, IsInOrder, NoneBelow, IsLeastOpen}
 use Rattle.world_model.specs.declared.parts.Known.{Known}
+use Rattle.world_model.specs.Knowledge.{Knowledge}
 use Rattle.world_model.specs.Workers.{WorkerState, IsOpen, HasNothingBelow, IsFloor}
-use Rattle.worker_core.specs.Roles.{IsGuided}
+use Rattle.worker_core.specs.Roles.{IsGuideOf, IsGuided}
 
 module _ (task : Task) (guide : Guide) (lists : Lists) (worker : WorkerState) (same : lists.closed.known ≡ worker.known) (is : IsGuided task guide lists) where
   -- an open board is open by its key, at the same cost plus sum
@@ -67,3 +69,25 @@ module _ (task : Task) (guide : Guide) (lists : Lists) (worker : WorkerState) (s
   pub same_floor : (floor : Option ℕ) → orders.IsFloor guide lists.closed floor → IsFloor task worker floor
   same_floor None none = λ f at. none f (key_at f at)
   same_floor (Some f) least = (board_at f least.0, λ g at. least.1 g (key_at g at))
+
+-- ---- no board is known
+
+abbrev no_boards : Knowledge
+no_boards = map.empty
+
+unknown : (key : ℕ) (known : Known) → map.get no_boards key ≡ Some known → ⊥
+unknown key known at = let none : ◌≡◌ {A = Option Known} None (Some known) = sym (map.get-empty nat_cmp key) ∙ at in cc
+
+empty_order : (guide : Guide) → IsInOrder guide empty_lists
+empty_order guide = record {
+  waits = λ key known at. absurd (unknown key known at.knows);
+  adds = λ f place cost has. let inside : has.0 < 0 = has.1 in absurd (omega (arith, inside));
+}
+
+-- then each guide of a task guides the lists
+pub empty_guided : (task : Task) (guide : Guide) (lists : Lists) → IsGuideOf task guide → lists ≡ empty_lists → IsGuided task guide lists
+empty_guided task guide lists leads none = subst (IsGuided task guide) (sym none) (record {
+  guides = leads;
+  order = empty_order guide;
+  boards = λ key known at. absurd (unknown key known at);
+})

@@ -4,9 +4,10 @@ ghost use Rattle.std.specs.Prelude.{◌≡◌, ◌<◌, ◌%◌, length, IsTrue,
 ghost use Rattle.std.specs.FinMap as map;
 ghost use Rattle.board.specs.Keys.{key_of};
 ghost use Rattle.outcomes.specs.declared.outcome.Want.{Want};
+ghost use Rattle.outcomes.specs.Outcomes.{Task};
 ghost use Rattle.world_model.specs.declared.steps.HaltCause.{HaltCause};
 ghost use Rattle.world_model.specs.Turns.{turn, refusal_in};
-ghost use Rattle.world_model.specs.Workers.{Role};
+ghost use Rattle.world_model.specs.Workers.{Role, IsFloor};
 ghost use Rattle.world_model.specs.BookSteps.{DrawStep, AnnounceStep, GrantStep, RestStep};
 ghost use Rattle.world_model.specs.BookSteps.{HaltStep, refusal_of};
 ghost use Rattle.world_model.specs.Costs.{IsNotBelow};
@@ -33,6 +34,7 @@ impl<C: Counting> Worker<C> {
         ensures step { DrawStep (turn (with_book (state_of self.old) book.old) (refusal_in result)
             (with_book (state_of self.new) book.new)) }
         ensures lists { self.new.lists ≡ self.old.lists }
+        ensures unsent { self.new.unsent ≡ self.old.unsent }
     {
         if let Err(fault) = book.draw(&mut self.purse) {
             return Err(refusal_for(fault));
@@ -56,6 +58,7 @@ impl<C: Counting> Worker<C> {
             → AnnounceStep role (turn (with_book (state_of self.old) book.old) (refusal_in result)
             (with_book (state_of self.new) book.new)) }
         ensures lists { self.new.lists ≡ self.old.lists }
+        ensures unsent { self.new.unsent ≡ self.old.unsent }
     {
         if book.stop().is_some() {
             return Err(Refusal::Stopped);
@@ -75,6 +78,7 @@ impl<C: Counting> Worker<C> {
 
     /// Is granted expansions. Refusals: S11 the run is stopped, S1 no board may be expanded below
     /// the limit, S14 allowance is left, S2 all of the limit is granted.
+    #[tactic(auto, using(crate::proofs::ChosenLemmas::guided_by_next))]
     pub fn grant(&mut self, book: &mut Book<C>) -> Result<(), Refusal>
         requires counted { C.counts book.old.granted self.old.allowance.granted }
         ensures step { (role : Role) (guide : Guide) → IsGuided role.task guide self.old.lists
@@ -83,6 +87,9 @@ impl<C: Counting> Worker<C> {
         ensures closed { self.new.lists.closed ≡ self.old.lists.closed }
         ensures order { (guide : Guide) → IsInOrder guide self.old.lists
             → IsInOrder guide self.new.lists }
+        ensures guided { (task : Task) (guide : Guide)
+            → IsGuided task guide self.old.lists → IsGuided task guide self.new.lists }
+        ensures unsent { self.new.unsent ≡ self.old.unsent }
     {
         if book.stop().is_some() {
             return Err(Refusal::Stopped);
@@ -102,6 +109,7 @@ impl<C: Counting> Worker<C> {
 
     /// Rests: gives the purse back. Refusals: S11 the run is stopped, S12 the purse is empty, S10
     /// something is held or unsent, a better goal is known, or a board may be expanded.
+    #[tactic(auto, using(crate::proofs::ChosenLemmas::guided_by_next))]
     pub fn rest(&mut self, me: usize, goal: &Board, book: &mut Book<C>) -> Result<Rested, Refusal>
         requires counted { C.counts book.old.credit self.old.purse }
         requires there { me < length book.old.floors }
@@ -113,6 +121,9 @@ impl<C: Counting> Worker<C> {
         ensures closed { self.new.lists.closed ≡ self.old.lists.closed }
         ensures order { (guide : Guide) → IsInOrder guide self.old.lists
             → IsInOrder guide self.new.lists }
+        ensures guided { (task : Task) (guide : Guide)
+            → IsGuided task guide self.old.lists → IsGuided task guide self.new.lists }
+        ensures unsent { self.new.unsent ≡ self.old.unsent }
     {
         if book.stop().is_some() {
             return Err(Refusal::Stopped);
@@ -137,6 +148,18 @@ impl<C: Counting> Worker<C> {
             }
             Err(fault) => Err(refusal_for(fault)),
         }
+    }
+
+    /// The least cost plus sum of a board on its open list. Entries of the open list that are out
+    /// of date go out.
+    pub fn floor(&mut self) -> Option<u32>
+        ensures floor { (task : Task) (guide : Guide) → IsGuided task guide self.old.lists
+            → IsFloor task (state_of self.old) result }
+        ensures same { state_of self.new ≡ state_of self.old }
+        ensures guided { (task : Task) (guide : Guide)
+            → IsGuided task guide self.old.lists → IsGuided task guide self.new.lists }
+    {
+        self.lists.floor()
     }
 
     // Whether the goal is known at a cost below the best one.
@@ -164,6 +187,7 @@ impl<C: Counting> Worker<C> {
         ensures step { HaltStep cause (turn (with_book (state_of self.old) book.old)
             (refusal_in result) (with_book (state_of self.new) book.new)) }
         ensures lists { self.new.lists ≡ self.old.lists }
+        ensures unsent { self.new.unsent ≡ self.old.unsent }
     {
         if book.stop().is_some() {
             return Err(Refusal::Stopped);

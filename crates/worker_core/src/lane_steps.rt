@@ -50,6 +50,7 @@ impl<C: Counting> Worker<C> {
             → DeliverStep (turn (at_lane (state_of self.old) before) (refusal_in result)
             (at_lane (state_of self.new) after)) }
         ensures lists { self.new.lists ≡ self.old.lists }
+        ensures unsent { self.new.unsent ≡ self.old.unsent }
     {
         if !self.held.is_empty() {
             return Err(Refusal::StillHolding);

@@ -1,14 +1,17 @@
 //! A worker.
 
-ghost use Rattle.std.specs.Prelude.{◌≡◌, ◌<◌, ◌≤◌, [], IfOk, replicate, length};
+ghost use Rattle.std.specs.Prelude.{ℕ, ◌≡◌, ◌<◌, ◌≤◌, ◌+◌, [], IfOk, replicate, length, slice_index_or};
 ghost use Rattle.std.specs.FinMap as map;
 ghost use Rattle.message_ledger.specs.Spending.{spent};
-ghost use Rattle.world_model.specs.declared.limits.TheConstants.{WORKER_LIMIT};
+ghost use Rattle.world_model.specs.declared.limits.TheConstants.{PACKET_LIMIT, WORKER_LIMIT};
 ghost use Rattle.world_model.specs.Costs.{limit_of};
 ghost use Rattle.world_model.specs.Openings.{idle_worker};
 ghost use Rattle.world_model.specs.Workers.{packet_for};
+ghost use Rattle.outcomes.specs.Outcomes.{Task};
 ghost use Rattle.search_lists.specs.Lists.{empty_lists};
-ghost use Rattle.worker_core.specs.Workers.{state_of};
+ghost use Rattle.search_lists.specs.Orders.{Guide};
+ghost use Rattle.worker_core.specs.Roles.{IsGuideOf, IsGuided};
+ghost use Rattle.worker_core.specs.Workers.{state_of, packets_of};
 
 use crate::packets::{Items, new_packets};
 use arrayvec::ArrayVec;
@@ -50,6 +53,11 @@ impl<C: Counting> Worker<C> {
           expansions = spent allowance;
         }) }
         ensures lists { IfOk result (λ worker. worker.lists ≡ empty_lists) }
+        ensures guided { IfOk result (λ worker. (task : Task) (guide : Guide)
+            → IsGuideOf task guide → IsGuided task guide worker.lists) }
+        ensures few { IfOk result (λ worker. (to : ℕ)
+            → length (slice_index_or (packets_of worker.unsent.items) to []) ≤ PACKET_LIMIT) }
+        ensures workers { IfOk result (λ worker. length worker.unsent.items ≡ workers) }
     {
         let unsent = new_packets(alloc, workers)?;
         Ok(Worker {
@@ -87,7 +95,8 @@ impl<C: Counting> Worker<C> {
     #[tactic(auto, using(crate::proofs::PacketLemmas::packet_for_read))]
     pub fn unsent(&self, to: usize) -> &[Item]
         requires { to < length self.now.unsent.items }
-        ensures { result.now ≡ packet_for (state_of self.now) to }
+        ensures value { result.now ≡ packet_for (state_of self.now) to }
+        ensures few { length result.now ≤ PACKET_LIMIT }
     {
         self.unsent[to].as_slice()
     }
@@ -101,7 +110,9 @@ impl<C: Counting> Worker<C> {
 
     /// How many boards it may still expand.
     pub fn allowance(&self) -> u32
-        ensures { result ≡ (state_of self.now).allowance }
+        ensures value { result ≡ (state_of self.now).allowance }
+        ensures counted { self.now.allowance.left + spent self.now.allowance
+            ≡ self.now.allowance.granted }
     {
         self.allowance.left()
     }
