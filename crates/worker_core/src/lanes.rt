@@ -1,15 +1,17 @@
 //! Lanes, by which packets go from one worker to another.
 
-ghost use Rattle.std.specs.Prelude.{◌≡◌, ◌≢◌, [], ◌∷◌, ◌++◌, length};
+ghost use Rattle.std.specs.Prelude.{◌≡◌, ◌≢◌, ◌<◌, ◌≤◌, [], ◌∷◌, ◌++◌, List, length};
+ghost use Rattle.std.specs.Prelude.{slice_index_or};
 ghost use Rattle.std.specs.Prelude.{IfOk, OnOk, OnErr, IfErr, IfSome, IfNone};
-ghost use Rattle.world_model.specs.declared.limits.TheConstants.{LANE_LIMIT};
+ghost use Rattle.world_model.specs.declared.limits.TheConstants.{PACKET_LIMIT, LANE_LIMIT};
+ghost use Rattle.world_model.specs.declared.parts.Item.{Item};
 
 use memory::OutOfMemory;
 use message_ledger::{Counting, Packet};
 use std::alloc::Global;
 use std::collections::VecDeque;
 use std::marker::Model;
-use world_model::LANE_LIMIT;
+use world_model::{Item, LANE_LIMIT};
 
 /// The end of a lane at which packets go in.
 pub trait LaneOut<P> {
@@ -84,6 +86,23 @@ impl<C: Counting> Queue<C> {
         Ok(Queue {
             packets: VecDeque::from_vec(places),
         })
+    }
+
+    /// How many packets are on their way.
+    pub fn len(&self) -> usize
+        ensures len { result ≡ length self.now }
+        ensures few { length self.now ≤ LANE_LIMIT }
+    {
+        self.packets.len()
+    }
+
+    /// The items of the packet that comes out after `at` others.
+    pub fn packet(&self, at: usize) -> &[Item]
+        requires { at < length self.now }
+        ensures value { (d : List Item) → slice_index_or self.now at d ≡ result.now }
+        ensures few { length result.now ≤ PACKET_LIMIT }
+    {
+        self.packets[at].items()
     }
 }
 
