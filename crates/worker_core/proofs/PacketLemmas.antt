@@ -1,7 +1,7 @@
 -- Lists of items, one for each worker, seen as packets.
 use Rattle.std.proofs.Common.{refl, arith, ◌≡◌, ℕ, zero, suc, ◌<◌, List, [], ◌∷◌, set, get_or, length, ap, sym, ◌∙◌}
 use Rattle.std.specs.Prelude.{slice_get, unwrap_or}
-use Rattle.std.proofs.lemmas.List.{map-set, get_or-map, set-set, set-get_or}
+use Rattle.std.proofs.lemmas.List.{map-set, get_or-map, set-set, set-get_or, length-map, length-set}
 use Rattle.arrayvec.specs.ArrayVec.{ArrayVec}
 use Rattle.world_model.specs.declared.parts.Item.{Item}
 use Rattle.world_model.specs.Workers.{Packet}
@@ -37,3 +37,8 @@ packet_back packets taken i items out is =
 pub nothing : {X : Type 0} (xs : List X) → length xs ≡ 0 → xs ≡ []
 nothing [] h = refl
 nothing (x ∷ xs) h = absurd (omega arith)
+
+-- the lists are as many
+pub as_many : (old new : List Items) (i : ℕ) (p : Packet) → packets_of new ≡ set (packets_of old) i p → length new ≡ length old
+as_many old new i p is =
+    sym (length-map new (λ (a : Items). a.items)) ∙ ap length is ∙ length-set (packets_of old) i p ∙ length-map old (λ (a : Items). a.items)

@@ -2,7 +2,7 @@
 use Rattle.std.proofs.Common.{◌≡◌, ◌≢◌, ◌⊎◌, ℕ, zero, suc, ◌+◌, ◌<◌, ◌≤◌, Bool, true, false, eqb, cond, List, [], ◌∷◌, ◌++◌, length, get_or, set, Option, Some, None, refl, sym, ap, ◌∙◌, subst, inl, inr, ⊎_elim, arith}
 use Rattle.std.specs.Prelude.{Any, IfSome, slice_get, unwrap_or}
 use Rattle.std.proofs.lemmas.Bool.{cases_eq, cases_lt, eqb-true, eqb-false}
-use Rattle.std.proofs.lemmas.List.{length-set}
+use Rattle.std.proofs.lemmas.List.{length-set, get_or_past}
 use Rattle.std.proofs.lemmas.Option.{slice_get-get_or, get_or_from_slice_get, slice_get_read, unwrap_or-slice_get}
 use Rattle.board.specs.Grids.{Grid}
 use Rattle.board.specs.declared.moves.Move.{Move}
@@ -12,6 +12,7 @@ use Rattle.offers.specs.declared.offer.Offer.{Offer}
 use Rattle.offers.specs.declared.offer.Offers.{Offers}
 use Rattle.offers.specs.Offers.{item_by, IsOffered, AreOffered, OfEach, IsWithin}
 use Rattle.offers.specs.Room.{goes, go, HasRoom}
+use Rattle.search_lists.specs.Lists.{Lists}
 use Rattle.world_model.specs.declared.limits.TheConstants.{PACKET_LIMIT}
 use Rattle.world_model.specs.declared.parts.Item.{Item}
 use Rattle.world_model.specs.declared.parts.Known.{Known}
@@ -19,7 +20,7 @@ use Rattle.world_model.specs.Knowledge.{relaxation}
 use Rattle.world_model.specs.Expansions.{with_closure, expansion}
 use Rattle.world_model.specs.Workers.{WorkerState, Packet, Role}
 use Rattle.world_model.specs.WorkerSteps.{IsOverfull}
-use Rattle.worker_core.specs.Expanding.{taken}
+use Rattle.worker_core.specs.Expanding.{IsReady, stock, taken}
 use Rattle.worker_core.proofs.ExpandLemmas.{in_four}
 use Rattle.worker_core.proofs.TakeLemmas.{if_some, put_there, put_elsewhere}
 
@@ -80,6 +81,14 @@ at_any : (xs : List Packet) → Any (λ (p : Packet). PACKET_LIMIT < length p) x
 at_any xs any =
     let is : get_or xs any.0 [] ≡ any.1 = get_or_from_slice_get xs any.0 any.1 [] (slice_get_read xs (length xs) any.0 any.1 refl any.2 (sym any.3)) in
     (any.0, any.2, subst (λ (p : Packet). PACKET_LIMIT < length p) (sym is) any.4)
+
+-- what has taken all offers has no packet with too many
+pub few_left : (me : ℕ) (grid : Grid) (lists : Lists) (unsent : List Packet) → IsReady me grid (stock lists unsent) [] → (to : ℕ) → length (get_or unsent to []) ≤ PACKET_LIMIT
+few_left me grid lists unsent ready to =
+    ⊎_elim
+    (λ (within : to < length unsent). let fits = ready.room to within in omega (arith, fits))
+    (λ (past : length unsent ≤ to). let none = ap length (get_or_past unsent to [] past) in omega (arith, none))
+    (cases_lt to (length unsent))
 
 -- ---- an expansion
 

@@ -63,6 +63,9 @@ impl<C: Counting> Worker<C> {
         ensures order { (start : Position) (guide : Guide)
             → IsGuided (task_of start goal.now weights.now bound.now) guide self.old.lists
             → IsGuided (task_of start goal.now weights.now bound.now) guide self.new.lists }
+        ensures few { (to : ℕ)
+            → length (slice_index_or (packets_of self.new.unsent.items) to []) ≤ PACKET_LIMIT }
+        ensures workers { length self.new.unsent.items ≡ length self.old.unsent.items }
     {
         let Some(next) = self.lists.next(self.best.limit()) else {
             return Err(Refusal::NothingBelowLimit);
@@ -105,6 +108,9 @@ impl<C: Counting> Worker<C> {
         ensures guided { (task : Task) (guide : Guide) → task.goal ≡ goal.now
             → OfEach (AddsUpBy guide) offers
             → IsGuided task guide self.old.lists → IsGuided task guide self.new.lists }
+        ensures few { (to : ℕ)
+            → length (slice_index_or (packets_of self.new.unsent.items) to []) ≤ PACKET_LIMIT }
+        ensures workers { length self.new.unsent.items ≡ length self.old.unsent.items }
     {
         close_next(&mut self.lists, &mut self.allowance, next);
         let shape = goal.shape();

@@ -40,6 +40,7 @@ impl<C: Counting> Worker<C> {
         ensures guided { (task : Task) (guide : Guide) → task.goal.grid ≡ shape
             → key_of task.goal ≡ goal_key → IfSome offer (AddsUpBy guide)
             → IsGuided task guide self.old.lists → IsGuided task guide self.new.lists }
+        ensures workers { length self.new.unsent.items ≡ length self.old.unsent.items }
     {
         let Some(offer) = offer else {
             return;

@@ -9,6 +9,7 @@ use Rattle.world_model.specs.Workers.{WorkerState}
 use Rattle.worker_core.specs.Expanding.{IsReady, stock, taken}
 use Rattle.worker_core.specs.Workers.{state_of, packets_of}
 use Rattle.worker_core.proofs.ExpandLemmas.{in_four, item_board, ready_closed, one_spent}
+use Rattle.worker_core.proofs.RoomLemmas.{few_left}
 use Rattle.worker_core.proofs.TakeLemmas.{guided_closed}
 use Rattle.worker_core.proofs.worker.Worker.expand_next.Goals as goal
 
@@ -94,3 +95,20 @@ returns-clause-guided g c = λ task guide goal adds is.
     c.take-3.ensures.guided task guide sides ends adds.2 (
     c.take-2.ensures.guided task guide sides ends adds.1 (
     c.take.ensures.guided task guide sides ends adds.0 closed)))
+
+-- src/expanding.rt:97:5
+pub returns-clause-few : goal.returns-clause-few
+returns-clause-few g c =
+    let offers = c.args.offers in
+    let packets = packets_of c.args.self.now.unsent.items in
+    let all = offers.up ∷ offers.left ∷ offers.right ∷ offers.down ∷ [] in
+    let first =
+    subst
+    (λ (grid : Grid). IsReady c.args.me grid (stock c.close_next.new.lists packets) all)
+    (sym c.shape-shape.ensures.value)
+    (ready_closed c.args.me c.args.goal.now.grid c.args.self.now.lists c.close_next.new.lists packets all c.args.next.key c.close_next.ensures.closed c.close_next.ensures.places c.requires.ready) in
+    let second = c.take.ensures.ready (offers.left ∷ offers.right ∷ offers.down ∷ []) first in
+    let third = c.take-2.ensures.ready (offers.right ∷ offers.down ∷ []) second in
+    let last = c.take-3.ensures.ready (offers.down ∷ []) third in
+    let made = c.take-4.new.self in
+    few_left c.args.me c.shape-shape.result made.lists (packets_of made.unsent.items) (c.take-4.ensures.ready [] last)
