@@ -1,6 +1,6 @@
 //! The steps on the book.
 
-ghost use Rattle.std.specs.Prelude.{◌≡◌, ◌<◌, ◌%◌, length, IsTrue, IsFalse, IfOk, Some};
+ghost use Rattle.std.specs.Prelude.{◌≡◌, ◌<◌, ◌+◌, ◌%◌, length, IsTrue, IsFalse, IfOk, Some};
 ghost use Rattle.std.specs.FinMap as map;
 ghost use Rattle.board.specs.Keys.{key_of};
 ghost use Rattle.outcomes.specs.declared.outcome.Want.{Want};
@@ -35,6 +35,7 @@ impl<C: Counting> Worker<C> {
             (with_book (state_of self.new) book.new)) }
         ensures lists { self.new.lists ≡ self.old.lists }
         ensures unsent { self.new.unsent ≡ self.old.unsent }
+        ensures allowance { self.new.allowance ≡ self.old.allowance }
     {
         if let Err(fault) = book.draw(&mut self.purse) {
             return Err(refusal_for(fault));
@@ -59,6 +60,7 @@ impl<C: Counting> Worker<C> {
             (with_book (state_of self.new) book.new)) }
         ensures lists { self.new.lists ≡ self.old.lists }
         ensures unsent { self.new.unsent ≡ self.old.unsent }
+        ensures allowance { self.new.allowance ≡ self.old.allowance }
     {
         if book.stop().is_some() {
             return Err(Refusal::Stopped);
@@ -90,6 +92,8 @@ impl<C: Counting> Worker<C> {
         ensures guided { (task : Task) (guide : Guide)
             → IsGuided task guide self.old.lists → IsGuided task guide self.new.lists }
         ensures unsent { self.new.unsent ≡ self.old.unsent }
+        ensures granted { self.new.allowance.granted + book.old.granted
+            ≡ self.old.allowance.granted + book.new.granted }
     {
         if book.stop().is_some() {
             return Err(Refusal::Stopped);
@@ -124,6 +128,7 @@ impl<C: Counting> Worker<C> {
         ensures guided { (task : Task) (guide : Guide)
             → IsGuided task guide self.old.lists → IsGuided task guide self.new.lists }
         ensures unsent { self.new.unsent ≡ self.old.unsent }
+        ensures allowance { self.new.allowance ≡ self.old.allowance }
     {
         if book.stop().is_some() {
             return Err(Refusal::Stopped);
@@ -188,6 +193,7 @@ impl<C: Counting> Worker<C> {
             (refusal_in result) (with_book (state_of self.new) book.new)) }
         ensures lists { self.new.lists ≡ self.old.lists }
         ensures unsent { self.new.unsent ≡ self.old.unsent }
+        ensures allowance { self.new.allowance ≡ self.old.allowance }
     {
         if book.stop().is_some() {
             return Err(Refusal::Stopped);

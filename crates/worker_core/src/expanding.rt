@@ -66,6 +66,7 @@ impl<C: Counting> Worker<C> {
         ensures few { (to : ℕ)
             → length (slice_index_or (packets_of self.new.unsent.items) to []) ≤ PACKET_LIMIT }
         ensures workers { length self.new.unsent.items ≡ length self.old.unsent.items }
+        ensures granted { self.new.allowance.granted ≡ self.old.allowance.granted }
     {
         let Some(next) = self.lists.next(self.best.limit()) else {
             return Err(Refusal::NothingBelowLimit);
@@ -111,6 +112,7 @@ impl<C: Counting> Worker<C> {
         ensures few { (to : ℕ)
             → length (slice_index_or (packets_of self.new.unsent.items) to []) ≤ PACKET_LIMIT }
         ensures workers { length self.new.unsent.items ≡ length self.old.unsent.items }
+        ensures granted { self.new.allowance.granted ≡ self.old.allowance.granted }
     {
         close_next(&mut self.lists, &mut self.allowance, next);
         let shape = goal.shape();

@@ -42,6 +42,7 @@ impl<C: Counting> Worker<C> {
             → IsGuided (task_of start goal.now rule bound.now) guide self.old.lists
             → IsGuided (task_of start goal.now rule bound.now) guide self.new.lists }
         ensures unsent { self.new.unsent ≡ self.old.unsent }
+        ensures allowance { self.new.allowance ≡ self.old.allowance }
     {
         let Some(item) = self.held.pop() else {
             return Err(Refusal::NothingThere);
@@ -78,6 +79,7 @@ impl<C: Counting> Worker<C> {
             → IsGuided (task_of start goal.now rule bound.now) guide self.old.lists
             → IsGuided (task_of start goal.now rule bound.now) guide self.new.lists }
         ensures unsent { self.new.unsent ≡ self.old.unsent }
+        ensures allowance { self.new.allowance ≡ self.old.allowance }
     {
         relax_item(&mut self.lists, alloc, goal, bound, item)
     }

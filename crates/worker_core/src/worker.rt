@@ -57,6 +57,7 @@ impl<C: Counting> Worker<C> {
             → IsGuideOf task guide → IsGuided task guide worker.lists) }
         ensures few { IfOk result (λ worker. (to : ℕ)
             → length (slice_index_or (packets_of worker.unsent.items) to []) ≤ PACKET_LIMIT) }
+        ensures allowance { IfOk result (λ worker. worker.allowance ≡ allowance) }
         ensures workers { IfOk result (λ worker. length worker.unsent.items ≡ workers) }
     {
         let unsent = new_packets(alloc, workers)?;
