@@ -15,7 +15,7 @@ use Rattle.batch_cli.specs.declared.program.Ending.TheVariants.{Usage, NoBuffers
 use Rattle.batch_cli.specs.Faults.{of_lines}
 use Rattle.batch_runs.specs.Batches.{Rules, ReportsLines, status_of_counts}
 use Rattle.batch_runs.specs.Headline.{WritesTruth, BeginsTruth}
-use Rattle.batch_runs.specs.Setups.{SetupState}
+use Rattle.batch_runs.specs.Setups.{SetupState, plain_setup}
 use Rattle.batch_runs.specs.Solving.{rules_of}
 
 -- 3 by 3, Korf's goal, unit cost
@@ -23,7 +23,7 @@ abbrev pub small_grid : Grid
 small_grid = record { rows = 3; cols = 3 }
 
 abbrev pub default_setup : SetupState
-default_setup = record { goal = goal_of small_grid; rule = unit_rule small_grid }
+default_setup = plain_setup (goal_of small_grid) (unit_rule small_grid)
 
 -- 0 where each line is optimal or unsolvable, 1 where some line is bounded or refused, 2 for the words, 3 for streams that failed, 4 for want of memory
 abbrev pub status_of : Ending → ℕ

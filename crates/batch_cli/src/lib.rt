@@ -9,7 +9,7 @@ mod program;
 pub use batch_lines::{
     Entry, EntryFault, INPUT_LIMIT, LINE_LIMIT, Line, LineKind, LineReader, read_entry,
 };
-pub use batch_runs::{LinesFault, Setup, Solver, Summary, run_batch, run_lines};
+pub use batch_runs::{LinesFault, Setup, Solver, SpreadKind, Summary, run_batch, run_lines};
 pub use certificate_runs::{CertifyFault, CheckFault, run_cert, run_check};
 pub use faults::BatchFault;
 pub use outcomes::{Cause, Outcome, SolveFault, Want, Why};

@@ -9,5 +9,5 @@ mod solving;
 
 pub use batch::{Solver, Summary, run_lines};
 pub use faults::LinesFault;
-pub use setup::Setup;
+pub use setup::{Setup, SpreadKind};
 pub use solving::run_batch;

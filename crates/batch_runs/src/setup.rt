@@ -1,35 +1,121 @@
 //! What all lines of a batch have in common.
 
-ghost use Rattle.std.specs.Prelude.{◌≡◌};
+ghost use Rattle.std.specs.Prelude.{◌≡◌, ◌≤◌, ◌↔◌, None, Some, IsOk, IfOk, IfErr, MatchOption};
+ghost use Rattle.batch_runs.specs.Setups.{Guides, plain_setup};
+ghost use Rattle.world_model.specs.declared.limits.TheConstants.{WORKER_LIMIT};
 
 use board::{Board, Shape, Weights};
+use lower_bound::Bound;
+use outcomes::SolveFault;
 use std::marker::Model;
+use world_model::WORKER_LIMIT;
 
-/// What all lines of a batch have in common: the goal and the cost rule.
+/// How boards are spread over workers.
+#[derive(Clone, Copy, Debug, PartialEq, Eq)]
+pub enum SpreadKind {
+    /// By a hash of all tiles.
+    Zobrist,
+    /// By the cell of the blank.
+    Blank,
+}
+
+/// What all lines of a batch have in common: the goal, the cost rule, the tables that guide the
+/// search, the limit on expansions, and the workers.
 #[derive(Debug, Drop)]
 pub struct Setup {
     goal: Board,
     weights: Weights,
+    bound: Option<Bound>,
+    limit: u64,
+    workers: usize,
+    spread: SpreadKind,
 }
 
 impl Model for Setup {
-    ghost use Rattle.std.specs.Prelude.{◌≡◌};
-    ghost use Rattle.batch_runs.specs.Setups.{SetupState};
+    ghost use Rattle.batch_runs.specs.Setups.{SetupState, IsSetup};
 
     ghost Value = { SetupState };
 
-    ghost view = { λ s. record { goal = s.goal; rule = s.weights } };
+    ghost view = { λ s. record {
+      goal = s.goal;
+      rule = s.weights;
+      bound = s.bound;
+      limit = s.limit;
+      workers = s.workers;
+      spread = s.spread;
+    } };
 
-    ghost invariant = { λ s. s.weights.grid ≡ s.goal.grid };
+    ghost invariant = { λ s. IsSetup (record {
+      goal = s.goal;
+      rule = s.weights;
+      bound = s.bound;
+      limit = s.limit;
+      workers = s.workers;
+      spread = s.spread;
+    }) };
 }
 
 impl Setup {
-    /// The setup with this goal and these weights, which have one shape.
+    /// The setup with this goal and these weights, which have one shape: without tables and without
+    /// a limit, for one worker.
     pub fn new(goal: Board, weights: Weights) -> Self
         requires { weights.grid ≡ goal.grid }
-        ensures { result ≡ record { goal = goal; rule = weights } }
+        ensures { result ≡ plain_setup goal weights }
     {
-        Setup { goal, weights }
+        Setup {
+            goal,
+            weights,
+            bound: None,
+            limit: u64::MAX,
+            workers: 1,
+            spread: SpreadKind::Zobrist,
+        }
+    }
+
+    /// The setup with these tables, of the goal's shape, each of which is a potential for the goal
+    /// and the weights.
+    pub fn bound(self, bound: Bound) -> Self
+        requires { Guides self.goal self.rule bound }
+        ensures { result ≡ record self { bound = Some bound } }
+    {
+        let mut setup = self;
+        setup.bound = Some(bound);
+        setup
+    }
+
+    /// The setup with this limit on the boards that are expanded for a line.
+    pub fn limit(self, limit: u64) -> Self
+        ensures { result ≡ record self { limit = limit } }
+    {
+        let mut setup = self;
+        setup.limit = limit;
+        setup
+    }
+
+    /// The setup with so many workers; or V2 where these are fewer than 1, or more than 16.
+    pub fn workers(self, workers: usize) -> Result<Self, SolveFault>
+        ensures accepted { IsOk result ↔ ((1 ≤ workers) × (workers ≤ WORKER_LIMIT)) }
+        ensures value { IfOk result (λ setup. setup ≡ record self { workers = workers }) }
+        ensures fault { IfErr result (λ fault. fault ≡ SolveFault.WorkerCount) }
+    {
+        if workers == 0 {
+            return Err(SolveFault::WorkerCount);
+        }
+        if workers > WORKER_LIMIT {
+            return Err(SolveFault::WorkerCount);
+        }
+        let mut setup = self;
+        setup.workers = workers;
+        Ok(setup)
+    }
+
+    /// The setup with boards spread so over its workers.
+    pub fn spread(self, spread: SpreadKind) -> Self
+        ensures { result ≡ record self { spread = spread } }
+    {
+        let mut setup = self;
+        setup.spread = spread;
+        setup
     }
 
     /// The goal of each line.
@@ -52,5 +138,37 @@ impl Setup {
         ensures { result ≡ self.now.goal.grid }
     {
         self.goal.shape()
+    }
+
+    /// The tables, if there are any.
+    pub fn tables(&self) -> Option<&Bound>
+        ensures { MatchOption result (self.now.bound ≡ None)
+            (λ bound. (self.now.bound ≡ Some bound.now)
+            × Guides self.now.goal self.now.rule bound.now) }
+    {
+        self.bound.as_ref()
+    }
+
+    /// How many boards may be expanded for a line.
+    pub fn expansion_limit(&self) -> u64
+        ensures { result ≡ self.now.limit }
+    {
+        self.limit
+    }
+
+    /// How many workers there are.
+    pub fn worker_count(&self) -> usize
+        ensures value { result ≡ self.now.workers }
+        ensures some { 1 ≤ result }
+        ensures few { result ≤ WORKER_LIMIT }
+    {
+        self.workers
+    }
+
+    /// How boards are spread over them.
+    pub fn spread_kind(&self) -> SpreadKind
+        ensures { result ≡ self.now.spread }
+    {
+        self.spread
     }
 }

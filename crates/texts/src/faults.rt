@@ -122,8 +122,13 @@ fn print_refusals(rt: &impl Print) -> io::Result<()> {
 
 fn print_runs(rt: &impl Print, refused: OutOfMemory) -> io::Result<()> {
     rt.println("\n# Faults of searches and runs")?;
-    let fault = SolveFault::Memory(refused);
-    print_fault(rt, fault.code(), fault)?;
+    for fault in [
+        SolveFault::ShapesDiffer,
+        SolveFault::WorkerCount,
+        SolveFault::Memory(refused),
+    ] {
+        print_fault(rt, fault.code(), fault)?;
+    }
     for fault in [
         BatchFault::Read,
         BatchFault::Write,
