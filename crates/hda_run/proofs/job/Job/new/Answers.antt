@@ -1,0 +1,14 @@
+use Rattle.std.proofs.Common.{◌≡◌, rules}
+use Rattle.hda_run.proofs.job.Job.new.Goals as goal
+
+pub invariant_of-result : goal.invariant_of-result
+invariant_of-result c =
+    let a = c.args in
+    let start : a.start.grid ≡ a.goal.grid = search rules in
+    let rule : a.weights.grid ≡ a.goal.grid = search rules in
+    let tables : a.bound.now.split.grid ≡ a.goal.grid = search rules in
+    record {
+      task = record { start = c.shape.ensures.board; goal = c.shape-shape.ensures.board; sides = start; rule = c.shape-2.ensures.rule; costs = rule };
+      sides = tables;
+      lower = c.sums_are_lower_bounds.ensures.tables a.weights a.goal a.bound.now c.partition.ensures.tables (search rules) c.requires;
+    }

@@ -1,0 +1,3 @@
+-- Worlds of workers that run.
+pub mod Faults
+pub mod Problems

@@ -1,0 +1,37 @@
+-- What is to be solved, and by what tables.
+use Rattle.std.specs.Prelude.{ℕ, ◌≡◌}
+use Rattle.board.specs.Positions.{Position}
+use Rattle.board.specs.CostRules.{CostRule}
+use Rattle.board.specs.Rows.{IsLowerBound}
+use Rattle.outcomes.specs.Outcomes.{Task}
+use Rattle.lower_bound.specs.Tables.{Tables}
+use Rattle.world_model.specs.Shapes.{IsTask}
+use Rattle.worker_core.specs.Roles.{task_of}
+
+-- the plans from the start to the goal under a cost rule, tables by which the search is guided, and how many boards may be expanded
+pub record Problem : Type 0 where
+  pub start : Position
+  pub goal : Position
+  pub rule : CostRule
+  pub tables : Tables
+  pub limit : ℕ
+
+-- the four parts of a problem, and the limit
+abbrev pub problem : Position → Position → CostRule → Tables → ℕ → Problem
+problem start goal rule tables limit = record { start = start; goal = goal; rule = rule; tables = tables; limit = limit }
+
+-- what is asked
+abbrev pub task_in : Problem → Task
+task_in p = task_of p.start p.goal p.rule p.tables
+
+-- start, cost rule and tables have the sides of the goal
+pub record HasOneShape (p : Problem) : Type 0 where
+  pub start_sides : p.start.grid ≡ p.goal.grid
+  pub rule_sides : p.rule.grid ≡ p.goal.grid
+  pub table_sides : p.tables.split.grid ≡ p.goal.grid
+
+-- the task is one, the tables have its sides, and the sum of their values is never above the cost of a plan
+pub record IsProblem (p : Problem) : Type 0 where
+  pub task : IsTask (task_in p)
+  pub sides : p.tables.split.grid ≡ p.goal.grid
+  pub lower : IsLowerBound p.rule (task_in p).sum p.goal
