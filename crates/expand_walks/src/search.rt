@@ -1,6 +1,6 @@
 //! The search.
 
-ghost use Rattle.std.specs.Prelude.{◌≡◌, ◌<◌, IfSome, IsTrue, length};
+ghost use Rattle.std.specs.Prelude.{◌≡◌, IfSome, length};
 ghost use Rattle.board.specs.CostRules.{CostRule};
 ghost use Rattle.board.specs.Positions.{Position};
 ghost use Rattle.lower_bound.specs.Tables.{Tables};
@@ -15,7 +15,7 @@ use quiescence::Book;
 use std::alloc::Global;
 use worker_core::Worker;
 use worker_core::laws::tasks_have_guides;
-use world_model::{Item, PACKET_LIMIT, Refusal};
+use world_model::{Item, Refusal};
 
 /// Where a search has stopped: after how many expansions, at how many known boards, and the cost
 /// of the best plan, where one is known.
@@ -42,14 +42,9 @@ pub fn search(
     let (credit, purse) = Credit::plain();
     let mut book = Book::new(credit, Grants::plain(), count, 1);
     let mut worker = begin(alloc, goal, bound, start, purse)?;
-    let mut granted = 0;
     'boards: for _ in 0..count {
-        let Some(total) = refill(goal, &mut worker, &mut book, granted) else {
+        if !refill(goal, &mut worker, &mut book) {
             break;
-        };
-        granted = total;
-        if !sends_little(&worker) {
-            return None;
         }
         match worker.expand(alloc, 0, goal, weights, bound, &ByBlank) {
             Ok(()) => {}
@@ -74,8 +69,11 @@ fn begin(
 ) -> Option<Worker<Plain>>
     requires sides { bound.now.split.grid ≡ goal.now.grid }
     requires start { start.grid ≡ goal.now.grid }
-    ensures { IfSome result (λ worker. (rule : CostRule)
+    ensures led { IfSome result (λ worker. (rule : CostRule)
         → IsLed goal.now rule bound.now worker.lists) }
+    ensures one { IfSome result (λ worker. length worker.unsent.items ≡ 1) }
+    ensures few { IfSome result (λ worker. HasFew (packets_of worker.unsent.items)) }
+    ensures counted { IfSome result (λ worker. worker.allowance.granted ≡ 0) }
 {
     tasks_have_guides();
     let _ = goal.shape();
@@ -94,47 +92,21 @@ fn begin(
     Some(worker)
 }
 
-// Whether there is one worker, and its packet is no fuller than a packet may be.
-fn sends_little(worker: &Worker<Plain>) -> bool
-    ensures one { IsTrue result → length worker.now.unsent.items ≡ 1 }
-    ensures few { IsTrue result → HasFew (packets_of worker.now.unsent.items) }
-{
-    if worker.workers() != 1 {
-        return false;
-    }
-    worker.unsent(0).len() <= PACKET_LIMIT
-}
-
-// Where no allowance is left, announces the goal if it is known, and is granted more. Answers how
-// much was granted in all, or None where nothing is left to do.
-fn refill(
-    goal: &Board,
-    worker: &mut Worker<Plain>,
-    book: &mut Book<Plain>,
-    granted: u64,
-) -> Option<u64>
-    requires counted { book.old.granted ≡ granted }
+// Where no allowance is left, announces the goal if it is known, and is granted more. Answers
+// whether there is something left to do.
+fn refill(goal: &Board, worker: &mut Worker<Plain>, book: &mut Book<Plain>) -> bool
+    requires one { length worker.old.unsent.items ≡ 1 }
+    requires counted { worker.old.allowance.granted ≡ book.old.granted }
     requires led { (rule : CostRule) × (tables : Tables)
         × IsLed goal.now rule tables worker.old.lists }
-    ensures granted { IfSome result (λ total. book.new.granted ≡ total) }
+    ensures counted { worker.new.allowance.granted ≡ book.new.granted }
     ensures led { (goal : Position) (rule : CostRule) (tables : Tables)
         → IsLed goal rule tables worker.old.lists → IsLed goal rule tables worker.new.lists }
+    ensures unsent { worker.new.unsent ≡ worker.old.unsent }
 {
     if worker.allowance() > 0 {
-        return Some(granted);
-    }
-    if worker.workers() == 0 {
-        return None;
+        return true;
     }
     let _ = worker.announce(0, goal, &ByBlank, book);
-    if worker.allowance() != 0 || granted < worker.expansions() {
-        return None;
-    }
-    let Ok(()) = worker.grant(book) else {
-        return None;
-    };
-    let Some(total) = granted.checked_add(u64::from(worker.allowance())) else {
-        return None;
-    };
-    Some(total)
+    worker.grant(book).is_ok()
 }
