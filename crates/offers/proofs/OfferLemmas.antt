@@ -1,21 +1,20 @@
 -- What is told of a successor, as an offer.
-use Rattle.std.proofs.Common.{subst, ◌≡◌, ◌≢◌, ℕ, ◌+◌, ◌<◌, Option, Some, None, sym, ap, ◌∙◌, arith}
-use Rattle.std.proofs.lemmas.Option.{get_or_from_slice_get}
-use Rattle.std.specs.Prelude.{List, All, IfSome, length, option_map, slice_index_or, slice_get}
+use Rattle.std.proofs.Common.{refl, slice_index, subst, ◌≡◌, ℕ, ◌+◌, ◌<◌, Option, Some, None, sym, ap, ◌∙◌}
+use Rattle.std.specs.Prelude.{List, All, IfSome, length, option_map, slice_index_or}
 use Rattle.board.specs.declared.moves.Move.{Move}
 use Rattle.board.specs.CostRules.{CostRule}
 use Rattle.board.specs.Keys.{HasKey}
-use Rattle.board.specs.Grids.{Grid, cell_count}
+use Rattle.board.specs.Grids.{cell_count}
 use Rattle.board.specs.Neighbours.{LiesTowards, neighbour}
 use Rattle.board.specs.Moves.{successor, successor_at, blank_exchange}
 use Rattle.board.specs.Positions.{Position, IsBoard, blank_of}
-use Rattle.board.proofs.MoveLemmas.{cell_below, other_cell}
-use Rattle.board.proofs.StepLemmas.{tile_above}
+use Rattle.board.proofs.MoveLemmas.{blank_after, cell_below, other_cell}
+use Rattle.board.proofs.NeighbourLemmas.{neighbour_lies}
+use Rattle.board.proofs.StepLemmas.{blank_stands, tile_above}
 use Rattle.owners.specs.Slides.{IsSlide}
-use Rattle.owners.specs.declared.spread.Slide.{Slide}
 use Rattle.lower_bound.specs.Bounds.{Part, sum_of}
 use Rattle.successor_sums.specs.declared.unpacked.Successor.{Successor}
-use Rattle.successor_sums.specs.Unpacked.{told_of}
+use Rattle.successor_sums.specs.Unpacked.{told_of, successors_of}
 use Rattle.offers.specs.declared.offer.Offer.{Offer}
 use Rattle.offers.specs.Offers.{item_by, IsOffered}
 
@@ -23,28 +22,52 @@ use Rattle.offers.specs.Offers.{item_by, IsOffered}
 pub keys_at : (told : List (Option Successor)) (b same : Position) → same ≡ b → All (λ t. IfSome t (λ s. (x : Position) × HasKey b.grid s.key x)) told → (i : ℕ) → i < length told → IfSome (slice_index_or told i None) (λ s. (x : Position) × HasKey same.grid s.key x)
 keys_at told b same is keys i within = subst (λ (p : Position). IfSome (slice_index_or told i None) (λ s. (x : Position) × HasKey p.grid s.key x)) (sym is) (keys i None within)
 
--- the tile next to the blank slides onto its cell
-pub slides : (grid : Grid) (b : Position) (m : Move) (slide : Slide) → IsBoard b → grid ≡ b.grid → slide.to ≡ blank_of b → LiesTowards grid m slide.to slide.from → slice_get b.tiles slide.from ≡ Some slide.tile → IsSlide grid b slide
-slides grid b m slide board sides blank lies stands =
-    let within = cell_below grid m slide.to slide.from lies in
-    let inside : slide.from < cell_count b.grid = omega (arith, within, ap cell_count sides) in
-    let tile = get_or_from_slice_get b.tiles slide.from slide.tile 0 stands in
-    let apart : slide.from ≢ blank_of b = λ same. other_cell grid m slide.to slide.from lies (same ∙ sym blank) in
-    record { board = board; sides = sym sides; within = within; tile = tile; some = omega (arith, tile_above b slide.from board inside apart, tile); blank = sym blank }
+-- what is told of a successor is where a tile slides from
+slide_of : (rule : CostRule) (parts : List Part) (b : Position) (m : Move) (blank from : ℕ) (told : Successor) → IsBoard b → blank ≡ blank_of b → neighbour b.grid m (blank_of b) ≡ Some from → told ≡ told_of parts b (successor_at rule b from) → IsSlide b.grid b (record { tile = told.tile; from = told.cell; to = blank })
+slide_of rule parts b m blank from told board is found same =
+    let lies : LiesTowards b.grid m (blank_of b) from = (neighbour_lies b.grid m (blank_of b) from (blank_stands b board).0).0 found in
+    let within : from < cell_count b.grid = cell_below b.grid m (blank_of b) from lies in
+    let at : blank_of (blank_exchange b from) ≡ from = blank_after b board from within in
+    let cell : told.cell ≡ from = ap (λ (s : Successor). s.cell) same ∙ at in
+    let tile : told.tile ≡ slice_index b.tiles from = ap (λ (s : Successor). s.tile) same ∙ ap (slice_index b.tiles) at in
+    let above = tile_above b from board within (other_cell b.grid m (blank_of b) from lies) in
+    record {
+      board = board;
+      sides = refl;
+      within = subst (λ (k : ℕ). k < cell_count b.grid) (sym cell) within;
+      tile = ap (slice_index b.tiles) cell ∙ sym tile;
+      some = subst (λ (t : ℕ). 0 < t) (sym tile) above;
+      blank = sym is;
+    }
+
+slides_by : (rule : CostRule) (parts : List Part) (b : Position) (m : Move) (blank : ℕ) (to : Option ℕ) (told : Option Successor) → IsBoard b → blank ≡ blank_of b → neighbour b.grid m (blank_of b) ≡ to → told ≡ option_map (told_of parts b) (option_map (successor_at rule b) to) → IfSome told (λ s. IsSlide b.grid b (record { tile = s.tile; from = s.cell; to = blank }))
+slides_by rule parts b m blank to None board is found same = tt
+slides_by rule parts b m blank None (Some told) board is found same = absurd (none same)
+  where
+    none : {s : Successor} → ◌≡◌ {A = Option Successor} (Some s) None → ⊥
+    none e = cc
+slides_by rule parts b m blank (Some from) (Some told) board is found same = slide_of rule parts b m blank from told board is found cc
+
+-- in each move of which something is told a tile slides onto the blank's cell
+pub slides_at : (rule : CostRule) (parts : List Part) (told : List (Option Successor)) (b same : Position) (blank : ℕ) → IsBoard b → same ≡ b → blank ≡ blank_of b → told ≡ successors_of rule parts b → (i : ℕ) (m : Move) → slice_index_or (successors_of rule parts b) i None ≡ option_map (told_of parts b) (successor rule b m) → IfSome (slice_index_or told i None) (λ s. IsSlide same.grid same (record { tile = s.tile; from = s.cell; to = blank }))
+slides_at rule parts told b same blank board is at value i m here =
+    subst (λ (p : Position). IfSome (slice_index_or told i None) (λ s. IsSlide p.grid p (record { tile = s.tile; from = s.cell; to = blank }))) (sym is)
+    (slides_by rule parts b m blank (neighbour b.grid m (blank_of b)) (slice_index_or told i None) board at refl (ap (λ (ts : List (Option Successor)). slice_index_or ts i None) value ∙ here))
 
 module _ (rule : CostRule) (parts : List Part) (b : Position) (cost : ℕ) (m : Move) where
-  -- nothing is offered where the blank would leave the board
-  pub none_offered : (owner : Position → ℕ) → neighbour b.grid m (blank_of b) ≡ None → IsOffered (sum_of parts) owner (item_by rule b cost m) None
-  none_offered owner none = rw none tt
-
   -- of a board that is there something is told
-  pub told_there : (from : ℕ) → neighbour b.grid m (blank_of b) ≡ Some from → None ≡ option_map (told_of parts b) (successor rule b m) → ⊥
+  told_there : (from : ℕ) → neighbour b.grid m (blank_of b) ≡ Some from → None ≡ option_map (told_of parts b) (successor rule b m) → ⊥
   told_there from found none =
       let e : None ≡ Some (told_of parts b (successor_at rule b from)) = none ∙ ap (λ (o : Option ℕ). option_map (told_of parts b) (option_map (successor_at rule b) o)) found in
       cc
 
+  -- of nothing that is told there is no item
+  pub none_offered : (owner : Position → ℕ) (to : Option ℕ) → neighbour b.grid m (blank_of b) ≡ to → None ≡ option_map (told_of parts b) (successor rule b m) → IsOffered (sum_of parts) owner (item_by rule b cost m) None
+  none_offered owner None none is = rw none tt
+  none_offered owner (Some from) found is = absurd (told_there from found is)
+
   -- what is told is offered
-  pub is_offered : (owner : Position → ℕ) (from : ℕ) (told : Successor) (offer : Offer) → neighbour b.grid m (blank_of b) ≡ Some from → Some told ≡ option_map (told_of parts b) (successor rule b m) → offer.key ≡ told.key → offer.cost ≡ cost + told.cost → offer.via ≡ m → offer.f ≡ cost + told.cost + told.sum → offer.owner ≡ owner (blank_exchange b from) → IsOffered (sum_of parts) owner (item_by rule b cost m) (Some offer)
+  is_offered : (owner : Position → ℕ) (from : ℕ) (told : Successor) (offer : Offer) → neighbour b.grid m (blank_of b) ≡ Some from → Some told ≡ option_map (told_of parts b) (successor rule b m) → offer.key ≡ told.key → offer.cost ≡ cost + told.cost → offer.via ≡ m → offer.f ≡ cost + told.cost + told.sum → offer.owner ≡ owner (blank_exchange b from) → IsOffered (sum_of parts) owner (item_by rule b cost m) (Some offer)
   is_offered owner from told offer found is key reached via f owned =
       let e : Some told ≡ Some (told_of parts b (successor_at rule b from)) = is ∙ ap (λ (o : Option ℕ). option_map (told_of parts b) (option_map (successor_at rule b) o)) found in
       let same : told ≡ told_of parts b (successor_at rule b from) = cc in
@@ -55,3 +78,16 @@ module _ (rule : CostRule) (parts : List Part) (b : Position) (cost : ℕ) (m : 
         adds = f ∙ ap (λ (s : Successor). cost + s.cost + s.sum) same;
         owned = owned;
       })
+
+  -- what is told is offered, to the owner of the board with the blank on the cell that is told
+  pub told_offered : (owner : Position → ℕ) (to : Option ℕ) (told : Successor) (offer : Offer) → IsBoard b → neighbour b.grid m (blank_of b) ≡ to → Some told ≡ option_map (told_of parts b) (successor rule b m) → offer.key ≡ told.key → offer.cost ≡ cost + told.cost → offer.via ≡ m → offer.f ≡ cost + told.cost + told.sum → offer.owner ≡ owner (blank_exchange b told.cell) → IsOffered (sum_of parts) owner (item_by rule b cost m) (Some offer)
+  told_offered owner None told offer board found is key reached via f owned = absurd (none (is ∙ ap (λ (o : Option ℕ). option_map (told_of parts b) (option_map (successor_at rule b) o)) found))
+    where
+      none : {s : Successor} → ◌≡◌ {A = Option Successor} (Some s) None → ⊥
+      none e = cc
+  told_offered owner (Some from) told offer board found is key reached via f owned =
+      let e : Some told ≡ Some (told_of parts b (successor_at rule b from)) = is ∙ ap (λ (o : Option ℕ). option_map (told_of parts b) (option_map (successor_at rule b) o)) found in
+      let same : told ≡ told_of parts b (successor_at rule b from) = cc in
+      let lies : LiesTowards b.grid m (blank_of b) from = (neighbour_lies b.grid m (blank_of b) from (blank_stands b board).0).0 found in
+      let cell : told.cell ≡ from = ap (λ (s : Successor). s.cell) same ∙ blank_after b board from (cell_below b.grid m (blank_of b) from lies) in
+      is_offered owner from told offer found is key reached via f (owned ∙ ap (λ (k : ℕ). owner (blank_exchange b k)) cell)

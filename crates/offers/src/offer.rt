@@ -1,6 +1,6 @@
 //! Successors of a board, as they go to their owners.
 
-ghost use Rattle.std.specs.Prelude.{ℕ, ◌≡◌, ◌<◌, ◌≤◌, ◌%◌, List, IfSome, option_map};
+ghost use Rattle.std.specs.Prelude.{ℕ, ◌≡◌, ◌≢◌, ◌<◌, ◌≤◌, ◌%◌, List, IfSome, option_map};
 ghost use Rattle.board.specs.declared.costs.TheConstants.{GREATEST_EXPANDED_COST};
 ghost use Rattle.lower_bound.specs.declared.bound.TheConstants.{GREATEST_SUM};
 ghost use Rattle.board.specs.CostRules.{CostRule};
@@ -41,10 +41,12 @@ pub struct Offers {
     pub down: Option<Offer>,
 }
 
-// The hash of a board whose moves are offered, and the number of workers.
+// Of a board whose moves are offered its hash, where there are several workers, and the cell of the
+// blank; and the number of workers.
 #[derive(Clone, Copy)]
 struct Hashed {
     hash: u64,
+    blank: usize,
     workers: usize,
 }
 
@@ -68,7 +70,8 @@ pub fn offers_of<S: Spread>(
     let [up, left, right, down] = unpacked.successors(weights, bound);
     let board = unpacked.board();
     let hashed = Hashed {
-        hash: owners.hash(board.shape(), board.tiles()),
+        hash: hash_for(board, owners, workers),
+        blank: unpacked.blank(),
         workers,
     };
     Offers {
@@ -77,6 +80,16 @@ pub fn offers_of<S: Spread>(
         right: offer_by(board, cost, Move::R, right, owners, hashed),
         down: offer_by(board, cost, Move::D, down, owners, hashed),
     }
+}
+
+// The hash of a board where there are several workers: one owns all, whatever the hash.
+fn hash_for<S: Spread>(board: &Board, owners: &S, workers: usize) -> u64
+    ensures { workers ≢ 1 → result ≡ S.hash_of owners.now board.now }
+{
+    if workers == 1 {
+        return 0;
+    }
+    owners.hash(board.shape(), board.tiles())
 }
 
 // What a move from a board offers, of which this is told.
@@ -90,10 +103,12 @@ fn offer_by<S: Spread>(
 ) -> Option<Offer>
     requires low { cost ≤ GREATEST_EXPANDED_COST }
     requires keys { IfSome told (λ s. (b : Position) × HasKey board.now.grid s.key b) }
+    requires slides { IfSome told (λ s. IsSlide board.now.grid board.now
+        (record { tile = s.tile; from = s.cell; to = hashed.blank })) }
     requires costs { IfSome told (λ s. s.cost ≤ 255) }
     requires sums { IfSome told (λ s. s.sum ≤ GREATEST_SUM) }
     requires some { 0 < hashed.workers }
-    requires hash { hashed.hash ≡ S.hash_of owners.now board.now }
+    requires hash { hashed.workers ≢ 1 → hashed.hash ≡ S.hash_of owners.now board.now }
     ensures within { IfSome result (IsWithin board.now.grid cost hashed.workers) }
     ensures offered { (rule : CostRule) (parts : List Part)
         → told ≡ option_map (told_of parts board.now) (successor rule board.now direction)
@@ -101,17 +116,13 @@ fn offer_by<S: Spread>(
         (item_by rule board.now cost direction) result }
 {
     let shape = board.shape();
-    let blank = board.blank();
-    let Some(from) = shape.neighbour(blank, direction) else {
-        return None;
-    };
     let Some(successor) = told else {
         return None;
     };
     let slide = Slide {
-        tile: board.tile(from),
-        from,
-        to: blank,
+        tile: successor.tile,
+        from: successor.cell,
+        to: hashed.blank,
     };
     let reached = cost + successor.cost;
     Some(Offer {
@@ -128,7 +139,8 @@ fn owner_after<S: Spread>(owners: &S, hashed: Hashed, shape: Shape, slide: Slide
     requires some { 0 < hashed.workers }
     requires slide { (b : Position) × IsSlide shape b slide }
     ensures within { result < hashed.workers }
-    ensures owner { (b : Position) → IsSlide shape b slide → hashed.hash ≡ S.hash_of owners.now b
+    ensures owner { (b : Position) → IsSlide shape b slide
+        → (hashed.workers ≢ 1 → hashed.hash ≡ S.hash_of owners.now b)
         → result ≡ S.hash_of owners.now (blank_exchange b slide.from) % hashed.workers }
 {
     if hashed.workers == 1 {

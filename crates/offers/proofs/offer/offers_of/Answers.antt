@@ -1,5 +1,7 @@
-use Rattle.std.proofs.Common.{length, ap, arith}
-use Rattle.offers.proofs.OfferLemmas.{keys_at}
+use Rattle.std.proofs.Common.{length, refl, ap, arith}
+use Rattle.board.specs.declared.moves.Move.TheVariants.{U, L, R, D}
+use Rattle.lower_bound.specs.Tables.{parts_of}
+use Rattle.offers.proofs.OfferLemmas.{keys_at, slides_at}
 use Rattle.offers.proofs.offer.offers_of.Goals as goal
 
 pub offer_by-requires-clause-keys : goal.offer_by-requires-clause-keys
@@ -13,3 +15,15 @@ offer_by-requires-3-clause-keys g c = keys_at c.successors.result c.args.unpacke
 
 pub offer_by-requires-4-clause-keys : goal.offer_by-requires-4-clause-keys
 offer_by-requires-4-clause-keys g c = keys_at c.successors.result c.args.unpacked.now c.board-board.result.now c.board-board.ensures.value c.successors.ensures.keys 3 (omega (arith, ap length c.successors.ensures.value))
+
+pub offer_by-requires-clause-slides : goal.offer_by-requires-clause-slides
+offer_by-requires-clause-slides g c = slides_at c.args.weights.now (parts_of c.args.bound.now) c.successors.result c.args.unpacked.now c.board-board.result.now c.blank.result c.board-board.ensures.board c.board-board.ensures.value c.blank.ensures.value c.successors.ensures.value 0 U refl
+
+pub offer_by-requires-2-clause-slides : goal.offer_by-requires-2-clause-slides
+offer_by-requires-2-clause-slides g c = slides_at c.args.weights.now (parts_of c.args.bound.now) c.successors.result c.args.unpacked.now c.board-board.result.now c.blank.result c.board-board.ensures.board c.board-board.ensures.value c.blank.ensures.value c.successors.ensures.value 1 L refl
+
+pub offer_by-requires-3-clause-slides : goal.offer_by-requires-3-clause-slides
+offer_by-requires-3-clause-slides g c = slides_at c.args.weights.now (parts_of c.args.bound.now) c.successors.result c.args.unpacked.now c.board-board.result.now c.blank.result c.board-board.ensures.board c.board-board.ensures.value c.blank.ensures.value c.successors.ensures.value 2 R refl
+
+pub offer_by-requires-4-clause-slides : goal.offer_by-requires-4-clause-slides
+offer_by-requires-4-clause-slides g c = slides_at c.args.weights.now (parts_of c.args.bound.now) c.successors.result c.args.unpacked.now c.board-board.result.now c.blank.result c.board-board.ensures.board c.board-board.ensures.value c.blank.ensures.value c.successors.ensures.value 3 D refl
