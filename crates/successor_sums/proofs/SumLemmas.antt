@@ -79,15 +79,15 @@ sum_is tables b ranks are = sum_at-views tables.lookups ranks (λ table. view_of
 -- ---- what is told of a successor
 
 -- what is looked up is what the definition tells
-pub told_is : (rule : CostRule) (tables : Tables) (b : Position) (m : Move) (reached : Option Reached) → MatchOption reached (neighbour b.grid m (blank_of b) ≡ None) (IsReached rule tables.lookups b m) → option_map (told_by tables.lookups) reached ≡ option_map (told_of (parts_of tables) b) (successor rule b m)
-told_is rule tables b m None none = ap (λ (o : Option ℕ). option_map (told_of (parts_of tables) b) (option_map (successor_at rule b) o)) (sym none)
-told_is rule tables b m (Some r) is =
+pub told_is : (rule : CostRule) (tables : Tables) (b : Position) (m : Move) (ranks : List ℕ) (reached : Option Reached) → MatchOption reached (neighbour b.grid m (blank_of b) ≡ None) (IsReached rule tables.lookups b m ranks) → option_map (told_by tables.lookups ranks) reached ≡ option_map (told_of (parts_of tables) b) (successor rule b m)
+told_is rule tables b m ranks None none = ap (λ (o : Option ℕ). option_map (told_of (parts_of tables) b) (option_map (successor_at rule b) o)) (sym none)
+told_is rule tables b m ranks (Some r) is =
     let cell : r.cell ≡ blank_of (blank_exchange b is.to) = is.cell ∙ sym is.blank in
     let tile : r.tile ≡ slice_index b.tiles (blank_of (blank_exchange b is.to)) = is.tile ∙ sym (ap (slice_index b.tiles) is.blank) in
-    (λ i. Some (record { key = is.key i; tile = tile i; cell = cell i; cost = is.cost i; sum = sum_is tables (blank_exchange b is.to) r.ranks is.ranks i }))
+    (λ i. Some (record { key = is.key i; tile = tile i; cell = cell i; cost = is.cost i; sum = sum_is tables (blank_exchange b is.to) ranks is.ranks i }))
     ∙ ap (λ (o : Option ℕ). option_map (told_of (parts_of tables) b) (option_map (successor_at rule b) o)) (sym is.found)
 
 -- its key is that of a board
-pub told_key : (rule : CostRule) (lookups : List Lookup) (b : Position) (m : Move) (reached : Option Reached) → MatchOption reached (neighbour b.grid m (blank_of b) ≡ None) (IsReached rule lookups b m) → IfSome (option_map (told_by lookups) reached) (λ s. (x : Position) × HasKey b.grid s.key x)
-told_key rule lookups b m None none = tt
-told_key rule lookups b m (Some r) is = (blank_exchange b is.to, record { board = is.board; sides = refl; packed = sym is.key })
+pub told_key : (rule : CostRule) (lookups : List Lookup) (b : Position) (m : Move) (ranks : List ℕ) (reached : Option Reached) → MatchOption reached (neighbour b.grid m (blank_of b) ≡ None) (IsReached rule lookups b m ranks) → IfSome (option_map (told_by lookups ranks) reached) (λ s. (x : Position) × HasKey b.grid s.key x)
+told_key rule lookups b m ranks None none = tt
+told_key rule lookups b m ranks (Some r) is = (blank_exchange b is.to, record { board = is.board; sides = refl; packed = sym is.key })

@@ -40,8 +40,8 @@ pub record IsUnpacked (inside : Inside) : Type 0 where
 
 -- ---- where a move leads to, before the sum is known
 
--- what is kept of the board after the blank goes to its neighbour in the direction m
-pub record IsReached (rule : CostRule) (lookups : List Lookup) (b : Position) (m : Move) (reached : Reached) : Type 0 where
+-- what is kept of the board after the blank goes to its neighbour in the direction m, and its ranks
+pub record IsReached (rule : CostRule) (lookups : List Lookup) (b : Position) (m : Move) (kept : List ℕ) (reached : Reached) : Type 0 where
   pub to : ℕ
   pub found : neighbour b.grid m (blank_of b) ≡ Some to
   pub below : to < cell_count b.grid
@@ -55,9 +55,9 @@ pub record IsReached (rule : CostRule) (lookups : List Lookup) (b : Position) (m
   pub cost : reached.cost ≡ weight_of rule (slice_index b.tiles to)
   pub low : 1 ≤ reached.cost
   pub high : reached.cost ≤ 255
-  pub ranks : take (length lookups) reached.ranks ≡ map (λ table. rank_in table.selection.grid (view_of table.selection.tiles (blank_exchange b to))) lookups
-  pub within : AreRanks lookups reached.ranks
+  pub ranks : take (length lookups) kept ≡ map (λ table. rank_in table.selection.grid (view_of table.selection.tiles (blank_exchange b to))) lookups
+  pub within : AreRanks lookups kept
 
 -- the successor that is told by the values at the ranks
-abbrev pub told_by : List Lookup → Reached → Successor
-told_by lookups reached = record { key = reached.key; tile = reached.tile; cell = reached.cell; cost = reached.cost; sum = sum_at lookups reached.ranks }
+abbrev pub told_by : List Lookup → List ℕ → Reached → Successor
+told_by lookups ranks reached = record { key = reached.key; tile = reached.tile; cell = reached.cell; cost = reached.cost; sum = sum_at lookups ranks }

@@ -10,23 +10,21 @@ use database_build::{NO_VALUE, Table};
 // The most tables that a bound may have.
 pub(crate) const MOST_TABLES: usize = 24;
 
-// The rank in each table of what its group sees of a board, by the cell of each number.
-pub(crate) fn ranks_in(tables: &[Table], cells: &[u8; 25]) -> [u32; MOST_TABLES]
+// Writes the rank in each table of what its group sees of a board, by the cell of each number.
+pub(crate) fn write_ranks(tables: &[Table], cells: &[u8; 25], ranks: &mut [u32; MOST_TABLES])
     requires few { length tables.now ≤ MOST_TABLES }
     requires views { All
         (λ table. IsView table.selection.grid table.selection.tiles
         (view_at table.selection.tiles cells.now))
         tables.now }
-    ensures value { take (length tables.now) result
+    ensures value { take (length tables.now) ranks.new
         ≡ map (λ table. rank_in table.selection.grid (view_at table.selection.tiles cells.now))
         tables.now }
-    ensures within { AreRanks tables.now result }
+    ensures within { AreRanks tables.now ranks.new }
 {
-    let mut ranks = [0; MOST_TABLES];
     'tables: for i in 0..tables.len() {
         ranks[i] = tables[i].group().rank_at(cells) as u32;
     }
-    ranks
 }
 
 // Adds the values that stand at these ranks, one in each table.

@@ -13,7 +13,7 @@ ghost use Rattle.lower_bound.specs.Tables.{ArePotentials, parts_of};
 ghost use Rattle.successor_sums.specs.Ranks.{AreRanks};
 ghost use Rattle.successor_sums.specs.Unpacked.{successors_of, IsReached, told_by};
 
-use crate::ranks::{MOST_TABLES, ranks_in, sum_ranks};
+use crate::ranks::{MOST_TABLES, sum_ranks, write_ranks};
 use board::{Board, Move, Shape, Weights};
 use database_build::Table;
 use lower_bound::{Bound, GREATEST_SUM};
@@ -35,14 +35,13 @@ pub struct Successor {
     pub sum: u32,
 }
 
-// What is kept of a successor until its sum is known.
+// What is kept of a successor, beside its ranks, until its sum is known.
 #[derive(Clone, Copy, Debug)]
 struct Reached {
     key: u128,
     tile: u8,
     cell: usize,
     cost: u32,
-    ranks: [u32; MOST_TABLES],
 }
 
 /// A board taken apart: its key, the tile on each cell, and the cell of each tile.
@@ -119,7 +118,9 @@ impl UnpackedBoard {
             ArePotentials rule goal bound.now → NothingBelow rule self.now goal result }
     {
         let tables = bound.tables();
-        sum_ranks(tables, &ranks_in(tables, &self.cells))
+        let mut ranks = [0; MOST_TABLES];
+        write_ranks(tables, &self.cells, &mut ranks);
+        sum_ranks(tables, &ranks)
     }
 
     /// What is told of its successors, by the four moves in the order of `Move::ALL`: None where
@@ -141,26 +142,36 @@ impl UnpackedBoard {
             (λ told. IfSome told (λ s. (1 ≤ s.cost) × (s.cost ≤ 255))) result }
         ensures sums { All (λ told. IfSome told (λ s. s.sum ≤ GREATEST_SUM)) result }
     {
-        let up = self.reach(Move::U, weights, bound);
-        let left = self.reach(Move::L, weights, bound);
-        let right = self.reach(Move::R, weights, bound);
-        let down = self.reach(Move::D, weights, bound);
+        let mut up_ranks = [0; MOST_TABLES];
+        let up = self.reach(Move::U, weights, bound, &mut up_ranks);
+        let mut left_ranks = [0; MOST_TABLES];
+        let left = self.reach(Move::L, weights, bound, &mut left_ranks);
+        let mut right_ranks = [0; MOST_TABLES];
+        let right = self.reach(Move::R, weights, bound, &mut right_ranks);
+        let mut down_ranks = [0; MOST_TABLES];
+        let down = self.reach(Move::D, weights, bound, &mut down_ranks);
         let tables = bound.tables();
         [
-            look_up(tables, &up),
-            look_up(tables, &left),
-            look_up(tables, &right),
-            look_up(tables, &down),
+            look_up(tables, &up, &up_ranks),
+            look_up(tables, &left, &left_ranks),
+            look_up(tables, &right, &right_ranks),
+            look_up(tables, &down, &down_ranks),
         ]
     }
 
-    // What is kept of the successor by a move until its sum is known. Its key is this board's, with
-    // the tile's digit taken from one place to another.
-    fn reach(&self, direction: Move, weights: &Weights, bound: &Bound) -> Option<Reached>
+    // What is kept of the successor by a move until its sum is known, and writes its ranks. Its key
+    // is this board's, with the tile's digit taken from one place to another.
+    fn reach(
+        &self,
+        direction: Move,
+        weights: &Weights,
+        bound: &Bound,
+        ranks: &mut [u32; MOST_TABLES],
+    ) -> Option<Reached>
         requires rule { weights.now.grid ≡ self.now.grid }
         requires bound { bound.now.split.grid ≡ self.now.grid }
         ensures { MatchOption result (neighbour self.now.grid direction (blank_of self.now) ≡ None)
-            (IsReached weights.now bound.now.lookups self.now direction) }
+            (IsReached weights.now bound.now.lookups self.now direction ranks.new) }
     {
         let shape = self.board.shape();
         let from = self.cells[0];
@@ -172,22 +183,25 @@ impl UnpackedBoard {
         let last = shape.cells() - 1;
         let key = self.key - digit_at(tile, last - to) + digit_at(tile, last - from as usize);
         let cost = weights.of(tile);
-        let ranks = ranks_in(bound.tables(), &cells);
+        write_ranks(bound.tables(), &cells, ranks);
         Some(Reached {
             key,
             tile,
             cell: to,
             cost,
-            ranks,
         })
     }
 }
 
 // The successor, by the values that stand at its ranks.
-fn look_up(tables: &[Table], reached: &Option<Reached>) -> Option<Successor>
+fn look_up(
+    tables: &[Table],
+    reached: &Option<Reached>,
+    ranks: &[u32; MOST_TABLES],
+) -> Option<Successor>
     requires few { length tables.now ≤ MOST_TABLES }
-    requires within { IfSome reached.now (λ r. AreRanks tables.now r.ranks) }
-    ensures value { result ≡ option_map (told_by tables.now) reached.now }
+    requires within { IfSome reached.now (λ r. AreRanks tables.now ranks.now) }
+    ensures value { result ≡ option_map (told_by tables.now ranks.now) reached.now }
     ensures high { IfSome result (λ s. s.sum ≤ GREATEST_SUM) }
 {
     let Some(found) = reached else {
@@ -198,7 +212,7 @@ fn look_up(tables: &[Table], reached: &Option<Reached>) -> Option<Successor>
         tile: found.tile,
         cell: found.cell,
         cost: found.cost,
-        sum: sum_ranks(tables, &found.ranks),
+        sum: sum_ranks(tables, ranks),
     })
 }
 

@@ -60,8 +60,8 @@ of-cost-requires-clause-tile c =
     let led = led_to c.self.inside c.shape-shape.result c.args.direction c.in_ok-to.to c.self.invariant c.shape-shape.ensures.value ((c.neighbour.ensures.towards c.in_ok-to.to).0 c.in_ok-to.was) c.tile-tile.result c.tile-tile.ensures.value in
     led.tile_some
 
-pub ranks_in-ranks-requires-clause-views : goal.ranks_in-ranks-requires-clause-views
-ranks_in-ranks-requires-clause-views c =
+pub write_ranks-requires-clause-views : goal.write_ranks-requires-clause-views
+write_ranks-requires-clause-views c =
     let led = led_to c.self.inside c.shape-shape.result c.args.direction c.in_ok-to.to c.self.invariant c.shape-shape.ensures.value ((c.neighbour.ensures.towards c.in_ok-to.to).0 c.in_ok-to.was) c.tile-tile.result c.tile-tile.ensures.value in
     let same = c.requires.bound ∙ ap (λ (p : Position). p.grid) (sym c.self.view_is) in
     let cells : List ℕ = set (set c.self.inside.cells 0 c.in_ok-to.to) c.tile-tile.result (slice_index c.self.inside.cells 0) in
@@ -78,9 +78,9 @@ returns c =
     let to = c.digit_at-2.ensures ∙ ap (λ (n : ℕ). c.tile-tile.result * 32 ^ (n - 1 - slice_index c.self.inside.cells 0)) count in
     let found : neighbour c.self.inside.board.grid c.args.direction (blank_of c.self.inside.board) ≡ Some c.in_ok-to.to =
     (λ i. neighbour (sym c.shape-shape.ensures.value i) c.args.direction (sym led.blank i)) ∙ sym c.neighbour.ensures.value ∙ c.in_ok-to.was in
-    let ranks : take (length c.args.bound.now.lookups) c.ranks_in-ranks.result ≡ map (λ table. rank_in table.selection.grid (view_at table.selection.tiles cells)) c.args.bound.now.lookups =
-    subst (λ (ls : List Lookup). take (length ls) c.ranks_in-ranks.result ≡ map (λ table. rank_in table.selection.grid (view_at table.selection.tiles cells)) ls) c.tables.ensures.value c.ranks_in-ranks.ensures.value in
-    subst (λ (p : Position). IsReached c.args.weights.now c.args.bound.now.lookups p c.args.direction (record { key = c.self.inside.key - c.digit_at.result + c.digit_at-2.result; tile = c.tile-tile.result; cell = c.in_ok-to.to; cost = c.of-cost.result; ranks = c.ranks_in-ranks.result })) c.self.view_is
+    let ranks : take (length c.args.bound.now.lookups) c.write_ranks.new.ranks ≡ map (λ table. rank_in table.selection.grid (view_at table.selection.tiles cells)) c.args.bound.now.lookups =
+    subst (λ (ls : List Lookup). take (length ls) c.write_ranks.new.ranks ≡ map (λ table. rank_in table.selection.grid (view_at table.selection.tiles cells)) ls) c.tables.ensures.value c.write_ranks.ensures.value in
+    subst (λ (p : Position). IsReached c.args.weights.now c.args.bound.now.lookups p c.args.direction c.write_ranks.new.ranks (record { key = c.self.inside.key - c.digit_at.result + c.digit_at-2.result; tile = c.tile-tile.result; cell = c.in_ok-to.to; cost = c.of-cost.result })) c.self.view_is
     (record {
       to = c.in_ok-to.to;
       found = found;
@@ -96,5 +96,5 @@ returns c =
       low = c.of-cost.ensures.low;
       high = c.of-cost.ensures.high;
       ranks = ranks ∙ ranks_are c.args.bound.now (blank_exchange c.self.inside.board c.in_ok-to.to) cells c.tables.ensures.tables led.board same led.cells;
-      within = subst (λ (ls : List Lookup). AreRanks ls c.ranks_in-ranks.result) c.tables.ensures.value c.ranks_in-ranks.ensures.within;
+      within = subst (λ (ls : List Lookup). AreRanks ls c.write_ranks.new.ranks) c.tables.ensures.value c.write_ranks.ensures.within;
     })

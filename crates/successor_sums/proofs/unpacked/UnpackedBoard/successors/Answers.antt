@@ -12,17 +12,17 @@ use Rattle.successor_sums.proofs.unpacked.UnpackedBoard.successors.Goals as goal
 
 pub returns-clause-value : goal.returns-clause-value
 returns-clause-value c =
-    let up = c.look_up.ensures.value ∙ ap (λ (ls : List Lookup). option_map (told_by ls) c.reach-up.result) c.tables-tables.ensures.value ∙ told_is c.args.weights.now c.args.bound.now c.args.self.now U c.reach-up.result c.reach-up.ensures in
-    let left = c.look_up-2.ensures.value ∙ ap (λ (ls : List Lookup). option_map (told_by ls) c.reach-left.result) c.tables-tables.ensures.value ∙ told_is c.args.weights.now c.args.bound.now c.args.self.now L c.reach-left.result c.reach-left.ensures in
-    let right = c.look_up-3.ensures.value ∙ ap (λ (ls : List Lookup). option_map (told_by ls) c.reach-right.result) c.tables-tables.ensures.value ∙ told_is c.args.weights.now c.args.bound.now c.args.self.now R c.reach-right.result c.reach-right.ensures in
-    let down = c.look_up-4.ensures.value ∙ ap (λ (ls : List Lookup). option_map (told_by ls) c.reach-down.result) c.tables-tables.ensures.value ∙ told_is c.args.weights.now c.args.bound.now c.args.self.now D c.reach-down.result c.reach-down.ensures in
+    let up = c.look_up.ensures.value ∙ ap (λ (ls : List Lookup). option_map (told_by ls c.reach-up.new.ranks) c.reach-up.result) c.tables-tables.ensures.value ∙ told_is c.args.weights.now c.args.bound.now c.args.self.now U c.reach-up.new.ranks c.reach-up.result c.reach-up.ensures in
+    let left = c.look_up-2.ensures.value ∙ ap (λ (ls : List Lookup). option_map (told_by ls c.reach-left.new.ranks) c.reach-left.result) c.tables-tables.ensures.value ∙ told_is c.args.weights.now c.args.bound.now c.args.self.now L c.reach-left.new.ranks c.reach-left.result c.reach-left.ensures in
+    let right = c.look_up-3.ensures.value ∙ ap (λ (ls : List Lookup). option_map (told_by ls c.reach-right.new.ranks) c.reach-right.result) c.tables-tables.ensures.value ∙ told_is c.args.weights.now c.args.bound.now c.args.self.now R c.reach-right.new.ranks c.reach-right.result c.reach-right.ensures in
+    let down = c.look_up-4.ensures.value ∙ ap (λ (ls : List Lookup). option_map (told_by ls c.reach-down.new.ranks) c.reach-down.result) c.tables-tables.ensures.value ∙ told_is c.args.weights.now c.args.bound.now c.args.self.now D c.reach-down.new.ranks c.reach-down.result c.reach-down.ensures in
     λ i. up i ∷ left i ∷ right i ∷ down i ∷ []
 
 pub returns-clause-keys : goal.returns-clause-keys
 returns-clause-keys c =
     let keyed : Option Successor → Type 0 = λ (told : Option Successor). IfSome told (λ s. (x : Position) × HasKey c.args.self.now.grid s.key x) in
-    let up = subst keyed (sym c.look_up.ensures.value) (told_key c.args.weights.now c.tables-tables.result.now c.args.self.now U c.reach-up.result (rw c.tables-tables.ensures.value c.reach-up.ensures)) in
-    let left = subst keyed (sym c.look_up-2.ensures.value) (told_key c.args.weights.now c.tables-tables.result.now c.args.self.now L c.reach-left.result (rw c.tables-tables.ensures.value c.reach-left.ensures)) in
-    let right = subst keyed (sym c.look_up-3.ensures.value) (told_key c.args.weights.now c.tables-tables.result.now c.args.self.now R c.reach-right.result (rw c.tables-tables.ensures.value c.reach-right.ensures)) in
-    let down = subst keyed (sym c.look_up-4.ensures.value) (told_key c.args.weights.now c.tables-tables.result.now c.args.self.now D c.reach-down.result (rw c.tables-tables.ensures.value c.reach-down.ensures)) in
+    let up = subst keyed (sym c.look_up.ensures.value) (told_key c.args.weights.now c.tables-tables.result.now c.args.self.now U c.reach-up.new.ranks c.reach-up.result (rw c.tables-tables.ensures.value c.reach-up.ensures)) in
+    let left = subst keyed (sym c.look_up-2.ensures.value) (told_key c.args.weights.now c.tables-tables.result.now c.args.self.now L c.reach-left.new.ranks c.reach-left.result (rw c.tables-tables.ensures.value c.reach-left.ensures)) in
+    let right = subst keyed (sym c.look_up-3.ensures.value) (told_key c.args.weights.now c.tables-tables.result.now c.args.self.now R c.reach-right.new.ranks c.reach-right.result (rw c.tables-tables.ensures.value c.reach-right.ensures)) in
+    let down = subst keyed (sym c.look_up-4.ensures.value) (told_key c.args.weights.now c.tables-tables.result.now c.args.self.now D c.reach-down.new.ranks c.reach-down.result (rw c.tables-tables.ensures.value c.reach-down.ensures)) in
     All-from_recursion keyed (c.look_up.result ∷ c.look_up-2.result ∷ c.look_up-3.result ∷ c.look_up-4.result ∷ []) (up, (left, (right, (down, tt))))
