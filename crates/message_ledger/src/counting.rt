@@ -1,6 +1,6 @@
 //! How shares are counted.
 
-ghost use Rattle.std.specs.Prelude.{ℕ, ◌≡◌, ◌+◌, ◌^◌, ◌<◌, ◌≤◌};
+ghost use Rattle.std.specs.Prelude.{ℕ, ◌≡◌, ◌≢◌, ◌+◌, ◌^◌, ◌<◌, ◌≤◌};
 ghost use Rattle.outcomes.specs.declared.outcome.Want.{Want};
 ghost use Rattle.outcomes.specs.declared.outcome.Want.TheVariants.{Stated};
 
@@ -107,7 +107,8 @@ pub trait Counting {
 }
 
 /// A way of counting for threads. A caller owes nothing, and of a book that stands behind a lock
-/// its limit is known, how many workers share it, and that no list of steps stopped it.
+/// its limit is known, how many workers share it, and that no list of steps stopped it. A book with
+/// this limit and so many workers may be made, and any refusal of memory may stop it.
 pub trait Tokens: Counting {
     /// The limit.
     ghost limit: { ℕ };
@@ -118,11 +119,20 @@ pub trait Tokens: Counting {
     /// Each share is counted.
     ghost counted: { (sum amount : ℕ) → Self.counts sum amount };
 
+    /// A book may have this limit.
+    ghost its_limit: { Self.allows_limit limit };
+
     /// There is no other limit.
     ghost one_limit: { (n : ℕ) → Self.allows_limit n → n ≡ limit };
 
+    /// So many workers may share a book.
+    ghost its_count: { Self.allows_workers workers };
+
     /// There is no other number of workers.
     ghost one_count: { (n : ℕ) → Self.allows_workers n → n ≡ workers };
+
+    /// Each refusal of memory may stop a book.
+    ghost each_refusal: { (want : Want) → want ≢ Stated → Self.allows_want want };
 
     /// Each want is a refusal of memory.
     ghost no_list: { ¬ Self.allows_want Stated };

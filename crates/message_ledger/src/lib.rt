@@ -6,6 +6,7 @@
 mod allowance;
 mod counting;
 mod credit;
+pub mod laws;
 mod packet;
 mod plain;
 mod shares;

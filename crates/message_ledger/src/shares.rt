@@ -191,9 +191,15 @@ impl<L: Ledger, M: Capped> Tokens for Shares<L, M> {
 
     ghost counted = { λ _ _. tt };
 
+    ghost its_limit = { refl };
+
     ghost one_limit = { λ _ is. is };
 
+    ghost its_count = { refl };
+
     ghost one_count = { λ _ is. is };
+
+    ghost each_refusal = { λ _ is_not. is_not };
 
     ghost no_list = { λ is_not. is_not refl };
 }
