@@ -1,3 +1,4 @@
 -- Worlds of workers that run.
 pub mod Faults
 pub mod Problems
+pub mod Worlds

@@ -2,8 +2,14 @@
 //! Fukunaga, Botea 2013).
 #![tactic(auto)]
 
+mod book_steps;
 mod faults;
 mod job;
+mod lane_steps;
+mod own_steps;
+mod parts;
+mod world;
 
 pub use faults::JobFault;
 pub use job::Job;
+pub use world::World;

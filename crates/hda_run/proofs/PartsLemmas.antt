@@ -1,0 +1,152 @@
+-- What the parts of a world are, and what the world is after one of them has changed.
+use Rattle.std.proofs.Common.{◌≡◌, ◌≢◌, ◌⊎◌, ℕ, zero, suc, ◌+◌, ◌-◌, ◌%◌, ◌<◌, ◌≤◌, List, [], ◌∷◌, length, map, get_or, set, refl, sym, ap, ◌∙◌, subst, inl, inr, arith, Option, Some, None}
+use Rattle.std.specs.Prelude.{slice_get, slice_set, All, Contains, Vec}
+use Rattle.std.specs.Vec.{with_item, vec_len}
+use Rattle.std.specs.declared.alloc.Global.{Global}
+use Rattle.std.proofs.lemmas.List.{map-set, length-map, length-set}
+use Rattle.std.proofs.lemmas.List.Elements.{All-set}
+use Rattle.board.specs.CostRules.{CostRule}
+use Rattle.board.specs.Positions.{Position}
+use Rattle.lower_bound.specs.Tables.{Tables}
+use Rattle.message_ledger.specs.declared.plain.Plain.{Plain}
+use Rattle.outcomes.specs.Outcomes.{Task}
+use Rattle.search_lists.specs.Lists.{Lists}
+use Rattle.search_lists.specs.Orders.{Guide}
+use Rattle.worker_core.specs.declared.worker.Worker.{Worker}
+use Rattle.worker_core.specs.Expanding.{role_by}
+use Rattle.worker_core.specs.Roles.{IsGuided, AreAtHome, guide_of, task_of}
+use Rattle.worker_core.specs.Workers.{state_of, packets_of, with_book, at_lane}
+use Rattle.world_model.specs.declared.limits.TheConstants.{PACKET_LIMIT}
+use Rattle.world_model.specs.declared.parts.Item.{Item}
+use Rattle.world_model.specs.declared.steps.Refusal.{Refusal}
+use Rattle.world_model.specs.Books.{BookState}
+use Rattle.world_model.specs.BookSteps.{AtBook}
+use Rattle.world_model.specs.Credit.{IsCredited}
+use Rattle.world_model.specs.Shapes.{IsShaped}
+use Rattle.world_model.specs.Steps.{ByWorker, OnBook, with_worker}
+use Rattle.world_model.specs.Turns.{Turn, turn}
+use Rattle.world_model.specs.Workers.{WorkerState, Packet, Role}
+use Rattle.world_model.specs.Worlds.{WorldState, IsWorker, role_of}
+use Rattle.world_model.proofs.ListLemmas.{part_le}
+use Rattle.world_model.proofs.StepsCredited.{funds}
+use Rattle.hda_run.specs.declared.parts.Parts.{Parts}
+use Rattle.hda_run.specs.Problems.{task_in}
+use Rattle.hda_run.specs.Worlds.{world_of, AreGuided, IsLawful}
+
+-- a worker that counts by whole numbers
+abbrev pub W : Type 0
+W = Worker Plain ℕ ℕ ℕ ℕ
+
+-- a place below the length that the code reads is one in the list
+pub inside : {X : Type 0} (v : Vec X Global) (n i : ℕ) → n ≡ vec_len v → i < n → i < length v.items
+inside v n i is lt = omega (arith, is, lt, v.ok.0)
+
+pub outside : {X : Type 0} (v : Vec X Global) (n i : ℕ) → n ≡ vec_len v → n ≤ i → length v.items ≤ i
+outside v n i is le = omega (arith, is, le, v.ok.0)
+
+-- what was read at a place, seen otherwise
+pub seen_at : {X Y : Type 0} (f : X → Y) (xs : List X) (i : ℕ) (x : X) → i < length xs → x ≡ get_or xs i x → slice_get (map f xs) i ≡ Some (f x)
+seen_at f [] i x lt is = absurd (omega (arith, lt))
+seen_at f (y ∷ xs) zero x lt is = ap (λ z. Some (f z)) (sym is)
+seen_at f (y ∷ xs) (suc i) x lt is = seen_at f xs i x (omega (arith, lt)) is
+
+-- no list has more than so many elements, if none that stands at a place has
+pub each_few : (m : ℕ) (lists : List Packet) (i : ℕ) → ((to : ℕ) (packet : Packet) → slice_get lists to ≡ Some packet → length packet ≤ m) → length (get_or lists i []) ≤ m
+each_few m [] i each = omega arith
+each_few m (x ∷ lists) zero each = each zero x refl
+each_few m (x ∷ lists) (suc i) each = each_few m lists i (λ to packet at. each (suc to) packet at)
+
+-- lists that stay guided for a task do so for one that is the same
+pub guided_for : (task task' : Task) → task ≡ task' → (guide : Guide) (old new : Lists) → (IsGuided task guide old → IsGuided task guide new) → IsGuided task' guide old → IsGuided task' guide new
+guided_for task task' same guide old new stays is =
+    subst (λ (t : Task). IsGuided t guide new) same (stays (subst (λ (t : Task). IsGuided t guide old) (sym same) is))
+
+module _ {S : Type 0} (hash_of : S → Position → ℕ) (parts : Parts S) where
+  -- as many states as workers
+  pub state_count : length (world_of hash_of parts).workers ≡ length parts.workers.items
+  state_count = length-map parts.workers.items (λ (w : W). state_of w)
+
+  -- there is no such worker
+  pub no_worker : (me : ℕ) → length parts.workers.items ≤ me → length (world_of hash_of parts).workers ≤ me
+  no_worker me past = subst (λ (k : ℕ). k ≤ me) (sym state_count) past
+
+module _ {S : Type 0} (hash_of : S → Position → ℕ) (parts : Parts S) (me : ℕ) (worker : W) (within : me < length parts.workers.items) (at : worker ≡ get_or parts.workers.items me worker) where
+  pub is_worker : IsWorker (world_of hash_of parts) me (state_of worker)
+  is_worker = seen_at (λ (w : W). state_of w) parts.workers.items me worker within at
+
+  not_past : ¬ (length (world_of hash_of parts).workers ≤ me)
+  not_past past = let n = state_count hash_of parts in omega (arith, past, n, within)
+
+  -- the world after another worker, and another book, has taken the place
+  pub changed : (worker' : W) (book' : BookState) → world_of hash_of (record parts { workers = with_item parts.workers me worker'; book = book' }) ≡ record (with_worker (world_of hash_of parts) me (state_of worker')) { book = book' }
+  changed worker' book' = λ t. record (world_of hash_of parts) {
+    owner = λ b. hash_of parts.owners b % length-set parts.workers.items me worker' t;
+    workers = map-set (λ (w : W). state_of w) parts.workers.items me worker' t;
+    book = book';
+  }
+
+  pub by_worker : (OwnStep : Turn WorkerState Refusal → Type 0) (answer : Option Refusal) (worker' : W) → OwnStep (turn (state_of worker) answer (state_of worker')) → ByWorker me OwnStep (turn (world_of hash_of parts) answer (world_of hash_of (record parts { workers = with_item parts.workers me worker' })))
+  by_worker OwnStep answer worker' own = inr (not_past, (state_of worker, state_of worker', is_worker, own, changed worker' parts.book))
+
+  pub on_book : (BookStep : Turn AtBook Refusal → Type 0) (answer : Option Refusal) (worker' : W) (book' : BookState) → BookStep (turn (with_book (state_of worker) parts.book) answer (with_book (state_of worker') book')) → OnBook me BookStep (turn (world_of hash_of parts) answer (world_of hash_of (record parts { workers = with_item parts.workers me worker'; book = book' })))
+  on_book BookStep answer worker' book' own = inr (not_past, (state_of worker, with_book (state_of worker') book', is_worker, own, changed worker' book'))
+
+  -- ---- guided lists
+
+  abbrev Leads : Lists → Type 0
+  Leads lists = IsGuided (task_in parts.job) (guide_of (task_in parts.job)) lists
+
+  pub is_guided : AreGuided parts → Leads worker.lists
+  is_guided all = subst (λ (w : W). Leads w.lists) (sym at) (all me worker within)
+
+  pub set_guided : (worker' : W) → (Leads worker.lists → Leads worker'.lists) → AreGuided parts → All (λ (w : W). Leads w.lists) (set parts.workers.items me worker')
+  set_guided worker' stays all = All-set (λ (w : W). Leads w.lists) parts.workers.items me worker' (stays (is_guided all)) all
+
+  pub same_guided : (worker' : W) → worker'.lists ≡ worker.lists → AreGuided parts → All (λ (w : W). Leads w.lists) (set parts.workers.items me worker')
+  same_guided worker' same all = set_guided worker' (λ is. subst Leads (sym same) is) all
+
+  -- ---- what a world's laws give a worker
+
+  pub unsent_count : IsShaped (world_of hash_of parts) → length worker.unsent.items ≡ length parts.workers.items
+  unsent_count shaped =
+      sym (length-map worker.unsent.items (λ list. list.items)) ∙ (shaped.workers me (state_of worker) is_worker).lists ∙ state_count hash_of parts
+
+  pub some_unsent : IsShaped (world_of hash_of parts) → 0 < length worker.unsent.items
+  some_unsent shaped = let n = unsent_count shaped in omega (arith, n, within)
+
+  pub me_unsent : IsShaped (world_of hash_of parts) → me < length worker.unsent.items
+  me_unsent shaped = let n = unsent_count shaped in omega (arith, n, within)
+
+  pub few_unsent : IsShaped (world_of hash_of parts) → (to : ℕ) → length (get_or (packets_of worker.unsent.items) to []) ≤ PACKET_LIMIT
+  few_unsent shaped to =
+      each_few PACKET_LIMIT (packets_of worker.unsent.items) to (λ k packet there. ((shaped.workers me (state_of worker) is_worker).unsent k packet there).few)
+
+  pub at_home : IsShaped (world_of hash_of parts) → (goal : Position) → goal ≡ parts.job.goal → AreAtHome goal worker.held.items
+  at_home shaped goal same =
+      let held = (shaped.workers me (state_of worker) is_worker).held in
+      record {
+        few = held.few;
+        sides = λ item has. (held.items item has).0.1 ∙ ap (λ (b : Position). b.grid) (sym same);
+        costs = λ item has. (held.items item has).2;
+      }
+
+  pub purse_funded : IsCredited (world_of hash_of parts) → worker.purse ≤ parts.book.credit
+  purse_funded credited = funds (world_of hash_of parts) credited me (state_of worker) is_worker
+
+  pub grants_counted : IsCredited (world_of hash_of parts) → worker.allowance.granted ≤ parts.book.granted
+  grants_counted credited =
+      let all = credited.granted in
+      let mine = part_le (λ (x : WorkerState). x.allowance + x.expansions) (world_of hash_of parts).workers me (state_of worker) is_worker in
+      omega (arith, all, mine)
+
+  pub floor_there : IsShaped (world_of hash_of parts) → me < length parts.book.floors
+  floor_there shaped = let n = shaped.floors ∙ state_count hash_of parts in omega (arith, n, within)
+
+  -- ---- the role of the worker
+
+  pub owner_is : IsShaped (world_of hash_of parts) → (b : Position) → (world_of hash_of parts).owner b ≡ hash_of parts.owners b % length worker.unsent.items
+  owner_is shaped b = ap (λ (k : ℕ). hash_of parts.owners b % k) (sym (unsent_count shaped))
+
+  pub role_is : IsShaped (world_of hash_of parts) → (goal : Position) (rule : CostRule) (tables : Tables) → goal ≡ parts.job.goal → rule ≡ parts.job.rule → tables ≡ parts.job.tables → role_by (task_of parts.job.start goal rule tables) (hash_of parts.owners) (length worker.unsent.items) me ≡ role_of (world_of hash_of parts) me
+  role_is shaped goal rule tables goal_is rule_is tables_is = λ t.
+      role_by (task_of parts.job.start (goal_is t) (rule_is t) (tables_is t)) (hash_of parts.owners) (unsent_count shaped t) me
