@@ -1,2 +1,3 @@
 -- Lemmas.
 mod PartsLemmas
+mod LaneLemmas

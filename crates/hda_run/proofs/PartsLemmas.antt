@@ -1,6 +1,6 @@
 -- What the parts of a world are, and what the world is after one of them has changed.
-use Rattle.std.proofs.Common.{◌≡◌, ◌≢◌, ◌⊎◌, ℕ, zero, suc, ◌+◌, ◌-◌, ◌%◌, ◌<◌, ◌≤◌, List, [], ◌∷◌, length, map, get_or, set, refl, sym, ap, ◌∙◌, subst, inl, inr, arith, Option, Some, None}
-use Rattle.std.specs.Prelude.{slice_get, slice_set, All, Contains, Vec}
+use Rattle.std.proofs.Common.{◌≡◌, ℕ, zero, suc, ◌+◌, ◌%◌, ◌<◌, ◌≤◌, List, [], ◌∷◌, length, map, get_or, set, refl, sym, ap, ◌∙◌, subst, inr, arith, Option, Some}
+use Rattle.std.specs.Prelude.{slice_get, All, Vec}
 use Rattle.std.specs.Vec.{with_item, vec_len}
 use Rattle.std.specs.declared.alloc.Global.{Global}
 use Rattle.std.proofs.lemmas.List.{map-set, length-map, length-set}
@@ -15,9 +15,8 @@ use Rattle.search_lists.specs.Orders.{Guide}
 use Rattle.worker_core.specs.declared.worker.Worker.{Worker}
 use Rattle.worker_core.specs.Expanding.{role_by}
 use Rattle.worker_core.specs.Roles.{IsGuided, AreAtHome, guide_of, task_of}
-use Rattle.worker_core.specs.Workers.{state_of, packets_of, with_book, at_lane}
+use Rattle.worker_core.specs.Workers.{state_of, packets_of, with_book}
 use Rattle.world_model.specs.declared.limits.TheConstants.{PACKET_LIMIT}
-use Rattle.world_model.specs.declared.parts.Item.{Item}
 use Rattle.world_model.specs.declared.steps.Refusal.{Refusal}
 use Rattle.world_model.specs.Books.{BookState}
 use Rattle.world_model.specs.BookSteps.{AtBook}
@@ -25,13 +24,13 @@ use Rattle.world_model.specs.Credit.{IsCredited}
 use Rattle.world_model.specs.Shapes.{IsShaped}
 use Rattle.world_model.specs.Steps.{ByWorker, OnBook, with_worker}
 use Rattle.world_model.specs.Turns.{Turn, turn}
-use Rattle.world_model.specs.Workers.{WorkerState, Packet, Role}
-use Rattle.world_model.specs.Worlds.{WorldState, IsWorker, role_of}
+use Rattle.world_model.specs.Workers.{WorkerState, Packet}
+use Rattle.world_model.specs.Worlds.{IsWorker, role_of}
 use Rattle.world_model.proofs.ListLemmas.{part_le}
 use Rattle.world_model.proofs.StepsCredited.{funds}
 use Rattle.hda_run.specs.declared.parts.Parts.{Parts}
 use Rattle.hda_run.specs.Problems.{task_in}
-use Rattle.hda_run.specs.Worlds.{world_of, AreGuided, IsLawful}
+use Rattle.hda_run.specs.Worlds.{world_of, AreGuided}
 
 -- a worker that counts by whole numbers
 abbrev pub W : Type 0

@@ -1,13 +1,23 @@
 //! The five steps on the book.
 
-ghost use Rattle.std.specs.Prelude.{◌≡◌};
+ghost use Rattle.std.specs.Prelude.{◌≡◌, ◌<◌, ◌≤◌, length};
+ghost use Rattle.outcomes.specs.Outcomes.{Task};
+ghost use Rattle.search_lists.specs.Orders.{Guide};
+ghost use Rattle.worker_core.specs.Roles.{IsRoleOf, IsGuided};
+ghost use Rattle.worker_core.specs.Workers.{state_of, with_book};
 ghost use Rattle.world_model.specs.declared.steps.Step.{Step};
+ghost use Rattle.world_model.specs.BookSteps.{RestStep};
+ghost use Rattle.world_model.specs.Workers.{Role};
 ghost use Rattle.world_model.specs.Steps.{Next};
 ghost use Rattle.world_model.specs.Turns.{turn, refusal_in};
 ghost use Rattle.hda_run.specs.Worlds.{world_of, IsLawful, AreGuided};
 
 use crate::parts::Parts;
+use board::Board;
+use message_ledger::Plain;
 use owners::Spread;
+use quiescence::Book;
+use worker_core::Worker;
 use world_model::{HaltCause, Refusal};
 
 impl<'a, S: Spread> Parts<'a, S> {
@@ -70,10 +80,7 @@ impl<'a, S: Spread> Parts<'a, S> {
             return Err(Refusal::NoSuchWorker);
         }
         let goal = self.job.goal();
-        if let Err(refusal) = self.workers[me].rest(me, goal, &mut self.book) {
-            return Err(refusal);
-        }
-        Ok(())
+        rest_by(&mut self.workers[me], me, goal, &mut self.book)
     }
 
     /// A worker halts the run.
@@ -89,5 +96,27 @@ impl<'a, S: Spread> Parts<'a, S> {
             return Err(Refusal::NoSuchWorker);
         }
         self.workers[me].halt(cause, &mut self.book)
+    }
+}
+
+// A worker rests. What it is told is seen in the book too.
+fn rest_by(
+    worker: &mut Worker<Plain>,
+    me: usize,
+    goal: &Board,
+    book: &mut Book<Plain>,
+) -> Result<(), Refusal>
+    requires counted { worker.old.purse ≤ book.old.credit }
+    requires there { me < length book.old.floors }
+    ensures step { (role : Role) (guide : Guide) → IsRoleOf me goal.now role
+        → IsGuided role.task guide worker.old.lists
+        → RestStep role (turn (with_book (state_of worker.old) book.old) (refusal_in result)
+        (with_book (state_of worker.new) book.new)) }
+    ensures guided { (task : Task) (guide : Guide) → IsGuided task guide worker.old.lists
+        → IsGuided task guide worker.new.lists }
+{
+    match worker.rest(me, goal, book) {
+        Ok(_) => Ok(()),
+        Err(refusal) => Err(refusal),
     }
 }

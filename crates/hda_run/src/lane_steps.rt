@@ -57,11 +57,7 @@ fn are_two(workers: usize, from: usize, to: usize) -> bool
 }
 
 // Sends what is unsent for a worker by the lane to it.
-fn send_on(
-    worker: &mut Worker<Plain>,
-    to: usize,
-    lane: &mut Queue<Plain>,
-) -> Result<(), Refusal>
+fn send_on(worker: &mut Worker<Plain>, to: usize, lane: &mut Queue<Plain>) -> Result<(), Refusal>
     requires { to < length worker.old.unsent.items }
     ensures step { SendStep to (turn (at_lane (state_of worker.old) lane.old) (refusal_in result)
         (at_lane (state_of worker.new) lane.new)) }

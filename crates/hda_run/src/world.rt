@@ -15,7 +15,6 @@ pub struct World<'a, S: Spread> {
 impl<'a, S: Spread> Model for World<'a, S> {
     ghost use Rattle.hda_run.specs.declared.parts.Parts.{Parts};
     ghost use Rattle.hda_run.specs.Worlds.{IsLawful};
-
     ghost use Rattle.std.specs.Coded.{codes};
     ghost use Rattle.search_lists.specs.Lists.{lists_code};
 

@@ -1,4 +1,4 @@
-use Rattle.std.proofs.Common.{inl, refl, sym, ap, ◌∙◌}
+use Rattle.std.proofs.Common.{inl, refl, sym}
 use Rattle.world_model.specs.BookSteps.{AnnounceStep}
 use Rattle.world_model.specs.Turns.{refusal_in}
 use Rattle.world_model.specs.Worlds.{role_of}

@@ -1,5 +1,4 @@
 use Rattle.std.proofs.Common.{◌≡◌, inl, refl, subst}
-use Rattle.world_model.specs.declared.steps.Refusal.{Refusal}
 use Rattle.world_model.specs.Turns.{refusal_in, turn}
 use Rattle.world_model.specs.Workers.{Role}
 use Rattle.world_model.specs.WorkerSteps.{ExpandStep}

@@ -1,5 +1,4 @@
-use Rattle.std.proofs.Common.{inl, refl, sym, subst, Option}
-use Rattle.world_model.specs.declared.steps.Refusal.{Refusal}
+use Rattle.std.proofs.Common.{inl, refl, sym}
 use Rattle.world_model.specs.BookSteps.{RestStep}
 use Rattle.world_model.specs.Turns.{refusal_in}
 use Rattle.world_model.specs.Worlds.{role_of}
@@ -14,8 +13,8 @@ returns-then-me-len-clause-step g c =
     let old = c.args.self.now in
     inl (no_worker g.S.Spread.hash_of old c.args.me (outside old.workers c.len.result c.args.me c.len.ensures c.if-me-len.true), (refl, refl))
 
-pub rest-requires-clause-counted : goal.rest-requires-clause-counted
-rest-requires-clause-counted g c κs =
+pub rest_by-requires-clause-counted : goal.rest_by-requires-clause-counted
+rest_by-requires-clause-counted g c =
     let old = c.args.self.now in
     let within = inside old.workers c.len.result c.args.me c.len.ensures c.if-me-len.false in
     purse_funded g.S.Spread.hash_of old c.args.me c.index_mut.result.now within c.index_mut.ensures.value c.requires.credited
@@ -29,12 +28,12 @@ returns-clause-step g c =
     let role = role_of (world_of hash old) c.args.me in
     let guided = is_guided hash old c.args.me worker within c.index_mut.ensures.value c.requires.guided in
     let goal_is = c.goal-goal.ensures.value in
-    on_book hash old c.args.me worker within c.index_mut.ensures.value (RestStep role) (refusal_in c.rest.result) c.rest.new.self c.rest.new.book
-    (c.rest.ensures.step role (guide_of (task_in old.job)) (record { me = refl; ends = sym goal_is }) guided)
+    on_book hash old c.args.me worker within c.index_mut.ensures.value (RestStep role) (refusal_in c.rest_by.result) c.rest_by.new.worker c.rest_by.new.book
+    (c.rest_by.ensures.step role (guide_of (task_in old.job)) (record { me = refl; ends = sym goal_is }) guided)
 
 pub returns-clause-guided : goal.returns-clause-guided
 returns-clause-guided g c =
     let old = c.args.self.now in
     let task = task_in old.job in
     let within = inside old.workers c.len.result c.args.me c.len.ensures c.if-me-len.false in
-    set_guided g.S.Spread.hash_of old c.args.me c.index_mut.result.now within c.index_mut.ensures.value c.rest.new.self (λ is. c.rest.ensures.guided task (guide_of task) is) c.requires.guided
+    set_guided g.S.Spread.hash_of old c.args.me c.index_mut.result.now within c.index_mut.ensures.value c.rest_by.new.worker (λ is. c.rest_by.ensures.guided task (guide_of task) is) c.requires.guided
