@@ -98,8 +98,9 @@ fn tile_number(word: &[u8]) -> u8
     number as u8
 }
 
-// The first word of a text, empty where there is none, and what stands behind it.
-fn cut_word(text: &str) -> (&str, &str)
+/// The first word of a text, empty where there is none, and what stands behind it. Words are
+/// separated by spaces and tabs.
+pub fn cut_word(text: &str) -> (&str, &str)
     ensures word { result.0.now ≡ id_of (words_of text.now) }
     ensures rest { words_of result.1.now ≡ tile_words (words_of text.now) }
 {

@@ -1,0 +1,2 @@
+mod NumberLemmas
+mod StepLemmas

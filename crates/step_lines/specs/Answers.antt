@@ -1,0 +1,28 @@
+-- The words that lines are answered by.
+use Rattle.std.specs.Prelude.{ℕ, List, Option, None, Some, codes}
+use Rattle.world_model.specs.declared.steps.Refusal.{Refusal}
+use Rattle.world_model.specs.declared.steps.Refusal.TheVariants.{NothingBelowLimit, NoAllowance, NoRoom, RingFull, RingEmpty, PurseTooSmall, StillHolding, Memory, NothingToAnnounce, NotIdle, Stopped, PurseEmpty, NothingThere, AllowanceLeft, NoSuchWorker, PurseFull}
+
+-- the code of a refusal
+abbrev pub step_code : Refusal → List ℕ
+step_code NothingBelowLimit = codes "S1"
+step_code NoAllowance = codes "S2"
+step_code NoRoom = codes "S3"
+step_code RingFull = codes "S4"
+step_code RingEmpty = codes "S5"
+step_code PurseTooSmall = codes "S6"
+step_code StillHolding = codes "S7"
+step_code (Memory refused) = codes "S8"
+step_code NothingToAnnounce = codes "S9"
+step_code NotIdle = codes "S10"
+step_code Stopped = codes "S11"
+step_code PurseEmpty = codes "S12"
+step_code NothingThere = codes "S13"
+step_code AllowanceLeft = codes "S14"
+step_code NoSuchWorker = codes "S15"
+step_code PurseFull = codes "S16"
+
+-- what a step is answered by that was refused so, or wasn't refused
+abbrev pub answer_word : Option Refusal → List ℕ
+answer_word None = codes "ok"
+answer_word (Some refusal) = step_code refusal
