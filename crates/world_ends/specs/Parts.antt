@@ -1,0 +1,46 @@
+-- What was asked of a run, and the parts of the world in which it ended.
+use Rattle.std.specs.Prelude.{ℕ, ◌≡◌, ◌%◌, List, length, map as each_of, All, Option, None, Some, slice_get}
+use Rattle.std.specs.FinMap as map
+use Rattle.board.specs.Positions.{Position}
+use Rattle.board.specs.Keys.{key_of}
+use Rattle.outcomes.specs.Outcomes.{Task}
+use Rattle.search_lists.specs.Orders.{Guide}
+use Rattle.world_model.specs.declared.parts.Known.{Known}
+use Rattle.world_model.specs.Workers.{WorkerState}
+use Rattle.world_model.specs.Worlds.{WorldState}
+use Rattle.world_model.specs.Shapes.{IsShaped}
+use Rattle.world_model.specs.Soundness.{IsSound}
+use Rattle.worker_core.specs.declared.worker.Worker.{Worker}
+use Rattle.worker_core.specs.Workers.{state_of}
+use Rattle.worker_core.specs.Roles.{task_of, IsGuided}
+use Rattle.world_ends.specs.declared.asked.Asked.{Asked}
+
+-- the task that was asked
+abbrev pub task_in : Asked → Task
+task_in asked = task_of asked.start asked.goal asked.weights asked.bound.now
+
+-- workers, as worlds have them
+abbrev pub states_of : {C D S K G : Type 0} → List (Worker C D S K G) → List WorkerState
+states_of workers = each_of state_of workers
+
+-- by this guide the lists of each worker are in order, and what they know is boards of the task
+abbrev pub AreGuided : {C D S K G : Type 0} → Task → Guide → List (Worker C D S K G) → Type 0
+AreGuided task guide workers = All (λ worker. IsGuided task guide worker.lists) workers
+
+-- A shaped and sound world that has this task, these workers, and owners by this hash, modulo the number of workers. Its book and its
+-- lanes may be any.
+pub record HasParts (task : Task) (hash : Position → ℕ) (states : List WorkerState) (w : WorldState) : Type 0 where
+  pub asks : w.task ≡ task
+  pub owns : (b : Position) → w.owner b ≡ hash b % length states
+  pub works : w.workers ≡ states
+  pub shaped : IsShaped w
+  pub sound : IsSound w
+
+-- what a worker, if there is one, knows of the board with this key
+abbrev pub known_by : Option WorkerState → ℕ → Option Known
+known_by None key = None
+known_by (Some worker) key = map.get worker.known key
+
+-- what a board's owner knows of it
+abbrev pub known_in : (Position → ℕ) → List WorkerState → Position → Option Known
+known_in hash states b = known_by (slice_get states (hash b % length states)) (key_of b)

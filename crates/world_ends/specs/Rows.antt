@@ -1,0 +1,42 @@
+-- Rows of known boards.
+use Rattle.std.specs.Prelude.{ℕ, ◌≡◌, ◌≢◌, ◌+◌, ◌<◌, ◌≤◌, ◌⊎◌, ◌↔◌, List, Contains, AllPairs, Some, slice_get}
+use Rattle.std.specs.FinMap as map
+use Rattle.board.specs.declared.costs.TheConstants.{GREATEST_COST}
+use Rattle.board.specs.Grids.{Grid}
+use Rattle.board.specs.Positions.{Position}
+use Rattle.board.specs.Keys.{HasKey, key_of}
+use Rattle.world_model.specs.declared.parts.Known.{Known}
+use Rattle.world_model.specs.Knowledge.{Knowledge}
+use Rattle.world_model.specs.Workers.{WorkerState}
+use Rattle.outcomes.specs.Outcomes.{Task}
+use Rattle.world_ends.specs.declared.rows.KeyedRow.{KeyedRow}
+
+-- the board with the row's key is known at the row's cost, and that plus its sum is below k
+pub record IsRowIn (task : Task) (k : ℕ) (knowledge : Knowledge) (row : KeyedRow) : Type 0 where
+  pub b : Position
+  pub has : HasKey task.goal.grid row.key b
+  pub known : Known
+  pub knows : map.get knowledge row.key ≡ Some known
+  pub at : known.cost ≡ row.cost
+  pub low : row.cost + task.sum b < k
+
+-- no two rows have one key
+abbrev pub AreApart : List KeyedRow → Type 0
+AreApart rows = AllPairs (λ row later. row.key ≢ later.key) rows
+
+-- each key is that of a board of the grid, which is known at a cost of at most `GREATEST_COST`
+abbrev pub IsOfBoards : Grid → Knowledge → Type 0
+IsOfBoards grid knowledge = (key : ℕ) (known : Known) → map.get knowledge key ≡ Some known → ((b : Position) × HasKey grid key b) × (known.cost ≤ GREATEST_COST)
+
+-- no row has the key of a board that is known here
+abbrev pub AreElsewhere : List KeyedRow → Knowledge → Type 0
+AreElsewhere rows knowledge = (row : KeyedRow) (known : Known) → Contains rows row → map.get knowledge row.key ≢ Some known
+
+-- the rows of what each of these workers knows
+pub record AreKeyedRows (task : Task) (k : ℕ) (states : List WorkerState) (rows : List KeyedRow) : Type 0 where
+  pub apart : AreApart rows
+  pub each : (row : KeyedRow) → Contains rows row ↔ ((i : ℕ) × (worker : WorkerState) × (slice_get states i ≡ Some worker) × IsRowIn task k worker.known row)
+
+-- a row with its board's key
+abbrev pub keyed : Position × ℕ → KeyedRow
+keyed row = record { key = key_of row.0; cost = row.1 }

@@ -1,0 +1,13 @@
+//! What the parts of a world give when a run has ended: its outcome.
+#![tactic(auto)]
+
+mod asked;
+mod lowest;
+mod outcome;
+mod plan;
+mod rows;
+
+pub use asked::Asked;
+pub use lowest::lowest_of;
+pub use outcome::{Ending, ending_of, outcome_of};
+pub use rows::rows_for;

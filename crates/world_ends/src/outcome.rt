@@ -1,0 +1,172 @@
+//! The outcome of a run.
+
+ghost use Rattle.std.specs.Prelude.{◌≡◌, option_map, if◌then◌else◌};
+ghost use Rattle.outcomes.specs.declared.outcome.Cause.TheVariants.{Cost, Cut};
+ghost use Rattle.search_lists.specs.Orders.{Guide};
+ghost use Rattle.world_model.specs.Outcomes.{IsGiven, cause_of, is_too_high};
+ghost use Rattle.world_model.specs.Worlds.{WorldState};
+ghost use Rattle.world_ends.specs.Parts.{task_in, states_of, AreGuided, HasParts};
+ghost use Rattle.world_ends.specs.Lowest.{IsLowestInLanes};
+ghost use Rattle.world_ends.specs.Endings.{EndsIn};
+
+use crate::asked::Asked;
+use crate::lowest::{lesser, lowest_of_workers};
+use crate::plan::{known_of, plan_back};
+use crate::rows::rows_for;
+use board::{GREATEST_EXPANDED_COST, Move};
+use memory::OutOfMemory;
+use message_ledger::Counting;
+use outcomes::{Cause, Outcome, Want, Why};
+use owners::Spread;
+use std::alloc::Global;
+use worker_core::Worker;
+use world_model::{Known, Stop};
+
+/// What a run answers, but for rows.
+#[derive(Debug, Drop)]
+pub enum Ending {
+    /// A plan of least cost.
+    Optimal {
+        cost: u32,
+        plan: Vec<Move>,
+    },
+    /// No plan leads to the goal.
+    Unsolvable {
+        why: Why,
+    },
+    /// No plan costs less than the bound; the best plan found, with its cost, if there is one.
+    Bounded {
+        bound: u32,
+        best: Option<(u32, Vec<Move>)>,
+        cause: Cause,
+    },
+}
+
+/// The outcome that the workers of a world give, at any moment. `lanes` is the least cost plus sum
+/// of the items in the lanes, and `stop` what stopped the run.
+pub fn outcome_of<C: Counting, S: Spread>(
+    alloc: Global,
+    asked: &Asked<'_>,
+    owners: &S,
+    workers: &mut [Worker<C>],
+    lanes: Option<u32>,
+    stop: Option<Stop>,
+) -> Outcome
+    requires sides { asked.now.bound.now.split.grid ≡ asked.now.goal.grid }
+    requires guided { (guide : Guide) × AreGuided (task_in asked.now) guide workers.old }
+    requires world { (w : WorldState)
+        × HasParts (task_in asked.now) (S.hash_of owners.now) (states_of workers.old) w }
+    ensures given { (w : WorldState)
+        → HasParts (task_in asked.now) (S.hash_of owners.now) (states_of workers.old) w
+        → IsLowestInLanes w lanes → w.book.stop ≡ stop → IsGiven w result }
+    ensures same { states_of workers.new ≡ states_of workers.old }
+{
+    match ending_of(alloc, asked, owners, workers, lanes, stop) {
+        Ending::Optimal { cost, plan } => match rows_for(alloc, asked, workers, cost) {
+            Ok(rows) => Outcome::Optimal { cost, plan, rows },
+            Err(refused) => Outcome::Bounded {
+                bound: cost,
+                best: None,
+                cause: Cause::Memory(Want::Refused(refused)),
+            },
+        },
+        Ending::Unsolvable { why } => Outcome::Unsolvable { why },
+        Ending::Bounded { bound, best, cause } => Outcome::Bounded { bound, best, cause },
+    }
+}
+
+/// The same without rows, for which no memory is taken.
+pub fn ending_of<C: Counting, S: Spread>(
+    alloc: Global,
+    asked: &Asked<'_>,
+    owners: &S,
+    workers: &mut [Worker<C>],
+    lanes: Option<u32>,
+    stop: Option<Stop>,
+) -> Ending
+    requires sides { asked.now.bound.now.split.grid ≡ asked.now.goal.grid }
+    requires guided { (guide : Guide) × AreGuided (task_in asked.now) guide workers.old }
+    requires world { (w : WorldState)
+        × HasParts (task_in asked.now) (S.hash_of owners.now) (states_of workers.old) w }
+    ensures given { (w : WorldState)
+        → HasParts (task_in asked.now) (S.hash_of owners.now) (states_of workers.old) w
+        → IsLowestInLanes w lanes → w.book.stop ≡ stop → EndsIn w result }
+    ensures same { states_of workers.new ≡ states_of workers.old }
+{
+    let lowest = lowest_of_workers(asked, workers, lanes);
+    let reached = known_of(owners, workers, &asked.goal);
+    let Some(floor) = lesser(lowest, cost_of(reached)) else {
+        return Ending::Unsolvable {
+            why: Why::Exhausted,
+        };
+    };
+    let bound = asked.bound.of(&asked.start).max(floor);
+    let cause = cause_of(stop, lowest);
+    let Some(known) = reached else {
+        return Ending::Bounded {
+            bound,
+            best: None,
+            cause,
+        };
+    };
+    let found = match plan_back(alloc, asked, owners, workers, known) {
+        Ok(found) => found,
+        Err(refused) => {
+            return Ending::Bounded {
+                bound,
+                best: None,
+                cause: Cause::Memory(Want::Refused(refused)),
+            };
+        }
+    };
+    if found.0 != bound {
+        return Ending::Bounded {
+            bound,
+            best: Some(found),
+            cause,
+        };
+    }
+    Ending::Optimal {
+        cost: found.0,
+        plan: found.1,
+    }
+}
+
+// The cost at which a board is known, where it is.
+fn cost_of(known: Option<Known>) -> Option<u32>
+    ensures { result ≡ option_map (λ known. known.cost) known }
+{
+    let Some(known) = known else {
+        return None;
+    };
+    Some(known.cost)
+}
+
+// The cause of a bound, by what stopped the run and by the lowest of the frontier.
+fn cause_of(stop: Option<Stop>, lowest: Option<u32>) -> Cause
+    ensures { result ≡ cause_of stop lowest }
+{
+    let Some(stop) = stop else {
+        return Cause::Cut;
+    };
+    match stop {
+        Stop::Limit => Cause::Limit,
+        Stop::Memory(want) => Cause::Memory(want),
+        Stop::Start => Cause::Start,
+        Stop::Quiet => cause_of_quiet(lowest),
+    }
+}
+
+// The cause of a bound where no worker has anything to do.
+fn cause_of_quiet(lowest: Option<u32>) -> Cause
+    ensures { result ≡ (if is_too_high lowest then Cost else Cut) }
+{
+    let Some(lowest) = lowest else {
+        return Cause::Cost;
+    };
+    if lowest > GREATEST_EXPANDED_COST {
+        Cause::Cost
+    } else {
+        Cause::Cut
+    }
+}

@@ -1,0 +1,85 @@
+//! The plan of a run, followed back by last moves.
+
+ghost use Rattle.std.specs.Prelude.{◌≡◌, ◌<◌, ◌≤◌, ◌+◌, Some, IfOk, length};
+ghost use Rattle.board.specs.Moves.{Moves};
+ghost use Rattle.world_model.specs.Workers.{IsTaskBoard};
+ghost use Rattle.world_model.specs.Worlds.{WorldState};
+ghost use Rattle.world_ends.specs.Parts.{task_in, states_of, HasParts, known_in};
+ghost use Rattle.world_ends.specs.Plans.{IsBefore, IsTraced};
+
+use crate::asked::Asked;
+use board::{Board, Move};
+use memory::{OutOfMemory, push};
+use message_ledger::Counting;
+use owners::Spread;
+use std::alloc::Global;
+use worker_core::Worker;
+use world_model::Known;
+
+// What the owner of a board knows of it.
+pub(crate) fn known_of<C: Counting, S: Spread>(
+    owners: &S,
+    workers: &[Worker<C>],
+    board: &Board,
+) -> Option<Known>
+    requires { 0 < length workers.now }
+    ensures { result ≡ known_in (S.hash_of owners.now) (states_of workers.now) board.now }
+{
+    let owner = owners.owner(board, workers.len());
+    workers[owner].lists().get(board.key())
+}
+
+// The plan by which the goal was reached, followed back by last moves, and its cost.
+pub(crate) fn plan_back<C: Counting, S: Spread>(
+    alloc: Global,
+    asked: &Asked<'_>,
+    owners: &S,
+    workers: &[Worker<C>],
+    reached: Known,
+) -> Result<(u32, Vec<Move>), OutOfMemory>
+    requires world { (w : WorldState)
+        × HasParts (task_in asked.now) (S.hash_of owners.now) (states_of workers.now) w }
+    requires found { known_in (S.hash_of owners.now) (states_of workers.now) asked.now.goal
+        ≡ Some reached }
+    ensures { IfOk result (λ found. IsTraced (task_in asked.now) (S.hash_of owners.now)
+        (states_of workers.now) reached.cost found.0 found.1.items) }
+{
+    let mut backwards = Vec::new(alloc);
+    let mut cost = 0;
+    let mut board = asked.goal;
+    let mut here = reached;
+    'boards: while board != asked.start {
+        let before = step_back(asked, owners, workers, &board, here);
+        push(&mut backwards, here.via)?;
+        cost += before.1;
+        board = before.0;
+        here = before.2;
+    }
+    backwards.reverse();
+    Ok((cost, backwards))
+}
+
+// The board before one by its last move, the cost of that move, and what the owner of the board
+// before knows of it.
+fn step_back<C: Counting, S: Spread>(
+    asked: &Asked<'_>,
+    owners: &S,
+    workers: &[Worker<C>],
+    board: &Board,
+    here: Known,
+) -> (Board, u32, Known)
+    requires some { 0 < length workers.now }
+    requires costs { asked.now.weights.grid ≡ board.now.grid }
+    requires reached { IsBefore (task_in asked.now) (S.hash_of owners.now) (states_of workers.now)
+        board.now here }
+    ensures board { IsTaskBoard (task_in asked.now) result.0 }
+    ensures moved { Moves asked.now.weights result.0 here.via board.now result.1 }
+    ensures found { known_in (S.hash_of owners.now) (states_of workers.now) result.0
+        ≡ Some result.2 }
+    ensures cheaper { result.2.cost + result.1 ≤ here.cost }
+    ensures low { 1 ≤ result.1 }
+{
+    let before = board.step(here.via.undo(), &asked.weights).unwrap();
+    let there = known_of(owners, workers, &before.0).unwrap();
+    (before.0, before.1, there)
+}

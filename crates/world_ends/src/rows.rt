@@ -1,0 +1,152 @@
+//! The rows of a run: the boards that are known below a cost.
+
+ghost use Rattle.std.specs.Prelude.{◌≡◌, ◌<◌, ◌≤◌, ◌+◌, ◌++◌, ◌∷◌, ◌⊎◌, ◌↔◌, [], ℕ, Some};
+ghost use Rattle.std.specs.Prelude.{OnOk, IfOk, All, Contains, length, map, slice_get};
+ghost use Rattle.std.specs.List.Sorted.{IsPermutation, IsNonDecreasingBy};
+ghost use Rattle.board.specs.declared.costs.TheConstants.{GREATEST_COST};
+ghost use Rattle.board.specs.Positions.{Position, IsBoard};
+ghost use Rattle.board.specs.Keys.{HasKey};
+ghost use Rattle.lower_bound.specs.Bounds.{sum_of};
+ghost use Rattle.lower_bound.specs.Tables.{parts_of};
+ghost use Rattle.world_model.specs.Outcomes.{AreRowsFor};
+ghost use Rattle.world_model.specs.Worlds.{WorldState};
+ghost use Rattle.world_ends.specs.Parts.{task_in, states_of, HasParts};
+ghost use Rattle.world_ends.specs.Rows.{IsRowIn, AreApart, IsOfBoards, AreElsewhere};
+ghost use Rattle.world_ends.specs.Rows.{AreKeyedRows, keyed};
+ghost use Rattle.world_ends.specs.declared.rows.KeyedRow.{KeyedRow};
+
+use crate::asked::Asked;
+use board::{Board, Shape};
+use memory::{OutOfMemory, push};
+use message_ledger::Counting;
+use search_lists::SearchLists;
+use std::alloc::Global;
+use worker_core::Worker;
+
+// A row by its board's key: by that rows are sorted.
+#[derive(Clone, Copy, Debug)]
+struct KeyedRow {
+    key: u128,
+    cost: u32,
+}
+
+/// The rows that prove a cost: the boards that the workers know at a cost plus sum below it, each
+/// with the cost at which it is known, in rising order of key. There is none where the start's sum
+/// proves the cost.
+pub fn rows_for<C: Counting>(
+    alloc: Global,
+    asked: &Asked<'_>,
+    workers: &[Worker<C>],
+    cost: u32,
+) -> Result<Vec<(Board, u32)>, OutOfMemory>
+    requires sides { asked.now.bound.now.split.grid ≡ asked.now.goal.grid }
+    requires world { (hash : Position → ℕ) × (w : WorldState)
+        × HasParts (task_in asked.now) hash (states_of workers.now) w }
+    ensures { IfOk result (λ rows. (hash : Position → ℕ) (w : WorldState)
+        → HasParts (task_in asked.now) hash (states_of workers.now) w
+        → AreRowsFor w cost rows.items) }
+{
+    if asked.bound.of(&asked.start) >= cost {
+        return Ok(Vec::new(alloc));
+    }
+    let mut rows = keyed_rows(alloc, asked, workers, cost)?;
+    sort_rows(&mut rows);
+    with_boards(alloc, asked.goal.shape(), &rows)
+}
+
+// The rows of all workers, by their keys.
+fn keyed_rows<C: Counting>(
+    alloc: Global,
+    asked: &Asked<'_>,
+    workers: &[Worker<C>],
+    cost: u32,
+) -> Result<Vec<KeyedRow>, OutOfMemory>
+    requires sides { asked.now.bound.now.split.grid ≡ asked.now.goal.grid }
+    requires world { (hash : Position → ℕ) × (w : WorldState)
+        × HasParts (task_in asked.now) hash (states_of workers.now) w }
+    ensures { IfOk result (λ rows. AreKeyedRows (task_in asked.now) cost (states_of workers.now)
+        rows.items) }
+{
+    let mut rows = Vec::new(alloc);
+    'workers: for worker in workers {
+        add_rows(&mut rows, asked, worker.lists(), cost)?;
+    }
+    Ok(rows)
+}
+
+// Adds the rows of what one worker knows.
+fn add_rows(
+    rows: &mut Vec<KeyedRow>,
+    asked: &Asked<'_>,
+    lists: &SearchLists,
+    cost: u32,
+) -> Result<(), OutOfMemory>
+    requires sides { asked.now.bound.now.split.grid ≡ asked.now.goal.grid }
+    requires boards { IsOfBoards asked.now.goal.grid lists.now.closed.known }
+    requires apart { AreApart rows.old.items }
+    requires elsewhere { AreElsewhere rows.old.items lists.now.closed.known }
+    ensures apart { OnOk result (AreApart rows.new.items) }
+    ensures each { OnOk result ((row : KeyedRow) → Contains rows.new.items row
+        ↔ (Contains rows.old.items row
+        ⊎ IsRowIn (task_in asked.now) cost lists.now.closed.known row)) }
+{
+    'boards: for place in 0..lists.len() {
+        let (key, known) = lists.at(place);
+        let row = KeyedRow {
+            key,
+            cost: known.cost,
+        };
+        add_row(rows, asked, row, cost)?;
+    }
+    Ok(())
+}
+
+// Adds a row, where its cost plus the sum of its board is below a cost.
+fn add_row(
+    rows: &mut Vec<KeyedRow>,
+    asked: &Asked<'_>,
+    row: KeyedRow,
+    cost: u32,
+) -> Result<(), OutOfMemory>
+    requires sides { asked.now.bound.now.split.grid ≡ asked.now.goal.grid }
+    requires board { (b : Position) × HasKey asked.now.goal.grid row.key b }
+    requires low { row.cost ≤ GREATEST_COST }
+    ensures { OnOk result ((b : Position) × HasKey asked.now.goal.grid row.key b
+        × (row.cost + sum_of (parts_of asked.now.bound.now) b < cost
+        → rows.new.items ≡ rows.old.items ++ row ∷ [])
+        × (cost ≤ row.cost + sum_of (parts_of asked.now.bound.now) b
+        → rows.new.items ≡ rows.old.items)) }
+{
+    let board = Board::of_key(asked.goal.shape(), row.key);
+    if row.cost + asked.bound.of(&board) < cost {
+        push(rows, row)?;
+    }
+    Ok(())
+}
+
+// Sorts rows by key.
+fn sort_rows(rows: &mut [KeyedRow])
+    ensures sorted { IsNonDecreasingBy (λ row. row.key) rows.new }
+    ensures permutation { IsPermutation rows.old rows.new }
+{
+    rows.sort_unstable_by_key(|row| row.key);
+}
+
+// The rows with their boards in the place of keys.
+fn with_boards(
+    alloc: Global,
+    shape: Shape,
+    rows: &[KeyedRow],
+) -> Result<Vec<(Board, u32)>, OutOfMemory>
+    requires { All (λ row. (b : Position) × HasKey shape row.key b) rows.now }
+    ensures keys { IfOk result (λ boards. map keyed boards.items ≡ rows.now) }
+    ensures boards { IfOk result (λ boards.
+        All (λ row. IsBoard row.0 × (row.0.grid ≡ shape)) boards.items) }
+{
+    let mut boards = Vec::new(alloc);
+    'rows: for row in rows {
+        let board = Board::of_key(shape, row.key);
+        push(&mut boards, (board, row.cost))?;
+    }
+    Ok(boards)
+}
