@@ -1,8 +1,8 @@
 -- Least numbers, put together.
-use Rattle.std.proofs.Common.{◌≡◌, ◌⊎◌, ℕ, ◌+◌, ◌<◌, ◌≤◌, List, [], ◌∷◌, ◌++◌, length, get_or, take, Option, Some, None, refl, sym, ap, ◌∙◌, subst, inl, inr, ⊎_elim, arith}
-use Rattle.std.specs.Prelude.{min, Contains, slice_get}
+use Rattle.std.proofs.Common.{◌≡◌, ◌⊎◌, ℕ, suc, ◌+◌, ◌<◌, ◌≤◌, List, [], ◌∷◌, ◌++◌, length, get_or, take, Option, Some, None, refl, sym, ap, ◌∙◌, subst, inl, inr, ⊎_elim, arith}
+use Rattle.std.specs.Prelude.{min, Contains, slice_get, unwrap_or}
 use Rattle.std.proofs.lemmas.Bool.{cases_lt}
-use Rattle.std.proofs.lemmas.Option.{none-some, slice_get_within, get_or_from_slice_get}
+use Rattle.std.proofs.lemmas.Option.{none-some, slice_get_within, get_or_from_slice_get, slice_get-get_or, unwrap_or-slice_get, slice_get_read}
 use Rattle.std.proofs.lemmas.List.Elements.{Contains-append_left, Contains-push, Contains-push_cases}
 use Rattle.std.proofs.Math.Seq.{take-suc}
 use Rattle.board.specs.Positions.{Position}
@@ -33,15 +33,15 @@ lesser_beside P (Some a) None is = (inr is.0, λ m h. ⊎_elim (λ e. absurd (no
 lesser_beside P (Some a) (Some b) is =
     ⊎_elim
     (λ (lt : a < b).
-        let e : a ≡ min a b = omega arith in
-        (inr (subst P e is.0), λ m h. ⊎_elim (λ e'. let same = number_of b m e' in omega arith) (λ p. let le = is.1 m p in omega arith) h))
+    let e : a ≡ min a b = omega arith in
+    (inr (subst P e is.0), λ m h. ⊎_elim (λ e'. let same = number_of b m e' in omega arith) (λ p. let le = is.1 m p in omega arith) h))
     (λ (le : b ≤ a).
-        let e : b ≡ min a b = omega arith in
-        (inl (ap (λ (n : ℕ). Some n) e), λ m h. ⊎_elim (λ e'. let same = number_of b m e' in omega arith) (λ p. let le' = is.1 m p in omega arith) h))
+    let e : b ≡ min a b = omega arith in
+    (inl (ap (λ (n : ℕ). Some n) e), λ m h. ⊎_elim (λ e'. let same = number_of b m e' in omega arith) (λ p. let le' = is.1 m p in omega arith) h))
     (cases_lt a b)
 
 -- what is least beside a least number
-beside_least : (A Q : ℕ → Type 0) (y z : Option ℕ) → IsLeastWith A y → IsLeastBeside Q y z → IsLeastWith (λ f. A f ⊎ Q f) z
+pub beside_least : (A Q : ℕ → Type 0) (y z : Option ℕ) → IsLeastWith A y → IsLeastBeside Q y z → IsLeastWith (λ f. A f ⊎ Q f) z
 beside_least A Q None None first second = λ n h. ⊎_elim (λ a. first n a) (λ q. second n (inr q)) h
 beside_least A Q None (Some m) first second =
     (⊎_elim (λ e. absurd (none-some m e)) (λ q. inr q) second.0, λ f h. ⊎_elim (λ a. absurd (first f a)) (λ q. second.1 f (inr q)) h)
@@ -67,22 +67,27 @@ beside_same P Q there back x y is =
     (λ n h. ⊎_elim (λ e. inl e) (λ q. inr (back n q)) h)
     y is
 
+-- what is read at a place
+pub packet_at : (packets : List Packet) (to : ℕ) (packet : Packet) → to < length packets → packet ≡ unwrap_or (slice_get packets to) [] → slice_get packets to ≡ Some packet
+packet_at packets to packet within is = slice_get-get_or packets to [] within ∙ ap (λ (p : Packet). Some p) (sym (unwrap_or-slice_get packets to []) ∙ sym is)
+
 -- one item more
 pub item_more : (sum : Position → ℕ) (items : List Item) (i : ℕ) (item : Item) (f : ℕ) (x y : Option ℕ) → i < length items → slice_get items i ≡ Some item → f ≡ item.cost + sum item.board → IsLeastBeside (IsOfItem sum (take i items)) x y → IsLeastBeside (IsOfItem sum (take (i + 1) items)) x (lesser (Some f) y)
 item_more sum items i item f x y within at adds is =
-    let more : take (i + 1) items ≡ take i items ++ item ∷ [] = take-suc items i item within ∙ ap (λ (it : Item). take i items ++ it ∷ []) (get_or_from_slice_get items i item item at) in
+    let step : i + 1 ≡ suc i = omega arith in
+    let more : take (i + 1) items ≡ take i items ++ item ∷ [] = ap (λ (k : ℕ). take k items) step ∙ take-suc items i item within ∙ ap (λ (it : Item). take i items ++ it ∷ []) (get_or_from_slice_get items i item item at) in
     let one : IsLeastBeside (λ n. f ≡ n) y (lesser (Some f) y) = lesser_beside (λ n. f ≡ n) (Some f) y (refl, λ m e. omega (arith, e)) in
     let both = beside_both (IsOfItem sum (take i items)) (λ n. f ≡ n) x y (lesser (Some f) y) is one in
     subst (λ (its : List Item). IsLeastBeside (IsOfItem sum its) x (lesser (Some f) y)) (sym more)
     (beside_same (λ n. IsOfItem sum (take i items) n ⊎ (f ≡ n)) (IsOfItem sum (take i items ++ item ∷ []))
     (λ n h. ⊎_elim
-        (λ (old : IsOfItem sum (take i items) n). (old.0, Contains-append_left (take i items) (item ∷ []) old.0 old.1, old.2))
-        (λ (e : f ≡ n). (item, Contains-push (take i items) item, sym e ∙ adds))
-        h)
+    (λ (old : IsOfItem sum (take i items) n). (old.0, Contains-append_left (take i items) (item ∷ []) old.0 old.1, old.2))
+    (λ (e : f ≡ n). (item, Contains-push (take i items) item, sym e ∙ adds))
+    h)
     (λ n h. ⊎_elim
-        (λ (old : Contains (take i items) h.0). inl (h.0, old, h.2))
-        (λ (new : item ≡ h.0). inr (adds ∙ ap (λ (it : Item). it.cost + sum it.board) new ∙ sym h.2))
-        (Contains-push_cases (take i items) item h.0 h.1))
+    (λ (old : Contains (take i items) h.0). inl (h.0, old, h.2))
+    (λ (new : item ≡ h.0). inr (adds ∙ ap (λ (it : Item). it.cost + sum it.board) new ∙ sym h.2))
+    (Contains-push_cases (take i items) item h.0 h.1))
     x (lesser (Some f) y) both)
 
 -- an unsent item for one of the first workers
@@ -97,16 +102,16 @@ pub packet_more : (sum : Position → ℕ) (worker : WorkerState) (k : ℕ) (pac
 packet_more sum worker k packet x y z at first second =
     beside_same (λ f. IsOfUnsentUpTo k sum worker f ⊎ IsOfItem sum packet f) (IsOfUnsentUpTo (k + 1) sum worker)
     (λ n h. ⊎_elim
-        (λ (old : IsOfUnsentUpTo k sum worker n). (old.0, old.1, omega (arith, old.2), old.3, old.4))
-        (λ (new : IsOfItem sum packet n). (k, packet, omega arith, at, new))
-        h)
+    (λ (old : IsOfUnsentUpTo k sum worker n). (old.0, old.1, omega (arith, old.2), old.3, old.4))
+    (λ (new : IsOfItem sum packet n). (k, packet, omega arith, at, new))
+    h)
     (λ n h. ⊎_elim
-        (λ (lt : h.0 < k). inl (h.0, h.1, lt, h.3, h.4))
-        (λ (ge : k ≤ h.0).
-            let e : h.0 ≡ k = omega (arith, ge, h.2) in
-            let same : ◌≡◌ {A = Option Packet} (Some h.1) (Some packet) = sym h.3 ∙ ap (slice_get worker.unsent) e ∙ at in
-            inr (subst (λ (p : Packet). IsOfItem sum p n) (cc) h.4))
-        (cases_lt h.0 k))
+    (λ (lt : h.0 < k). inl (h.0, h.1, lt, h.3, h.4))
+    (λ (ge : k ≤ h.0).
+    let e : h.0 ≡ k = omega (arith, ge, h.2) in
+    let same : ◌≡◌ {A = Option Packet} (Some h.1) (Some packet) = sym h.3 ∙ ap (slice_get worker.unsent) e ∙ at in
+    inr (subst (λ (p : Packet). IsOfItem sum p n) (cc) h.4))
+    (cases_lt h.0 k))
     x z (beside_both (IsOfUnsentUpTo k sum worker) (IsOfItem sum packet) x y z first second)
 
 pub all_packets : (sum : Position → ℕ) (worker : WorkerState) (x y : Option ℕ) → IsLeastBeside (IsOfUnsentUpTo (length worker.unsent) sum worker) x y → IsLeastBeside (IsOfUnsent sum worker) x y
@@ -139,16 +144,16 @@ pub worker_more : (task : Task) (states : List WorkerState) (k : ℕ) (worker : 
 worker_more task states k worker x y z at first second =
     beside_same (λ f. IsOfWorkersUpTo k task states f ⊎ IsOfWorker task worker f) (IsOfWorkersUpTo (k + 1) task states)
     (λ n h. ⊎_elim
-        (λ (old : IsOfWorkersUpTo k task states n). (old.0, old.1, omega (arith, old.2), old.3, old.4))
-        (λ (new : IsOfWorker task worker n). (k, worker, omega arith, at, new))
-        h)
+    (λ (old : IsOfWorkersUpTo k task states n). (old.0, old.1, omega (arith, old.2), old.3, old.4))
+    (λ (new : IsOfWorker task worker n). (k, worker, omega arith, at, new))
+    h)
     (λ n h. ⊎_elim
-        (λ (lt : h.0 < k). inl (h.0, h.1, lt, h.3, h.4))
-        (λ (ge : k ≤ h.0).
-            let e : h.0 ≡ k = omega (arith, ge, h.2) in
-            let same : ◌≡◌ {A = Option WorkerState} (Some h.1) (Some worker) = sym h.3 ∙ ap (slice_get states) e ∙ at in
-            inr (subst (λ (p : WorkerState). IsOfWorker task p n) (cc) h.4))
-        (cases_lt h.0 k))
+    (λ (lt : h.0 < k). inl (h.0, h.1, lt, h.3, h.4))
+    (λ (ge : k ≤ h.0).
+    let e : h.0 ≡ k = omega (arith, ge, h.2) in
+    let same : ◌≡◌ {A = Option WorkerState} (Some h.1) (Some worker) = sym h.3 ∙ ap (slice_get states) e ∙ at in
+    inr (subst (λ (p : WorkerState). IsOfWorker task p n) (cc) h.4))
+    (cases_lt h.0 k))
     x z (beside_both (IsOfWorkersUpTo k task states) (IsOfWorker task worker) x y z first second)
 
 pub all_workers : (task : Task) (states : List WorkerState) (x y : Option ℕ) → IsLeastBeside (IsOfWorkersUpTo (length states) task states) x y → IsLeastBeside (IsOfWorkers task states) x y

@@ -1,8 +1,8 @@
 -- What the parts of a world say of the world.
-use Rattle.std.proofs.Common.{◌≡◌, ◌≢◌, ◌⊎◌, ℕ, ◌+◌, ◌<◌, ◌≤◌, List, length, Option, Some, None, refl, sym, ap, ◌∙◌, subst, inl, inr, ⊎_elim, arith}
+use Rattle.std.proofs.Common.{◌≡◌, ◌≢◌, ◌⊎◌, ℕ, ◌+◌, ◌<◌, ◌≤◌, List, length, get_or, Option, Some, None, refl, sym, ap, ◌∙◌, subst, inl, inr, ⊎_elim, arith}
 use Rattle.std.specs.Prelude.{slice_get, Contains, option_map, ◌%◌, false}
 use Rattle.std.specs.FinMap as map
-use Rattle.std.proofs.lemmas.Option.{none-some}
+use Rattle.std.proofs.lemmas.Option.{none-some, slice_get-map, slice_get-get_or}
 use Rattle.board.specs.Grids.{Grid}
 use Rattle.board.specs.Moves.{Moves}
 use Rattle.board.specs.Positions.{Position, IsBoard}
@@ -15,10 +15,17 @@ use Rattle.world_model.specs.Frontiers.{IsInFrontier, IsLowest, IsReached}
 use Rattle.world_model.specs.Workers.{WorkerState, Packet, IsTaskBoard}
 use Rattle.world_model.specs.Worlds.{WorldState, Knows, IsWorker, IsUnderWay, HasInLaneTo}
 use Rattle.world_model.proofs.ShapeLemmas.{knows_owned}
-use Rattle.world_ends.specs.Parts.{HasParts, known_by, known_in}
+use Rattle.worker_core.specs.declared.worker.Worker.{Worker}
+use Rattle.worker_core.specs.Workers.{state_of}
+use Rattle.world_ends.specs.Parts.{HasParts, states_of, known_by, known_in}
 use Rattle.world_ends.specs.Lowest.{IsLeastBeside, IsLowestInLanes, IsOfItem, IsOfWorker, IsOfWorkers, AreItemsOn, HasItemsOn}
 use Rattle.world_ends.specs.Plans.{IsBefore}
 use Rattle.world_ends.proofs.LeastLemmas.{least_same, beside_least}
+
+-- a worker's state among those of all
+pub state_at : {C D S K G : Type 0} (workers : List (Worker C D S K G)) (states : List WorkerState) (i : ℕ) (d : Worker C D S K G) → states_of workers ≡ states → i < length workers → slice_get states i ≡ Some (state_of (get_or workers i d))
+state_at workers states i d same within =
+    ap (λ (ws : List WorkerState). slice_get ws i) (sym same) ∙ slice_get-map state_of workers i ∙ ap (option_map state_of) (slice_get-get_or workers i d within)
 
 module _ (task : Task) (hash : Position → ℕ) (states : List WorkerState) (w : WorldState) (parts : HasParts task hash states w) where
   -- worker i is that of the parts
