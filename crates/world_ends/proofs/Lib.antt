@@ -1,3 +1,4 @@
 pub mod LeastLemmas
 pub mod PartLemmas
 pub mod PlanLemmas
+pub mod RowLemmas

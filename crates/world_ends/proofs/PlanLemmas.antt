@@ -1,11 +1,11 @@
 -- Plans that are followed back.
-use Rattle.std.proofs.Common.{◌≡◌, ◌≢◌, ℕ, ◌+◌, ◌≤◌, List, ◌∷◌, Option, Some, true, refl, sym, ap, ◌∙◌, subst}
+use Rattle.std.proofs.Common.{◌≡◌, ◌≢◌, ℕ, ◌+◌, ◌≤◌, List, ◌∷◌, Option, Some, true, false, refl, sym, ap, ◌∙◌, subst}
 use Rattle.std.specs.Prelude.{not, unwrap_or, ◌↔◌}
-use Rattle.std.proofs.lemmas.Bool.{true≢false}
+use Rattle.std.proofs.lemmas.Bool.{true≢false, not-false}
 use Rattle.board.specs.declared.moves.Move.{Move}
 use Rattle.board.specs.Neighbours.{opposite}
 use Rattle.board.specs.Positions.{Position, IsBoard}
-use Rattle.board.specs.Equality.{position_eq, position_eq-laws}
+use Rattle.board.specs.Equality.{position_eq, position_eq-laws, positions_Decide}
 use Rattle.board.specs.CostRules.{CostRule}
 use Rattle.board.specs.Moves.{Moves}
 use Rattle.board.proofs.MoveLemmas.{taken_back}
@@ -20,6 +20,10 @@ use Rattle.world_ends.proofs.PartLemmas.{knows_of}
 -- boards that are told apart differ
 pub differs : (a b : Position) → true ≡ not (position_eq a b) → a ≢ b
 differs a b e same = true≢false (e ∙ ap not (subst (λ (x : Position). position_eq a x ≡ true) same (position_eq-laws.refl a)))
+
+-- and boards that are not are the same
+pub same_as : (a b : Position) → false ≡ not (position_eq a b) → a ≡ b
+same_as a b e = (positions_Decide a b).0 (not-false (position_eq a b) (sym e))
 
 -- a step back by the last move comes to the board before
 pub stepped_back : (rule : CostRule) (b : Position) (via back : Move) (answer : Option (Position × ℕ)) (before : Position) (c : ℕ) → back ≡ opposite via → ((b' : Position) (cost : ℕ) → (answer ≡ Some (b', cost)) ↔ Moves rule b back b' cost) → IsBoard before → Moves rule before via b c → answer ≡ Some (before, c)

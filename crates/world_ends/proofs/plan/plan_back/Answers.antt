@@ -1,19 +1,52 @@
-use Rattle.std.proofs.Common.{rules, ◌≡◌, ◌<◌, ◌≤◌, ◌+◌, Some, IfOk, length, ℕ, ◌-◌, ◌*◌, ◌/◌, ◌%◌, Bool, true, false, nat_eq, nat_lt, List, [], ◌∷◌, ◌++◌, slice_index_or, slice_set, bit_and, bit_or, Fits, w8, w32, w64, Bor, MutBor}
-use Rattle.board.specs.Moves.{Moves}
-use Rattle.world_model.specs.Workers.{IsTaskBoard}
+use Rattle.std.proofs.Common.{◌≡◌, ℕ, ◌+◌, List, [], ◌∷◌, ◌++◌, refl, sym, ap, ◌∙◌, subst, arith}
+use Rattle.std.specs.Prelude.{reverse}
+use Rattle.std.proofs.lemmas.List.{reverse-append}
+use Rattle.board.specs.declared.moves.Move.{Move}
+use Rattle.board.specs.Positions.{Position}
+use Rattle.board.specs.Plans.{Leads}
 use Rattle.world_model.specs.Worlds.{WorldState}
-use Rattle.world_ends.specs.Parts.{task_in, states_of, HasParts, known_in}
-use Rattle.world_ends.specs.Plans.{IsBefore, IsTraced}
+use Rattle.world_model.specs.Outcomes.{IsByLastMoves}
+use Rattle.world_ends.specs.Parts.{task_in, states_of, HasParts}
+use Rattle.world_ends.proofs.PartLemmas.{before_is}
+use Rattle.world_ends.proofs.PlanLemmas.{differs, same_as, traced_more}
 use Rattle.world_ends.proofs.plan.plan_back.Goals as goal
 
 -- src/plan.rt:52:13
 pub step_back-before-requires-clause-reached : goal.step_back-before-requires-clause-reached
-step_back-before-requires-clause-reached g c κs within = ?
+step_back-before-requires-clause-reached g c κs within =
+    let now = c.boards.invariant in
+    before_is (task_in c.args.asked.now) (g.S.Spread.hash_of c.args.owners.now) (states_of c.args.workers.now) c.requires.world.0 c.requires.world.1 c.boards.board c.boards.here now.board now.found (differs c.boards.board c.args.asked.now.start (sym c.boards-test.true ∙ c.ne.ensures))
 
 -- src/plan.rt:51:5
 pub boards-preserved : goal.boards-preserved
-boards-preserved g c = ?
+boards-preserved g c =
+    let task = task_in c.args.asked.now in
+    let hash = g.S.Spread.hash_of c.args.owners.now in
+    let states = states_of c.args.workers.now in
+    let now = c.boards.invariant in
+    let back = c.step_back-before.ensures in
+    let before = c.step_back-before.result.0 in
+    let cost = c.step_back-before.result.1 in
+    let plan : List Move = reverse c.boards.backwards.items in
+    let more : reverse c.push.new.items.items ≡ c.boards.here.via ∷ plan = ap (λ (ms : List Move). reverse ms) c.in_ok-push.ensures.items ∙ reverse-append c.boards.backwards.items (c.boards.here.via ∷ []) in
+    let traced : (w : WorldState) → HasParts task hash states w → IsByLastMoves w before (c.boards.here.via ∷ plan) task.goal = traced_more task hash states before c.boards.board cost c.boards.here plan now.board now.found back.moved now.traced in
+    let leads : Leads c.args.asked.now.weights before (c.boards.here.via ∷ plan) c.args.asked.now.goal (c.boards.cost + cost) = (c.boards.board, cost, c.boards.cost, back.moved, now.leads, omega arith) in
+    record {
+      board = back.board;
+      found = back.found;
+      leads = subst (λ (ms : List Move). Leads c.args.asked.now.weights before ms c.args.asked.now.goal (c.boards.cost + cost)) (sym more) leads;
+      within = omega (arith, now.within, back.cheaper);
+      traced = λ w parts. subst (λ (ms : List Move). IsByLastMoves w before ms c.args.asked.now.goal) (sym more) (traced w parts);
+    }
 
 -- src/plan.rt:33:1
 pub returns : goal.returns
-returns g c = ?
+returns g c =
+    let now = c.boards.invariant in
+    let start : c.boards.board ≡ c.args.asked.now.start = same_as c.boards.board c.args.asked.now.start (sym c.boards-test.false ∙ c.ne.ensures) in
+    let is = c.reverse.ensures.items in
+    record {
+      leads = subst (λ (ms : List Move). Leads c.args.asked.now.weights c.args.asked.now.start ms c.args.asked.now.goal c.boards.cost) (sym is) (subst (λ (b : Position). Leads c.args.asked.now.weights b (reverse c.boards.backwards.items) c.args.asked.now.goal c.boards.cost) start now.leads);
+      within = omega (arith, now.within);
+      traced = λ w parts. subst (λ (ms : List Move). IsByLastMoves w c.args.asked.now.start ms c.args.asked.now.goal) (sym is) (subst (λ (b : Position). IsByLastMoves w b (reverse c.boards.backwards.items) c.args.asked.now.goal) start (now.traced w parts));
+    }

@@ -1,0 +1,316 @@
+-- Rows of what workers know.
+use Rattle.std.proofs.Common.{◌≡◌, ◌≢◌, ◌⊎◌, ℕ, zero, suc, ◌+◌, ◌<◌, ◌≤◌, List, [], ◌∷◌, ◌++◌, length, get_or, Option, None, Some, refl, sym, ap, ◌∙◌, subst, inl, inr, ⊎_elim, arith}
+use Rattle.std.specs.Prelude.{All, AllPairs, Contains, ◌↔◌, slice_get, map as each_of, unwrap_or, nat_eq}
+use Rattle.std.specs.Cmp.{unsigned_Decides, decided}
+use Rattle.std.specs.FinMap as map
+use Rattle.std.specs.List.{IsDistinct}
+use Rattle.std.specs.List.Sorted.{IsPermutation, IsNonDecreasingBy}
+use Rattle.std.proofs.lemmas.Bool.{cases_lt}
+use Rattle.std.proofs.lemmas.Option.{none-some, slice_get_within, slice_get-get_or, get_or_from_slice_get}
+use Rattle.std.proofs.lemmas.List.{length-map, get_or-map}
+use Rattle.std.proofs.lemmas.List.Elements.{Contains-get_or, Contains-append_left, Contains-push, Contains-push_cases}
+use Rattle.std.proofs.lemmas.List.Quantifiers.{all_pairs_push}
+use Rattle.std.proofs.lemmas.List.Sorted.{Contains-permutation, IsPermutation-map, IsPermutation-sym}
+use Rattle.std.proofs.lemmas.Map.Keys.{IsDistinct-IsPermutation}
+use Rattle.std.proofs.lemmas.Map.Made.{AllPairs-from_IsDistinct, IsDistinct-from_AllPairs}
+use Rattle.board.specs.Grids.{Grid}
+use Rattle.board.specs.Positions.{Position, IsBoard}
+use Rattle.board.specs.Keys.{HasKey, key_of}
+use Rattle.board.proofs.KeyLemmas.{same_board}
+use Rattle.outcomes.specs.Outcomes.{Task}
+use Rattle.closed_table.specs.Tables.{Table, IsTable}
+use Rattle.world_model.specs.declared.parts.Known.{Known}
+use Rattle.world_model.specs.Knowledge.{Knowledge}
+use Rattle.world_model.specs.Workers.{WorkerState, IsTaskBoard}
+use Rattle.world_model.specs.Worlds.{WorldState, Knows}
+use Rattle.world_model.specs.Outcomes.{AreRowsBelow, AreRowsFor, IsKnownBelow}
+use Rattle.world_ends.specs.declared.rows.KeyedRow.{KeyedRow}
+use Rattle.world_ends.specs.Parts.{HasParts}
+use Rattle.world_ends.specs.Rows.{IsRowIn, AreApart, IsOfBoards, AreElsewhere, AreKeyedRows, keyed}
+use Rattle.world_ends.proofs.PartLemmas.{worker_at, worker_from, task_board}
+
+known_of_some : (k k' : Known) → ◌≡◌ {A = Option Known} (Some k) (Some k') → k ≡ k'
+known_of_some k k' e = ap (λ (o : Option Known). unwrap_or o k) e
+
+number_of_some : (k k' : ℕ) → ◌≡◌ {A = Option ℕ} (Some k) (Some k') → k ≡ k'
+number_of_some k k' e = ap (λ (o : Option ℕ). unwrap_or o k) e
+
+-- two boards with one key are the same
+same_by_key : (grid : Grid) (key : ℕ) (b b' : Position) → HasKey grid key b → HasKey grid key b' → b ≡ b'
+same_by_key grid key b b' has has' = same_board b b' has.board has'.board (has.sides ∙ sym has'.sides) (has.packed ∙ sym has'.packed)
+
+-- ---- one worker's boards
+
+-- a row of a board at one of the first places
+abbrev pub IsRowUpTo : Task → ℕ → Table → ℕ → KeyedRow → Type 0
+IsRowUpTo task k closed n row = (place : ℕ) × (place < n) × (slice_get closed.keys place ≡ Some row.key) × IsRowIn task k closed.known row
+
+-- the rows of the boards at the first places, beside old ones
+pub record AreRowsUpTo (task : Task) (k : ℕ) (closed : Table) (old : List KeyedRow) (n : ℕ) (rows : List KeyedRow) : Type 0 where
+  pub apart : AreApart rows
+  pub each : (row : KeyedRow) → Contains rows row ↔ (Contains old row ⊎ IsRowUpTo task k closed n row)
+
+pub no_rows_yet : (task : Task) (k : ℕ) (closed : Table) (old : List KeyedRow) → AreApart old → AreRowsUpTo task k closed old 0 old
+no_rows_yet task k closed old apart = record {
+  apart = apart;
+  each = λ row. ((λ has. inl has), (λ has. ⊎_elim (λ (there : Contains old row). there) (λ (up : IsRowUpTo task k closed 0 row). absurd (omega (arith, up.1))) has));
+}
+
+-- keys at two places differ
+two_places : (closed : Table) → IsTable closed → (i j key : ℕ) → i < j → slice_get closed.keys i ≡ Some key → slice_get closed.keys j ≡ Some key → ⊥
+two_places closed is i j key lt first second =
+    let apart = AllPairs-from_IsDistinct unsigned_Decides closed.keys is.once in
+    let at : get_or closed.keys i 0 ≡ key = get_or_from_slice_get closed.keys i key 0 first in
+    let at' : get_or closed.keys j 0 ≡ key = get_or_from_slice_get closed.keys j key 0 second in
+    apart i j 0 lt (slice_get_within closed.keys j key second) (at ∙ sym at')
+
+module _ (task : Task) (k : ℕ) (closed : Table) (is : IsTable closed) (old : List KeyedRow) (elsewhere : AreElsewhere old closed.known) (n : ℕ) (rows : List KeyedRow) (are : AreRowsUpTo task k closed old n rows) (row : KeyedRow) (known : Known) (at : slice_get closed.keys n ≡ Some row.key) (knows : map.get closed.known row.key ≡ Some known) (cost : known.cost ≡ row.cost) (b : Position) (has : HasKey task.goal.grid row.key b) where
+  still : (r : KeyedRow) → Contains old r ⊎ IsRowUpTo task k closed n r → Contains old r ⊎ IsRowUpTo task k closed (n + 1) r
+  still r (inl there) = inl there
+  still r (inr up) = inr (up.0, omega (arith, up.1), up.2, up.3)
+
+  -- a row at this place is this one
+  same_row : (r : KeyedRow) → slice_get closed.keys n ≡ Some r.key → IsRowIn task k closed.known r → (row ≡ r) × (r.cost + task.sum b < k)
+  same_row r at' in' =
+      let key : row.key ≡ r.key = number_of_some row.key r.key (sym at ∙ at') in
+      let same : known ≡ in'.known = known_of_some known in'.known (sym knows ∙ ap (map.get closed.known) key ∙ in'.knows) in
+      let paid : row.cost ≡ r.cost = sym cost ∙ ap (λ (x : Known). x.cost) same ∙ in'.at in
+      let board : b ≡ in'.b = same_by_key task.goal.grid row.key b in'.b has (subst (λ (x : ℕ). HasKey task.goal.grid x in'.b) (sym key) in'.has) in
+      ((λ i. record { key = key i; cost = paid i }), subst (λ (x : Position). r.cost + task.sum x < k) (sym board) in'.low)
+
+  -- a board at k or above adds no row
+  pub row_left_out : k ≤ row.cost + task.sum b → AreRowsUpTo task k closed old (n + 1) rows
+  row_left_out high = record {
+    apart = are.apart;
+    each = λ r. (
+      (λ there. still r ((are.each r).0 there)),
+      (λ there. ⊎_elim
+          (λ (before : Contains old r). (are.each r).1 (inl before))
+          (λ (up : IsRowUpTo task k closed (n + 1) r).
+              ⊎_elim
+              (λ (lt : up.0 < n). (are.each r).1 (inr (up.0, lt, up.2, up.3)))
+              (λ (ge : n ≤ up.0).
+                  let e : up.0 ≡ n = omega (arith, ge, up.1) in
+                  let same = same_row r (ap (slice_get closed.keys) (sym e) ∙ up.2) up.3 in
+                  let paid = ap (λ (x : KeyedRow). x.cost) same.0 in
+                  absurd (omega (arith, high, paid, same.1)))
+              (cases_lt up.0 n))
+          there),
+    );
+  }
+
+  -- another row has another key
+  other_key : (r : KeyedRow) → Contains old r ⊎ IsRowUpTo task k closed n r → r.key ≢ row.key
+  other_key r (inl there) e = elsewhere r known there (ap (map.get closed.known) e ∙ knows)
+  other_key r (inr up) e = two_places closed is up.0 n row.key up.1 (up.2 ∙ ap (λ (x : ℕ). Some x) e) at
+
+  -- one below k adds its row
+  pub row_added : row.cost + task.sum b < k → AreRowsUpTo task k closed old (n + 1) (rows ++ row ∷ [])
+  row_added low = record {
+    apart = all_pairs_push (λ (r later : KeyedRow). r.key ≢ later.key) rows row are.apart (λ i d within. other_key (get_or rows i d) ((are.each (get_or rows i d)).0 (Contains-get_or rows i d within)));
+    each = λ r. (
+      (λ there. ⊎_elim
+          (λ (before : Contains rows r). still r ((are.each r).0 before))
+          (λ (new : row ≡ r). inr (subst (λ (x : KeyedRow). IsRowUpTo task k closed (n + 1) x) new (n, omega arith, at, record { b = b; has = has; known = known; knows = knows; at = cost; low = low })))
+          (Contains-push_cases rows row r there)),
+      (λ there. ⊎_elim
+          (λ (before : Contains old r). Contains-append_left rows (row ∷ []) r ((are.each r).1 (inl before)))
+          (λ (up : IsRowUpTo task k closed (n + 1) r).
+              ⊎_elim
+              (λ (lt : up.0 < n). Contains-append_left rows (row ∷ []) r ((are.each r).1 (inr (up.0, lt, up.2, up.3))))
+              (λ (ge : n ≤ up.0).
+                  let e : up.0 ≡ n = omega (arith, ge, up.1) in
+                  let same = same_row r (ap (slice_get closed.keys) (sym e) ∙ up.2) up.3 in
+                  subst (λ (x : KeyedRow). Contains (rows ++ row ∷ []) x) same.0 (Contains-push rows row))
+              (cases_lt up.0 n))
+          there),
+    );
+  }
+
+-- all boards of a worker
+pub all_rows_in : (task : Task) (k : ℕ) (closed : Table) → IsTable closed → (old rows : List KeyedRow) → AreRowsUpTo task k closed old (length closed.keys) rows → (row : KeyedRow) → Contains rows row ↔ (Contains old row ⊎ IsRowIn task k closed.known row)
+all_rows_in task k closed is old rows are row = (
+  (λ there. ⊎_elim (λ (before : Contains old row). inl before) (λ (up : IsRowUpTo task k closed (length closed.keys) row). inr up.3) ((are.each row).0 there)),
+  (λ there. ⊎_elim
+      (λ (before : Contains old row). (are.each row).1 (inl before))
+      (λ (in' : IsRowIn task k closed.known row).
+          let listed : Contains closed.keys row.key = (is.each row.key).1 (rw in'.knows refl) in
+          let at : slice_get closed.keys listed.0 ≡ Some row.key = slice_get-get_or closed.keys listed.0 row.key listed.1 ∙ ap (λ (x : ℕ). Some x) listed.2 in
+          (are.each row).1 (inr (listed.0, listed.1, at, in')))
+      there),
+)
+
+-- ---- the boards of all workers
+
+-- the rows of the first workers
+pub record AreRowsOfFirst (task : Task) (k : ℕ) (states : List WorkerState) (n : ℕ) (rows : List KeyedRow) : Type 0 where
+  pub apart : AreApart rows
+  pub each : (row : KeyedRow) → Contains rows row ↔ ((i : ℕ) × (worker : WorkerState) × (i < n) × (slice_get states i ≡ Some worker) × IsRowIn task k worker.known row)
+
+-- that the row is of one of them
+abbrev pub IsOfFirst : Task → ℕ → List WorkerState → ℕ → KeyedRow → Type 0
+IsOfFirst task k states n row = (i : ℕ) × (worker : WorkerState) × (i < n) × (slice_get states i ≡ Some worker) × IsRowIn task k worker.known row
+
+pub no_rows_at_all : (task : Task) (k : ℕ) (states : List WorkerState) → AreRowsOfFirst task k states 0 []
+no_rows_at_all task k states = record {
+  apart = λ i j d lt within. absurd (omega (arith, within));
+  each = λ row. ((λ has. absurd (omega (arith, has.1))), (λ up. absurd (omega (arith, up.2))));
+}
+
+same_worker : (x y : WorkerState) → ◌≡◌ {A = Option WorkerState} (Some x) (Some y) → x ≡ y
+same_worker x y e = ap (λ (o : Option WorkerState). unwrap_or o x) e
+
+-- one worker more
+pub rows_of_one_more : (task : Task) (k : ℕ) (states : List WorkerState) (n : ℕ) (worker : WorkerState) (rows more : List KeyedRow) → slice_get states n ≡ Some worker → AreRowsOfFirst task k states n rows → AreApart more → ((row : KeyedRow) → Contains more row ↔ (Contains rows row ⊎ IsRowIn task k worker.known row)) → AreRowsOfFirst task k states (n + 1) more
+rows_of_one_more task k states n worker rows more at are apart each = record {
+  apart = apart;
+  each = λ row. (
+    (λ there. ⊎_elim
+        (λ (before : Contains rows row). let up = (are.each row).0 before in (up.0, up.1, omega (arith, up.2), up.3, up.4))
+        (λ (in' : IsRowIn task k worker.known row). (n, worker, omega arith, at, in'))
+        ((each row).0 there)),
+    (λ up. ⊎_elim
+        (λ (lt : up.0 < n). (each row).1 (inl ((are.each row).1 (up.0, up.1, lt, up.3, up.4))))
+        (λ (ge : n ≤ up.0).
+            let e : up.0 ≡ n = omega (arith, ge, up.2) in
+            let same : up.1 ≡ worker = same_worker up.1 worker (sym up.3 ∙ ap (slice_get states) e ∙ at) in
+            (each row).1 (inr (subst (λ (x : WorkerState). IsRowIn task k x.known row) same up.4)))
+        (cases_lt up.0 n)),
+  );
+}
+
+pub rows_of_all : (task : Task) (k : ℕ) (states : List WorkerState) (rows : List KeyedRow) → AreRowsOfFirst task k states (length states) rows → AreKeyedRows task k states rows
+rows_of_all task k states rows are = record {
+  apart = are.apart;
+  each = λ row. (
+    (λ there. let up = (are.each row).0 there in (up.0, up.1, up.3, up.4)),
+    (λ up. (are.each row).1 (up.0, up.1, slice_get_within states up.0 up.1 up.2, up.2, up.3)),
+  );
+}
+
+module _ (task : Task) (hash : Position → ℕ) (states : List WorkerState) (w : WorldState) (parts : HasParts task hash states w) where
+  -- what a worker knows is boards that it owns
+  owned : (i : ℕ) (worker : WorkerState) → slice_get states i ≡ Some worker → (key : ℕ) (known : Known) → map.get worker.known key ≡ Some known → (b : Position) × HasKey task.goal.grid key b × (w.owner b ≡ i)
+  owned i worker at key known knows =
+      let has = (parts.shaped.workers i worker (worker_at task hash states w parts i worker at)).known key known knows in
+      (has.0, record { board = has.1.0; sides = has.1.1 ∙ ap (λ (t : Task). t.goal.grid) parts.asks; packed = has.2 }, has.3)
+
+  pub boards_are : (i : ℕ) (worker : WorkerState) → slice_get states i ≡ Some worker → IsOfBoards task.goal.grid worker.known
+  boards_are i worker at key known knows =
+      let has = (parts.shaped.workers i worker (worker_at task hash states w parts i worker at)).known key known knows in
+      let board = owned i worker at key known knows in
+      ((board.0, board.1), has.4)
+
+  -- the rows of other workers are elsewhere
+  pub rows_elsewhere : (k n : ℕ) (worker : WorkerState) (rows : List KeyedRow) → slice_get states n ≡ Some worker → AreRowsOfFirst task k states n rows → AreElsewhere rows worker.known
+  rows_elsewhere k n worker rows at are row known there knows =
+      let up = (are.each row).0 there in
+      let here = owned n worker at row.key known knows in
+      let other = owned up.0 up.1 up.3 row.key up.4.known up.4.knows in
+      let same : here.0 ≡ other.0 = same_by_key task.goal.grid row.key here.0 other.0 here.1 other.1 in
+      let e : n ≡ up.0 = sym here.2 ∙ ap w.owner same ∙ other.2 in
+      omega (arith, e, up.2)
+
+-- ---- in order of key
+
+key_in : KeyedRow → ℕ
+key_in row = row.key
+
+at_key : (rows : List KeyedRow) (i : ℕ) (d : KeyedRow) → i < length rows → get_or (each_of key_in rows) i d.key ≡ (get_or rows i d).key
+at_key rows i d within = get_or-map key_in rows i d d.key within
+
+numbers_flip : (x y : ℕ) → nat_eq x y ≡ nat_eq y x
+numbers_flip = (decided nat_eq unsigned_Decides).symm
+
+-- a row, to stand where there is none
+no_row : KeyedRow
+no_row = record { key = 0; cost = 0 }
+
+keys_apart : (rows : List KeyedRow) → AreApart rows → AllPairs (λ (x y : ℕ). x ≢ y) (each_of key_in rows)
+keys_apart rows apart i j d lt within =
+    let inside : j < length rows = subst (λ (n : ℕ). j < n) (length-map key_in rows) within in
+    let first : get_or (each_of key_in rows) i d ≡ (get_or rows i no_row).key = get_or-map key_in rows i no_row d (omega (arith, lt, inside)) in
+    let second : get_or (each_of key_in rows) j d ≡ (get_or rows j no_row).key = get_or-map key_in rows j no_row d inside in
+    λ e. apart i j no_row lt inside (sym first ∙ e ∙ second)
+
+-- rows that are apart stay so when they change places
+pub apart_still : (rows sorted : List KeyedRow) → IsPermutation rows sorted → AreApart rows → AreApart sorted
+apart_still rows sorted moved apart i j d lt within =
+    let distinct = IsDistinct-IsPermutation nat_eq numbers_flip (each_of key_in rows) (each_of key_in sorted) (IsPermutation-map key_in rows sorted moved) (IsDistinct-from_AllPairs unsigned_Decides (each_of key_in rows) (keys_apart rows apart)) in
+    let after = AllPairs-from_IsDistinct unsigned_Decides (each_of key_in sorted) distinct in
+    let inside : j < length (each_of key_in sorted) = subst (λ (n : ℕ). j < n) (sym (length-map key_in sorted)) within in
+    let first : get_or (each_of key_in sorted) i d.key ≡ (get_or sorted i d).key = at_key sorted i d (omega (arith, lt, within)) in
+    let second : get_or (each_of key_in sorted) j d.key ≡ (get_or sorted j d).key = at_key sorted j d within in
+    λ e. after i j d.key lt inside (first ∙ e ∙ sym second)
+
+module _ (task : Task) (hash : Position → ℕ) (states : List WorkerState) (w : WorldState) (parts : HasParts task hash states w) (k : ℕ) (rows sorted : List KeyedRow) (boards : List (Position × ℕ)) (are : AreKeyedRows task k states rows) (moved : IsPermutation rows sorted) (rising : IsNonDecreasingBy (λ (row : KeyedRow). row.key) sorted) (keys : each_of keyed boards ≡ sorted) (all : All (λ (row : Position × ℕ). IsBoard row.0 × (row.0.grid ≡ task.goal.grid)) boards) where
+  same_length : length boards ≡ length sorted
+  same_length = sym (length-map keyed boards) ∙ ap length keys
+
+  key_at : (i : ℕ) (d : Position × ℕ) → i < length boards → (get_or sorted i (keyed d)).key ≡ key_of (get_or boards i d).0
+  key_at i d within = ap (λ (rs : List KeyedRow). (get_or rs i (keyed d)).key) (sym keys) ∙ ap (λ (row : KeyedRow). row.key) (get_or-map keyed boards i d (keyed d) within)
+
+  -- the boards rise by key
+  boards_rise : AllPairs (λ (row later : Position × ℕ). key_of row.0 < key_of later.0) boards
+  boards_rise i j d lt within =
+      let inside : j < length sorted = omega (arith, within, same_length) in
+      let le = rising i j (keyed d) (omega (arith, lt)) inside in
+      let other = apart_still rows sorted moved are.apart i j (keyed d) lt inside in
+      let first = key_at i d (omega (arith, lt, within)) in
+      let second = key_at j d within in
+      omega (arith, le, first, second, other)
+
+  -- a row is that of a known board below k
+  row_known : (b : Position) (cost : ℕ) → Contains boards (b, cost) → IsKnownBelow w k b cost
+  row_known b cost (i, within, is) =
+      let board = subst (λ (row : Position × ℕ). IsBoard row.0 × (row.0.grid ≡ task.goal.grid)) is (all i (b, cost) within) in
+      let inside : i < length sorted = omega (arith, within, same_length) in
+      let at : get_or sorted i (keyed (b, cost)) ≡ keyed (b, cost) = ap (λ (rs : List KeyedRow). get_or rs i (keyed (b, cost))) (sym keys) ∙ get_or-map keyed boards i (b, cost) (keyed (b, cost)) within ∙ ap keyed is in
+      let there = Contains-permutation sorted rows (keyed (b, cost)) (IsPermutation-sym rows sorted moved) (i, inside, at) in
+      let up = (are.each (keyed (b, cost))).0 there in
+      let in' = up.3 in
+      let same : in'.b ≡ b = same_by_key task.goal.grid (key_of b) in'.b b in'.has (record { board = board.0; sides = board.1; packed = refl }) in
+      (
+        up.0,
+        in'.known,
+        record {
+          worker = up.1;
+          is = worker_at task hash states w parts up.0 up.1 up.2;
+          board = task_board task hash states w parts b board;
+          knows = in'.knows;
+        },
+        in'.at,
+        subst (λ (t : Task). cost + t.sum b < k) (sym parts.asks) (subst (λ (x : Position). cost + task.sum x < k) same in'.low),
+      )
+
+  -- and each known board below k has one
+  known_row : (b : Position) (cost : ℕ) → IsKnownBelow w k b cost → Contains boards (b, cost)
+  known_row b cost (i, known, knows, paid, low) =
+      let board = subst (λ (t : Task). IsTaskBoard t b) parts.asks knows.board in
+      let in' : IsRowIn task k knows.worker.known (keyed (b, cost)) = record {
+        b = b;
+        has = record { board = board.0; sides = board.1; packed = refl };
+        known = known;
+        knows = knows.knows;
+        at = paid;
+        low = subst (λ (t : Task). cost + t.sum b < k) parts.asks low;
+      } in
+      let there : Contains rows (keyed (b, cost)) = (are.each (keyed (b, cost))).1 (i, knows.worker, worker_from task hash states w parts i knows.worker knows.is, in') in
+      let found = Contains-permutation rows sorted (keyed (b, cost)) moved there in
+      let within : found.0 < length boards = omega (arith, found.1, same_length) in
+      let at : keyed (get_or boards found.0 (b, cost)) ≡ keyed (b, cost) = sym (ap (λ (rs : List KeyedRow). get_or rs found.0 (keyed (b, cost))) (sym keys) ∙ get_or-map keyed boards found.0 (b, cost) (keyed (b, cost)) within) ∙ found.2 in
+      let here = all found.0 (b, cost) within in
+      let same : (get_or boards found.0 (b, cost)).0 ≡ b = same_board (get_or boards found.0 (b, cost)).0 b here.0 board.0 (here.1 ∙ sym board.1) (ap (λ (row : KeyedRow). row.key) at) in
+      let cost' : (get_or boards found.0 (b, cost)).1 ≡ cost = ap (λ (row : KeyedRow). row.cost) at in
+      (found.0, within, λ i. (same i, cost' i))
+
+  pub rows_are_below : AreRowsBelow w k boards
+  rows_are_below = record { rising = boards_rise; each = λ b cost. (row_known b cost, known_row b cost) }
+
+  -- the rows of a cost that the start's sum doesn't prove
+  pub rows_are_for : task.sum task.start < k → AreRowsFor w k boards
+  rows_are_for low = inr (subst (λ (t : Task). t.sum t.start < k) (sym parts.asks) low, rows_are_below)
+
+-- and where it does
+pub no_rows_for : (task : Task) (hash : Position → ℕ) (states : List WorkerState) (w : WorldState) → HasParts task hash states w → (k : ℕ) (rows : List (Position × ℕ)) → k ≤ task.sum task.start → rows ≡ [] → AreRowsFor w k rows
+no_rows_for task hash states w parts k rows high empty = inl (subst (λ (t : Task). k ≤ t.sum t.start) (sym parts.asks) high, empty)
