@@ -26,7 +26,7 @@ use Rattle.world_model.specs.Worlds.{WorldState, Knows}
 use Rattle.world_model.specs.Outcomes.{AreRowsBelow, AreRowsFor, IsKnownBelow}
 use Rattle.world_ends.specs.declared.rows.KeyedRow.{KeyedRow}
 use Rattle.world_ends.specs.Parts.{HasParts}
-use Rattle.world_ends.specs.Rows.{IsRowIn, AreApart, IsOfBoards, AreElsewhere, AreKeyedRows, keyed}
+use Rattle.world_ends.specs.Rows.{IsRowIn, AreApart, IsOfBoards, AreElsewhere, AreKeyedRows, AreBoardsOf, keyed}
 use Rattle.world_ends.proofs.PartLemmas.{worker_at, worker_from, task_board}
 
 known_of_some : (k k' : Known) → ◌≡◌ {A = Option Known} (Some k) (Some k') → k ≡ k'
@@ -213,7 +213,7 @@ module _ (task : Task) (hash : Position → ℕ) (states : List WorkerState) (w 
 
 -- ---- in order of key
 
-key_in : KeyedRow → ℕ
+abbrev key_in : KeyedRow → ℕ
 key_in row = row.key
 
 at_key : (rows : List KeyedRow) (i : ℕ) (d : KeyedRow) → i < length rows → get_or (each_of key_in rows) i d.key ≡ (get_or rows i d).key
@@ -228,7 +228,7 @@ no_row = record { key = 0; cost = 0 }
 
 keys_apart : (rows : List KeyedRow) → AreApart rows → AllPairs (λ (x y : ℕ). x ≢ y) (each_of key_in rows)
 keys_apart rows apart i j d lt within =
-    let inside : j < length rows = subst (λ (n : ℕ). j < n) (length-map key_in rows) within in
+    let inside : j < length rows = subst (λ (n : ℕ). j < n) (length-map rows key_in) within in
     let first : get_or (each_of key_in rows) i d ≡ (get_or rows i no_row).key = get_or-map key_in rows i no_row d (omega (arith, lt, inside)) in
     let second : get_or (each_of key_in rows) j d ≡ (get_or rows j no_row).key = get_or-map key_in rows j no_row d inside in
     λ e. apart i j no_row lt inside (sym first ∙ e ∙ second)
@@ -238,17 +238,17 @@ pub apart_still : (rows sorted : List KeyedRow) → IsPermutation rows sorted �
 apart_still rows sorted moved apart i j d lt within =
     let distinct = IsDistinct-IsPermutation nat_eq numbers_flip (each_of key_in rows) (each_of key_in sorted) (IsPermutation-map key_in rows sorted moved) (IsDistinct-from_AllPairs unsigned_Decides (each_of key_in rows) (keys_apart rows apart)) in
     let after = AllPairs-from_IsDistinct unsigned_Decides (each_of key_in sorted) distinct in
-    let inside : j < length (each_of key_in sorted) = subst (λ (n : ℕ). j < n) (sym (length-map key_in sorted)) within in
+    let inside : j < length (each_of key_in sorted) = subst (λ (n : ℕ). j < n) (sym (length-map sorted key_in)) within in
     let first : get_or (each_of key_in sorted) i d.key ≡ (get_or sorted i d).key = at_key sorted i d (omega (arith, lt, within)) in
     let second : get_or (each_of key_in sorted) j d.key ≡ (get_or sorted j d).key = at_key sorted j d within in
     λ e. after i j d.key lt inside (first ∙ e ∙ sym second)
 
-module _ (task : Task) (hash : Position → ℕ) (states : List WorkerState) (w : WorldState) (parts : HasParts task hash states w) (k : ℕ) (rows sorted : List KeyedRow) (boards : List (Position × ℕ)) (are : AreKeyedRows task k states rows) (moved : IsPermutation rows sorted) (rising : IsNonDecreasingBy (λ (row : KeyedRow). row.key) sorted) (keys : each_of keyed boards ≡ sorted) (all : All (λ (row : Position × ℕ). IsBoard row.0 × (row.0.grid ≡ task.goal.grid)) boards) where
+module _ (task : Task) (hash : Position → ℕ) (states : List WorkerState) (w : WorldState) (parts : HasParts task hash states w) (k : ℕ) (rows sorted : List KeyedRow) (boards : List (Position × ℕ)) (are : AreKeyedRows task k states rows) (moved : IsPermutation rows sorted) (rising : IsNonDecreasingBy (λ (row : KeyedRow). row.key) sorted) (named : AreBoardsOf task.goal.grid sorted boards) where
   same_length : length boards ≡ length sorted
-  same_length = sym (length-map keyed boards) ∙ ap length keys
+  same_length = sym (length-map boards keyed) ∙ ap length named.keys
 
   key_at : (i : ℕ) (d : Position × ℕ) → i < length boards → (get_or sorted i (keyed d)).key ≡ key_of (get_or boards i d).0
-  key_at i d within = ap (λ (rs : List KeyedRow). (get_or rs i (keyed d)).key) (sym keys) ∙ ap (λ (row : KeyedRow). row.key) (get_or-map keyed boards i d (keyed d) within)
+  key_at i d within = ap (λ (rs : List KeyedRow). (get_or rs i (keyed d)).key) (sym named.keys) ∙ ap (λ (row : KeyedRow). row.key) (get_or-map keyed boards i d (keyed d) within)
 
   -- the boards rise by key
   boards_rise : AllPairs (λ (row later : Position × ℕ). key_of row.0 < key_of later.0) boards
@@ -263,9 +263,9 @@ module _ (task : Task) (hash : Position → ℕ) (states : List WorkerState) (w 
   -- a row is that of a known board below k
   row_known : (b : Position) (cost : ℕ) → Contains boards (b, cost) → IsKnownBelow w k b cost
   row_known b cost (i, within, is) =
-      let board = subst (λ (row : Position × ℕ). IsBoard row.0 × (row.0.grid ≡ task.goal.grid)) is (all i (b, cost) within) in
+      let board = subst (λ (row : Position × ℕ). IsBoard row.0 × (row.0.grid ≡ task.goal.grid)) is (named.boards i (b, cost) within) in
       let inside : i < length sorted = omega (arith, within, same_length) in
-      let at : get_or sorted i (keyed (b, cost)) ≡ keyed (b, cost) = ap (λ (rs : List KeyedRow). get_or rs i (keyed (b, cost))) (sym keys) ∙ get_or-map keyed boards i (b, cost) (keyed (b, cost)) within ∙ ap keyed is in
+      let at : get_or sorted i (keyed (b, cost)) ≡ keyed (b, cost) = ap (λ (rs : List KeyedRow). get_or rs i (keyed (b, cost))) (sym named.keys) ∙ get_or-map keyed boards i (b, cost) (keyed (b, cost)) within ∙ ap keyed is in
       let there = Contains-permutation sorted rows (keyed (b, cost)) (IsPermutation-sym rows sorted moved) (i, inside, at) in
       let up = (are.each (keyed (b, cost))).0 there in
       let in' = up.3 in
@@ -298,8 +298,8 @@ module _ (task : Task) (hash : Position → ℕ) (states : List WorkerState) (w 
       let there : Contains rows (keyed (b, cost)) = (are.each (keyed (b, cost))).1 (i, knows.worker, worker_from task hash states w parts i knows.worker knows.is, in') in
       let found = Contains-permutation rows sorted (keyed (b, cost)) moved there in
       let within : found.0 < length boards = omega (arith, found.1, same_length) in
-      let at : keyed (get_or boards found.0 (b, cost)) ≡ keyed (b, cost) = sym (ap (λ (rs : List KeyedRow). get_or rs found.0 (keyed (b, cost))) (sym keys) ∙ get_or-map keyed boards found.0 (b, cost) (keyed (b, cost)) within) ∙ found.2 in
-      let here = all found.0 (b, cost) within in
+      let at : keyed (get_or boards found.0 (b, cost)) ≡ keyed (b, cost) = sym (ap (λ (rs : List KeyedRow). get_or rs found.0 (keyed (b, cost))) (sym named.keys) ∙ get_or-map keyed boards found.0 (b, cost) (keyed (b, cost)) within) ∙ found.2 in
+      let here = named.boards found.0 (b, cost) within in
       let same : (get_or boards found.0 (b, cost)).0 ≡ b = same_board (get_or boards found.0 (b, cost)).0 b here.0 board.0 (here.1 ∙ sym board.1) (ap (λ (row : KeyedRow). row.key) at) in
       let cost' : (get_or boards found.0 (b, cost)).1 ≡ cost = ap (λ (row : KeyedRow). row.cost) at in
       (found.0, within, λ i. (same i, cost' i))

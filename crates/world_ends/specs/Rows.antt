@@ -1,9 +1,9 @@
 -- Rows of known boards.
-use Rattle.std.specs.Prelude.{ℕ, ◌≡◌, ◌≢◌, ◌+◌, ◌<◌, ◌≤◌, ◌⊎◌, ◌↔◌, List, Contains, AllPairs, Some, slice_get}
+use Rattle.std.specs.Prelude.{ℕ, ◌≡◌, ◌≢◌, ◌+◌, ◌<◌, ◌≤◌, ◌⊎◌, ◌↔◌, List, Contains, All, AllPairs, map as each_of, Some, slice_get}
 use Rattle.std.specs.FinMap as map
 use Rattle.board.specs.declared.costs.TheConstants.{GREATEST_COST}
 use Rattle.board.specs.Grids.{Grid}
-use Rattle.board.specs.Positions.{Position}
+use Rattle.board.specs.Positions.{Position, IsBoard}
 use Rattle.board.specs.Keys.{HasKey, key_of}
 use Rattle.world_model.specs.declared.parts.Known.{Known}
 use Rattle.world_model.specs.Knowledge.{Knowledge}
@@ -40,3 +40,8 @@ pub record AreKeyedRows (task : Task) (k : ℕ) (states : List WorkerState) (row
 -- a row with its board's key
 abbrev pub keyed : Position × ℕ → KeyedRow
 keyed row = record { key = key_of row.0; cost = row.1 }
+
+-- the same rows, with boards of the grid in the place of their keys
+pub record AreBoardsOf (grid : Grid) (rows : List KeyedRow) (named : List (Position × ℕ)) : Type 0 where
+  pub keys : each_of keyed named ≡ rows
+  pub boards : All (λ row. IsBoard row.0 × (row.0.grid ≡ grid)) named

@@ -1,10 +1,10 @@
 //! The rows of a run: the boards that are known below a cost.
 
 ghost use Rattle.std.specs.Prelude.{◌≡◌, ◌<◌, ◌≤◌, ◌+◌, ◌++◌, ◌∷◌, ◌⊎◌, ◌↔◌, [], ℕ, Some};
-ghost use Rattle.std.specs.Prelude.{OnOk, IfOk, All, Contains, length, map, slice_get};
+ghost use Rattle.std.specs.Prelude.{OnOk, IfOk, All, Contains, slice_get};
 ghost use Rattle.std.specs.List.Sorted.{IsPermutation, IsNonDecreasingBy};
 ghost use Rattle.board.specs.declared.costs.TheConstants.{GREATEST_COST};
-ghost use Rattle.board.specs.Positions.{Position, IsBoard};
+ghost use Rattle.board.specs.Positions.{Position};
 ghost use Rattle.board.specs.Keys.{HasKey};
 ghost use Rattle.lower_bound.specs.Bounds.{sum_of};
 ghost use Rattle.lower_bound.specs.Tables.{parts_of};
@@ -12,7 +12,7 @@ ghost use Rattle.world_model.specs.Outcomes.{AreRowsFor};
 ghost use Rattle.world_model.specs.Worlds.{WorldState};
 ghost use Rattle.world_ends.specs.Parts.{task_in, states_of, HasParts};
 ghost use Rattle.world_ends.specs.Rows.{IsRowIn, AreApart, IsOfBoards, AreElsewhere};
-ghost use Rattle.world_ends.specs.Rows.{AreKeyedRows, keyed};
+ghost use Rattle.world_ends.specs.Rows.{AreKeyedRows, AreBoardsOf};
 ghost use Rattle.world_ends.specs.declared.rows.KeyedRow.{KeyedRow};
 
 use crate::asked::Asked;
@@ -139,9 +139,7 @@ fn with_boards(
     rows: &[KeyedRow],
 ) -> Result<Vec<(Board, u32)>, OutOfMemory>
     requires { All (λ row. (b : Position) × HasKey shape row.key b) rows.now }
-    ensures keys { IfOk result (λ boards. map keyed boards.items ≡ rows.now) }
-    ensures boards { IfOk result (λ boards.
-        All (λ row. IsBoard row.0 × (row.0.grid ≡ shape)) boards.items) }
+    ensures { IfOk result (λ boards. AreBoardsOf shape rows.now boards.items) }
 {
     let mut boards = Vec::new(alloc);
     'rows: for row in rows {
