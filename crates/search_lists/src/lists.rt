@@ -189,16 +189,16 @@ impl SearchLists {
 }
 
 // Relaxes a board, and lets it wait where its cost is news, unless it is the goal.
-fn relax(closed: &mut Closed, open: &mut Open<u32>, goal: u128, met: Met)
+fn relax(closed: &mut Closed, waiting: &mut Open<u32>, goal: u128, met: Met)
     requires room { map.get closed.old.known met.key ≡ None → 0 < closed.old.room }
-    requires place { 0 < places_at open.old met.f }
-    requires known { AreKnown (both closed.old open.old) }
-    ensures known { AreKnown (both closed.new open.new) }
+    requires place { 0 < places_at waiting.old met.f }
+    requires known { AreKnown (both closed.old waiting.old) }
+    ensures known { AreKnown (both closed.new waiting.new) }
     ensures closed { closed.new ≡ table_relaxation closed.old met.key met.cost met.via }
-    ensures places { (h : ℕ) → places_at open.old h ≤ places_at open.new h + 1 }
+    ensures places { (h : ℕ) → places_at waiting.old h ≤ places_at waiting.new h + 1 }
     ensures order { (guide : Guide) → guide.goal ≡ goal → AddsUp guide met
-        → IsInOrder guide (both closed.old open.old)
-        → IsInOrder guide (both closed.new open.new) }
+        → IsInOrder guide (both closed.old waiting.old)
+        → IsInOrder guide (both closed.new waiting.new) }
 {
     let (relaxed, place) = closed.relax(met.key, met.cost, met.via);
     if is_kept(relaxed) {
@@ -207,7 +207,7 @@ fn relax(closed: &mut Closed, open: &mut Open<u32>, goal: u128, met: Met)
     if met.key == goal {
         return;
     }
-    open.put(met.f, place, met.cost);
+    waiting.put(met.f, place, met.cost);
 }
 
 // Whether the cost was no news.
@@ -218,17 +218,17 @@ fn is_kept(relaxed: Relaxed) -> bool
 }
 
 // An open board of least cost plus sum, where that is below a limit. What is out of date goes out.
-fn next_open(closed: &Closed, open: &mut Open<u32>, below: u32) -> Option<Next>
-    requires { AreKnown (both closed.now open.old) }
-    ensures known { AreKnown (both closed.now open.new) }
-    ensures places { (h : ℕ) → places_at open.old h ≤ places_at open.new h }
-    ensures order { (guide : Guide) → IsInOrder guide (both closed.now open.old)
-        → IsInOrder guide (both closed.now open.new) }
-    ensures none { IfNone result (NothingWaits open.new below) }
-    ensures first { IfSome result (IsFirst (both closed.now open.new)) }
+fn next_open(closed: &Closed, waiting: &mut Open<u32>, below: u32) -> Option<Next>
+    requires { AreKnown (both closed.now waiting.old) }
+    ensures known { AreKnown (both closed.now waiting.new) }
+    ensures places { (h : ℕ) → places_at waiting.old h ≤ places_at waiting.new h }
+    ensures order { (guide : Guide) → IsInOrder guide (both closed.now waiting.old)
+        → IsInOrder guide (both closed.now waiting.new) }
+    ensures none { IfNone result (NothingWaits waiting.new below) }
+    ensures first { IfSome result (IsFirst (both closed.now waiting.new)) }
     ensures below { IfSome result (λ next. next.f < below) }
 {
-    'entries: while let Some(first) = first_waiting(open, below) {
+    'entries: while let Some(first) = first_waiting(waiting, below) {
         let (key, known) = closed.at(first.place as usize);
         if is_current(known, first.cost) {
             return Some(Next {
@@ -238,7 +238,7 @@ fn next_open(closed: &Closed, open: &mut Open<u32>, below: u32) -> Option<Next>
                 f: first.f,
             });
         }
-        take_first(open, first);
+        take_first(waiting, first);
     }
     None
 }
@@ -260,30 +260,30 @@ struct Waiting {
 }
 
 // What waits next, where its f is below a limit.
-fn first_waiting(open: &Open<u32>, below: u32) -> Option<Waiting>
-    ensures { MatchOption result (NothingWaits open.now below)
-        (λ first. (first.f < below) × IsNext first.f (first.place, first.cost) open.now) }
+fn first_waiting(waiting: &Open<u32>, below: u32) -> Option<Waiting>
+    ensures { MatchOption result (NothingWaits waiting.now below)
+        (λ first. (first.f < below) × IsNext first.f (first.place, first.cost) waiting.now) }
 {
-    let Some(f) = open.lowest() else {
+    let Some(f) = waiting.lowest() else {
         return None;
     };
     if f >= below {
         return None;
     }
-    let Some((place, cost)) = open.peek_lowest(f + 1) else {
+    let Some((place, cost)) = waiting.peek_lowest(f + 1) else {
         unreachable!()
     };
     Some(Waiting { f, place, cost })
 }
 
 // Takes out what waits next.
-fn take_first(open: &mut Open<u32>, first: Waiting)
-    requires first { IsNext first.f (first.place, first.cost) open.old }
+fn take_first(waiting: &mut Open<u32>, first: Waiting)
+    requires first { IsNext first.f (first.place, first.cost) waiting.old }
     requires within { first.f + 1 < 2 ^ 32 }
-    ensures { Takes first.f (first.place, first.cost) open.old open.new }
+    ensures { Takes first.f (first.place, first.cost) waiting.old waiting.new }
 {
     the_next_is_taken::<u32>();
-    let Some(_) = open.take_lowest(first.f + 1) else {
+    let Some(_) = waiting.take_lowest(first.f + 1) else {
         unreachable!()
     };
 }

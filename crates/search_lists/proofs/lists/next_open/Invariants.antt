@@ -7,10 +7,10 @@ use Rattle.search_lists.proofs.lists.next_open.Given as goal
 
 abbrev pub invariant-entries : goal.invariant-entries
 invariant-entries l = record {
-  known : AreKnown (both l.closed l.open);
-  places : (h : ℕ) → places_at l.fn.open h ≤ places_at l.open h;
-  order : (guide : Guide) → IsInOrder guide (both l.closed l.fn.open) → IsInOrder guide (both l.closed l.open);
+  known : AreKnown (both l.closed l.waiting);
+  places : (h : ℕ) → places_at l.fn.waiting h ≤ places_at l.waiting h;
+  order : (guide : Guide) → IsInOrder guide (both l.closed l.fn.waiting) → IsInOrder guide (both l.closed l.waiting);
 }
 
 abbrev pub decreases-entries : goal.decreases-entries
-decreases-entries l = count_below l.below l.open
+decreases-entries l = count_below l.below l.waiting

@@ -20,7 +20,7 @@ closed_known c =
 
 pub invariant_of-self : goal.invariant_of-self
 invariant_of-self c = λ f place cost has.
-    subst (λ (t : Table). place < length t.keys) (sym (closed_known c)) (c.self.invariant f place cost (was_there c.args.next.f (c.args.next.place, c.args.next.cost) c.self.inside.«open» c.take_first.new.«open» c.take_first.ensures f (place, cost) has))
+    subst (λ (t : Table). place < length t.keys) (sym (closed_known c)) (c.self.invariant f place cost (was_there c.args.next.f (c.args.next.place, c.args.next.cost) c.self.inside.«open» c.take_first.new.waiting c.take_first.ensures f (place, cost) has))
 
 pub returns-clause-closed : goal.returns-clause-closed
 returns-clause-closed c = rw (← c.self.view_is) (closed_is c)
@@ -29,5 +29,5 @@ pub returns-clause-order : goal.returns-clause-order
 returns-clause-order c = λ guide order.
     let first = subst (λ (s : Lists). IsFirst s c.args.next) (sym c.self.view_is) c.requires in
     let before = subst (λ (s : Lists). IsInOrder guide s) (sym c.self.view_is) order in
-    subst (λ (t : Table). IsInOrder guide (both t c.take_first.new.«open»)) (sym (closed_known c))
-    (order_closed guide c.self.inside.closed c.args.next.f c.args.next.place c.args.next.cost c.self.inside.«open» c.take_first.new.«open» c.take_first.ensures c.args.next.key first.known.0 first.place first.known.1 before)
+    subst (λ (t : Table). IsInOrder guide (both t c.take_first.new.waiting)) (sym (closed_known c))
+    (order_closed guide c.self.inside.closed c.args.next.f c.args.next.place c.args.next.cost c.self.inside.«open» c.take_first.new.waiting c.take_first.ensures c.args.next.key first.known.0 first.place first.known.1 before)
