@@ -7,8 +7,10 @@ use std::env;
 use std::hash::{BuildHasherDefault, Hasher};
 use std::process::ExitCode;
 
-const NO_VALUE: u16 = 65_535;
-const MOST_TABLES: usize = 24;
+include!("groups.rs");
+include!("tables_of_groups.rs");
+include!("successors.rs");
+
 const FACTOR: u128 = 0x9E37_79B9_7F4A_7C15_F39C_C060_5CED_C835;
 
 /// How many expansions are granted at once.
@@ -16,57 +18,6 @@ const GRANT: u64 = 256;
 
 /// A board of which no plan costs less than 57 (Korf 1985, the first of his hundred).
 const START: [u8; 16] = [14, 13, 15, 7, 11, 12, 9, 5, 6, 0, 2, 1, 4, 8, 10, 3];
-
-#[derive(Clone, Copy)]
-struct Shape {
-    rows: u8,
-    cols: u8,
-}
-
-#[derive(Clone, Copy)]
-enum Move {
-    U,
-    L,
-    R,
-    D,
-}
-
-#[derive(Clone, Copy)]
-struct View {
-    count: u8,
-    places: [u8; 10],
-}
-
-struct Group {
-    shape: Shape,
-    count: u8,
-    tiles: [u8; 9],
-    size: usize,
-}
-
-struct Table {
-    group: Group,
-    values: Vec<u16>,
-}
-
-struct Successor {
-    key: u128,
-    cost: u32,
-    sum: u32,
-}
-
-struct Reached {
-    key: u128,
-    cost: u32,
-    ranks: [u32; MOST_TABLES],
-}
-
-struct UnpackedBoard {
-    shape: Shape,
-    tiles: [u8; 25],
-    key: u128,
-    cells: [u8; 25],
-}
 
 /// What is known of a board.
 #[derive(Clone, Copy)]
@@ -103,231 +54,6 @@ struct Search {
     buckets: Vec<Vec<(u128, u32)>>,
     cursor: usize,
     goal: u128,
-}
-
-impl Shape {
-    fn cells(self) -> usize {
-        self.rows as usize * self.cols as usize
-    }
-
-    /// The cell next to a cell in a direction, or None at the edge.
-    fn neighbour(self, cell: usize, direction: Move) -> Option<usize> {
-        let rows = self.rows as usize;
-        let cols = self.cols as usize;
-        match direction {
-            Move::U if cell < cols => None,
-            Move::U => Some(cell - cols),
-            Move::L if cell % cols == 0 => None,
-            Move::L => Some(cell - 1),
-            Move::R if cell % cols + 1 == cols => None,
-            Move::R => Some(cell + 1),
-            Move::D if cell / cols + 1 == rows => None,
-            Move::D => Some(cell + cols),
-        }
-    }
-}
-
-impl Group {
-    /// The group of some tiles, which rise.
-    fn new(shape: Shape, numbers: &[u8]) -> Self {
-        let size = (0..=numbers.len()).map(|place| shape.cells() - place).product();
-        let mut tiles = [0; 9];
-        tiles[..numbers.len()].copy_from_slice(numbers);
-        Group {
-            shape,
-            count: numbers.len() as u8,
-            tiles,
-            size,
-        }
-    }
-
-    fn tiles(&self) -> &[u8] {
-        &self.tiles[..self.count as usize]
-    }
-
-    /// The view of the board that has the blank on cell 0, and tile t on cell t.
-    fn goal_view(&self) -> View {
-        let mut places = [0; 10];
-        places[1..=self.count as usize].copy_from_slice(self.tiles());
-        View {
-            count: self.count + 1,
-            places,
-        }
-    }
-
-    /// The place of a view among all views of the group, in lexicographic order.
-    fn rank(&self, view: &View) -> usize {
-        let mut rank = 0;
-        let mut free = self.shape.cells();
-        let mut seen: u32 = 0;
-        for cell in &view.places[..view.count as usize] {
-            let below = (seen & ((1 << cell) - 1)).count_ones() as usize;
-            rank = rank * free + (*cell as usize - below);
-            seen |= 1 << cell;
-            free -= 1;
-        }
-        rank
-    }
-
-    /// The view at a place.
-    fn unrank(&self, rank: usize) -> View {
-        let count = self.count as usize + 1;
-        let mut places = [0; 10];
-        let mut rest = rank;
-        for place in (0..count).rev() {
-            let free = self.shape.cells() - place;
-            let at = (rest % free) as u8;
-            rest /= free;
-            for later in &mut places[place + 1..count] {
-                if at <= *later {
-                    *later += 1;
-                }
-            }
-            places[place] = at;
-        }
-        View {
-            count: count as u8,
-            places,
-        }
-    }
-
-    /// The view after a move of the blank and the weight of the tile moved where it is the group's, else 0,
-    /// or None at the edge.
-    fn step(&self, view: &View, direction: Move, weights: &[u8; 25]) -> Option<(View, u32)> {
-        let to = self.shape.neighbour(view.places[0] as usize, direction)? as u8;
-        let cells = &view.places[1..view.count as usize];
-        let cost = match cells.iter().position(|cell| *cell == to) {
-            Some(place) => weights[self.tiles[place] as usize] as u32,
-            None => 0,
-        };
-        let mut places = view.places;
-        for cell in &mut places[1..view.count as usize] {
-            *cell = if *cell == to { view.places[0] } else { *cell };
-        }
-        places[0] = to;
-        Some((View { places, ..*view }, cost))
-    }
-
-    /// The rank of what it sees of a board, by the cell of each number.
-    fn rank_at(&self, cells: &[u8; 25]) -> usize {
-        let blank = cells[0];
-        let mut rank = blank as usize;
-        let mut free = self.shape.cells() - 1;
-        let mut seen: u32 = 1 << blank;
-        for tile in self.tiles() {
-            let cell = cells[*tile as usize];
-            let below = (seen & ((1 << cell) - 1)).count_ones() as usize;
-            rank = rank * free + (cell as usize - below);
-            seen |= 1 << cell;
-            free -= 1;
-        }
-        rank
-    }
-}
-
-/// Lowers the value of a rank to a cost where it is more. The rank then waits in that bucket.
-fn lower(values: &mut [u16], buckets: &mut Vec<Vec<u32>>, rank: usize, cost: usize) {
-    if values[rank] as usize <= cost {
-        return;
-    }
-    while buckets.len() <= cost {
-        buckets.push(Vec::new());
-    }
-    buckets[cost].push(rank as u32);
-    values[rank] = cost as u16;
-}
-
-/// The table of a group, for the goal of its shape.
-fn build(group: Group, weights: &[u8; 25]) -> Table {
-    let mut values = vec![NO_VALUE; group.size];
-    let mut buckets = Vec::new();
-    lower(&mut values, &mut buckets, group.rank(&group.goal_view()), 0);
-    let mut cost = 0;
-    while cost < buckets.len() {
-        while let Some(rank) = buckets[cost].pop() {
-            if values[rank as usize] as usize != cost {
-                continue;
-            }
-            let view = group.unrank(rank as usize);
-            for direction in [Move::U, Move::L, Move::R, Move::D] {
-                if let Some((next, weight)) = group.step(&view, direction, weights) {
-                    let rank = group.rank(&next);
-                    lower(&mut values, &mut buckets, rank, cost + weight as usize);
-                }
-            }
-        }
-        buckets[cost] = Vec::new();
-        cost += 1;
-    }
-    Table { group, values }
-}
-
-impl UnpackedBoard {
-    fn of_key(shape: Shape, key: u128) -> Self {
-        let mut tiles = [0; 25];
-        let mut rest = key;
-        for cell in (0..shape.cells()).rev() {
-            tiles[cell] = (rest % 32) as u8;
-            rest /= 32;
-        }
-        let mut cells = [0; 25];
-        for (cell, tile) in tiles[..shape.cells()].iter().enumerate() {
-            cells[*tile as usize] = cell as u8;
-        }
-        UnpackedBoard {
-            shape,
-            tiles,
-            key,
-            cells,
-        }
-    }
-
-    fn successors(&self, weights: &[u8; 25], tables: &[Table]) -> [Option<Successor>; 4] {
-        let up = self.reach(Move::U, weights, tables);
-        let left = self.reach(Move::L, weights, tables);
-        let right = self.reach(Move::R, weights, tables);
-        let down = self.reach(Move::D, weights, tables);
-        [
-            look_up(tables, &up),
-            look_up(tables, &left),
-            look_up(tables, &right),
-            look_up(tables, &down),
-        ]
-    }
-
-    fn reach(&self, direction: Move, weights: &[u8; 25], tables: &[Table]) -> Option<Reached> {
-        let from = self.cells[0];
-        let to = self.shape.neighbour(from as usize, direction)?;
-        let tile = self.tiles[to];
-        let mut cells = self.cells;
-        cells[0] = to as u8;
-        cells[tile as usize] = from;
-        let last = self.shape.cells() - 1;
-        let key = self.key - digit_at(tile, last - to) + digit_at(tile, last - from as usize);
-        let cost = weights[tile as usize] as u32;
-        let mut ranks = [0; MOST_TABLES];
-        for (rank, table) in ranks.iter_mut().zip(tables) {
-            *rank = table.group.rank_at(&cells) as u32;
-        }
-        Some(Reached { key, cost, ranks })
-    }
-}
-
-fn look_up(tables: &[Table], reached: &Option<Reached>) -> Option<Successor> {
-    let found = reached.as_ref()?;
-    let mut sum = 0;
-    for (table, rank) in tables.iter().zip(&found.ranks) {
-        sum += u32::from(table.values[*rank as usize]);
-    }
-    Some(Successor {
-        key: found.key,
-        cost: found.cost,
-        sum,
-    })
-}
-
-fn digit_at(tile: u8, behind: usize) -> u128 {
-    (tile as u128) << (5 * behind as u32)
 }
 
 impl Search {
@@ -431,7 +157,12 @@ fn main() -> ExitCode {
     for tile in &tiles {
         weights[*tile as usize] = 1;
     }
-    let tables: Vec<Table> = tiles.chunks(size).map(|group| build(Group::new(shape, group), &weights)).collect();
+    let table_of = |numbers| {
+        let group = Group::new(shape, numbers);
+        let values = build(&group, &weights);
+        Table { group, values }
+    };
+    let tables: Vec<Table> = tiles.chunks(size).map(table_of).collect();
     search(shape, &weights, &tables, count);
     ExitCode::SUCCESS
 }
