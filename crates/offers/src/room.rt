@@ -21,11 +21,14 @@ pub fn has_room(unsent: &[ArrayVec<Item, PACKET_LIMIT>], me: usize, offers: &Off
     true
 }
 
-// How many of the offers go from one worker to another.
+// How many of the offers go from one worker to another: none from one to itself.
 fn count(offers: &Offers, me: usize, to: usize) -> usize
     ensures value { result ≡ go me to offers.now }
     ensures few { result ≤ 4 }
 {
+    if to == me {
+        return 0;
+    }
     count_one(&offers.up, me, to)
         + count_one(&offers.left, me, to)
         + count_one(&offers.right, me, to)
