@@ -1,5 +1,5 @@
 pub mod PlaceLemmas
-pub mod HeadLemmas
+pub mod BucketLemmas
 pub mod FindLemmas
 pub mod RelinkLemmas
 pub mod IndexLemmas

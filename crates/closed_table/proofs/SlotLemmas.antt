@@ -6,7 +6,7 @@ use Rattle.world_model.specs.declared.parts.Known.{Known}
 use Rattle.closed_table.specs.declared.index.Slot.{Slot}
 use Rattle.closed_table.specs.declared.table.Closed.TheInside.{Inside}
 use Rattle.closed_table.specs.Tables.{Table}
-use Rattle.closed_table.specs.Chains.{key_at, slot_at, no_slot, row_of, IsIndexed}
+use Rattle.closed_table.specs.Chains.{key_in, key_at, slot_at, no_slot, row_of, chain_count, IsIndexed}
 use Rattle.closed_table.specs.Storage.{table_of, IsSound}
 use Rattle.closed_table.proofs.FindLemmas.{read_at}
 use Rattle.closed_table.proofs.IndexLemmas.{set_indexed}
@@ -54,18 +54,19 @@ module _ (s : Inside) (sound : IsSound s) (t : Table) (view : table_of s ≡ t) 
 
         pub sound_there : IsSound (with_slots s after)
         sound_there =
-            let kept = set_indexed s.index.slots s.index.heads s.index.len s.index.bits place changed_slot sound.indexed lt (record { key = ap (λ (x : Slot). x.key) slot_is; hash = ap (λ (x : Slot). x.hash) slot_is; next = ap (λ (x : Slot). x.next) slot_is }) in
+            let kept = set_indexed s.index.slots s.index.links s.index.buckets s.index.len (chain_count s.index.len) s.index.bits place changed_slot sound.indexed lt (ap key_in slot_is) in
             let size : length after ≡ length s.index.slots = ap length put ∙ length-set s.index.slots place changed_slot in
             record {
-              indexed = subst (λ (xs : List Slot). IsIndexed xs s.index.heads s.index.len s.index.len s.index.bits) (sym put) kept;
+              indexed = subst (λ (xs : List Slot). IsIndexed xs s.index.links s.index.buckets s.index.len (chain_count s.index.len) s.index.bits) (sym put) kept;
               slots = let room = sound.slots in omega arith;
-              heads = sound.heads;
+              links = sound.links;
+              buckets = sound.buckets;
               few = sound.few;
             }
 
         pub table_there : table_of (with_slots s after) ≡ record t { known = map.insert t.known key k }
         table_there =
             ap (λ xs. table_with xs s.index.len s.room) put
-            ∙ changed s.index.slots s.index.len sound.indexed.in_slots sound.indexed.different place s.room changed_slot lt (ap (λ (x : Slot). x.key) slot_is)
-            ∙ ap (λ (n : ℕ). record { keys = keys_with s.index.slots s.index.len; known = map.insert (known_with s.index.slots s.index.len) n k; room = s.room }) (ap (λ (x : Slot). x.key) slot_is ∙ there)
+            ∙ changed s.index.slots s.index.len sound.indexed.in_slots sound.indexed.different place s.room changed_slot lt (ap key_in slot_is)
+            ∙ ap (λ (n : ℕ). record { keys = keys_with s.index.slots s.index.len; known = map.insert (known_with s.index.slots s.index.len) n k; room = s.room }) (ap key_in slot_is ∙ there)
             ∙ ap (λ (u : Table). record u { known = map.insert u.known key k }) view

@@ -19,7 +19,7 @@ use Rattle.world_model.specs.Knowledge.{is_news}
 use Rattle.closed_table.specs.declared.index.Slot.{Slot}
 use Rattle.closed_table.specs.declared.table.Relaxed.TheVariants.{Lower, Kept}
 use Rattle.closed_table.specs.Tables.{Table, IsTable, relaxation_answer, arrivals, room_after, table_relaxation}
-use Rattle.closed_table.specs.Chains.{slot_at, no_slot, key_at, row_of, rows_of}
+use Rattle.closed_table.specs.Chains.{slot_at, no_slot, key_in, key_at, row_of, rows_of}
 
 finds_here : (es : List (ℕ × Known)) (e : ℕ × Known) (key : ℕ) → e.0 ≡ key → find nat_cmp key (e ∷ es) ≡ Some e.1
 finds_here es e key is = ap (λ b. cond b (Some e.1) (find nat_cmp key es)) (unsigned_tied key e.0 ∙ eq-eqb key e.0 (sym is))
@@ -90,17 +90,17 @@ module _ (slots : List Slot) (len : ℕ) (le : len ≤ length slots) where
   unknown_at key none = get-from_entries nat_cmp_total (rows_of slots len) key ∙ unknown key none
 
   -- a slot that keeps its key
-  pub rows_after_set : AreDifferent slots len → (i : ℕ) (slot : Slot) → i < len → slot.key ≡ key_at slots i → rows_of (set slots i slot) len ≡ set (rows_of slots len) i (row_of slot)
+  pub rows_after_set : AreDifferent slots len → (i : ℕ) (slot : Slot) → i < len → key_in slot ≡ key_at slots i → rows_of (set slots i slot) len ≡ set (rows_of slots len) i (row_of slot)
   rows_after_set different i slot lt same = ap (λ xs. map row_of xs) (take-set-lt len slots i slot lt) ∙ map-set row_of (take len slots) i slot
 
-  pub known_after_set : AreDifferent slots len → (i : ℕ) (slot : Slot) → i < len → slot.key ≡ key_at slots i → from_entries {R = nat_cmp} (rows_of (set slots i slot) len) ≡ insert (from_entries (rows_of slots len)) slot.key (row_of slot).1
+  pub known_after_set : AreDifferent slots len → (i : ℕ) (slot : Slot) → i < len → key_in slot ≡ key_at slots i → from_entries {R = nat_cmp} (rows_of (set slots i slot) len) ≡ insert (from_entries (rows_of slots len)) (key_in slot) (row_of slot).1
   known_after_set different i slot lt same =
       let within : i < length (rows_of slots len) = let e : length (rows_of slots len) ≡ len = length_of_rows slots len le in omega arith in
       ap (λ es. from_entries {R = nat_cmp} es) (rows_after_set different i slot lt same)
       ∙ same_map nat_cmp_total nat_cmp-IsAntisymmetric _ _ (λ q.
       get-from_entries nat_cmp_total (set (rows_of slots len) i (row_of slot)) q
-      ∙ finds_after_set (rows_of slots len) i slot.key (row_of slot).1 (row_of no_slot) within (ap (λ (r : ℕ × Known). r.0) (row_at slots len i le lt) ∙ sym same) (once different i slot.key lt (sym same)) q
-      ∙ sym (get-insert nat_cmp_total (from_entries (rows_of slots len)) slot.key (row_of slot).1 q ∙ ap (λ o. cond (eq_by_cmp nat_cmp q slot.key) (Some (row_of slot).1) o) (get-from_entries nat_cmp_total (rows_of slots len) q)))
+      ∙ finds_after_set (rows_of slots len) i (key_in slot) (row_of slot).1 (row_of no_slot) within (ap (λ (r : ℕ × Known). r.0) (row_at slots len i le lt) ∙ sym same) (once different i (key_in slot) lt (sym same)) q
+      ∙ sym (get-insert nat_cmp_total (from_entries (rows_of slots len)) (key_in slot) (row_of slot).1 q ∙ ap (λ o. cond (eq_by_cmp nat_cmp q (key_in slot)) (Some (row_of slot).1) o) (get-from_entries nat_cmp_total (rows_of slots len) q)))
 
   pub length_of_keys : length (map (λ (r : ℕ × Known). r.0) (rows_of slots len)) ≡ len
   length_of_keys = length-map (rows_of slots len) (λ (r : ℕ × Known). r.0) ∙ length_of_rows slots len le
@@ -151,9 +151,9 @@ module _ (slots : List Slot) (len : ℕ) (le : len ≤ length slots) where
       slice_get-get_or (keys ++ key ∷ []) len 0 (omega arith) ∙ ap (λ (k : ℕ). Some k) (get_or_push keys key 0 len e)
 
   -- the table with one slot changed that keeps its key
-  pub changed : AreDifferent slots len → (i room : ℕ) (slot : Slot) → i < len → slot.key ≡ key_at slots i
+  pub changed : AreDifferent slots len → (i room : ℕ) (slot : Slot) → i < len → key_in slot ≡ key_at slots i
       → (let t : Table = record { keys = map (λ (r : ℕ × Known). r.0) (rows_of (set slots i slot) len); known = from_entries (rows_of (set slots i slot) len); room = room } in t)
-      ≡ (let t : Table = record { keys = map (λ (r : ℕ × Known). r.0) (rows_of slots len); known = insert (from_entries (rows_of slots len)) slot.key (row_of slot).1; room = room } in t)
+      ≡ (let t : Table = record { keys = map (λ (r : ℕ × Known). r.0) (rows_of slots len); known = insert (from_entries (rows_of slots len)) (key_in slot) (row_of slot).1; room = room } in t)
   changed different i room slot lt same =
       let keys_same : map (λ (r : ℕ × Known). r.0) (rows_of (set slots i slot) len) ≡ map (λ (r : ℕ × Known). r.0) (rows_of slots len) =
       ap (λ rows. map (λ (r : ℕ × Known). r.0) rows) (rows_after_set different i slot lt same) ∙ map-set_same (λ (r : ℕ × Known). r.0) (rows_of slots len) i (row_of slot) (row_of no_slot) (same ∙ ap (λ (r : ℕ × Known). r.0) (sym (row_at slots len i le lt))) in

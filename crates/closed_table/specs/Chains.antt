@@ -1,44 +1,55 @@
 -- Slots in chains by the hashes of their keys.
 --
--- As many chains as there are slots: when a slot is added, one chain is added and takes its slots from one other
--- chain. What a head and a link have to be is a function of the keys alone: in each chain a later slot stands
--- before an earlier one.
-use Rattle.std.specs.Prelude.{ℕ, ◌≡◌, ◌≢◌, ◌<◌, ◌≤◌, ◌+◌, ◌-◌, ◌*◌, ◌/◌, ◌%◌, ◌^◌, ◌==◌, ◌⊎◌, nat_lt, cond, zero, suc, List, length, map, take, slice_index_or, bit_or, false}
+-- One chain for five slots: with each fifth slot one chain is added and takes its slots from one other chain. The
+-- bucket of a chain has the places and the hashes of its first seven slots, and the others hang in a list. What a
+-- bucket and a link have to be is a function of the keys alone.
+use Rattle.std.specs.Prelude.{ℕ, ◌≡◌, ◌≢◌, ◌<◌, ◌≤◌, ◌+◌, ◌-◌, ◌*◌, ◌/◌, ◌%◌, ◌^◌, ◌==◌, ◌⊎◌, nat_lt, cond, not, zero, suc, Bool, List, length, map, take, set, replicate, slice_index_or, slice_index, bit_or, false}
 use Rattle.board.specs.declared.moves.Move.TheVariants.{U}
 use Rattle.world_model.specs.declared.parts.Known.{Known}
 use Rattle.closed_table.specs.declared.index.Slot.{Slot}
-use Rattle.closed_table.specs.declared.index.Head.{Head}
+use Rattle.closed_table.specs.declared.index.Bucket.{Bucket}
 
 -- the hash of a key
 unfoldable pub hash_of : ℕ → ℕ
 hash_of key = key * 0x9E3779B97F4A7C15F39CC0605CEDC835 % 2 ^ 128 / 2 ^ 96
+
+-- how many chains there are for so many slots
+abbrev pub chain_count : ℕ → ℕ
+chain_count len = (len + 4) / 5
 
 -- the chain of a hash among n chains, of which there are at most 2 ^ bits and at least half of that: the last bits of
 -- the hash, or one bit less where there is no such chain yet
 unfoldable pub place : ℕ → ℕ → ℕ → ℕ
 place bits n hash = cond (nat_lt (hash % 2 ^ bits) n) (hash % 2 ^ bits) (hash % 2 ^ bits - 2 ^ bits / 2)
 
--- the head of a chain with no slot
-abbrev pub no_head : Head
-no_head = record { first = 0; filter = 0 }
+-- the bucket of a chain with no slot
+abbrev pub no_bucket : Bucket
+no_bucket = record { hashes = replicate 7 0; link = 0; filter = 0; count = 0; places = replicate 7 0 }
 
--- the head of a chain after a slot was put before the others: its link, and a bit for its hash
-abbrev pub head_with : Head → ℕ → ℕ → Head
-head_with head link hash = record { first = link; filter = bit_or head.filter (1 * 2 ^ (hash / 2 ^ 27) % 2 ^ 32) }
+-- the bucket of a chain after a slot was put behind the others: it is one of the first seven, or the first of the list,
+-- with a bit for its hash
+abbrev pub bucket_with : Bucket → ℕ → ℕ → Bucket
+bucket_with bucket place hash = cond (nat_lt bucket.count 7)
+    (record bucket { hashes = set bucket.hashes bucket.count hash; places = set bucket.places bucket.count place; count = bucket.count + 1 })
+    (record bucket { link = place + 1; filter = bit_or bucket.filter (1 * 2 ^ (hash / 2 ^ 28) % 2 ^ 16) })
 
--- the head of a chain that has those of the first so many slots that belong to it
-unfoldable pub head_of : (ℕ → ℕ) → (ℕ → ℕ) → ℕ → ℕ → Head
-head_of chains hashes chain zero = no_head
-head_of chains hashes chain (suc i) = cond (chains i == chain) (head_with (head_of chains hashes chain i) (suc i) (hashes i)) (head_of chains hashes chain i)
+-- the bucket of a chain that has those of the first so many slots that belong to it
+unfoldable pub bucket_of : (ℕ → ℕ) → (ℕ → ℕ) → ℕ → ℕ → Bucket
+bucket_of chains hashes chain zero = no_bucket
+bucket_of chains hashes chain (suc i) = cond (chains i == chain) (bucket_with (bucket_of chains hashes chain i) i (hashes i)) (bucket_of chains hashes chain i)
 
 abbrev pub no_slot : Slot
-no_slot = record { key = 0; cost = 0; hash = 0; next = 0; via = U; expanded = false }
+no_slot = record { high = 0; low = 0; cost = 0; via = U; expanded = false }
+
+-- the key of a slot, which has it in two halves
+abbrev pub key_in : Slot → ℕ
+key_in slot = slot.high * 2 ^ 64 + slot.low
 
 abbrev pub slot_at : List Slot → ℕ → Slot
 slot_at slots i = slice_index_or slots i no_slot
 
 abbrev pub key_at : List Slot → ℕ → ℕ
-key_at slots i = (slot_at slots i).key
+key_at slots i = key_in (slot_at slots i)
 
 abbrev pub hash_at : List Slot → ℕ → ℕ
 hash_at slots i = hash_of (key_at slots i)
@@ -46,49 +57,65 @@ hash_at slots i = hash_of (key_at slots i)
 abbrev pub chain_at : List Slot → ℕ → ℕ → ℕ → ℕ
 chain_at slots bits n i = place bits n (hash_at slots i)
 
--- the head of a chain, among n, that has those of the first so many slots that belong to it
-abbrev pub head_at : List Slot → ℕ → ℕ → ℕ → ℕ → Head
-head_at slots bits n chain i = head_of (chain_at slots bits n) (hash_at slots) chain i
+-- the bucket of a chain, among n, that has those of the first so many slots that belong to it
+abbrev pub bucket_at : List Slot → ℕ → ℕ → ℕ → ℕ → Bucket
+bucket_at slots bits n chain i = bucket_of (chain_at slots bits n) (hash_at slots) chain i
 
--- the first slots, as many as this, hang in n chains
-pub record IsIndexed (slots : List Slot) (heads : List Head) (len n bits : ℕ) : Type 0 where
+-- the first slots, as many as this, are in n chains; the links of those are right that are in no bucket
+pub record IsIndexed (slots : List Slot) (links : List ℕ) (buckets : List Bucket) (len n bits : ℕ) : Type 0 where
   pub small : bits ≤ 32
   pub low : 2 ^ bits / 2 ≤ n
   pub high : n ≤ 2 ^ bits
+  pub few : len < 2 ^ 32
   pub in_slots : len ≤ length slots
-  pub in_heads : n ≤ length heads
-  pub hashes : (i : ℕ) → i < len → (slot_at slots i).hash ≡ hash_at slots i
-  pub starts : (chain : ℕ) → chain < n → slice_index_or heads chain no_head ≡ head_at slots bits n chain len
-  pub links : (i : ℕ) → i < len → (slot_at slots i).next ≡ (head_at slots bits n (chain_at slots bits n i) i).first
+  pub in_links : len ≤ length links
+  pub in_buckets : n ≤ length buckets
+  pub starts : (chain : ℕ) → chain < n → slice_index_or buckets chain no_bucket ≡ bucket_at slots bits n chain len
+  pub nexts : (i : ℕ) → i < len → (bucket_at slots bits n (chain_at slots bits n i) i).count ≡ 7 → slice_index links i ≡ (bucket_at slots bits n (chain_at slots bits n i) i).link
   pub different : (i j : ℕ) → i < len → j < len → key_at slots i ≡ key_at slots j → i ≡ j
-
--- all of a slot but its link
-abbrev pub without_link : Slot → Slot
-without_link slot = record slot { next = 0 }
 
 -- what a slot says of its key
 abbrev pub row_of : Slot → ℕ × Known
-row_of slot = (slot.key, record { cost = slot.cost; expanded = slot.expanded; via = slot.via })
+row_of slot = (key_in slot, record { cost = slot.cost; expanded = slot.expanded; via = slot.via })
 
 abbrev pub rows_of : List Slot → ℕ → List (ℕ × Known)
 rows_of slots len = map row_of (take len slots)
 
--- a chain can be divided from this link on
-pub record MayBeRelinked (slots : List Slot) (bits n from link : ℕ) : Type 0 where
+-- whether a hash stays in its chain when one is added to n, or goes to the one that is added
+abbrev pub stays : ℕ → ℕ → ℕ → ℕ → Bool
+stays bits n from hash = place bits (n + 1) hash == from
+
+abbrev pub goes : ℕ → ℕ → ℕ → ℕ → Bool
+goes bits n from hash = not (place bits (n + 1) hash == from)
+
+-- of the first so many slots in a bucket, the bucket of those whose hash passes a test
+unfoldable pub part_of : (ℕ → Bool) → Bucket → ℕ → Bucket
+part_of test bucket zero = no_bucket
+part_of test bucket (suc k) = cond (test (slice_index bucket.hashes k)) (bucket_with (part_of test bucket k) (slice_index bucket.places k) (slice_index bucket.hashes k)) (part_of test bucket k)
+
+-- two buckets are the halves of the slots of a chain before each place where its bucket is as full as in the end, and
+-- its list begins with this link
+abbrev pub AreHalves : List Slot → ℕ → ℕ → ℕ → ℕ → ℕ → Bucket → Bucket → Type 0
+AreHalves slots len bits n from link stay go = (m : ℕ) → m ≤ len → (bucket_at slots bits n from m).count ≡ (bucket_at slots bits n from len).count → (bucket_at slots bits n from m).link ≡ link → (stay ≡ bucket_at slots bits (n + 1) from m) × (go ≡ bucket_at slots bits (n + 1) n m)
+
+-- the list of a chain can be divided from this link on, after what stands before the list
+pub record MayBeRelinked (slots : List Slot) (links : List ℕ) (len bits n from link : ℕ) (stay go : Bucket) : Type 0 where
   pub small : bits ≤ 32
   pub low : 2 ^ bits / 2 ≤ n
-  pub high : n < 2 ^ bits
+  pub few : n ≤ len
   pub halved : from ≡ n - 2 ^ bits / 2
   pub some : from < n
-  pub in_slots : link ≤ length slots
-  pub hashes : (i : ℕ) → i < link → (slot_at slots i).hash ≡ hash_at slots i
-  pub links : (i : ℕ) → i < link → chain_at slots bits n i ≡ from → (slot_at slots i).next ≡ (head_at slots bits n from i).first
-  pub newest : link ≡ (head_at slots bits n from link).first
+  pub within : link ≤ len
+  pub short : len < 2 ^ 32
+  pub in_slots : len ≤ length slots
+  pub in_links : len ≤ length links
+  pub nexts : (i : ℕ) → i < len → chain_at slots bits n i ≡ from → (bucket_at slots bits n from i).count ≡ 7 → slice_index links i ≡ (bucket_at slots bits n from i).link
+  pub newest : link ≡ (bucket_at slots bits n from link).link
+  pub halves : AreHalves slots len bits n from 0 stay go
 
--- it was divided: heads and links are those of one chain more
-pub record IsRelinked (slots after : List Slot) (bits n from link : ℕ) (stay go : Head) : Type 0 where
-  pub same : map without_link after ≡ map without_link slots
-  pub stay_is : stay ≡ head_at slots bits (n + 1) from link
-  pub go_is : go ≡ head_at slots bits (n + 1) n link
-  pub links : (i : ℕ) → i < link → chain_at slots bits n i ≡ from → (slot_at after i).next ≡ (head_at slots bits (n + 1) (chain_at slots bits (n + 1) i) i).first
-  pub others : (i : ℕ) → (link ≤ i) ⊎ (chain_at slots bits n i ≢ from) → slot_at after i ≡ slot_at slots i
+-- it was divided: buckets and links are those of one chain more
+pub record IsRelinked (slots : List Slot) (links after : List ℕ) (len bits n from link : ℕ) (stay go : Bucket) : Type 0 where
+  pub same : length after ≡ length links
+  pub halves : AreHalves slots len bits n from link stay go
+  pub nexts : (i : ℕ) → i < link → chain_at slots bits n i ≡ from → (bucket_at slots bits n from i).count ≡ 7 → slice_index after i ≡ (bucket_at slots bits (n + 1) (chain_at slots bits (n + 1) i) i).link
+  pub others : (i : ℕ) → (link ≤ i) ⊎ (chain_at slots bits n i ≢ from) → slice_index after i ≡ slice_index links i

@@ -1,11 +1,12 @@
 //! Slots in chains by the hashes of their keys.
 
 ghost use Rattle.std.specs.Prelude.{◌≡◌, ◌≢◌, ◌<◌, ◌≤◌, ◌+◌, ◌-◌, ◌/◌, ◌^◌, ◌++◌, ◌∷◌, [], ℕ};
-ghost use Rattle.std.specs.Prelude.{false, length, List, map, MatchOption, OnOk};
-ghost use Rattle.std.specs.Prelude.{slice_index_or, slice_set};
+ghost use Rattle.std.specs.Prelude.{false, length, List, MatchOption, OnOk};
+ghost use Rattle.std.specs.Prelude.{slice_index, slice_set};
 ghost use Rattle.world_model.specs.declared.parts.Known.{Known};
-ghost use Rattle.closed_table.specs.Chains.{hash_of, place, head_with, IsIndexed, key_at};
-ghost use Rattle.closed_table.specs.Chains.{without_link, rows_of, IsRelinked, MayBeRelinked};
+ghost use Rattle.closed_table.specs.Chains.{hash_of, place, bucket_with, IsIndexed, key_at};
+ghost use Rattle.closed_table.specs.Chains.{key_in, chain_count, rows_of, part_of};
+ghost use Rattle.closed_table.specs.Chains.{stays, goes, IsRelinked, MayBeRelinked};
 
 use board::Move;
 use memory::{OutOfMemory, Pages};
@@ -14,33 +15,61 @@ use std::alloc::Global;
 // An odd number with no pattern in its bits.
 const FACTOR: u128 = 0x9E37_79B9_7F4A_7C15_F39C_C060_5CED_C835;
 
-// One known board. The link to the next one in its chain is that one's place and 1 more, and 0 at
-// the end of the chain.
+// Of how many slots a bucket has the places and the hashes.
+const ENTRIES: usize = 7;
+
+// How many slots there are for each chain.
+const LOAD: usize = 5;
+
+// One known board. Its key is in two halves, so that a slot takes 24 bytes.
 #[derive(Clone, Copy)]
 pub(crate) struct Slot {
-    pub(crate) key: u128,
+    pub(crate) high: u64,
+    pub(crate) low: u64,
     pub(crate) cost: u32,
-    pub(crate) hash: u32,
-    pub(crate) next: u32,
     pub(crate) via: Move,
     pub(crate) expanded: bool,
 }
 
-// Where a chain begins, and a bit for each hash in it.
+// The slots of a chain, in a cache line: the hashes and the places of the first ones. The others
+// hang in a list, the last one first, and there is a bit for each hash among them. A link is the
+// place of a slot and 1 more, and 0 at the end of a list.
 #[derive(Clone, Copy)]
-pub(crate) struct Head {
-    pub(crate) first: u32,
-    pub(crate) filter: u32,
+pub(crate) struct Bucket {
+    pub(crate) hashes: [u32; ENTRIES],
+    pub(crate) link: u32,
+    pub(crate) filter: u16,
+    pub(crate) count: u8,
+    pub(crate) places: [u32; ENTRIES],
 }
 
-// Slots in order of arrival, and the chains in which they hang by the hashes of their keys: as many
-// chains as there are slots. In each chain the later slot stands before the earlier one.
+// The bucket of a chain with no slot.
+pub(crate) const NO_BUCKET: Bucket = Bucket {
+    hashes: [0; ENTRIES],
+    link: 0,
+    filter: 0,
+    count: 0,
+    places: [0; ENTRIES],
+};
+
+// Slots in order of arrival, and the chains to which they belong by the hashes of their keys: one
+// chain for five slots. A link leads from a slot that is in no bucket to the one before it in its
+// chain.
 #[derive(Drop)]
 pub(crate) struct Index {
     pub(crate) slots: Pages<Slot>,
-    pub(crate) heads: Pages<Head>,
+    pub(crate) links: Pages<u32>,
+    pub(crate) buckets: Pages<Bucket>,
     pub(crate) len: usize,
     pub(crate) bits: u32,
+}
+
+// The two buckets that become of one: that of the slots that stay in its chain, and that of those
+// that belong to the chain that is added.
+#[derive(Clone, Copy)]
+struct Halves {
+    stay: Bucket,
+    go: Bucket,
 }
 
 // Makes pages of an item until there are this many places, and one more, past a length. The pages
@@ -70,6 +99,14 @@ pub(crate) fn hash(key: u128) -> u32
     (key.wrapping_mul(FACTOR) >> 96) as u32
 }
 
+// How many chains there are for so many slots.
+pub(crate) fn chain_count_of(len: usize) -> usize
+    requires { len ≤ 2 ^ 33 }
+    ensures { result ≡ chain_count len }
+{
+    (len + (LOAD - 1)) / LOAD
+}
+
 // The chain to which a hash belongs, among so many chains.
 fn chain_of(hash: u32, bits: u32, chains: usize) -> usize
     requires small { bits ≤ 32 }
@@ -84,20 +121,71 @@ fn chain_of(hash: u32, bits: u32, chains: usize) -> usize
     }
 }
 
-// The head of a chain after a slot was put before the others.
-fn with_first(head: Head, link: u32, hash: u32) -> Head
-    ensures { result ≡ head_with head link hash }
+// The slot of a board that is met the first time.
+fn new_slot(key: u128, cost: u32, via: Move) -> Slot
+    ensures key { key_in result ≡ key }
+    ensures cost { result.cost ≡ cost }
+    ensures expanded { result.expanded ≡ false }
+    ensures via { result.via ≡ via }
 {
-    Head {
-        first: link,
-        filter: head.filter | (1u32 << (hash >> 27)),
+    Slot {
+        high: (key / 0x1_0000_0000_0000_0000) as u64,
+        low: (key % 0x1_0000_0000_0000_0000) as u64,
+        cost,
+        via,
+        expanded: false,
     }
+}
+
+// The key of a slot.
+pub(crate) fn key_of(slot: Slot) -> u128
+    ensures { result ≡ key_in slot }
+{
+    slot.high as u128 * 0x1_0000_0000_0000_0000 + slot.low as u128
+}
+
+// Puts a slot after the others of a chain.
+fn put(bucket: &mut Bucket, place: usize, hash: u32)
+    requires { place < 2 ^ 32 - 1 }
+    ensures { bucket.new ≡ bucket_with bucket.old place hash }
+{
+    let count = bucket.count as usize;
+    if count < ENTRIES {
+        bucket.hashes[count] = hash;
+        bucket.places[count] = place as u32;
+        bucket.count += 1;
+    } else {
+        bucket.link = place as u32 + 1;
+        bucket.filter |= 1u16 << (hash >> 28);
+    }
+}
+
+// The place of a key among the slots that a bucket has itself.
+fn find_inside(bucket: &Bucket, slots: &Pages<Slot>, key: u128, hash: u32) -> Option<usize>
+    requires count { bucket.now.count ≤ 7 }
+    requires places { (k : ℕ) → k < bucket.now.count
+        → slice_index bucket.now.places k < length slots.now }
+    ensures { MatchOption result
+        ((k : ℕ) → k < bucket.now.count → slice_index bucket.now.hashes k ≡ hash
+        → key_at slots.now (slice_index bucket.now.places k) ≢ key)
+        (λ i. (key_at slots.now i ≡ key)
+        × (k : ℕ) × (k < bucket.now.count) × (i ≡ slice_index bucket.now.places k)) }
+{
+    'entries: for k in 0..bucket.count as usize {
+        if bucket.hashes[k] == hash {
+            let place = bucket.places[k] as usize;
+            if key_of(slots.get(place)) == key {
+                return Some(place);
+            }
+        }
+    }
+    None
 }
 
 // The place of a key among the slots.
 pub(crate) fn find(index: &Index, key: u128, hash: u32) -> Option<usize>
-    requires indexed { IsIndexed index.now.slots index.now.heads index.now.len index.now.len
-        index.now.bits }
+    requires indexed { IsIndexed index.now.slots index.now.links index.now.buckets index.now.len
+        (chain_count index.now.len) index.now.bits }
     requires hash { hash ≡ hash_of key }
     ensures { MatchOption result
         ((i : ℕ) → i < index.now.len → key_at index.now.slots i ≢ key)
@@ -106,105 +194,104 @@ pub(crate) fn find(index: &Index, key: u128, hash: u32) -> Option<usize>
     if index.len == 0 {
         return None;
     }
-    let head = index.heads.get(chain_of(hash, index.bits, index.len));
-    if head.filter & (1u32 << (hash >> 27)) == 0 {
+    let chain = chain_of(hash, index.bits, chain_count_of(index.len));
+    let bucket = index.buckets.get(chain);
+    if let Some(inside) = find_inside(&bucket, &index.slots, key, hash) {
+        return Some(inside);
+    }
+    if bucket.filter & (1u16 << (hash >> 28)) == 0 {
         return None;
     }
-    let mut link = head.first;
-    'chain: while link != 0 {
+    let mut link = bucket.link;
+    'list: while link != 0 {
         let place = link as usize - 1;
-        let slot = index.slots.get(place);
-        if slot.key == key {
+        if key_of(index.slots.get(place)) == key {
             return Some(place);
         }
-        link = slot.next;
+        link = index.links.get(place);
     }
     None
 }
 
-// The first link of a chain, or of the last one where there are not so many.
-fn first_link(index: &Index, chain: usize) -> u32
-    requires some { 0 < index.now.len }
-    requires heads { index.now.len ≤ length index.now.heads }
-{
-    index.heads.get(chain.min(index.len - 1)).first
-}
-
-// The link of the slot to which a link leads, or of some slot where it leads to none: no branch
-// waits for what was read.
-fn link_after(index: &Index, link: u32) -> u32
-    requires some { 0 < index.now.len }
-    requires slots { index.now.len ≤ length index.now.slots }
-{
-    let place = link.saturating_sub(1) as usize;
-    index.slots.get(place.min(index.len - 1)).next
-}
-
-// How many chains before it is divided a chain's first slot is read ahead, and its second one.
-const FIRST_AHEAD: usize = 6;
-
-const SECOND_AHEAD: usize = 3;
-
-// Reads the heads that `find` will read of these keys, and the slots that `add` will read of the
-// chains that come next to be divided, so that the reads of memory overlap. The answer means
-// nothing.
+// Reads the buckets that `find` will read of these keys, so that the reads of memory overlap. The
+// answer means nothing.
 pub(crate) fn read_ahead(index: &Index, keys: &[u128]) -> u32
-    requires indexed { IsIndexed index.now.slots index.now.heads index.now.len index.now.len
-        index.now.bits }
+    requires indexed { IsIndexed index.now.slots index.now.links index.now.buckets index.now.len
+        (chain_count index.now.len) index.now.bits }
 {
     if index.len == 0 {
         return 0;
     }
+    let chains = chain_count_of(index.len);
     let mut all = 0;
-    let mut divided = index.len - (1usize << index.bits) / 2;
     'keys: for key in keys {
-        all ^= link_after(index, first_link(index, divided.wrapping_add(FIRST_AHEAD)));
-        let first = first_link(index, divided.wrapping_add(SECOND_AHEAD));
-        all ^= link_after(index, link_after(index, first));
-        all ^= first_link(index, chain_of(hash(*key), index.bits, index.len));
-        divided = divided.wrapping_add(1);
+        let bucket = index.buckets.get(chain_of(hash(*key), index.bits, chains));
+        all ^= bucket.hashes[0] ^ bucket.places[ENTRIES - 1];
     }
     all
 }
 
-// Gives a slot this link, and writes nothing where it has it.
-fn set_link(slots: &mut Pages<Slot>, place: usize, slot: Slot, link: u32)
-    requires within { place < length slots.old }
-    requires slot { slot ≡ slice_index_or slots.old place slot }
-    ensures { slots.new ≡ slice_set slots.old place (record slot { next = link }) }
+// Divides the slots that a bucket has itself.
+fn divided(bucket: &Bucket, bits: u32, chains: usize, from: usize) -> Halves
+    requires small { bits ≤ 32 }
+    requires low { 2 ^ bits / 2 ≤ chains }
+    requires few { chains < 2 ^ 32 }
+    requires count { bucket.now.count ≤ 7 }
+    requires places { (k : ℕ) → k < bucket.now.count
+        → slice_index bucket.now.places k < 2 ^ 32 - 1 }
+    ensures stay { result.stay ≡ part_of (stays bits chains from) bucket.now bucket.now.count }
+    ensures go { result.go ≡ part_of (goes bits chains from) bucket.now bucket.now.count }
 {
-    if slot.next != link {
-        slots.set(place, Slot { next: link, ..slot });
+    let mut halves = Halves {
+        stay: NO_BUCKET,
+        go: NO_BUCKET,
+    };
+    'entries: for k in 0..bucket.count as usize {
+        let hash = bucket.hashes[k];
+        let place = bucket.places[k] as usize;
+        if chain_of(hash, bits, chains + 1) == from {
+            put(&mut halves.stay, place, hash);
+        } else {
+            put(&mut halves.go, place, hash);
+        }
     }
+    halves
 }
 
-// Divides what is left of a chain, from a link on, in two: the slots that stay, and those that
-// belong to the chain that is added.
-fn relink(slots: &mut Pages<Slot>, bits: u32, chains: usize, from: usize, link: u32) -> (Head, Head)
-    requires { MayBeRelinked slots.old bits chains from link }
-    ensures { IsRelinked slots.old slots.new bits chains from link result.0 result.1 }
+// Puts a slot of a list into its half, and gives it the link of that half.
+fn put_linked(links: &mut Pages<u32>, half: &mut Bucket, place: usize, hash: u32)
+    requires within { place < length links.old }
+    requires small { place < 2 ^ 32 - 1 }
+    ensures links { links.new ≡ slice_set links.old place half.old.link }
+    ensures half { half.new ≡ bucket_with half.old place hash }
+{
+    links.set(place, half.link);
+    put(half, place, hash);
+}
+
+// Divides what is left of the list of a chain, from a link on. The last slot of the list came
+// first, and is put first.
+fn relink(index: &mut Index, chains: usize, from: usize, link: u32, halves: &mut Halves)
+    requires { MayBeRelinked index.old.slots index.old.links index.old.len index.old.bits chains
+        from link halves.old.stay halves.old.go }
+    ensures done { IsRelinked index.old.slots index.old.links index.new.links index.old.len
+        index.old.bits chains from link halves.new.stay halves.new.go }
+    ensures slots { index.new.slots ≡ index.old.slots }
+    ensures buckets { index.new.buckets ≡ index.old.buckets }
+    ensures len { index.new.len ≡ index.old.len }
+    ensures bits { index.new.bits ≡ index.old.bits }
 {
     if link == 0 {
-        return (
-            Head {
-                first: 0,
-                filter: 0,
-            },
-            Head {
-                first: 0,
-                filter: 0,
-            },
-        );
+        return;
     }
     let place = link as usize - 1;
-    let slot = slots.get(place);
-    let halves = relink(slots, bits, chains, from, slot.next);
-    if chain_of(slot.hash, bits, chains + 1) == from {
-        set_link(slots, place, slot, halves.0.first);
-        (with_first(halves.0, link, slot.hash), halves.1)
+    let next = index.links.get(place);
+    relink(index, chains, from, next, halves);
+    let hash = hash(key_of(index.slots.get(place)));
+    if chain_of(hash, index.bits, chains + 1) == from {
+        put_linked(&mut index.links, &mut halves.stay, place, hash);
     } else {
-        set_link(slots, place, slot, halves.1.first);
-        (halves.0, with_first(halves.1, link, slot.hash))
+        put_linked(&mut index.links, &mut halves.go, place, hash);
     }
 }
 
@@ -227,69 +314,75 @@ fn bits_for_more(bits: u32, chains: usize) -> u32
 
 // Adds a chain, and divides the one chain that it halves.
 fn add_chain(index: &mut Index)
-    requires indexed { IsIndexed index.old.slots index.old.heads index.old.len index.old.len
-        index.old.bits }
-    requires room { index.old.len < length index.old.heads }
-    requires small { index.old.len < 2 ^ 32 - 1 }
-    ensures indexed { IsIndexed index.new.slots index.new.heads index.old.len (index.old.len + 1)
-        index.new.bits }
+    requires indexed { IsIndexed index.old.slots index.old.links index.old.buckets index.old.len
+        (chain_count index.old.len) index.old.bits }
+    requires room { chain_count index.old.len < length index.old.buckets }
+    ensures indexed { IsIndexed index.new.slots index.new.links index.new.buckets index.old.len
+        (chain_count index.old.len + 1) index.new.bits }
     ensures len { index.new.len ≡ index.old.len }
-    ensures slots { map without_link index.new.slots ≡ map without_link index.old.slots }
-    ensures heads { length index.new.heads ≡ length index.old.heads }
+    ensures slots { index.new.slots ≡ index.old.slots }
+    ensures links { length index.new.links ≡ length index.old.links }
+    ensures buckets { length index.new.buckets ≡ length index.old.buckets }
 {
-    let chains = index.len;
+    let chains = chain_count_of(index.len);
     if chains == 0 {
-        index.heads.set(
-            0,
-            Head {
-                first: 0,
-                filter: 0,
-            },
-        );
+        index.buckets.set(0, NO_BUCKET);
         return;
     }
     let bits = bits_for_more(index.bits, chains);
     index.bits = bits;
     let from = chains - (1usize << bits) / 2;
-    let first = index.heads.get(from).first;
-    let halves = relink(&mut index.slots, bits, chains, from, first);
-    index.heads.set(from, halves.0);
-    index.heads.set(chains, halves.1);
+    let bucket = index.buckets.get(from);
+    let mut halves = divided(&bucket, bits, chains, from);
+    relink(index, chains, from, bucket.link, &mut halves);
+    index.buckets.set(from, halves.stay);
+    index.buckets.set(chains, halves.go);
+}
+
+// Makes as many chains as are wanted where a slot is added.
+fn make_chains(index: &mut Index)
+    requires indexed { IsIndexed index.old.slots index.old.links index.old.buckets index.old.len
+        (chain_count index.old.len) index.old.bits }
+    requires room { chain_count (index.old.len + 1) ≤ length index.old.buckets }
+    ensures indexed { IsIndexed index.new.slots index.new.links index.new.buckets index.old.len
+        (chain_count (index.old.len + 1)) index.new.bits }
+    ensures len { index.new.len ≡ index.old.len }
+    ensures slots { index.new.slots ≡ index.old.slots }
+    ensures links { length index.new.links ≡ length index.old.links }
+    ensures buckets { length index.new.buckets ≡ length index.old.buckets }
+{
+    if index.len % LOAD != 0 {
+        return;
+    }
+    add_chain(index);
 }
 
 // Adds a slot for a key that has none.
 pub(crate) fn add(index: &mut Index, key: u128, hash: u32, cost: u32, via: Move)
-    requires indexed { IsIndexed index.old.slots index.old.heads index.old.len index.old.len
-        index.old.bits }
+    requires indexed { IsIndexed index.old.slots index.old.links index.old.buckets index.old.len
+        (chain_count index.old.len) index.old.bits }
     requires hash { hash ≡ hash_of key }
     requires absent { (i : ℕ) → i < index.old.len → key_at index.old.slots i ≢ key }
     requires slots { index.old.len < length index.old.slots }
-    requires heads { index.old.len < length index.old.heads }
+    requires links { index.old.len < length index.old.links }
+    requires buckets { chain_count (index.old.len + 1) ≤ length index.old.buckets }
     requires small { index.old.len < 2 ^ 32 - 1 }
-    ensures indexed { IsIndexed index.new.slots index.new.heads index.new.len index.new.len
-        index.new.bits }
+    ensures indexed { IsIndexed index.new.slots index.new.links index.new.buckets index.new.len
+        (chain_count index.new.len) index.new.bits }
     ensures len { index.new.len ≡ index.old.len + 1 }
     ensures rows { rows_of index.new.slots index.new.len ≡ rows_of index.old.slots index.old.len
         ++ (key, record { cost = cost; expanded = false; via = via }) ∷ [] }
     ensures slots { length index.new.slots ≡ length index.old.slots }
-    ensures heads { length index.new.heads ≡ length index.old.heads }
+    ensures links { length index.new.links ≡ length index.old.links }
+    ensures buckets { length index.new.buckets ≡ length index.old.buckets }
 {
-    add_chain(index);
+    make_chains(index);
     let place = index.len;
-    let chain = chain_of(hash, index.bits, place + 1);
-    let head = index.heads.get(chain);
-    let link = place as u32 + 1;
-    index.slots.set(
-        place,
-        Slot {
-            key,
-            cost,
-            hash,
-            next: head.first,
-            via,
-            expanded: false,
-        },
-    );
-    index.heads.set(chain, with_first(head, link, hash));
+    let chain = chain_of(hash, index.bits, chain_count_of(place + 1));
+    let mut bucket = index.buckets.get(chain);
+    index.links.set(place, bucket.link);
+    index.slots.set(place, new_slot(key, cost, via));
+    put(&mut bucket, place, hash);
+    index.buckets.set(chain, bucket);
     index.len = place + 1;
 }

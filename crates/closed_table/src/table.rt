@@ -6,7 +6,7 @@ ghost use Rattle.std.specs.FinMap as map;
 ghost use Rattle.closed_table.specs.Tables.{empty_table, IsTable, relaxation_answer};
 ghost use Rattle.closed_table.specs.Tables.{table_relaxation, table_closure};
 
-use crate::index::{self, Head, Index, Slot};
+use crate::index::{self, Index, NO_BUCKET, Slot};
 use board::Move;
 use memory::{OutOfMemory, Pages};
 use std::alloc::Global;
@@ -15,17 +15,11 @@ use world_model::Known;
 
 // What stands in pages where nothing was put yet.
 const NO_SLOT: Slot = Slot {
-    key: 0,
+    high: 0,
+    low: 0,
     cost: 0,
-    hash: 0,
-    next: 0,
     via: Move::U,
     expanded: false,
-};
-
-const NO_HEAD: Head = Head {
-    first: 0,
-    filter: 0,
 };
 
 /// What became of a board that was met at a cost.
@@ -41,9 +35,9 @@ pub enum Relaxed {
 
 /// Known boards, by their keys.
 ///
-/// They stand in pages, in order of arrival, and hang in as many chains by the hashes of their
-/// keys. When one is added, one chain is added and takes its boards from one other chain: no page
-/// is ever copied.
+/// They stand in pages, in order of arrival, and belong to chains by the hashes of their keys, to
+/// one chain for five boards. With each fifth board one chain is added and takes its boards from
+/// one other chain: no page is ever copied.
 #[derive(Drop)]
 pub struct Closed {
     index: Index,
@@ -74,7 +68,8 @@ impl Closed {
         Closed {
             index: Index {
                 slots: Pages::new(alloc),
-                heads: Pages::new(alloc),
+                links: Pages::new(alloc),
+                buckets: Pages::new(alloc),
                 len: 0,
                 bits: 0,
             },
@@ -114,7 +109,7 @@ impl Closed {
     {
         let slot = self.index.slots.get(place);
         (
-            slot.key,
+            index::key_of(slot),
             Known {
                 cost: slot.cost,
                 expanded: slot.expanded,
@@ -133,7 +128,9 @@ impl Closed {
         }
         let len = self.index.len;
         index::grow_to(&mut self.index.slots, alloc, len, count, NO_SLOT)?;
-        index::grow_to(&mut self.index.heads, alloc, len, count, NO_HEAD)?;
+        index::grow_to(&mut self.index.links, alloc, len, count, 0)?;
+        let chains = index::chain_count_of(len + count);
+        index::grow_to(&mut self.index.buckets, alloc, 0, chains, NO_BUCKET)?;
         self.room = count;
         Ok(())
     }

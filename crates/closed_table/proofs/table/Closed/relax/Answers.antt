@@ -14,10 +14,16 @@ add-requires-clause-slots c =
     let le = c.self.invariant.slots in
     omega arith
 
-pub add-requires-clause-heads : goal.add-requires-clause-heads
-add-requires-clause-heads c =
+pub add-requires-clause-links : goal.add-requires-clause-links
+add-requires-clause-links c =
     let room : 0 < c.self.inside.room = has_room c.self.inside c.self.invariant c.args.self.now c.self.view_is c.args.key c.in_default.ensures c.requires in
-    let le = c.self.invariant.heads in
+    let le = c.self.invariant.links in
+    omega arith
+
+pub add-requires-clause-buckets : goal.add-requires-clause-buckets
+add-requires-clause-buckets c =
+    let room : 0 < c.self.inside.room = has_room c.self.inside c.self.invariant c.args.self.now c.self.view_is c.args.key c.in_default.ensures c.requires in
+    let le = c.self.invariant.buckets in
     omega arith
 
 pub add-requires-clause-small : goal.add-requires-clause-small
@@ -39,7 +45,8 @@ invariant_of-self c =
     record {
       indexed = c.add.ensures.indexed;
       slots = let le = c.self.invariant.slots in let e = c.add.ensures.slots in omega arith;
-      heads = let le = c.self.invariant.heads in let e = c.add.ensures.heads in omega arith;
+      links = let le = c.self.invariant.links in let e = c.add.ensures.links in omega arith;
+      buckets = let le = c.self.invariant.buckets in let e = c.add.ensures.buckets in omega arith;
       few = let le = c.self.invariant.few in omega arith;
     }
 
