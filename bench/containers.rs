@@ -9,8 +9,8 @@ use std::process::ExitCode;
 
 const FACTOR: u128 = 0x9E37_79B9_7F4A_7C15_F39C_C060_5CED_C835;
 const PAGE: usize = 4096;
-const FIRST_AHEAD: usize = 6;
-const SECOND_AHEAD: usize = 3;
+const ENTRIES: usize = 7;
+const LOAD: usize = 5;
 
 #[derive(Clone, Copy, PartialEq)]
 enum Answer {
@@ -21,18 +21,46 @@ enum Answer {
 
 #[derive(Clone, Copy)]
 struct Slot {
-    key: u128,
+    high: u64,
+    low: u64,
     cost: u32,
-    hash: u32,
-    next: u32,
     via: u8,
     expanded: bool,
 }
 
+impl Slot {
+    fn key(self) -> u128 {
+        (self.high as u128) << 64 | self.low as u128
+    }
+}
+
 #[derive(Clone, Copy)]
-struct Head {
-    first: u32,
-    filter: u32,
+#[repr(C)]
+struct Bucket {
+    hashes: [u32; ENTRIES],
+    link: u32,
+    filter: u16,
+    count: u8,
+    places: [u32; ENTRIES],
+}
+
+impl Bucket {
+    fn put(&mut self, place: usize, hash: u32) {
+        let count = self.count as usize;
+        if count < ENTRIES {
+            self.hashes[count] = hash;
+            self.places[count] = place as u32;
+            self.count += 1;
+        } else {
+            self.link = place as u32 + 1;
+            self.filter |= 1 << (hash >> 28);
+        }
+    }
+}
+
+struct Halves {
+    stay: Bucket,
+    go: Bucket,
 }
 
 struct Pages<T> {
@@ -74,7 +102,8 @@ trait Table {
 
 struct Closed {
     slots: Pages<Slot>,
-    heads: Pages<Head>,
+    links: Pages<u32>,
+    buckets: Pages<Bucket>,
     len: usize,
     bits: u32,
     room: usize,
@@ -90,21 +119,19 @@ fn chain_of(hash: u32, bits: u32, chains: usize) -> usize {
     if wide < chains { wide } else { wide - (1 << bits) / 2 }
 }
 
-fn with_first(head: Head, link: u32, hash: u32) -> Head {
-    Head {
-        first: link,
-        filter: head.filter | (1 << (hash >> 27)),
-    }
+fn chain_count(len: usize) -> usize {
+    len.div_ceil(LOAD)
 }
 
-const NO_HEAD: Head = Head { first: 0, filter: 0 };
-const NO_SLOT: Slot = Slot { key: 0, cost: 0, hash: 0, next: 0, via: 0, expanded: false };
+const NO_BUCKET: Bucket = Bucket { hashes: [0; ENTRIES], link: 0, filter: 0, count: 0, places: [0; ENTRIES] };
+const NO_SLOT: Slot = Slot { high: 0, low: 0, cost: 0, via: 0, expanded: false };
 
 impl Closed {
     fn new() -> Self {
         Closed {
             slots: Pages { pages: Vec::new() },
-            heads: Pages { pages: Vec::new() },
+            links: Pages { pages: Vec::new() },
+            buckets: Pages { pages: Vec::new() },
             len: 0,
             bits: 0,
             room: 0,
@@ -117,7 +144,8 @@ impl Closed {
             return;
         }
         self.slots.grow_to(self.len, count, NO_SLOT);
-        self.heads.grow_to(self.len, count, NO_HEAD);
+        self.links.grow_to(self.len, count, 0);
+        self.buckets.grow_to(0, chain_count(self.len + count), NO_BUCKET);
         self.room = count;
     }
 
@@ -125,78 +153,86 @@ impl Closed {
         if self.len == 0 {
             return None;
         }
-        let head = self.heads.get(chain_of(hash, self.bits, self.len));
-        if head.filter & (1 << (hash >> 27)) == 0 {
+        let bucket = self.buckets.get(chain_of(hash, self.bits, chain_count(self.len)));
+        for k in 0..(bucket.count as usize).min(ENTRIES) {
+            if bucket.hashes[k] == hash {
+                let place = bucket.places[k] as usize;
+                if self.slots.get(place).key() == key {
+                    return Some(place);
+                }
+            }
+        }
+        if bucket.filter & (1 << (hash >> 28)) == 0 {
             return None;
         }
-        let mut link = head.first;
+        let mut link = bucket.link;
         while link != 0 {
             let place = link as usize - 1;
-            let slot = self.slots.get(place);
-            if slot.key == key {
+            if self.slots.get(place).key() == key {
                 return Some(place);
             }
-            link = slot.next;
+            link = self.links.get(place);
         }
         None
     }
 
-    fn set_link(&mut self, place: usize, slot: Slot, link: u32) {
-        if slot.next != link {
-            self.slots.set(place, Slot { next: link, ..slot });
+    fn divided(&self, bucket: &Bucket, chains: usize, from: usize) -> Halves {
+        let mut halves = Halves { stay: NO_BUCKET, go: NO_BUCKET };
+        for k in 0..(bucket.count as usize).min(ENTRIES) {
+            let hash = bucket.hashes[k];
+            let place = bucket.places[k] as usize;
+            if chain_of(hash, self.bits, chains + 1) == from {
+                halves.stay.put(place, hash);
+            } else {
+                halves.go.put(place, hash);
+            }
         }
+        halves
     }
 
-    fn relink(&mut self, chains: usize, from: usize, link: u32) -> (Head, Head) {
+    fn relink(&mut self, chains: usize, from: usize, link: u32, halves: &mut Halves) {
         if link == 0 {
-            return (NO_HEAD, NO_HEAD);
+            return;
         }
         let place = link as usize - 1;
-        let slot = self.slots.get(place);
-        let halves = self.relink(chains, from, slot.next);
-        if chain_of(slot.hash, self.bits, chains + 1) == from {
-            self.set_link(place, slot, halves.0.first);
-            (with_first(halves.0, link, slot.hash), halves.1)
-        } else {
-            self.set_link(place, slot, halves.1.first);
-            (halves.0, with_first(halves.1, link, slot.hash))
-        }
+        let next = self.links.get(place);
+        self.relink(chains, from, next, halves);
+        let hash = hash_of(self.slots.get(place).key());
+        let half = if chain_of(hash, self.bits, chains + 1) == from { &mut halves.stay } else { &mut halves.go };
+        self.links.set(place, half.link);
+        half.put(place, hash);
     }
 
     fn add_chain(&mut self) {
-        let chains = self.len;
+        let chains = chain_count(self.len);
         if chains == 0 {
-            self.heads.set(0, NO_HEAD);
+            self.buckets.set(0, NO_BUCKET);
             return;
         }
         if chains == 1 << self.bits {
             self.bits += 1;
         }
         let from = chains - (1 << self.bits) / 2;
-        let first = self.heads.get(from).first;
-        let halves = self.relink(chains, from, first);
-        self.heads.set(from, halves.0);
-        self.heads.set(chains, halves.1);
+        let bucket = self.buckets.get(from);
+        let mut halves = self.divided(&bucket, chains, from);
+        self.relink(chains, from, bucket.link, &mut halves);
+        self.buckets.set(from, halves.stay);
+        self.buckets.set(chains, halves.go);
     }
 
     fn add(&mut self, key: u128, hash: u32, cost: u32, via: u8) {
-        self.add_chain();
+        if self.len.is_multiple_of(LOAD) {
+            self.add_chain();
+        }
         let place = self.len;
-        let chain = chain_of(hash, self.bits, place + 1);
-        let head = self.heads.get(chain);
-        let slot = Slot { key, cost, hash, next: head.first, via, expanded: false };
+        let chain = chain_of(hash, self.bits, chain_count(place + 1));
+        let mut bucket = self.buckets.get(chain);
+        self.links.set(place, bucket.link);
+        let slot = Slot { high: (key >> 64) as u64, low: key as u64, cost, via, expanded: false };
         self.slots.set(place, slot);
-        self.heads.set(chain, with_first(head, place as u32 + 1, hash));
+        bucket.put(place, hash);
+        self.buckets.set(chain, bucket);
         self.len = place + 1;
-    }
-
-    fn first_link(&self, chain: usize) -> u32 {
-        self.heads.get(chain.min(self.len - 1)).first
-    }
-
-    fn link_after(&self, link: u32) -> u32 {
-        let place = link.saturating_sub(1) as usize;
-        self.slots.get(place.min(self.len - 1)).next
     }
 }
 
@@ -228,7 +264,7 @@ impl Table for Closed {
         }
         slot.expanded = true;
         self.slots.set(place as usize, slot);
-        Some(slot.key)
+        Some(slot.key())
     }
 
     fn read_ahead(&mut self, keys: &[u128]) {
@@ -236,14 +272,11 @@ impl Table for Closed {
             self.ahead = 0;
             return;
         }
+        let chains = chain_count(self.len);
         let mut all = 0;
-        let mut divided = self.len - (1 << self.bits) / 2;
         for key in keys {
-            all ^= self.link_after(self.first_link(divided.wrapping_add(FIRST_AHEAD)));
-            let first = self.first_link(divided.wrapping_add(SECOND_AHEAD));
-            all ^= self.link_after(self.link_after(first));
-            all ^= self.first_link(chain_of(hash_of(*key), self.bits, self.len));
-            divided = divided.wrapping_add(1);
+            let bucket = self.buckets.get(chain_of(hash_of(*key), self.bits, chains));
+            all ^= bucket.hashes[0] ^ bucket.places[ENTRIES - 1];
         }
         self.ahead = all;
     }
