@@ -1,3 +1,4 @@
 -- Lemmas.
 mod PartsLemmas
 mod LaneLemmas
+mod OpeningLemmas

@@ -4,11 +4,12 @@ use Rattle.board.specs.Positions.{Position}
 use Rattle.worker_core.specs.Roles.{IsGuided, guide_of}
 use Rattle.worker_core.specs.Workers.{state_of}
 use Rattle.world_model.specs.Credit.{IsCredited}
+use Rattle.world_model.specs.Openings.{Job}
 use Rattle.world_model.specs.Shapes.{IsShaped}
 use Rattle.world_model.specs.Soundness.{IsSound}
 use Rattle.world_model.specs.Worlds.{WorldState}
 use Rattle.hda_run.specs.declared.parts.Parts.{Parts}
-use Rattle.hda_run.specs.Problems.{task_in}
+use Rattle.hda_run.specs.Problems.{Problem, task_in}
 
 -- the world that these parts make, where boards are owned by a hash, modulo the number of workers
 abbrev pub world_of : {S : Type 0} → (S → Position → ℕ) → Parts S → WorldState
@@ -30,3 +31,7 @@ pub record IsLawful {S : Type 0} (hash_of : S → Position → ℕ) (parts : Par
   pub sound : IsSound (world_of hash_of parts)
   pub credited : IsCredited (world_of hash_of parts)
   pub guided : AreGuided parts
+
+-- what so many workers do, where boards are owned by a hash, modulo their number
+abbrev pub job_of : {S : Type 0} → (S → Position → ℕ) → Problem → S → ℕ → Job
+job_of hash_of p owners workers = record { task = task_in p; limit = p.limit; count = workers; owner = λ b. hash_of owners b % workers }

@@ -1,8 +1,9 @@
-//! Why there is no job.
+//! Why there is no job, or no world.
 
 ghost use Rattle.std.specs.Prelude.{◌≡◌};
-ghost use Rattle.hda_run.specs.Faults.{job_code};
+ghost use Rattle.hda_run.specs.Faults.{job_code, world_code};
 
+use memory::OutOfMemory;
 use thiserror::Error;
 
 /// Why there is no job.
@@ -20,6 +21,29 @@ impl JobFault {
     {
         match self {
             JobFault::ShapesDiffer => "V1",
+        }
+    }
+}
+
+/// Why there is no world.
+#[derive(Clone, Copy, Debug, PartialEq, Eq, Error)]
+pub enum WorldFault {
+    /// V2
+    #[error("the count of workers is not from 1 to 16")]
+    WorkerCount,
+    /// V3
+    #[error("memory was refused")]
+    Memory(OutOfMemory),
+}
+
+impl WorldFault {
+    /// The code that the fault is reported by: `V2` or `V3`.
+    pub fn code(self) -> &'static str
+        ensures { result.now ≡ world_code self }
+    {
+        match self {
+            WorldFault::WorkerCount => "V2",
+            WorldFault::Memory(_) => "V3",
         }
     }
 }

@@ -6,10 +6,11 @@ mod book_steps;
 mod faults;
 mod job;
 mod lane_steps;
+mod opening;
 mod own_steps;
 mod parts;
 mod world;
 
-pub use faults::JobFault;
+pub use faults::{JobFault, WorldFault};
 pub use job::Job;
 pub use world::World;

@@ -1,22 +1,44 @@
 //! Worlds of workers.
 
-ghost use Rattle.std.specs.Prelude.{◌≡◌, length};
+ghost use Rattle.std.specs.Prelude.{◌≡◌, ◌↔◌, ◌≤◌, ◌<◌, IfOk, IsErrOf, length, slice_index_or};
+ghost use Rattle.board.specs.declared.moves.Move.{Move};
+ghost use Rattle.board.specs.Rows.{IsLowerBound};
+ghost use Rattle.world_model.specs.declared.limits.TheConstants.{WORKER_LIMIT};
+ghost use Rattle.world_model.specs.Credit.{IsCredited};
+ghost use Rattle.world_model.specs.Openings.{opening};
+ghost use Rattle.world_model.specs.Shapes.{IsShaped};
+ghost use Rattle.world_model.specs.Soundness.{IsSound};
+ghost use Rattle.world_model.specs.Steps.{Next};
+ghost use Rattle.world_model.specs.Turns.{turn, refusal_in};
+ghost use Rattle.hda_run.specs.Problems.{task_in};
+ghost use Rattle.hda_run.specs.Worlds.{world_of, job_of, AreGuided};
 
+use crate::faults::WorldFault;
+use crate::job::Job;
+use crate::opening::open_parts;
 use crate::parts::Parts;
+use message_ledger::Plain;
 use owners::Spread;
+use quiescence::Book;
+use std::alloc::Global;
 use std::marker::Model;
+use worker_core::Worker;
+use world_model::laws::{openings_are_sound, steps_keep_credited, steps_keep_shaped};
+use world_model::laws::steps_keep_sound;
+use world_model::{Refusal, Step, WORKER_LIMIT};
 
-/// A job, and workers that share it.
+/// A job, and workers that share it on one thread. Whatever steps are taken, no board is lost, each
+/// known one is reached, and the credit is what purses and packets have.
 #[derive(Drop)]
 pub struct World<'a, S: Spread> {
-    parts: Parts<'a, S>,
+    pub(crate) parts: Parts<'a, S>,
 }
 
 impl<'a, S: Spread> Model for World<'a, S> {
-    ghost use Rattle.hda_run.specs.declared.parts.Parts.{Parts};
-    ghost use Rattle.hda_run.specs.Worlds.{IsLawful};
     ghost use Rattle.std.specs.Coded.{codes};
     ghost use Rattle.search_lists.specs.Lists.{lists_code};
+    ghost use Rattle.hda_run.specs.declared.parts.Parts.{Parts};
+    ghost use Rattle.hda_run.specs.Worlds.{IsLawful};
 
     ghost Value = { Parts S };
 
@@ -27,11 +49,86 @@ impl<'a, S: Spread> Model for World<'a, S> {
     ghost invariant = { λ w. IsLawful S.hash_of w.parts };
 }
 
-impl<'a, S: Spread> World<'a, S> {
-    /// How many workers there are.
-    pub fn workers(&self) -> usize
-        ensures { result ≡ length self.now.workers.items }
+impl<'a, S: Spread + Drop> World<'a, S> {
+    /// The opening world of a job, with so many workers: the start's owner knows the start, and
+    /// there is nothing else. Faults: V2 the workers are not from 1 to `WORKER_LIMIT`, V3 memory
+    /// was refused.
+    pub fn new(
+        alloc: Global,
+        job: Job<'a>,
+        workers: usize,
+        spread: S,
+    ) -> Result<Self, WorldFault>
+        ensures count { IsErrOf result WorldFault.WorkerCount
+            ↔ (¬ ((0 < workers) × (workers ≤ WORKER_LIMIT))) }
+        ensures opening { IfOk result (λ world. (via : Move)
+            × (world_of S.hash_of world ≡ opening (job_of S.hash_of job.entry spread workers) via)) }
+        ensures job { IfOk result (λ world. world.job ≡ job.entry) }
+        ensures owners { IfOk result (λ world. world.owners ≡ spread) }
     {
+        if workers == 0 {
+            return Err(WorldFault::WorkerCount);
+        }
+        if workers > WORKER_LIMIT {
+            return Err(WorldFault::WorkerCount);
+        }
+        openings_are_sound();
+        let _ = job.goal();
+        match open_parts(alloc, job, workers, spread) {
+            Ok(parts) => Ok(World { parts }),
+            Err(refused) => Err(WorldFault::Memory(refused)),
+        }
+    }
+}
+
+impl<'a, S: Spread> World<'a, S> {
+    /// Takes a step. A refused one leaves the world as it was: S15 there is no such worker, or a
+    /// lane would be from a worker to itself, or the refusal of the worker's step.
+    pub fn step(&mut self, alloc: Global, step: Step) -> Result<(), Refusal>
+        ensures step { Next step (turn (world_of S.hash_of self.old) (refusal_in result)
+            (world_of S.hash_of self.new)) }
+        ensures job { self.new.job ≡ self.old.job }
+        ensures owners { self.new.owners ≡ self.old.owners }
+    {
+        steps_keep_shaped();
+        steps_keep_sound();
+        steps_keep_credited();
+        self.parts.step(alloc, step)
+    }
+
+    /// How many workers there are. Tells what each world keeps.
+    pub fn workers(&self) -> usize
+        ensures value { result ≡ length self.now.workers.items }
+        ensures shaped { IsShaped (world_of S.hash_of self.now) }
+        ensures sound { IsSound (world_of S.hash_of self.now) }
+        ensures credited { IsCredited (world_of S.hash_of self.now) }
+        ensures guided { AreGuided self.now }
+        ensures bounded { IsLowerBound self.now.job.rule (task_in self.now.job).sum
+            self.now.job.goal }
+    {
+        let _ = self.parts.job.bound();
         self.parts.workers.len()
+    }
+
+    /// The job.
+    pub fn job(&self) -> &Job<'a>
+        ensures { result.now ≡ self.now.job }
+    {
+        &self.parts.job
+    }
+
+    /// A worker, by its number.
+    pub fn worker(&self, number: usize) -> &Worker<Plain>
+        requires { number < length self.now.workers.items }
+        ensures { result.now ≡ slice_index_or self.now.workers.items number result.now }
+    {
+        &self.parts.workers[number]
+    }
+
+    /// The book.
+    pub fn book(&self) -> &Book<Plain>
+        ensures { result.now ≡ self.now.book }
+    {
+        &self.parts.book
     }
 }

@@ -1,0 +1,81 @@
+-- The workers of an opening world.
+use Rattle.std.proofs.Common.{◌≡◌, ℕ, zero, suc, ◌+◌, ◌%◌, List, [], ◌∷◌, ◌++◌, length, map, replicate, false, refl, sym, ap, ◌∙◌, subst, arith, Option}
+use Rattle.std.specs.Prelude.{All, slice_set, if◌then◌else◌, Vec}
+use Rattle.std.specs.Vec.{with_item}
+use Rattle.std.specs.declared.alloc.Global.{Global}
+use Rattle.std.specs.Ordering.{nat_cmp}
+use Rattle.std.specs.FinMap as map
+use Rattle.std.proofs.lemmas.List.{map-append, map-set, length-map, length-set, length-replicate, replicate-append-replicate}
+use Rattle.std.proofs.lemmas.List.Elements.{All-append}
+use Rattle.board.specs.declared.moves.Move.{Move}
+use Rattle.board.specs.Keys.{key_of}
+use Rattle.board.specs.Positions.{Position}
+use Rattle.message_ledger.specs.Spending.{Spending, spent}
+use Rattle.outcomes.specs.Outcomes.{Task}
+use Rattle.worker_core.specs.Workers.{state_of}
+use Rattle.world_model.specs.declared.parts.Item.{Item}
+use Rattle.world_model.specs.declared.parts.Known.{Known}
+use Rattle.world_model.specs.Knowledge.{Knowledge, is_news, relaxation}
+use Rattle.world_model.specs.Books.{BookState}
+use Rattle.world_model.specs.Openings.{idle_worker, first_worker, opening}
+use Rattle.world_model.specs.Workers.{WorkerState}
+use Rattle.hda_run.specs.Problems.{Problem, task_in}
+use Rattle.hda_run.specs.Worlds.{world_of, job_of}
+use Rattle.hda_run.proofs.PartsLemmas.{W}
+use Rattle.hda_run.proofs.LaneLemmas.{Row}
+
+-- a worker to which nothing was granted yet, and what it has in its purse
+pub begins : (n purse amount : ℕ) (allowance : Spending) (state : WorkerState) → purse ≡ amount → allowance ≡ record { granted = 0; left = 0 } → state ≡ record (idle_worker n) { purse = purse; allowance = allowance.left; expansions = spent allowance } → state ≡ record (idle_worker n) { purse = amount }
+begins n purse amount allowance state has none is =
+    is ∙ (λ t. record (idle_worker n) { purse = has t; allowance = (none t).left; expansions = spent (none t) })
+
+-- one worker more
+pub one_more : (n : ℕ) (xs ys : List W) (k : ℕ) (x : W) → map (λ (w : W). state_of w) xs ≡ replicate k (idle_worker n) → ys ≡ xs ++ x ∷ [] → state_of x ≡ idle_worker n → map (λ (w : W). state_of w) ys ≡ replicate (k + 1) (idle_worker n)
+one_more n xs ys k x before is idle =
+    ap (λ (zs : List W). map (λ (w : W). state_of w) zs) is
+    ∙ map-append (λ (w : W). state_of w) xs (x ∷ [])
+    ∙ (λ t. before t ++ idle t ∷ [])
+    ∙ replicate-append-replicate k 1 (idle_worker n)
+
+-- what all have, and one more, all of these have
+pub all_more : (P : W → Type 0) (xs ys : List W) (x : W) → All P xs → P x → ys ≡ xs ++ x ∷ [] → All P ys
+all_more P xs ys x all one is = subst (All P) (sym is) (All-append P xs (x ∷ []) all (single one))
+  where
+    single : P x → All P (x ∷ [])
+    single has zero d within = has
+    single has (suc k) d within = absurd (omega (arith, within))
+
+abbrev unknown : Knowledge
+unknown = map.empty
+
+-- the start is all that is known after it was met
+met : (task : Task) (item : Item) → item.cost ≡ 0 → item.board ≡ task.start → relaxation unknown item ≡ map.insert unknown (key_of task.start) (record { cost = 0; expanded = false; via = item.via })
+met task item free board =
+    ap (λ (found : Option Known). if is_news found item.cost then map.insert unknown (key_of item.board) (record { cost = item.cost; expanded = false; via = item.via }) else unknown) (map.get-empty nat_cmp (key_of item.board))
+    ∙ (λ t. map.insert unknown (key_of (board t)) (record { cost = free t; expanded = false; via = item.via }))
+
+-- so it is the worker that begins
+pub first_is : (n : ℕ) (task : Task) (worker state : WorkerState) (item : Item) → item.cost ≡ 0 → item.board ≡ task.start → worker ≡ record (idle_worker n) { purse = 1 } → state ≡ record worker { known = relaxation worker.known item } → state ≡ first_worker n task item.via
+first_is n task worker state item free board begun is =
+    is
+    ∙ (λ t. record (begun t) { known = relaxation (begun t).known item })
+    ∙ (λ t. record (idle_worker n) { purse = 1; known = met task item free board t })
+
+-- ---- the opening world
+
+-- as many as were made
+pub made_count : (n : ℕ) (all : List W) → map (λ (w : W). state_of w) all ≡ replicate n (idle_worker n) → length all ≡ n
+made_count n all states = sym (length-map all (λ (w : W). state_of w)) ∙ ap length states ∙ length-replicate n (idle_worker n)
+
+pub opens : {S : Type 0} (hash_of : S → Position → ℕ) (owners : S) (p : Problem) (n : ℕ) (all : Vec W Global) (first : W) (owner : ℕ) (book : BookState) (lanes : Vec Row Global) (via : Move) → map (λ (w : W). state_of w) all.items ≡ replicate n (idle_worker n) → state_of first ≡ first_worker n (task_in p) via → owner ≡ hash_of owners p.start % n → book ≡ (opening (job_of hash_of p owners n) via).book → map (λ (row : Row). row.items) lanes.items ≡ replicate n (replicate n []) → world_of hash_of (record { job = p; owners = owners; workers = with_item all owner first; book = book; lanes = lanes }) ≡ opening (job_of hash_of p owners n) via
+opens hash_of owners p n all first owner book lanes via states first_state owner_is book_is lanes_are =
+    let count : length (slice_set all.items owner first) ≡ n = length-set all.items owner first ∙ made_count n all.items states in
+    let workers : map (λ (w : W). state_of w) (slice_set all.items owner first) ≡ (opening (job_of hash_of p owners n) via).workers =
+        map-set (λ (w : W). state_of w) all.items owner first ∙ (λ t. slice_set (states t) (owner_is t) (first_state t)) in
+    λ t. record {
+      task = task_in p;
+      owner = λ b. hash_of owners b % count t;
+      workers = workers t;
+      book = book_is t;
+      lanes = lanes_are t;
+    }

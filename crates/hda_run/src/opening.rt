@@ -1,0 +1,133 @@
+//! The parts of the world in which a run begins.
+
+ghost use Rattle.std.specs.Prelude.{◌≡◌, ◌≤◌, ◌<◌, [], All, IfOk, length, map, replicate};
+ghost use Rattle.board.specs.declared.moves.Move.{Move};
+ghost use Rattle.outcomes.specs.Outcomes.{Task};
+ghost use Rattle.search_lists.specs.Orders.{Guide};
+ghost use Rattle.worker_core.specs.Roles.{IsGuideOf, IsGuided, guide_of};
+ghost use Rattle.worker_core.specs.Workers.{state_of};
+ghost use Rattle.world_model.specs.declared.limits.TheConstants.{WORKER_LIMIT};
+ghost use Rattle.world_model.specs.Openings.{idle_worker, opening};
+ghost use Rattle.world_model.specs.Openings.{first_worker as first_state};
+ghost use Rattle.hda_run.specs.Problems.{task_in};
+ghost use Rattle.hda_run.specs.Worlds.{world_of, AreGuided, job_of};
+
+use crate::job::Job;
+use crate::parts::Parts;
+use board::Move;
+use memory::OutOfMemory;
+use message_ledger::{Allowance, Credit, Grants, Plain, Purse};
+use owners::Spread;
+use quiescence::Book;
+use std::alloc::Global;
+use worker_core::laws::tasks_have_guides;
+use worker_core::{Queue, Worker};
+use world_model::Item;
+
+/// The parts of the opening world of a job.
+pub(crate) fn open_parts<'a, S: Spread + Drop>(
+    alloc: Global,
+    job: Job<'a>,
+    workers: usize,
+    owners: S,
+) -> Result<Parts<'a, S>, OutOfMemory>
+    requires some { 0 < workers }
+    requires few { workers ≤ WORKER_LIMIT }
+    ensures opening { IfOk result (λ parts. (via : Move)
+        × (world_of S.hash_of parts ≡ opening (job_of S.hash_of job.entry owners workers) via)) }
+    ensures guided { IfOk result (λ parts. AreGuided parts) }
+    ensures job { IfOk result (λ parts. parts.job ≡ job.entry) }
+    ensures owners { IfOk result (λ parts. parts.owners ≡ owners) }
+{
+    tasks_have_guides();
+    let _ = job.goal();
+    let (mut credit, purse) = Credit::plain();
+    let mut all = idle_workers(alloc, workers, &mut credit)?;
+    let first = first_worker(alloc, &job, workers, purse)?;
+    let lanes = empty_lanes(alloc, workers)?;
+    let owner = owners.owner(job.start(), workers);
+    all[owner] = first;
+    let book = Book::new(credit, Grants::plain(), job.limit(), workers);
+    Ok(Parts {
+        job,
+        owners,
+        workers: all,
+        book,
+        lanes,
+    })
+}
+
+// So many workers that know nothing and have nothing.
+fn idle_workers(
+    alloc: Global,
+    workers: usize,
+    credit: &mut Credit<Plain>,
+) -> Result<Vec<Worker<Plain>>, OutOfMemory>
+    requires { workers ≤ WORKER_LIMIT }
+    ensures states { IfOk result (λ made. map (λ worker. state_of worker) made.items
+        ≡ replicate workers (idle_worker workers)) }
+    ensures guided { IfOk result (λ made. (task : Task) (guide : Guide) → IsGuideOf task guide
+        → All (λ worker. IsGuided task guide worker.lists) made.items) }
+    ensures credit { credit.new ≡ credit.old }
+{
+    let mut made = memory::with_capacity(alloc, workers)?;
+    'workers: for count in 0..workers {
+        let purse = credit.empty_purse();
+        let worker = Worker::new(alloc, workers, purse, Allowance::plain())?;
+        made.push_reserved(worker);
+    }
+    Ok(made)
+}
+
+// One of so many workers, which knows the start, and has the purse.
+fn first_worker(
+    alloc: Global,
+    job: &Job,
+    workers: usize,
+    purse: Purse<Plain>,
+) -> Result<Worker<Plain>, OutOfMemory>
+    requires few { workers ≤ WORKER_LIMIT }
+    requires one { purse ≡ 1 }
+    ensures state { IfOk result (λ worker. (via : Move)
+        × (state_of worker ≡ first_state workers (task_in job.now) via)) }
+    ensures guided { IfOk result (λ worker.
+        IsGuided (task_in job.now) (guide_of (task_in job.now)) worker.lists) }
+{
+    tasks_have_guides();
+    let goal = job.goal();
+    let mut worker = Worker::new(alloc, workers, purse, Allowance::plain())?;
+    let item = Item {
+        board: *job.start(),
+        cost: 0,
+        via: Move::U,
+    };
+    worker.meet(alloc, goal, job.bound(), &item)?;
+    Ok(worker)
+}
+
+// For each of so many workers a lane to each of them.
+fn empty_lanes(alloc: Global, workers: usize) -> Result<Vec<Vec<Queue<Plain>>>, OutOfMemory>
+    requires { workers ≤ WORKER_LIMIT }
+    ensures { IfOk result (λ made. map (λ to_each. to_each.items) made.items
+        ≡ replicate workers (replicate workers [])) }
+{
+    let mut made = memory::with_capacity(alloc, workers)?;
+    'workers: for count in 0..workers {
+        let to_each = lanes_to_each(alloc, workers)?;
+        made.push_reserved(to_each);
+    }
+    Ok(made)
+}
+
+// A lane to each of so many workers.
+fn lanes_to_each(alloc: Global, workers: usize) -> Result<Vec<Queue<Plain>>, OutOfMemory>
+    requires { workers ≤ WORKER_LIMIT }
+    ensures { IfOk result (λ made. made.items ≡ replicate workers []) }
+{
+    let mut made = memory::with_capacity(alloc, workers)?;
+    'workers: for count in 0..workers {
+        let lane = Queue::new(alloc)?;
+        made.push_reserved(lane);
+    }
+    Ok(made)
+}
