@@ -9,8 +9,10 @@ mod lane_steps;
 mod opening;
 mod own_steps;
 mod parts;
+mod runs;
 mod world;
 
 pub use faults::{JobFault, WorldFault};
 pub use job::Job;
+pub use runs::run_steps;
 pub use world::World;
