@@ -52,10 +52,11 @@ module _ {S : Type 0} (hash_of : S → Position → ℕ) (parts : Parts S) (from
   pub lane_count : IsShaped (world_of hash_of parts) → length row.items ≡ length parts.workers.items
   lane_count shaped = shaped.receivers from row.items of_sender ∙ state_count hash_of parts
 
-  module _ (lane : Lane) (lane_in : to < length row.items) (lane_at : lane ≡ get_or row.items to lane) (me : ℕ) (worker : W) (within : me < length parts.workers.items) (at : worker ≡ get_or parts.workers.items me worker) where
-    is_lane : IsLane (world_of hash_of parts) from to lane
-    is_lane = record { from_lanes = row.items; of_sender = of_sender; of_receiver = there row.items to lane lane_in lane_at }
+  -- what was read is the lane
+  pub is_lane : (lane : Lane) → to < length row.items → lane ≡ get_or row.items to lane → IsLane (world_of hash_of parts) from to lane
+  is_lane lane lane_in lane_at = record { from_lanes = row.items; of_sender = of_sender; of_receiver = there row.items to lane lane_in lane_at }
 
+  module _ (lane : Lane) (lane_in : to < length row.items) (lane_at : lane ≡ get_or row.items to lane) (me : ℕ) (worker : W) (within : me < length parts.workers.items) (at : worker ≡ get_or parts.workers.items me worker) where
     lanes_are : (lane' : Lane) → (world_of hash_of (record parts { lanes = with_item parts.lanes from (with_item row to lane') })).lanes ≡ with_lane (world_of hash_of parts).lanes from to lane'
     lanes_are lane' =
         let lanes = (world_of hash_of parts).lanes in
@@ -71,4 +72,4 @@ module _ {S : Type 0} (hash_of : S → Position → ℕ) (parts : Parts S) (from
 
     pub on_lane : ¬ ((from ≡ to) ⊎ (length (world_of hash_of parts).workers ≤ from) ⊎ (length (world_of hash_of parts).workers ≤ to)) → (LaneStep : Turn AtLane Refusal → Type 0) (answer : Option Refusal) (worker' : W) (lane' : Lane) → LaneStep (turn (at_lane (state_of worker) lane) answer (at_lane (state_of worker') lane')) → OnLane me (from_to from to) LaneStep (turn (world_of hash_of parts) answer (world_of hash_of (record parts { workers = with_item parts.workers me worker'; lanes = with_item parts.lanes from (with_item row to lane') })))
     on_lane two LaneStep answer worker' lane' own =
-        inr (two, (state_of worker, lane, at_lane (state_of worker') lane', is_worker hash_of parts me worker within at, is_lane, own, changed worker' lane'))
+        inr (two, (state_of worker, lane, at_lane (state_of worker') lane', is_worker hash_of parts me worker within at, is_lane lane lane_in lane_at, own, changed worker' lane'))

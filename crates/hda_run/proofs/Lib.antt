@@ -2,3 +2,4 @@
 mod PartsLemmas
 mod LaneLemmas
 mod OpeningLemmas
+mod RunLemmas

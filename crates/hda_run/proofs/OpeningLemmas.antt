@@ -1,10 +1,11 @@
 -- The workers of an opening world.
-use Rattle.std.proofs.Common.{◌≡◌, ℕ, zero, suc, ◌+◌, ◌%◌, List, [], ◌∷◌, ◌++◌, length, map, replicate, false, refl, sym, ap, ◌∙◌, subst, arith, Option}
+use Rattle.std.proofs.Common.{◌≡◌, ℕ, zero, suc, ◌+◌, ◌%◌, List, [], ◌∷◌, ◌++◌, length, map, replicate, false, sym, ap, ◌∙◌, subst, arith, Option}
 use Rattle.std.specs.Prelude.{All, slice_set, if◌then◌else◌, Vec}
 use Rattle.std.specs.Vec.{with_item}
 use Rattle.std.specs.declared.alloc.Global.{Global}
 use Rattle.std.specs.Ordering.{nat_cmp}
 use Rattle.std.specs.FinMap as map
+use Rattle.std.proofs.Math.Nat.{mod-lt}
 use Rattle.std.proofs.lemmas.List.{map-append, map-set, length-map, length-set, length-replicate, replicate-append-replicate}
 use Rattle.std.proofs.lemmas.List.Elements.{All-append}
 use Rattle.board.specs.declared.moves.Move.{Move}
@@ -17,10 +18,15 @@ use Rattle.world_model.specs.declared.parts.Item.{Item}
 use Rattle.world_model.specs.declared.parts.Known.{Known}
 use Rattle.world_model.specs.Knowledge.{Knowledge, is_news, relaxation}
 use Rattle.world_model.specs.Books.{BookState}
-use Rattle.world_model.specs.Openings.{idle_worker, first_worker, opening}
+use Rattle.world_model.specs.Credit.{IsCredited}
+use Rattle.world_model.specs.Laws.{OpeningsAreSound}
+use Rattle.world_model.specs.Openings.{Job, IsJob, idle_worker, first_worker, opening}
+use Rattle.world_model.specs.Shapes.{IsShaped, IsTask}
+use Rattle.world_model.specs.Soundness.{IsSound}
 use Rattle.world_model.specs.Workers.{WorkerState}
+use Rattle.hda_run.specs.declared.parts.Parts.{Parts}
 use Rattle.hda_run.specs.Problems.{Problem, task_in}
-use Rattle.hda_run.specs.Worlds.{world_of, job_of}
+use Rattle.hda_run.specs.Worlds.{world_of, job_of, AreGuided, IsLawful, IsWorkerCount}
 use Rattle.hda_run.proofs.PartsLemmas.{W}
 use Rattle.hda_run.proofs.LaneLemmas.{Row}
 
@@ -71,7 +77,7 @@ pub opens : {S : Type 0} (hash_of : S → Position → ℕ) (owners : S) (p : Pr
 opens hash_of owners p n all first owner book lanes via states first_state owner_is book_is lanes_are =
     let count : length (slice_set all.items owner first) ≡ n = length-set all.items owner first ∙ made_count n all.items states in
     let workers : map (λ (w : W). state_of w) (slice_set all.items owner first) ≡ (opening (job_of hash_of p owners n) via).workers =
-        map-set (λ (w : W). state_of w) all.items owner first ∙ (λ t. slice_set (states t) (owner_is t) (first_state t)) in
+    map-set (λ (w : W). state_of w) all.items owner first ∙ (λ t. slice_set (states t) (owner_is t) (first_state t)) in
     λ t. record {
       task = task_in p;
       owner = λ b. hash_of owners b % count t;
@@ -79,3 +85,19 @@ opens hash_of owners p n all first owner book lanes via states first_state owner
       book = book_is t;
       lanes = lanes_are t;
     }
+
+-- parts that make an opening world are lawful
+pub lawful_opening : {S : Type 0} (hash_of : S → Position → ℕ) (parts : Parts S) (job : Job) (via : Move) → OpeningsAreSound → IsJob job → world_of hash_of parts ≡ opening job via → AreGuided parts → IsLawful hash_of parts
+lawful_opening hash_of parts job via law is same guided =
+    let facts = law job via is in
+    let back = sym same in
+    record {
+      shaped = subst IsShaped back facts.0;
+      sound = subst IsSound back facts.1;
+      credited = subst IsCredited back facts.2;
+      guided = guided;
+    }
+
+-- so many workers, some but not too many, have a job where the task is one
+pub is_job : {S : Type 0} (hash_of : S → Position → ℕ) (owners : S) (p : Problem) (n : ℕ) → IsTask (task_in p) → IsWorkerCount n → IsJob (job_of hash_of p owners n)
+is_job hash_of owners p n task count = record { task = task; some = count.0; few = count.1; owners = λ b. mod-lt (hash_of owners b) count.0 }

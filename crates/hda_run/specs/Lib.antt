@@ -2,3 +2,4 @@
 pub mod Faults
 pub mod Problems
 pub mod Worlds
+pub mod Kinds

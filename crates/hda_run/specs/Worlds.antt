@@ -1,8 +1,9 @@
 -- What contracts see of a world.
-use Rattle.std.specs.Prelude.{ℕ, ◌%◌, All, length, map}
+use Rattle.std.specs.Prelude.{ℕ, ◌%◌, ◌≤◌, All, length, map}
 use Rattle.board.specs.Positions.{Position}
 use Rattle.worker_core.specs.Roles.{IsGuided, guide_of}
 use Rattle.worker_core.specs.Workers.{state_of}
+use Rattle.world_model.specs.declared.limits.TheConstants.{WORKER_LIMIT}
 use Rattle.world_model.specs.Credit.{IsCredited}
 use Rattle.world_model.specs.Openings.{Job}
 use Rattle.world_model.specs.Shapes.{IsShaped}
@@ -35,3 +36,7 @@ pub record IsLawful {S : Type 0} (hash_of : S → Position → ℕ) (parts : Par
 -- what so many workers do, where boards are owned by a hash, modulo their number
 abbrev pub job_of : {S : Type 0} → (S → Position → ℕ) → Problem → S → ℕ → Job
 job_of hash_of p owners workers = record { task = task_in p; limit = p.limit; count = workers; owner = λ b. hash_of owners b % workers }
+
+-- there are workers, but not too many
+abbrev pub IsWorkerCount : ℕ → Type 0
+IsWorkerCount workers = (1 ≤ workers) × (workers ≤ WORKER_LIMIT)

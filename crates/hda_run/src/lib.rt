@@ -4,6 +4,7 @@
 
 mod book_steps;
 mod faults;
+mod gates;
 mod job;
 mod lane_steps;
 mod opening;
@@ -13,6 +14,7 @@ mod runs;
 mod world;
 
 pub use faults::{JobFault, WorldFault};
+pub use gates::{Free, Gate, Kind, kind_of};
 pub use job::Job;
 pub use runs::run_steps;
 pub use world::World;

@@ -1,17 +1,18 @@
 //! Worlds of workers.
 
-ghost use Rattle.std.specs.Prelude.{◌≡◌, ◌↔◌, ◌≤◌, ◌<◌, IfOk, IsErrOf, length, slice_index_or};
+ghost use Rattle.std.specs.Prelude.{◌≡◌, ◌↔◌, ◌<◌, IfOk, IsErrOf, IsTrue, length};
+ghost use Rattle.std.specs.Prelude.{slice_index_or};
 ghost use Rattle.board.specs.declared.moves.Move.{Move};
 ghost use Rattle.board.specs.Rows.{IsLowerBound};
-ghost use Rattle.world_model.specs.declared.limits.TheConstants.{WORKER_LIMIT};
 ghost use Rattle.world_model.specs.Credit.{IsCredited};
 ghost use Rattle.world_model.specs.Openings.{opening};
 ghost use Rattle.world_model.specs.Shapes.{IsShaped};
 ghost use Rattle.world_model.specs.Soundness.{IsSound};
 ghost use Rattle.world_model.specs.Steps.{Next};
 ghost use Rattle.world_model.specs.Turns.{turn, refusal_in};
+ghost use Rattle.world_model.specs.Worlds.{IsLane};
 ghost use Rattle.hda_run.specs.Problems.{task_in};
-ghost use Rattle.hda_run.specs.Worlds.{world_of, job_of, AreGuided};
+ghost use Rattle.hda_run.specs.Worlds.{world_of, job_of, AreGuided, IsWorkerCount};
 
 use crate::faults::WorldFault;
 use crate::job::Job;
@@ -22,9 +23,10 @@ use owners::Spread;
 use quiescence::Book;
 use std::alloc::Global;
 use std::marker::Model;
-use worker_core::Worker;
-use world_model::laws::{openings_are_sound, steps_keep_credited, steps_keep_shaped};
-use world_model::laws::steps_keep_sound;
+use worker_core::{Queue, Worker};
+use world_model::laws::{
+    openings_are_sound, steps_keep_credited, steps_keep_shaped, steps_keep_sound,
+};
 use world_model::{Refusal, Step, WORKER_LIMIT};
 
 /// A job, and workers that share it on one thread. Whatever steps are taken, no board is lost, each
@@ -53,23 +55,15 @@ impl<'a, S: Spread + Drop> World<'a, S> {
     /// The opening world of a job, with so many workers: the start's owner knows the start, and
     /// there is nothing else. Faults: V2 the workers are not from 1 to `WORKER_LIMIT`, V3 memory
     /// was refused.
-    pub fn new(
-        alloc: Global,
-        job: Job<'a>,
-        workers: usize,
-        spread: S,
-    ) -> Result<Self, WorldFault>
+    pub fn new(alloc: Global, job: Job<'a>, workers: usize, spread: S) -> Result<Self, WorldFault>
         ensures count { IsErrOf result WorldFault.WorkerCount
-            ↔ (¬ ((0 < workers) × (workers ≤ WORKER_LIMIT))) }
+            ↔ (¬ IsWorkerCount workers) }
         ensures opening { IfOk result (λ world. (via : Move)
             × (world_of S.hash_of world ≡ opening (job_of S.hash_of job.entry spread workers) via)) }
         ensures job { IfOk result (λ world. world.job ≡ job.entry) }
         ensures owners { IfOk result (λ world. world.owners ≡ spread) }
     {
-        if workers == 0 {
-            return Err(WorldFault::WorkerCount);
-        }
-        if workers > WORKER_LIMIT {
+        if !is_worker_count(workers) {
             return Err(WorldFault::WorkerCount);
         }
         openings_are_sound();
@@ -131,4 +125,21 @@ impl<'a, S: Spread> World<'a, S> {
     {
         &self.parts.book
     }
+
+    /// The lane from one worker to another.
+    pub fn lane(&self, from: usize, to: usize) -> &Queue<Plain>
+        requires sender { from < length self.now.workers.items }
+        requires receiver { to < length self.now.workers.items }
+        ensures { IsLane (world_of S.hash_of self.now) from to result.now }
+    {
+        let to_each = &self.parts.lanes[from];
+        &to_each[to]
+    }
+}
+
+// Whether so many workers may share a job.
+fn is_worker_count(workers: usize) -> bool
+    ensures { IsTrue result ↔ IsWorkerCount workers }
+{
+    0 < workers && workers <= WORKER_LIMIT
 }

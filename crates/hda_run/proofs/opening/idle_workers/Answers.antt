@@ -12,8 +12,7 @@ workers-preserved c =
     let xs = c.workers.made.items in
     let ys = c.push_reserved.new.self.items in
     let worker = c.in_ok-worker.worker in
-    let idle : state_of worker ≡ idle_worker n = begins n c.empty_purse-purse.result 0 c.plain.result (state_of worker) c.empty_purse-purse.ensures.empty c.plain.ensures c.in_ok-worker.ensures.state in
-    (
+    let idle : state_of worker ≡ idle_worker n = begins n c.empty_purse-purse.result 0 c.plain.result (state_of worker) c.empty_purse-purse.ensures.empty c.plain.ensures c.in_ok-worker.ensures.state in (
       one_more n xs ys c.workers.count worker c.workers.invariant.0 c.push_reserved.ensures.items idle,
       search rules,
       search rules,

@@ -1,0 +1,14 @@
+use Rattle.std.proofs.Common.{◌≡◌, List, Option, map, take}
+use Rattle.world_model.specs.declared.steps.Refusal.{Refusal}
+use Rattle.world_model.specs.declared.steps.Step.{Step}
+use Rattle.world_model.specs.Steps.{IsRun}
+use Rattle.hda_run.specs.Worlds.{world_of}
+use Rattle.hda_run.proofs.runs.run_steps.Given as goal
+
+-- the steps so far are a run
+abbrev pub invariant-steps : goal.invariant-steps
+invariant-steps g l =
+    let hash = g.S.Spread.hash_of in
+    ((made : List (Step × Option Refusal)) × (map (λ made. made.0) made ≡ take l.step-index l.steps) × IsRun (world_of hash l.fn.world) made (world_of hash l.world))
+    × (l.world.job ≡ l.fn.world.job)
+    × (l.world.owners ≡ l.fn.world.owners)

@@ -1,0 +1,60 @@
+//! Gates, by which whoever runs a world decides which step comes next.
+
+ghost use Rattle.std.specs.Prelude.{◌≡◌};
+ghost use Rattle.hda_run.specs.Kinds as kinds;
+
+use world_model::Step;
+
+/// What a worker does in a step.
+#[derive(Clone, Copy, Debug, PartialEq, Eq)]
+pub enum Kind {
+    /// It expands a board.
+    Expand,
+    /// It relaxes an item that it holds.
+    Settle,
+    /// It sends a packet.
+    Send,
+    /// It takes in a packet.
+    Deliver,
+    /// It draws credit.
+    Draw,
+    /// It announces the goal's cost.
+    Announce,
+    /// It is granted expansions.
+    Grant,
+    /// It rests.
+    Rest,
+    /// It halts the run.
+    Halt,
+}
+
+/// Which of the nine steps it is.
+pub fn kind_of(step: Step) -> Kind
+    ensures { result ≡ kinds.kind_of step }
+{
+    match step {
+        Step::Expand(_) => Kind::Expand,
+        Step::Settle(_) => Kind::Settle,
+        Step::Send(_, _) => Kind::Send,
+        Step::Deliver(_, _) => Kind::Deliver,
+        Step::Draw(_) => Kind::Draw,
+        Step::Announce(_) => Kind::Announce,
+        Step::Grant(_) => Kind::Grant,
+        Step::Rest(_) => Kind::Rest,
+        Step::Halt(_, _) => Kind::Halt,
+    }
+}
+
+/// What a worker passes before each step: a test may hold it there, to try an order of steps.
+pub trait Gate {
+    /// Returns when the worker may take the step.
+    fn pass(&self, worker: usize, kind: Kind);
+}
+
+/// A gate that stands open.
+#[derive(Clone, Copy, Debug)]
+pub struct Free;
+
+impl Gate for Free {
+    fn pass(&self, _worker: usize, _kind: Kind) {}
+}
