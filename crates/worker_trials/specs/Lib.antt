@@ -1,0 +1,2 @@
+-- What the worker of a trial is lent, and how it stands.
+pub mod Jobs
