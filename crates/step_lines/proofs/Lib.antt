@@ -1,2 +1,3 @@
 mod NumberLemmas
 mod StepLemmas
+mod WorkedLemmas

@@ -3,6 +3,7 @@
 
 mod answers;
 mod steps;
+mod worked;
 
 pub use answers::{NO_STEP, answer_word, step_code};
 pub use steps::read_step;

@@ -1,0 +1,14 @@
+//! Worked lines: each is the contract of a function that does nothing.
+
+ghost use Rattle.step_lines.specs.Worked.{KindsAreSaid, SpellingsAreSaid, OthersSayNothing};
+
+/// Each kind of step is said; numbers may have zeros before them, and words any blanks between.
+pub fn said()
+    ensures kinds { KindsAreSaid }
+    ensures spellings { SpellingsAreSaid }
+{}
+
+/// Ten digits, a sign, upper case, a word too few or too many, or another word say nothing.
+pub fn unsaid()
+    ensures { OthersSayNothing }
+{}
