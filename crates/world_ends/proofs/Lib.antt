@@ -2,3 +2,4 @@ pub mod LeastLemmas
 pub mod PartLemmas
 pub mod PlanLemmas
 pub mod RowLemmas
+pub mod EndingLemmas

@@ -1,24 +1,21 @@
 -- What the parts of a world say of the world.
 use Rattle.std.proofs.Common.{◌≡◌, ◌≢◌, ◌⊎◌, ℕ, ◌+◌, ◌<◌, ◌≤◌, List, length, get_or, Option, Some, None, refl, sym, ap, ◌∙◌, subst, inl, inr, ⊎_elim, arith}
-use Rattle.std.specs.Prelude.{slice_get, Contains, option_map, ◌%◌, false}
-use Rattle.std.specs.FinMap as map
+use Rattle.std.specs.Prelude.{slice_get, option_map, ◌%◌}
 use Rattle.std.proofs.lemmas.Option.{none-some, slice_get-map, slice_get-get_or}
 use Rattle.board.specs.Grids.{Grid}
 use Rattle.board.specs.Moves.{Moves}
-use Rattle.board.specs.Positions.{Position, IsBoard}
+use Rattle.board.specs.Positions.{Position}
 use Rattle.board.specs.Keys.{key_of}
 use Rattle.outcomes.specs.Outcomes.{Task}
 use Rattle.world_model.specs.declared.parts.Item.{Item}
 use Rattle.world_model.specs.declared.parts.Known.{Known}
-use Rattle.world_model.specs.Costs.{IsLeastWith}
 use Rattle.world_model.specs.Frontiers.{IsInFrontier, IsLowest, IsReached}
-use Rattle.world_model.specs.Workers.{WorkerState, Packet, IsTaskBoard}
+use Rattle.world_model.specs.Workers.{WorkerState, IsTaskBoard}
 use Rattle.world_model.specs.Worlds.{WorldState, Knows, IsWorker, IsUnderWay, HasInLaneTo}
-use Rattle.world_model.proofs.ShapeLemmas.{knows_owned}
 use Rattle.worker_core.specs.declared.worker.Worker.{Worker}
 use Rattle.worker_core.specs.Workers.{state_of}
 use Rattle.world_ends.specs.Parts.{HasParts, states_of, known_by, known_in}
-use Rattle.world_ends.specs.Lowest.{IsLeastBeside, IsLowestInLanes, IsOfItem, IsOfWorker, IsOfWorkers, AreItemsOn, HasItemsOn}
+use Rattle.world_ends.specs.Lowest.{IsLeastBeside, IsLowestInLanes, IsOfWorker, IsOfWorkers, HasItemsOn}
 use Rattle.world_ends.specs.Plans.{IsBefore}
 use Rattle.world_ends.proofs.LeastLemmas.{least_same, beside_least}
 

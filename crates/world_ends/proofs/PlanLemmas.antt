@@ -1,5 +1,5 @@
 -- Plans that are followed back.
-use Rattle.std.proofs.Common.{◌≡◌, ◌≢◌, ℕ, ◌+◌, ◌≤◌, List, ◌∷◌, Option, Some, true, false, refl, sym, ap, ◌∙◌, subst}
+use Rattle.std.proofs.Common.{◌≡◌, ◌≢◌, ℕ, List, ◌∷◌, Option, Some, true, false, refl, sym, ap, ◌∙◌, subst}
 use Rattle.std.specs.Prelude.{not, unwrap_or, ◌↔◌}
 use Rattle.std.proofs.lemmas.Bool.{true≢false, not-false}
 use Rattle.board.specs.declared.moves.Move.{Move}

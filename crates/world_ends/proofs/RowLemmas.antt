@@ -1,18 +1,18 @@
 -- Rows of what workers know.
-use Rattle.std.proofs.Common.{◌≡◌, ◌≢◌, ◌⊎◌, ℕ, zero, suc, ◌+◌, ◌<◌, ◌≤◌, List, [], ◌∷◌, ◌++◌, length, get_or, Option, None, Some, refl, sym, ap, ◌∙◌, subst, inl, inr, ⊎_elim, arith}
+use Rattle.std.proofs.Common.{◌≡◌, ◌≢◌, ◌⊎◌, ℕ, suc, ◌+◌, ◌<◌, ◌≤◌, List, [], ◌∷◌, ◌++◌, length, get_or, take, Option, Some, refl, sym, ap, ◌∙◌, subst, inl, inr, ⊎_elim, arith}
 use Rattle.std.specs.Prelude.{All, AllPairs, Contains, ◌↔◌, slice_get, map as each_of, unwrap_or, nat_eq}
 use Rattle.std.specs.Cmp.{unsigned_Decides, decided}
 use Rattle.std.specs.FinMap as map
-use Rattle.std.specs.List.{IsDistinct}
 use Rattle.std.specs.List.Sorted.{IsPermutation, IsNonDecreasingBy}
 use Rattle.std.proofs.lemmas.Bool.{cases_lt}
-use Rattle.std.proofs.lemmas.Option.{none-some, slice_get_within, slice_get-get_or, get_or_from_slice_get}
-use Rattle.std.proofs.lemmas.List.{length-map, get_or-map}
-use Rattle.std.proofs.lemmas.List.Elements.{Contains-get_or, Contains-append_left, Contains-push, Contains-push_cases}
+use Rattle.std.proofs.lemmas.Option.{slice_get_within, slice_get-get_or, get_or_from_slice_get}
+use Rattle.std.proofs.lemmas.List.{length-map, get_or-map, map-append}
+use Rattle.std.proofs.lemmas.List.Elements.{All-push, Contains-get_or, Contains-append_left, Contains-push, Contains-push_cases}
 use Rattle.std.proofs.lemmas.List.Quantifiers.{all_pairs_push}
 use Rattle.std.proofs.lemmas.List.Sorted.{Contains-permutation, IsPermutation-map, IsPermutation-sym}
 use Rattle.std.proofs.lemmas.Map.Keys.{IsDistinct-IsPermutation}
 use Rattle.std.proofs.lemmas.Map.Made.{AllPairs-from_IsDistinct, IsDistinct-from_AllPairs}
+use Rattle.std.proofs.Math.Seq.{take-suc}
 use Rattle.board.specs.Grids.{Grid}
 use Rattle.board.specs.Positions.{Position, IsBoard}
 use Rattle.board.specs.Keys.{HasKey, key_of}
@@ -20,9 +20,8 @@ use Rattle.board.proofs.KeyLemmas.{same_board}
 use Rattle.outcomes.specs.Outcomes.{Task}
 use Rattle.closed_table.specs.Tables.{Table, IsTable}
 use Rattle.world_model.specs.declared.parts.Known.{Known}
-use Rattle.world_model.specs.Knowledge.{Knowledge}
 use Rattle.world_model.specs.Workers.{WorkerState, IsTaskBoard}
-use Rattle.world_model.specs.Worlds.{WorldState, Knows}
+use Rattle.world_model.specs.Worlds.{WorldState}
 use Rattle.world_model.specs.Outcomes.{AreRowsBelow, AreRowsFor, IsKnownBelow}
 use Rattle.world_ends.specs.declared.rows.KeyedRow.{KeyedRow}
 use Rattle.world_ends.specs.Parts.{HasParts}
@@ -87,14 +86,14 @@ module _ (task : Task) (k : ℕ) (closed : Table) (is : IsTable closed) (old : L
       (λ there. ⊎_elim
           (λ (before : Contains old r). (are.each r).1 (inl before))
           (λ (up : IsRowUpTo task k closed (n + 1) r).
-              ⊎_elim
-              (λ (lt : up.0 < n). (are.each r).1 (inr (up.0, lt, up.2, up.3)))
-              (λ (ge : n ≤ up.0).
-                  let e : up.0 ≡ n = omega (arith, ge, up.1) in
-                  let same = same_row r (ap (slice_get closed.keys) (sym e) ∙ up.2) up.3 in
-                  let paid = ap (λ (x : KeyedRow). x.cost) same.0 in
-                  absurd (omega (arith, high, paid, same.1)))
-              (cases_lt up.0 n))
+          ⊎_elim
+          (λ (lt : up.0 < n). (are.each r).1 (inr (up.0, lt, up.2, up.3)))
+          (λ (ge : n ≤ up.0).
+          let e : up.0 ≡ n = omega (arith, ge, up.1) in
+          let same = same_row r (ap (slice_get closed.keys) (sym e) ∙ up.2) up.3 in
+          let paid = ap (λ (x : KeyedRow). x.cost) same.0 in
+          absurd (omega (arith, high, paid, same.1)))
+          (cases_lt up.0 n))
           there),
     );
   }
@@ -116,13 +115,13 @@ module _ (task : Task) (k : ℕ) (closed : Table) (is : IsTable closed) (old : L
       (λ there. ⊎_elim
           (λ (before : Contains old r). Contains-append_left rows (row ∷ []) r ((are.each r).1 (inl before)))
           (λ (up : IsRowUpTo task k closed (n + 1) r).
-              ⊎_elim
-              (λ (lt : up.0 < n). Contains-append_left rows (row ∷ []) r ((are.each r).1 (inr (up.0, lt, up.2, up.3))))
-              (λ (ge : n ≤ up.0).
-                  let e : up.0 ≡ n = omega (arith, ge, up.1) in
-                  let same = same_row r (ap (slice_get closed.keys) (sym e) ∙ up.2) up.3 in
-                  subst (λ (x : KeyedRow). Contains (rows ++ row ∷ []) x) same.0 (Contains-push rows row))
-              (cases_lt up.0 n))
+          ⊎_elim
+          (λ (lt : up.0 < n). Contains-append_left rows (row ∷ []) r ((are.each r).1 (inr (up.0, lt, up.2, up.3))))
+          (λ (ge : n ≤ up.0).
+          let e : up.0 ≡ n = omega (arith, ge, up.1) in
+          let same = same_row r (ap (slice_get closed.keys) (sym e) ∙ up.2) up.3 in
+          subst (λ (x : KeyedRow). Contains (rows ++ row ∷ []) x) same.0 (Contains-push rows row))
+          (cases_lt up.0 n))
           there),
     );
   }
@@ -134,9 +133,9 @@ all_rows_in task k closed is old rows are row = (
   (λ there. ⊎_elim
       (λ (before : Contains old row). (are.each row).1 (inl before))
       (λ (in' : IsRowIn task k closed.known row).
-          let listed : Contains closed.keys row.key = (is.each row.key).1 (rw in'.knows refl) in
-          let at : slice_get closed.keys listed.0 ≡ Some row.key = slice_get-get_or closed.keys listed.0 row.key listed.1 ∙ ap (λ (x : ℕ). Some x) listed.2 in
-          (are.each row).1 (inr (listed.0, listed.1, at, in')))
+      let listed : Contains closed.keys row.key = (is.each row.key).1 (rw in'.knows refl) in
+      let at : slice_get closed.keys listed.0 ≡ Some row.key = slice_get-get_or closed.keys listed.0 row.key listed.1 ∙ ap (λ (x : ℕ). Some x) listed.2 in
+      (are.each row).1 (inr (listed.0, listed.1, at, in')))
       there),
 )
 
@@ -172,9 +171,9 @@ rows_of_one_more task k states n worker rows more at are apart each = record {
     (λ up. ⊎_elim
         (λ (lt : up.0 < n). (each row).1 (inl ((are.each row).1 (up.0, up.1, lt, up.3, up.4))))
         (λ (ge : n ≤ up.0).
-            let e : up.0 ≡ n = omega (arith, ge, up.2) in
-            let same : up.1 ≡ worker = same_worker up.1 worker (sym up.3 ∙ ap (slice_get states) e ∙ at) in
-            (each row).1 (inr (subst (λ (x : WorkerState). IsRowIn task k x.known row) same up.4)))
+        let e : up.0 ≡ n = omega (arith, ge, up.2) in
+        let same : up.1 ≡ worker = same_worker up.1 worker (sym up.3 ∙ ap (slice_get states) e ∙ at) in
+        (each row).1 (inr (subst (λ (x : WorkerState). IsRowIn task k x.known row) same up.4)))
         (cases_lt up.0 n)),
   );
 }
@@ -243,6 +242,26 @@ apart_still rows sorted moved apart i j d lt within =
     let second : get_or (each_of key_in sorted) j d.key ≡ (get_or sorted j d).key = at_key sorted j d within in
     λ e. after i j d.key lt inside (first ∙ e ∙ sym second)
 
+-- each row in order has its board
+pub boards_of_keys : (task : Task) (k : ℕ) (states : List WorkerState) (rows sorted : List KeyedRow) → AreKeyedRows task k states rows → IsPermutation rows sorted → All (λ (row : KeyedRow). (b : Position) × HasKey task.goal.grid row.key b) sorted
+boards_of_keys task k states rows sorted are moved i d within =
+    let row = get_or sorted i d in
+    let there = Contains-permutation sorted rows row (IsPermutation-sym rows sorted moved) (Contains-get_or sorted i d within) in
+    let up = (are.each row).0 there in
+    (up.3.b, up.3.has)
+
+-- one board more
+pub board_named : (grid : Grid) (rows : List KeyedRow) (i : ℕ) (d : KeyedRow) (named : List (Position × ℕ)) (b : Position) → i < length rows → AreBoardsOf grid (take i rows) named → HasKey grid (get_or rows i d).key b → AreBoardsOf grid (take (i + 1) rows) (named ++ (b, (get_or rows i d).cost) ∷ [])
+board_named grid rows i d named b within are has =
+    let row = get_or rows i d in
+    let step : i + 1 ≡ suc i = omega arith in
+    let more : take (i + 1) rows ≡ take i rows ++ row ∷ [] = ap (λ (n : ℕ). take n rows) step ∙ take-suc rows i d within in
+    let here : keyed (b, row.cost) ≡ row = λ j. record { key = has.packed j; cost = row.cost } in
+    record {
+      keys = map-append keyed named ((b, row.cost) ∷ []) ∙ ap (λ (xs : List KeyedRow). xs ++ keyed (b, row.cost) ∷ []) are.keys ∙ ap (λ (x : KeyedRow). take i rows ++ x ∷ []) here ∙ sym more;
+      boards = All-push (λ (x : Position × ℕ). IsBoard x.0 × (x.0.grid ≡ grid)) named (b, row.cost) are.boards (has.board, has.sides);
+    }
+
 module _ (task : Task) (hash : Position → ℕ) (states : List WorkerState) (w : WorldState) (parts : HasParts task hash states w) (k : ℕ) (rows sorted : List KeyedRow) (boards : List (Position × ℕ)) (are : AreKeyedRows task k states rows) (moved : IsPermutation rows sorted) (rising : IsNonDecreasingBy (λ (row : KeyedRow). row.key) sorted) (named : AreBoardsOf task.goal.grid sorted boards) where
   same_length : length boards ≡ length sorted
   same_length = sym (length-map boards keyed) ∙ ap length named.keys
@@ -269,8 +288,7 @@ module _ (task : Task) (hash : Position → ℕ) (states : List WorkerState) (w 
       let there = Contains-permutation sorted rows (keyed (b, cost)) (IsPermutation-sym rows sorted moved) (i, inside, at) in
       let up = (are.each (keyed (b, cost))).0 there in
       let in' = up.3 in
-      let same : in'.b ≡ b = same_by_key task.goal.grid (key_of b) in'.b b in'.has (record { board = board.0; sides = board.1; packed = refl }) in
-      (
+      let same : in'.b ≡ b = same_by_key task.goal.grid (key_of b) in'.b b in'.has (record { board = board.0; sides = board.1; packed = refl }) in (
         up.0,
         in'.known,
         record {

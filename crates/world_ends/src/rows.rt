@@ -2,7 +2,6 @@
 
 ghost use Rattle.std.specs.Prelude.{◌≡◌, ◌<◌, ◌≤◌, ◌+◌, ◌++◌, ◌∷◌, ◌⊎◌, ◌↔◌, [], ℕ, Some};
 ghost use Rattle.std.specs.Prelude.{OnOk, IfOk, All, Contains, slice_get};
-ghost use Rattle.std.specs.List.Sorted.{IsPermutation, IsNonDecreasingBy};
 ghost use Rattle.board.specs.declared.costs.TheConstants.{GREATEST_COST};
 ghost use Rattle.board.specs.Positions.{Position};
 ghost use Rattle.board.specs.Keys.{HasKey};
@@ -50,7 +49,7 @@ pub fn rows_for<C: Counting>(
         return Ok(Vec::new(alloc));
     }
     let mut rows = keyed_rows(alloc, asked, workers, cost)?;
-    sort_rows(&mut rows);
+    rows.sort_unstable_by_key(|row| row.key);
     with_boards(alloc, asked.goal.shape(), &rows)
 }
 
@@ -122,14 +121,6 @@ fn add_row(
         push(rows, row)?;
     }
     Ok(())
-}
-
-// Sorts rows by key.
-fn sort_rows(rows: &mut [KeyedRow])
-    ensures sorted { IsNonDecreasingBy (λ row. row.key) rows.new }
-    ensures permutation { IsPermutation rows.old rows.new }
-{
-    rows.sort_unstable_by_key(|row| row.key);
 }
 
 // The rows with their boards in the place of keys.

@@ -1,7 +1,6 @@
 use Rattle.std.proofs.Common.{◌≡◌, ℕ, List, Option, ap, ◌∙◌, subst}
 use Rattle.std.specs.Prelude.{Contains}
 use Rattle.world_model.specs.declared.parts.Item.{Item}
-use Rattle.world_model.specs.Costs.{lesser}
 use Rattle.world_model.specs.Workers.{WorkerState}
 use Rattle.worker_core.specs.Workers.{state_of}
 use Rattle.world_ends.specs.Parts.{task_in}

@@ -1,9 +1,7 @@
-use Rattle.std.proofs.Common.{rules, ◌≡◌, ℕ, ◌+◌, ◌<◌, ◌≤◌, List, length, Some, refl, sym, ap, ◌∙◌, subst, ⊎_elim}
+use Rattle.std.proofs.Common.{rules, ◌≡◌, ℕ, ◌+◌, ◌<◌, ◌≤◌, length, Some, refl, sym, ap, ◌∙◌, subst, ⊎_elim}
 use Rattle.std.specs.Prelude.{slice_get}
 use Rattle.std.proofs.lemmas.Bool.{cases_lt}
 use Rattle.std.proofs.lemmas.Option.{slice_get-get_or}
-use Rattle.lower_bound.specs.Bounds.{sum_of}
-use Rattle.lower_bound.specs.Tables.{parts_of}
 use Rattle.world_ends.specs.declared.rows.KeyedRow.{KeyedRow}
 use Rattle.world_ends.specs.Parts.{task_in}
 use Rattle.world_ends.proofs.RowLemmas.{AreRowsUpTo, row_left_out, row_added, all_rows_in}
@@ -22,11 +20,11 @@ boards-preserved c =
     let did = c.in_ok-add_row.ensures in
     ⊎_elim
     (λ (low : row.cost + task.sum did.0 < c.args.cost).
-        subst (AreRowsUpTo task c.args.cost closed old (n + 1)) (sym (did.2 low))
-        (row_added task c.args.cost closed c.len-place-end.ensures.table old c.requires.elsewhere n c.boards.rows.items c.boards.invariant row c.at-key.result.1 at c.at-key.ensures.known refl did.0 did.1 low))
+    subst (AreRowsUpTo task c.args.cost closed old (n + 1)) (sym (did.2 low))
+    (row_added task c.args.cost closed c.len-place-end.ensures.table old c.requires.elsewhere n c.boards.rows.items c.boards.invariant row c.at-key.result.1 at c.at-key.ensures.known refl did.0 did.1 low))
     (λ (high : c.args.cost ≤ row.cost + task.sum did.0).
-        subst (AreRowsUpTo task c.args.cost closed old (n + 1)) (sym (did.3 high))
-        (row_left_out task c.args.cost closed c.len-place-end.ensures.table old c.requires.elsewhere n c.boards.rows.items c.boards.invariant row c.at-key.result.1 at c.at-key.ensures.known refl did.0 did.1 high))
+    subst (AreRowsUpTo task c.args.cost closed old (n + 1)) (sym (did.3 high))
+    (row_left_out task c.args.cost closed c.len-place-end.ensures.table old c.requires.elsewhere n c.boards.rows.items c.boards.invariant row c.at-key.result.1 at c.at-key.ensures.known refl did.0 did.1 high))
     (cases_lt (row.cost + task.sum did.0) c.args.cost)
 
 -- src/rows.rt:78:1

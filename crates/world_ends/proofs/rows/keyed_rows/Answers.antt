@@ -2,7 +2,6 @@ use Rattle.std.proofs.Common.{rules, ◌≡◌, ◌⊎◌, ℕ, ◌<◌, length,
 use Rattle.std.specs.Prelude.{slice_get, Contains, ◌↔◌}
 use Rattle.std.proofs.lemmas.List.{length-map}
 use Rattle.search_lists.specs.Lists.{Lists}
-use Rattle.world_model.specs.Workers.{WorkerState}
 use Rattle.worker_core.specs.Workers.{state_of}
 use Rattle.world_ends.specs.declared.rows.KeyedRow.{KeyedRow}
 use Rattle.world_ends.specs.Parts.{task_in, states_of}
