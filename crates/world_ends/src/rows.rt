@@ -1,7 +1,7 @@
 //! The rows of a run: the boards that are known below a cost.
 
 ghost use Rattle.std.specs.Prelude.{◌≡◌, ◌<◌, ◌≤◌, ◌+◌, ◌++◌, ◌∷◌, ◌⊎◌, ◌↔◌, [], ℕ, Some};
-ghost use Rattle.std.specs.Prelude.{OnOk, IfOk, All, Contains, slice_get};
+ghost use Rattle.std.specs.Prelude.{OnOk, IfOk, IsOk, All, Contains, slice_get};
 ghost use Rattle.board.specs.declared.costs.TheConstants.{GREATEST_COST};
 ghost use Rattle.board.specs.Positions.{Position};
 ghost use Rattle.board.specs.Keys.{HasKey};
@@ -30,8 +30,8 @@ struct KeyedRow {
 }
 
 /// The rows that prove a cost: the boards that the workers know at a cost plus sum below it, each
-/// with the cost at which it is known, in rising order of key. There is none where the start's sum
-/// proves the cost.
+/// with the cost at which it is known, in rising order of key. Where the start's sum proves the cost
+/// there is none, and no memory is taken.
 pub fn rows_for<C: Counting>(
     alloc: Global,
     asked: &Asked<'_>,
@@ -41,9 +41,10 @@ pub fn rows_for<C: Counting>(
     requires sides { asked.now.bound.now.split.grid ≡ asked.now.goal.grid }
     requires world { (hash : Position → ℕ) × (w : WorldState)
         × HasParts (task_in asked.now) hash (states_of workers.now) w }
-    ensures { IfOk result (λ rows. (hash : Position → ℕ) (w : WorldState)
+    ensures rows { IfOk result (λ rows. (hash : Position → ℕ) (w : WorldState)
         → HasParts (task_in asked.now) hash (states_of workers.now) w
         → AreRowsFor w cost rows.items) }
+    ensures free { cost ≤ sum_of (parts_of asked.now.bound.now) asked.now.start → IsOk result }
 {
     if asked.bound.of(&asked.start) >= cost {
         return Ok(Vec::new(alloc));

@@ -11,7 +11,7 @@ returns-in-Ok-clause-given g c = λ w parts laned stopped.
     let hash = g.S.Spread.hash_of c.args.owners.now in
     let ends = subst (EndsIn w) c.in-Optimal.is (c.ending_of.ensures.given w parts laned stopped) in
     let after = subst (λ (ws : List WorkerState). HasParts task hash ws w) (sym c.ending_of.ensures.same) parts in
-    ends.0 c.in-Ok.rows (c.in-Ok.ensures hash w after)
+    ends.0 c.in-Ok.rows (c.in-Ok.ensures.rows hash w after)
 
 -- src/outcome.rt:47:1
 pub returns-in-Err-clause-given : goal.returns-in-Err-clause-given

@@ -28,8 +28,8 @@ with_boards-requires g c =
     subst (λ (grid : Grid). All (λ (row : KeyedRow). (b : Position) × HasKey grid row.key b) c.deref.result.now) (sym c.shape.ensures.value) here
 
 -- src/rows.rt:36:1
-pub returns : goal.returns
-returns g c =
+pub returns-clause-rows : goal.returns-clause-rows
+returns-clause-rows g c =
     let task = task_in c.args.asked.now in
     let states = states_of c.args.workers.now in
     let sorted = c.sort_unstable_by_key.new.self.items in
