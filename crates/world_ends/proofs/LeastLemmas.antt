@@ -59,6 +59,10 @@ beside_both P Q x y z first second =
     (λ n h. ⊎_elim (λ e. inl (inl e)) (λ (p : P n ⊎ Q n). ⊎_elim (λ q. inl (inr q)) (λ q. inr q) p) h)
     z (beside_least (λ f. (x ≡ Some f) ⊎ P f) Q y z first second)
 
+-- what is least beside nothing is least
+pub beside_nothing : (P : ℕ → Type 0) (x : Option ℕ) → IsLeastBeside P None x → IsLeastWith P x
+beside_nothing P x is = least_same (λ f. (None ≡ Some f) ⊎ P f) P (λ n h. ⊎_elim (λ e. absurd (none-some n e)) (λ p. p) h) (λ n p. inr p) x is
+
 -- the same beside the same
 pub beside_same : (P Q : ℕ → Type 0) → ((n : ℕ) → P n → Q n) → ((n : ℕ) → Q n → P n) → (x y : Option ℕ) → IsLeastBeside P x y → IsLeastBeside Q x y
 beside_same P Q there back x y is =

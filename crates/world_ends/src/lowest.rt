@@ -18,7 +18,7 @@ use message_ledger::Counting;
 use worker_core::Worker;
 use world_model::Item;
 
-/// The least cost plus sum of items, or `lowest` where that is less. Nothing is `None`.
+/// The least cost plus sum of items, or `lowest` where that is less; `None` where there is neither.
 pub fn lowest_of(bound: &Bound, items: &[Item], lowest: Option<u32>) -> Option<u32>
     requires { AreItemsOn bound.now.split.grid items.now }
     ensures { IsLeastBeside (IsOfItem (sum_of (parts_of bound.now)) items.now) lowest result }
