@@ -1,0 +1,161 @@
+-- Replies to lines, one after the other.
+use Rattle.std.proofs.Common.{◌≡◌, ◌≢◌, ℕ, List, [], ◌∷◌, ◌++◌, Bool, true, false, Option, None, Some, Ok, Err, refl, sym, ap, ◌∙◌, subst, append_assoc, append-nil}
+use Rattle.std.specs.Prelude.{◌&&◌}
+use Rattle.std.proofs.KnownBytes.{Appends-nil, Appends-trans}
+use Rattle.byte_streams.specs.Streams.{SourceState, SinkState, Change, from_to}
+use Rattle.byte_streams.specs.Sink.{Puts, PutsBeginning}
+use Rattle.byte_streams.specs.declared.source.ReadFailed.{ReadFailed}
+use Rattle.byte_streams.proofs.SinkLemmas.{PutsBeginning-after}
+use Rattle.batch_lines.specs.Lines.{without_return}
+use Rattle.batch_lines.specs.Readings.{Reading, ReadsLine, IsJudged}
+use Rattle.batch_lines.specs.declared.lines.Line.{Line}
+use Rattle.batch_lines.specs.declared.lines.LineKind.{LineKind}
+use Rattle.batch_lines.specs.declared.lines.LineKind.TheVariants.{PassedOver, Within, TooLong}
+use Rattle.world_model.specs.declared.steps.Refusal.{Refusal}
+use Rattle.world_model.specs.declared.steps.Step.{Step}
+use Rattle.world_model.specs.Worlds.{WorldState}
+use Rattle.world_model.specs.Steps.{IsRun}
+use Rattle.replay_runs.specs.Lines.{HasRead}
+use Rattle.replay_runs.specs.Replies.{Reply, TextSays, RepliesToText, RepliesToKind, RepliesTo, RepliesToEach, Changes, steps_of, reply_text, replies_text, is_fine, are_fine}
+use Rattle.replay_runs.specs.Replies.Reply.{passed_over, no_step, taken}
+use Rattle.batch_runs.specs.Batches.{HasFailed}
+use Rattle.batch_runs.specs.declared.faults.LinesFault.TheVariants.{Read, Write}
+use Rattle.replay_runs.specs.Stepping.{IsReplied, AnswersLines}
+use Rattle.replay_runs.proofs.ReadLemmas.{HasRead-more, HasRead-first, HasRead-end, HasRead-lost}
+
+-- ---- one reply more
+
+each_more : (lines : List (List ℕ)) (replies : List Reply) (line : List ℕ) (reply : Reply) → RepliesToEach lines replies → RepliesTo line reply → RepliesToEach (lines ++ line ∷ []) (replies ++ reply ∷ [])
+each_more [] [] line reply before now = (now, tt)
+each_more [] (other ∷ replies) line reply before now = absurd before
+each_more (next ∷ lines) [] line reply before now = absurd before
+each_more (next ∷ lines) (first ∷ replies) line reply before now = (before.0, each_more lines replies line reply before.1 now)
+
+steps_more : (replies : List Reply) (reply : Reply) → steps_of (replies ++ reply ∷ []) ≡ steps_of replies ++ steps_of (reply ∷ [])
+steps_more [] reply = refl
+steps_more (passed_over ∷ replies) reply = steps_more replies reply
+steps_more (no_step ∷ replies) reply = steps_more replies reply
+steps_more (taken step refusal ∷ replies) reply = ap (λ (made : List (Step × Option Refusal)). (step, refusal) ∷ made) (steps_more replies reply)
+
+pub text_more : (replies : List Reply) (reply : Reply) → replies_text (replies ++ reply ∷ []) ≡ replies_text replies ++ reply_text reply
+text_more [] reply = append-nil (reply_text reply)
+text_more (first ∷ replies) reply = ap (λ (text : List ℕ). reply_text first ++ text) (text_more replies reply) ∙ sym (append_assoc (reply_text first) (replies_text replies) (reply_text reply))
+
+and_swap : (a b c : Bool) → (a && (b && c)) ≡ (b && (a && c))
+and_swap true b c = refl
+and_swap false true c = refl
+and_swap false false c = refl
+
+pub fine_more : (replies : List Reply) (reply : Reply) → are_fine (replies ++ reply ∷ []) ≡ (is_fine reply && are_fine replies)
+fine_more [] reply = refl
+fine_more (first ∷ replies) reply = ap (λ (b : Bool). is_fine first && b) (fine_more replies reply) ∙ and_swap (is_fine first) (is_fine reply) (are_fine replies)
+
+run_on : (w v u : WorldState) (made more : List (Step × Option Refusal)) → IsRun w made v → IsRun v more u → IsRun w (made ++ more) u
+run_on w v u [] more first next = subst (λ (x : WorldState). IsRun x more u) first next
+run_on w v u (step ∷ made) more first next = (first.0, first.1, run_on first.0 v u made more first.2 next)
+
+run_one : (v u : WorldState) (reply : Reply) → Changes (from_to v u) reply → IsRun v (steps_of (reply ∷ [])) u
+run_one v u passed_over same = same
+run_one v u no_step same = same
+run_one v u (taken step refusal) next = (u, next, refl)
+
+-- nothing is replied yet
+pub IsReplied-none : (w : WorldState) → IsReplied (from_to w w) [] []
+IsReplied-none w = record { each = tt; run = refl }
+
+-- one line more is replied to
+pub IsReplied-more : (w v u : WorldState) (later : List (List ℕ)) (replies : List Reply) (line : List ℕ) (reply : Reply) → IsReplied (from_to w v) later replies → RepliesTo line reply → Changes (from_to v u) reply → IsReplied (from_to w u) (later ++ line ∷ []) (replies ++ reply ∷ [])
+IsReplied-more w v u later replies line reply before now changes = record {
+  each = each_more later replies line reply before.each now;
+  run = subst (λ (made : List (Step × Option Refusal)). IsRun w made u) (sym (steps_more replies reply)) (run_on w v u (steps_of replies) (steps_of (reply ∷ [])) before.run (run_one v u reply changes));
+}
+
+-- the reply by the bytes that were kept is the reply to the line
+pub reply_is : (line : List ℕ) (kind : LineKind) (kept : List ℕ) (reply : Reply) → IsJudged line kind kept → RepliesToKind kind kept reply → RepliesTo line reply
+reply_is line PassedOver kept reply judged is = subst (λ (kind : LineKind). RepliesToKind kind (without_return line) reply) judged.judged is
+reply_is line TooLong kept reply judged is = subst (λ (kind : LineKind). RepliesToKind kind (without_return line) reply) judged.judged is
+reply_is line Within kept reply judged is =
+    subst (λ (kind : LineKind). RepliesToKind kind (without_return line) reply) judged.judged (subst (λ (bytes : List ℕ). RepliesToText bytes reply) (judged.whole refl) is)
+
+-- a line that is neither passed over nor to be read is too long
+pub long_said : (kind : LineKind) (bytes : List ℕ) → kind ≢ PassedOver → kind ≢ Within → RepliesToKind kind bytes no_step
+long_said PassedOver bytes here long = absurd (here refl)
+long_said Within bytes here long = absurd (long refl)
+long_said TooLong bytes here long = refl
+
+-- ---- lines that are answered
+
+-- so many lines were read and replied to, and the replies are written
+pub record IsAnswering (source : Change SourceState) (reader : Change Reading) (world : Change WorldState) (sink : Change SinkState) (fine : Bool) : Type 0 where
+  pub later : List (List ℕ)
+  pub replies : List Reply
+  pub read : (begun : SourceState) (lines : List (List ℕ)) → HasRead (from_to begun source.before) reader.before lines → HasRead (from_to begun source.after) reader.after (lines ++ later)
+  pub replied : IsReplied world later replies
+  pub written : Puts sink (replies_text replies)
+  pub said : fine ≡ are_fine replies
+
+pub answering_begins : (a : SourceState) (r : Reading) (w : WorldState) (x : SinkState) → IsAnswering (from_to a a) (from_to r r) (from_to w w) (from_to x x) true
+answering_begins a r w x = record {
+  later = [];
+  replies = [];
+  read = λ begun lines has. subst (λ (ls : List (List ℕ)). HasRead (from_to begun a) r ls) (sym (append-nil lines)) has;
+  replied = IsReplied-none w;
+  written = Appends-nil x.contents;
+  said = refl;
+}
+
+-- a line is read and replied to
+pub record IsOneMore (source : Change SourceState) (reader : Change Reading) (world : Change WorldState) (reply : Reply) : Type 0 where
+  pub line : Line
+  pub read : ReadsLine source reader (Ok (Some line))
+  pub is : RepliesToKind line.kind reader.after.kept reply
+  pub changes : Changes world reply
+
+-- the lines so far, and one more
+has_more : (begun a b c : SourceState) (q r s : Reading) (later lines : List (List ℕ)) (line : Line) → ((start : SourceState) (before : List (List ℕ)) → HasRead (from_to start a) q before → HasRead (from_to start b) r (before ++ later)) → (read : ReadsLine (from_to b c) (from_to r s) (Ok (Some line))) → HasRead (from_to begun a) q lines → HasRead (from_to begun c) s (lines ++ (later ++ read.0 ∷ []))
+has_more begun a b c q r s later lines line so_far read has =
+    subst (λ (ls : List (List ℕ)). HasRead (from_to begun c) s ls) (append_assoc lines later (read.0 ∷ [])) (HasRead-more begun b c r s (lines ++ later) line (so_far begun lines has) read)
+
+pub answering_on : (a b c : SourceState) (q r s : Reading) (w v u : WorldState) (x y z : SinkState) (fine : Bool) (reply : Reply) → IsAnswering (from_to a b) (from_to q r) (from_to w v) (from_to x y) fine → IsOneMore (from_to b c) (from_to r s) (from_to v u) reply → Puts (from_to y z) (reply_text reply) → IsAnswering (from_to a c) (from_to q s) (from_to w u) (from_to x z) (is_fine reply && fine)
+answering_on a b c q r s w v u x y z fine reply answering next put = record {
+  later = answering.later ++ next.read.0 ∷ [];
+  replies = answering.replies ++ reply ∷ [];
+  read = λ begun lines has. has_more begun a b c q r s answering.later lines next.line answering.read next.read has;
+  replied = IsReplied-more w v u answering.later answering.replies next.read.0 reply answering.replied (reply_is next.read.0 next.line.kind s.kept reply next.read.2 next.is) next.changes;
+  written = subst (λ (text : List ℕ). Puts (from_to x z) text) (sym (text_more answering.replies reply)) (Appends-trans x.contents y.contents z.contents (replies_text answering.replies) (reply_text reply) answering.written put);
+  said = ap (λ (b : Bool). is_fine reply && b) answering.said ∙ sym (fine_more answering.replies reply);
+}
+
+-- the reply to one line more is written in part
+pub answers_fail : (a b c : SourceState) (q r s : Reading) (w v u : WorldState) (x y z : SinkState) (fine : Bool) (reply : Reply) → IsAnswering (from_to a b) (from_to q r) (from_to w v) (from_to x y) fine → IsOneMore (from_to b c) (from_to r s) (from_to v u) reply → PutsBeginning (from_to y z) (reply_text reply) → c.has_failed ≡ false → HasFailed z
+    → (begun : SourceState) (lines : List (List ℕ)) → HasRead (from_to begun a) q lines → AnswersLines (from_to begun c) lines (from_to w u) (from_to x z) (Err Write)
+answers_fail a b c q r s w v u x y z fine reply answering next begins readable failed begun lines has =
+    let now = has_more begun a b c q r s answering.later lines next.line answering.read next.read has in (
+      answering.later ++ next.read.0 ∷ [],
+      answering.replies ++ reply ∷ [],
+      HasRead-first begun c s (lines ++ (answering.later ++ next.read.0 ∷ [])) now,
+      IsReplied-more w v u answering.later answering.replies next.read.0 reply answering.replied (reply_is next.read.0 next.line.kind s.kept reply next.read.2 next.is) next.changes,
+      subst (λ (text : List ℕ). PutsBeginning (from_to x z) text) (sym (text_more answering.replies reply)) (PutsBeginning-after x y z (replies_text answering.replies) (reply_text reply) answering.written begins),
+      readable,
+      failed,
+    )
+
+-- no line is left
+pub answers_end : (a b c : SourceState) (q r s : Reading) (w v : WorldState) (x y : SinkState) (fine : Bool) → IsAnswering (from_to a b) (from_to q r) (from_to w v) (from_to x y) fine → ReadsLine (from_to b c) (from_to r s) (Ok None) → y.has_failed ≡ x.has_failed
+    → (begun : SourceState) (lines : List (List ℕ)) → HasRead (from_to begun a) q lines → AnswersLines (from_to begun c) lines (from_to w v) (from_to x y) (Ok fine)
+answers_end a b c q r s w v x y fine answering read kept begun lines has =
+    (answering.later, answering.replies, HasRead-end begun b c r s (lines ++ answering.later) (answering.read begun lines has) read, answering.replied, answering.written, answering.said, read.3.0.1, kept)
+
+-- the next line is lost
+pub answers_lost : (a b c : SourceState) (q r s : Reading) (w v : WorldState) (x y : SinkState) (fine : Bool) (failure : ReadFailed) → IsAnswering (from_to a b) (from_to q r) (from_to w v) (from_to x y) fine → ReadsLine (from_to b c) (from_to r s) (Err failure) → y.has_failed ≡ x.has_failed
+    → (begun : SourceState) (lines : List (List ℕ)) → HasRead (from_to begun a) q lines → AnswersLines (from_to begun c) lines (from_to w v) (from_to x y) (Err Read)
+answers_lost a b c q r s w v x y fine failure answering lost kept begun lines has =
+    (answering.later, answering.replies, HasRead-lost begun b c r s (lines ++ answering.later) failure (answering.read begun lines has) lost, answering.replied, answering.written, kept)
+
+-- a line of this kind is passed over
+pub over_said : (kind : LineKind) (bytes : List ℕ) → kind ≡ PassedOver → RepliesToKind kind bytes passed_over
+over_said kind bytes is = subst (λ (k : LineKind). RepliesToKind k bytes passed_over) (sym is) refl
+
+-- a line that is to be read says a step
+pub step_said : (kind : LineKind) (bytes : List ℕ) (step : Step) (refusal : Option Refusal) → kind ≡ Within → TextSays bytes step → RepliesToKind kind bytes (taken step refusal)
+step_said kind bytes step refusal is said = subst (λ (k : LineKind). RepliesToKind k bytes (taken step refusal)) (sym is) said

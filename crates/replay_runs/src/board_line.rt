@@ -1,0 +1,142 @@
+//! The board line, and the replay that it begins.
+
+ghost use Rattle.std.specs.Prelude.{◌≡◌, ◌≤◌, ◌+◌, ◌⊎◌, ◌++◌, ◌∷◌, [], IfOk, OnErr, List, ℕ, length, false};
+ghost use Rattle.board.specs.declared.moves.Move.{Move};
+ghost use Rattle.byte_streams.specs.Streams.{SourceState, change, from_to};
+ghost use Rattle.batch_lines.specs.Lines.{kind_of, without_return};
+ghost use Rattle.batch_lines.specs.declared.lines.LineKind.TheVariants.{Within};
+ghost use Rattle.world_model.specs.Openings.{opening};
+ghost use Rattle.batch_runs.specs.Batches.{HasFailed};
+ghost use Rattle.replay_runs.specs.Lines.{FindsFirst, HasRead};
+ghost use Rattle.replay_runs.specs.Replays.{Jobs, IsGuidedJob, Replays, Refuses};
+
+use crate::finding::find_line;
+use crate::sending::send;
+use crate::stepping::{Run, replay_steps};
+use arrayvec::ArrayVec;
+use batch_lines::{EntryFault, LINE_LIMIT, LineKind, LineReader, read_entry};
+use batch_runs::LinesFault;
+use board::{Board, Shape};
+use byte_streams::{Sink, Source};
+use memory::OutOfMemory;
+use outcomes::SolveFault;
+use reports::refused_report;
+use std::alloc::Global;
+use world_model::laws::runs_keep_sound;
+
+/// What opens the runs of boards' jobs.
+pub trait Opener<R: Run> {
+    // The shape of the boards, the job of each, and when memory is wanting for it.
+    ghost jobs: { Self → Jobs };
+
+    /// Opens the run of a board's job. The error tells a want of memory.
+    fn open(self, alloc: Global, start: &Board) -> Result<R, OutOfMemory>
+        requires { start.now.grid ≡ (jobs self).grid }
+        ensures opened { IfOk result (λ run. (via : Move)
+            × (R.world run ≡ opening ((jobs self).job start.now) via)) }
+        ensures guided { IfOk result (λ run. IsGuidedJob ((jobs self).job start.now)) }
+        ensures lacking { OnErr result ((jobs self).lacks start.now) };
+}
+
+/// Reads a board line and then lines of steps. Each step is answered, and at the end the report of
+/// the run's outcome is written. A board line that is refused is reported, and nothing behind it is
+/// read. Answers the status.
+pub fn replay_lines<S: Source, K: Sink, R: Run + Drop, O: Opener<R> + Drop>(
+    alloc: Global,
+    source: &mut S,
+    sink: &mut K,
+    shape: Shape,
+    opener: O,
+) -> Result<u8, LinesFault>
+    requires { (O.jobs opener).grid ≡ shape }
+    ensures replays { Replays (O.jobs opener) (change S.state source.old source.new)
+        (change K.state sink.old sink.new) result }
+    ensures flushed { K.is_flushed sink.new ⊎ (sink.new ≡ sink.old)
+        ⊎ HasFailed (K.state sink.new) }
+{
+    let mut reader = LineReader::new();
+    let found = match find_line(source, &mut reader) {
+        Ok(found) => found,
+        Err(_) => return Err(LinesFault::Read),
+    };
+    let Some(line) = found else {
+        return Ok(0);
+    };
+    let LineKind::Within = line.kind else {
+        return refuse(alloc, sink, EntryFault::NoText.code(), line.number);
+    };
+    let kept = copy_line(reader.bytes());
+    replay_board(
+        alloc,
+        source,
+        sink,
+        &mut reader,
+        shape,
+        opener,
+        line.number,
+        kept.as_slice(),
+    )
+}
+
+// The same from a board line that is to be read: its number and its bytes.
+fn replay_board<S: Source, K: Sink, R: Run + Drop, O: Opener<R> + Drop>(
+    alloc: Global,
+    source: &mut S,
+    sink: &mut K,
+    reader: &mut LineReader,
+    shape: Shape,
+    opener: O,
+    number: u64,
+    bytes: &[u8],
+) -> Result<u8, LinesFault>
+    requires { (O.jobs opener).grid ≡ shape }
+    ensures replays { (begun : SourceState) (passed : List (List ℕ)) (line : List ℕ)
+        → FindsFirst (from_to begun (S.state source.old)) passed line
+        → HasRead (from_to begun (S.state source.old)) reader.old (passed ++ line ∷ [])
+        → kind_of line ≡ Within → bytes.now ≡ without_return line → number ≡ length passed + 1
+        → (S.state source.old).has_failed ≡ false
+        → Replays (O.jobs opener) (from_to begun (S.state source.new))
+        (change K.state sink.old sink.new) result }
+    ensures flushed { K.is_flushed sink.new ⊎ (sink.new ≡ sink.old)
+        ⊎ HasFailed (K.state sink.new) }
+{
+    let entry = match read_entry(shape, bytes) {
+        Ok(entry) => entry,
+        Err(fault) => return refuse(alloc, sink, fault.code(), number),
+    };
+    let run = match opener.open(alloc, &entry.board) {
+        Ok(run) => run,
+        Err(refused) => {
+            return refuse(alloc, sink, SolveFault::Memory(refused).code(), number);
+        }
+    };
+    // By this law the outcome answers the board's task.
+    runs_keep_sound();
+    replay_steps(alloc, source, sink, reader, run, entry.id)
+}
+
+// Writes the report of a line that is refused. Answers the status 1.
+fn refuse<K: Sink>(alloc: Global, sink: &mut K, code: &str, number: u64) -> Result<u8, LinesFault>
+    ensures refuses { Refuses (change K.state sink.old sink.new) code.now number result }
+    ensures flushed { K.is_flushed sink.new ⊎ (sink.new ≡ sink.old)
+        ⊎ HasFailed (K.state sink.new) }
+{
+    let report = match refused_report(alloc, code, number) {
+        Ok(report) => report,
+        Err(lacking) => return Err(LinesFault::Memory(lacking)),
+    };
+    let Ok(()) = send(sink, report.as_str()) else {
+        return Err(LinesFault::Write);
+    };
+    Ok(1)
+}
+
+// The bytes of a line, kept while others are read.
+fn copy_line(bytes: &[u8]) -> ArrayVec<u8, LINE_LIMIT>
+    requires { length bytes.now ≤ 1024 }
+    ensures { result.items ≡ bytes.now }
+{
+    let mut kept = ArrayVec::new();
+    kept.try_extend_from_slice(bytes).unwrap();
+    kept
+}

@@ -1,0 +1,153 @@
+//! Lines that say steps, and the report at their end.
+
+ghost use Rattle.std.specs.Prelude.{◌≡◌, ◌≢◌, ◌⊎◌, IfOk, OnOk, List, ℕ};
+ghost use Rattle.byte_streams.specs.Streams.{SourceState, change, from_to};
+ghost use Rattle.batch_lines.specs.declared.lines.LineKind.TheVariants.{PassedOver};
+ghost use Rattle.world_model.specs.Turns.{turn, refusal_in};
+ghost use Rattle.world_model.specs.Worlds.{WorldState};
+ghost use Rattle.world_model.specs.Steps.{Next};
+ghost use Rattle.world_model.specs.Outcomes.{IsGiven};
+ghost use Rattle.batch_runs.specs.Batches.{HasFailed};
+ghost use Rattle.replay_runs.specs.Lines.{HasRead};
+ghost use Rattle.replay_runs.specs.Replies.{Reply, GivesReply, WritesReply, WritesLine, line_of};
+ghost use Rattle.replay_runs.specs.Replies.{status_of};
+ghost use Rattle.replay_runs.specs.Stepping.{AnswersLines, Finishes};
+
+use crate::sending::{send, send_word};
+use batch_lines::{Line, LineKind, LineReader};
+use batch_runs::LinesFault;
+use byte_streams::{Sink, Source, WriteFailed};
+use outcomes::Outcome;
+use reports::outcome_report;
+use std::alloc::Global;
+use step_lines::{NO_STEP, answer_word, read_step};
+use world_model::{Refusal, Step};
+
+/// A run of steps, and the outcome at its end.
+pub trait Run {
+    // The world that the steps have reached.
+    ghost world: { Self → WorldState };
+
+    /// Takes a step, or says why not.
+    fn step(&mut self, alloc: Global, step: Step) -> Result<(), Refusal>
+        ensures { Next step (turn (world self.old) (refusal_in result) (world self.new)) };
+
+    /// The outcome that the world gives.
+    fn finish(self, alloc: Global) -> Outcome
+        ensures { IsGiven (world self) result };
+}
+
+/// Answers each line of the source that isn't passed over, and then writes the report of the run's
+/// outcome by this id. Answers the status.
+pub(crate) fn replay_steps<S: Source, K: Sink, R: Run + Drop>(
+    alloc: Global,
+    source: &mut S,
+    sink: &mut K,
+    reader: &mut LineReader,
+    run: R,
+    id: &str,
+) -> Result<u8, LinesFault>
+    ensures replays { (begun : SourceState) (lines : List (List ℕ))
+        → HasRead (from_to begun (S.state source.old)) reader.old lines
+        → Finishes (from_to begun (S.state source.new)) lines (R.world run) id.now
+        (change K.state sink.old sink.new) result }
+    ensures flushed { K.is_flushed sink.new ⊎ (sink.new ≡ sink.old)
+        ⊎ HasFailed (K.state sink.new) }
+{
+    let mut run = run;
+    let said = match answer_lines(alloc, source, sink, reader, &mut run) {
+        Ok(said) => said,
+        Err(fault) => return Err(fault),
+    };
+    let outcome = run.finish(alloc);
+    let report = match outcome_report(alloc, id, &outcome) {
+        Ok(report) => report,
+        Err(lacking) => return Err(LinesFault::Memory(lacking)),
+    };
+    let Ok(()) = send(sink, report.as_str()) else {
+        return Err(LinesFault::Write);
+    };
+    Ok(status_of(said, &outcome))
+}
+
+// 0 for a plan or none, where each line said a step; else 1.
+fn status_of(said: bool, outcome: &Outcome) -> u8
+    ensures { result ≡ status_of said outcome.now }
+{
+    match outcome {
+        Outcome::Bounded { .. } => 1,
+        _ => { if said { 0 } else { 1 } }
+    }
+}
+
+// Answers each line of the source that isn't passed over, and whether each said a step.
+fn answer_lines<S: Source, K: Sink, R: Run>(
+    alloc: Global,
+    source: &mut S,
+    sink: &mut K,
+    reader: &mut LineReader,
+    run: &mut R,
+) -> Result<bool, LinesFault>
+    ensures answers { (begun : SourceState) (lines : List (List ℕ))
+        → HasRead (from_to begun (S.state source.old)) reader.old lines
+        → AnswersLines (from_to begun (S.state source.new)) lines
+        (change R.world run.old run.new) (change K.state sink.old sink.new) result }
+    ensures flushed { K.is_flushed sink.new ⊎ (sink.new ≡ sink.old)
+        ⊎ HasFailed (K.state sink.new) }
+{
+    let mut said = true;
+    'lines: loop {
+        let next = match reader.next_line(source) {
+            Ok(next) => next,
+            Err(_) => return Err(LinesFault::Read),
+        };
+        let Some(line) = next else {
+            return Ok(said);
+        };
+        match line.kind {
+            LineKind::PassedOver => {}
+            _ => {
+                said = match answer_line(alloc, sink, run, line.kind, reader.bytes(), said) {
+                    Ok(said) => said,
+                    Err(_) => return Err(LinesFault::Write),
+                };
+            }
+        }
+    }
+}
+
+// Answers a line that isn't passed over, whose bytes are given where it is to be read. Tells whether
+// it said a step, as those before did or not.
+fn answer_line<K: Sink, R: Run>(
+    alloc: Global,
+    sink: &mut K,
+    run: &mut R,
+    kind: LineKind,
+    bytes: &[u8],
+    said: bool,
+) -> Result<bool, WriteFailed>
+    requires { kind ≢ PassedOver }
+    ensures reply { (reply : Reply) × GivesReply kind bytes.now (change R.world run.old run.new) reply
+        × WritesReply (change K.state sink.old sink.new) reply said result }
+    ensures last { OnOk result (K.is_flushed sink.new) }
+{
+    let LineKind::Within = kind else {
+        return tell(sink, NO_STEP, false);
+    };
+    let Some(step) = read_step(bytes) else {
+        return tell(sink, NO_STEP, false);
+    };
+    let answer = run.step(alloc, step);
+    tell(sink, answer_word(answer), said)
+}
+
+// Writes a word on a line of its own, passes it on, and answers what is told of it.
+fn tell<K: Sink>(sink: &mut K, word: &str, said: bool) -> Result<bool, WriteFailed>
+    ensures writes { WritesLine (change K.state sink.old sink.new) (line_of word.now) said result }
+    ensures last { OnOk result (K.is_flushed sink.new) }
+{
+    match send_word(sink, word) {
+        Ok(()) => Ok(said),
+        Err(failure) => Err(failure),
+    }
+}
