@@ -14,7 +14,7 @@ lowest_of-least-requires g c =
     let worker = state_of c.args.worker.now in
     let inside : c.packets.to < length c.args.worker.now.unsent.items = search rules in
     let within : c.packets.to < length worker.unsent = simp length-map inside in
-    c.requires.unsent c.packets.to c.unsent.result.now (packet_at worker.unsent c.packets.to c.unsent.result.now within c.unsent.ensures)
+    c.requires.unsent c.packets.to c.unsent.result.now (packet_at worker.unsent c.packets.to c.unsent.result.now within c.unsent.ensures.value)
 
 -- src/lowest.rt:92:5
 pub packets-preserved : goal.packets-preserved
@@ -22,7 +22,7 @@ packets-preserved g c =
     let worker = state_of c.args.worker.now in
     let inside : c.packets.to < length c.args.worker.now.unsent.items = search rules in
     let within : c.packets.to < length worker.unsent = simp length-map inside in
-    let at : slice_get worker.unsent c.packets.to ≡ Some c.unsent.result.now = packet_at worker.unsent c.packets.to c.unsent.result.now within c.unsent.ensures in
+    let at : slice_get worker.unsent c.packets.to ≡ Some c.unsent.result.now = packet_at worker.unsent c.packets.to c.unsent.result.now within c.unsent.ensures.value in
     packet_more (sum_of (parts_of c.args.bound.now)) worker c.packets.to c.unsent.result.now c.args.lowest c.packets.least c.lowest_of-least.result at c.packets.invariant c.lowest_of-least.ensures
 
 -- src/lowest.rt:86:1
