@@ -1,12 +1,13 @@
 //! Known boards, and the places of those that wait to be expanded.
 
-ghost use Rattle.std.specs.Prelude.{◌≡◌, ◌≢◌, ◌↔◌, ◌<◌, ◌≤◌, ◌+◌, ◌^◌, ℕ, None, Some, OnOk};
-ghost use Rattle.std.specs.Prelude.{false, length, slice_index, IfSome, IfNone, MatchOption, IsTrue, IsFalse};
+ghost use Rattle.std.specs.Prelude.{◌≡◌, ◌≢◌, ◌⊎◌, ◌↔◌, ◌<◌, ◌≤◌, ◌+◌, ◌^◌, ℕ, None, Some, OnOk, OnErr};
+ghost use Rattle.std.specs.Prelude.{false, true, length, slice_index, slice_get, IfSome, IfNone, MatchOption, IsTrue, IsFalse};
 ghost use Rattle.std.specs.FinMap as map;
 ghost use Rattle.closed_table.specs.Tables.{IsTable, table_relaxation, table_closure};
 ghost use Rattle.closed_table.specs.declared.table.Relaxed.TheVariants.{Kept};
 ghost use Rattle.open_buckets.specs.declared.open.TheConstants.{GREATEST_F};
-ghost use Rattle.open_buckets.specs.OpenLists.{places_at, NothingWaits, IsNext, Takes};
+ghost use Rattle.open_buckets.specs.OpenLists.{places_at, NothingWaits, IsNext, Takes, Puts};
+ghost use Rattle.world_model.specs.Knowledge.{is_news};
 ghost use Rattle.search_lists.specs.Lists.{empty_lists, both, AreKnown, HasMoreRoom};
 ghost use Rattle.search_lists.specs.Orders.{Guide, IsInOrder, NoneBelow, IsFloor, IsFirst};
 ghost use Rattle.search_lists.specs.Orders.{IsLeastOpen, AddsUp};
@@ -99,6 +100,7 @@ impl SearchLists {
     /// changed.
     pub fn reserve_boards(&mut self, alloc: Global, count: usize) -> Result<(), OutOfMemory>
         ensures ok { OnOk result (count ≤ self.new.closed.room) }
+        ensures err { OnErr result (self.new ≡ self.old) }
         ensures same { HasMoreRoom self.old self.new }
     {
         self.closed.reserve(alloc, count)?;
@@ -122,6 +124,11 @@ impl SearchLists {
         requires place { 0 < places_at self.old.waiting met.f }
         ensures closed { self.new.closed
             ≡ table_relaxation self.old.closed met.key met.cost met.via }
+        ensures still { (is_news (map.get self.old.closed.known met.key) met.cost ≡ false)
+            ⊎ (met.key ≡ goal) → self.new.waiting ≡ self.old.waiting }
+        ensures put { is_news (map.get self.old.closed.known met.key) met.cost ≡ true
+            → met.key ≢ goal → (place : ℕ) × (slice_get self.new.closed.keys place ≡ Some met.key)
+            × Puts met.f (place, met.cost) self.old.waiting self.new.waiting }
         ensures places { (h : ℕ) → places_at self.old.waiting h
             ≤ places_at self.new.waiting h + 1 }
         ensures order { (guide : Guide) → guide.goal ≡ goal → AddsUp guide met
@@ -166,6 +173,7 @@ impl SearchLists {
     /// Closes the board that was answered last by `next`, and takes it out of what waits.
     pub fn close(&mut self, next: Next)
         requires { IsFirst self.old next }
+        ensures taken { Takes next.f (next.place, next.cost) self.old.waiting self.new.waiting }
         ensures closed { self.new.closed ≡ table_closure self.old.closed next.key
             (map.get self.old.closed.known next.key) }
         ensures places { (h : ℕ) → places_at self.old.waiting h ≤ places_at self.new.waiting h }
@@ -195,6 +203,11 @@ fn relax(closed: &mut Closed, waiting: &mut Open<u32>, goal: u128, met: Met)
     requires known { AreKnown (both closed.old waiting.old) }
     ensures known { AreKnown (both closed.new waiting.new) }
     ensures closed { closed.new ≡ table_relaxation closed.old met.key met.cost met.via }
+    ensures still { (is_news (map.get closed.old.known met.key) met.cost ≡ false)
+        ⊎ (met.key ≡ goal) → waiting.new ≡ waiting.old }
+    ensures put { is_news (map.get closed.old.known met.key) met.cost ≡ true
+        → met.key ≢ goal → (place : ℕ) × (slice_get closed.new.keys place ≡ Some met.key)
+        × Puts met.f (place, met.cost) waiting.old waiting.new }
     ensures places { (h : ℕ) → places_at waiting.old h ≤ places_at waiting.new h + 1 }
     ensures order { (guide : Guide) → guide.goal ≡ goal → AddsUp guide met
         → IsInOrder guide (both closed.old waiting.old)
