@@ -16,6 +16,7 @@ mod containers;
 mod databases;
 mod runs;
 mod searches;
+mod workers;
 
 use answer::Answer;
 use certificates::{read_announcement, read_certificate};
@@ -28,9 +29,10 @@ use std::env::FillError;
 use std::io::{Eprint, Print};
 use std::process::ExitCode;
 use std::rt::Env;
+use workers::{expand_board, meet_board, settle_items};
 
 // The names of all calls.
-const CALLS: [&str; 14] = [
+const CALLS: [&str; 17] = [
     "partition",
     "table",
     "unit-2x2",
@@ -45,6 +47,9 @@ const CALLS: [&str; 14] = [
     "check",
     "open",
     "closed",
+    "meet",
+    "settle",
+    "expand",
 ];
 
 // Makes the call of this name, or answers None where there is none.
@@ -64,6 +69,9 @@ fn call(alloc: Global, name: &str) -> Option<Answer> {
         "check" => Some(check_certificate(alloc)),
         "open" => Some(reserve_open(alloc)),
         "closed" => Some(reserve_closed(alloc)),
+        "meet" => Some(meet_board(alloc)),
+        "settle" => Some(settle_items(alloc)),
+        "expand" => Some(expand_board(alloc)),
         _ => None,
     }
 }
