@@ -3,3 +3,4 @@ mod PartsLemmas
 mod LaneLemmas
 mod OpeningLemmas
 mod RunLemmas
+mod LowestLemmas

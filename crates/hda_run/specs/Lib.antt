@@ -1,5 +1,6 @@
 -- Worlds of workers that run.
 pub mod Faults
+pub mod Lanes
 pub mod Problems
 pub mod Worlds
 pub mod Kinds

@@ -4,6 +4,7 @@
 
 mod book_steps;
 mod faults;
+mod finish;
 mod gates;
 mod job;
 mod lane_steps;

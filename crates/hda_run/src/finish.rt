@@ -1,0 +1,139 @@
+//! The end of a run in a world.
+
+ghost use Rattle.std.specs.Prelude.{◌≡◌, ℕ, Contains, Vec};
+ghost use Rattle.std.specs.declared.alloc.Global.{Global};
+ghost use Rattle.lower_bound.specs.Bounds.{sum_of};
+ghost use Rattle.lower_bound.specs.Tables.{parts_of};
+ghost use Rattle.outcomes.specs.Outcomes.{Answers};
+ghost use Rattle.world_model.specs.Outcomes.{IsGiven};
+ghost use Rattle.world_model.specs.Workers.{Packet, Lane};
+ghost use Rattle.world_ends.specs.Lowest.{IsLeastBeside, IsOfItem, AreItemsOn};
+ghost use Rattle.world_ends.specs.Endings.{EndsIn};
+ghost use Rattle.hda_run.specs.Problems.{task_in};
+ghost use Rattle.hda_run.specs.Lanes.{IsOfOne, IsInLane, IsInLanes};
+ghost use Rattle.hda_run.specs.Worlds.{world_of, IsLawful};
+
+use crate::job::Job;
+use crate::parts::Parts;
+use crate::world::World;
+use lower_bound::Bound;
+use message_ledger::Plain;
+use outcomes::Outcome;
+use owners::Spread;
+use std::alloc::Global;
+use worker_core::Queue;
+use world_ends::{Asked, Ending, ending_of, lowest_of, outcome_of};
+use world_model::laws::outcomes_answer;
+
+impl<'a, S: Spread + Drop> World<'a, S> {
+    /// The outcome that the world gives, at any moment: a plan of least cost with rows that prove
+    /// it, the word that there is no plan, or a bound that no plan undercuts. It takes memory for
+    /// the plan and the rows alone.
+    pub fn finish(self, alloc: Global) -> Outcome
+        ensures given { IsGiven (world_of S.hash_of self.entry) result }
+        ensures answers { Answers (task_in self.entry.job) result }
+    {
+        outcomes_answer();
+        // That the sums are lower bounds is told by this call.
+        let _ = self.parts.job.bound();
+        finish_parts(alloc, self.parts)
+    }
+
+    /// The same without rows, for which no memory is taken.
+    pub fn end(self, alloc: Global) -> Ending
+        ensures { EndsIn (world_of S.hash_of self.entry) result }
+    {
+        end_parts(alloc, self.parts)
+    }
+}
+
+// The outcome that the parts of a world give.
+fn finish_parts<S: Spread + Drop>(alloc: Global, parts: Parts<'_, S>) -> Outcome
+    requires { IsLawful S.hash_of parts }
+    ensures { IsGiven (world_of S.hash_of parts.entry) result }
+{
+    let Parts {
+        job,
+        owners,
+        workers,
+        book,
+        lanes,
+    } = parts;
+    let mut workers = workers;
+    let lowest = lowest_in_lanes(job.bound(), &lanes, None);
+    let asked = asked_in(&job);
+    outcome_of(alloc, &asked, &owners, &mut workers, lowest, book.stop())
+}
+
+// The same without rows.
+fn end_parts<S: Spread + Drop>(alloc: Global, parts: Parts<'_, S>) -> Ending
+    requires { IsLawful S.hash_of parts }
+    ensures { EndsIn (world_of S.hash_of parts.entry) result }
+{
+    let Parts {
+        job,
+        owners,
+        workers,
+        book,
+        lanes,
+    } = parts;
+    let mut workers = workers;
+    let lowest = lowest_in_lanes(job.bound(), &lanes, None);
+    let asked = asked_in(&job);
+    ending_of(alloc, &asked, &owners, &mut workers, lowest, book.stop())
+}
+
+// What a job asks.
+fn asked_in<'b>(job: &'b Job<'_>) -> Asked<'b>
+    ensures start { result.start ≡ job.now.start }
+    ensures goal { result.goal ≡ job.now.goal }
+    ensures weights { result.weights ≡ job.now.rule }
+    ensures bound { result.bound.now ≡ job.now.tables }
+{
+    Asked {
+        start: *job.start(),
+        goal: *job.goal(),
+        weights: *job.weights(),
+        bound: job.bound(),
+    }
+}
+
+// The least cost plus sum of the items in lanes, or `lowest` where that is less.
+fn lowest_in_lanes(bound: &Bound, lanes: &[Vec<Queue<Plain>>], lowest: Option<u32>) -> Option<u32>
+    requires { (to_each : Vec Lane Global) (lane : Lane) (packet : Packet)
+        → Contains lanes.now to_each → Contains to_each.items lane → Contains lane packet
+        → AreItemsOn bound.now.split.grid packet }
+    ensures { IsLeastBeside (IsOfOne (λ to_each. IsInLanes (sum_of (parts_of bound.now)) to_each.items) lanes.now) lowest result }
+{
+    let mut least = lowest;
+    'senders: for from in 0..lanes.len() {
+        least = lowest_to_each(bound, &lanes[from], least);
+    }
+    least
+}
+
+// The same of the lanes from one worker.
+fn lowest_to_each(bound: &Bound, lanes: &[Queue<Plain>], lowest: Option<u32>) -> Option<u32>
+    requires { (lane : Lane) (packet : Packet) → Contains lanes.now lane → Contains lane packet
+        → AreItemsOn bound.now.split.grid packet }
+    ensures { IsLeastBeside (IsInLanes (sum_of (parts_of bound.now)) lanes.now) lowest result }
+{
+    let mut least = lowest;
+    'receivers: for to in 0..lanes.len() {
+        least = lowest_in_lane(bound, &lanes[to], least);
+    }
+    least
+}
+
+// The same of one lane.
+fn lowest_in_lane(bound: &Bound, lane: &Queue<Plain>, lowest: Option<u32>) -> Option<u32>
+    requires { (packet : Packet) → Contains lane.now packet
+        → AreItemsOn bound.now.split.grid packet }
+    ensures { IsLeastBeside (IsInLane (sum_of (parts_of bound.now)) lane.now) lowest result }
+{
+    let mut least = lowest;
+    'packets: for at in 0..lane.len() {
+        least = lowest_of(bound, lane.packet(at), least);
+    }
+    least
+}
