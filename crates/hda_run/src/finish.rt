@@ -103,7 +103,9 @@ fn lowest_in_lanes(bound: &Bound, lanes: &[Vec<Queue<Plain>>], lowest: Option<u3
     requires { (to_each : Vec Lane Global) (lane : Lane) (packet : Packet)
         → Contains lanes.now to_each → Contains to_each.items lane → Contains lane packet
         → AreItemsOn bound.now.split.grid packet }
-    ensures { IsLeastBeside (IsOfOne (λ to_each. IsInLanes (sum_of (parts_of bound.now)) to_each.items) lanes.now) lowest result }
+    ensures { IsLeastBeside
+        (IsOfOne (λ to_each. IsInLanes (sum_of (parts_of bound.now)) to_each.items) lanes.now)
+        lowest result }
 {
     let mut least = lowest;
     'senders: for from in 0..lanes.len() {
