@@ -4,3 +4,4 @@ mod LaneLemmas
 mod OpeningLemmas
 mod RunLemmas
 mod LowestLemmas
+mod TruthLemmas

@@ -4,3 +4,4 @@ pub mod Lanes
 pub mod Problems
 pub mod Worlds
 pub mod Kinds
+pub mod Headline

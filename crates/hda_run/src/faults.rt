@@ -4,6 +4,7 @@ ghost use Rattle.std.specs.Prelude.{◌≡◌};
 ghost use Rattle.hda_run.specs.Faults.{job_code, world_code};
 
 use memory::OutOfMemory;
+use outcomes::SolveFault;
 use thiserror::Error;
 
 /// Why there is no job.
@@ -44,6 +45,41 @@ impl WorldFault {
         match self {
             WorldFault::WorkerCount => "V2",
             WorldFault::Memory(_) => "V3",
+        }
+    }
+}
+
+impl From<JobFault> for SolveFault {
+    ghost use Rattle.std.specs.Prelude.{◌≡◌};
+    ghost use Rattle.outcomes.specs.Faults.{solve_code};
+    ghost use Rattle.hda_run.specs.Faults.{job_code, of_job};
+
+    ghost from_gives = { λ fault sum. sum ≡ of_job fault };
+
+    fn from(fault: JobFault) -> SolveFault
+        ensures given { result ≡ of_job fault }
+        ensures code { solve_code result ≡ job_code fault }
+    {
+        match fault {
+            JobFault::ShapesDiffer => SolveFault::ShapesDiffer,
+        }
+    }
+}
+
+impl From<WorldFault> for SolveFault {
+    ghost use Rattle.std.specs.Prelude.{◌≡◌};
+    ghost use Rattle.outcomes.specs.Faults.{solve_code};
+    ghost use Rattle.hda_run.specs.Faults.{world_code, of_world};
+
+    ghost from_gives = { λ fault sum. sum ≡ of_world fault };
+
+    fn from(fault: WorldFault) -> SolveFault
+        ensures given { result ≡ of_world fault }
+        ensures code { solve_code result ≡ world_code fault }
+    {
+        match fault {
+            WorldFault::WorkerCount => SolveFault::WorkerCount,
+            WorldFault::Memory(refused) => SolveFault::Memory(refused),
         }
     }
 }

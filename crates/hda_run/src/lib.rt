@@ -6,6 +6,7 @@ mod book_steps;
 mod faults;
 mod finish;
 mod gates;
+mod headline;
 mod job;
 mod lane_steps;
 mod opening;
@@ -16,6 +17,7 @@ mod world;
 
 pub use faults::{JobFault, WorldFault};
 pub use gates::{Free, Gate, Kind, kind_of};
+pub use headline::run_and_finish;
 pub use job::Job;
 pub use runs::run_steps;
 pub use world::World;
