@@ -4,4 +4,7 @@ mod LaneLemmas
 mod OpeningLemmas
 mod RunLemmas
 mod LowestLemmas
+mod AloneLemmas
+mod AloneEnds
 mod TruthLemmas
+mod AloneOutcomes

@@ -5,3 +5,5 @@ pub mod Problems
 pub mod Worlds
 pub mod Kinds
 pub mod Headline
+pub mod Alone
+pub mod Rounds

@@ -45,9 +45,10 @@ pub fn kind_of(step: Step) -> Kind
     }
 }
 
-/// What a worker passes before each step: a test may hold it there, to try an order of steps.
+/// What a worker passes after each step that is accepted, while it holds no lock: a test may hold
+/// it there, to try an order of steps.
 pub trait Gate {
-    /// Returns when the worker may take the step.
+    /// Returns when the worker that took the step may go on.
     fn pass(&self, worker: usize, kind: Kind);
 }
 

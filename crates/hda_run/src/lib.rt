@@ -2,6 +2,7 @@
 //! Fukunaga, Botea 2013).
 #![tactic(auto)]
 
+mod alone;
 mod book_steps;
 mod faults;
 mod finish;
@@ -15,6 +16,7 @@ mod parts;
 mod runs;
 mod world;
 
+pub use alone::{end_one, solve_one};
 pub use faults::{JobFault, WorldFault};
 pub use gates::{Free, Gate, Kind, kind_of};
 pub use headline::run_and_finish;

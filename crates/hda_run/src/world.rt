@@ -18,6 +18,7 @@ use crate::faults::WorldFault;
 use crate::job::Job;
 use crate::opening::open_parts;
 use crate::parts::Parts;
+use memory::OutOfMemory;
 use message_ledger::Plain;
 use owners::Spread;
 use quiescence::Book;
@@ -66,12 +67,29 @@ impl<'a, S: Spread + Drop> World<'a, S> {
         if !is_worker_count(workers) {
             return Err(WorldFault::WorkerCount);
         }
-        openings_are_sound();
-        let _ = job.goal();
-        match open_parts(alloc, job, workers, spread) {
-            Ok(parts) => Ok(World { parts }),
+        match World::open(alloc, job, workers, spread) {
+            Ok(world) => Ok(world),
             Err(refused) => Err(WorldFault::Memory(refused)),
         }
+    }
+
+    // The opening world of a job, with as many workers as there may be.
+    pub(crate) fn open(
+        alloc: Global,
+        job: Job<'a>,
+        workers: usize,
+        spread: S,
+    ) -> Result<Self, OutOfMemory>
+        requires { IsWorkerCount workers }
+        ensures opening { IfOk result (λ world. (via : Move)
+            × (world_of S.hash_of world ≡ opening (job_of S.hash_of job.entry spread workers) via)) }
+        ensures job { IfOk result (λ world. world.job ≡ job.entry) }
+        ensures owners { IfOk result (λ world. world.owners ≡ spread) }
+    {
+        openings_are_sound();
+        let _ = job.goal();
+        let parts = open_parts(alloc, job, workers, spread)?;
+        Ok(World { parts })
     }
 }
 

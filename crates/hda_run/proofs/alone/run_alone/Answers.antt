@@ -1,0 +1,18 @@
+use Rattle.std.proofs.Common.{arith, refl}
+use Rattle.hda_run.specs.Worlds.{world_of, job_of}
+use Rattle.hda_run.proofs.AloneEnds.{opened_lone, alone_from}
+use Rattle.hda_run.proofs.OpeningLemmas.{is_job}
+use Rattle.hda_run.proofs.alone.run_alone.Goals as goal
+
+pub go_on-end-requires : goal.go_on-end-requires
+go_on-end-requires g c =
+    let hash = g.S.Spread.hash_of in
+    let opened = c.in_ok-world.ensures.opening in
+    opened_lone (job_of hash c.args.job c.args.spread 1) opened.0 (world_of hash c.in_ok-world.world) opened.1 refl (is_job hash c.args.spread c.args.job 1 c.goal.ensures.task (omega arith, omega arith))
+
+pub returns-clause-run : goal.returns-clause-run
+returns-clause-run g c =
+    let hash = g.S.Spread.hash_of in
+    let opened = c.in_ok-world.ensures.opening in
+    alone_from (job_of hash c.args.job c.args.spread 1) opened.0 (world_of hash c.in_ok-world.world) (world_of hash c.go_on-end.new.world) (world_of hash c.stop_for.new.world) opened.1 refl
+    (is_job hash c.args.spread c.args.job 1 c.goal.ensures.task (omega arith, omega arith)) c.go_on-end.ensures.run c.stop_for.ensures.stops

@@ -1,0 +1,55 @@
+-- What one worker does alone, round by round.
+use Rattle.std.specs.Prelude.{ℕ, ◌≡◌, ◌+◌, ◌-◌, List, [], ◌∷◌, ◌++◌, Option, Some, None}
+use Rattle.world_model.specs.declared.steps.Refusal.{Refusal}
+use Rattle.world_model.specs.declared.steps.Refusal.TheVariants as refusals
+use Rattle.world_model.specs.declared.steps.Step.{Step}
+use Rattle.world_model.specs.declared.steps.Step.TheVariants.{Expand, Grant}
+use Rattle.world_model.specs.Credit.{IsCredited, packet_count, expansion_count}
+use Rattle.world_model.specs.Shapes.{IsShaped}
+use Rattle.world_model.specs.Steps.{IsRun, Next}
+use Rattle.world_model.specs.Turns.{turn}
+use Rattle.world_model.specs.Workers.{WorkerState}
+use Rattle.world_model.specs.Worlds.{WorldState}
+use Rattle.hda_run.specs.declared.alone.End.{End}
+use Rattle.hda_run.specs.declared.alone.End.TheVariants.{Quiet, Limit, Memory}
+use Rattle.hda_run.specs.Alone.{HaltsNowhere, AreLast}
+
+-- one worker, which holds nothing, has nothing to send, and has a purse of 1; no packet is in a lane, and the run goes on
+pub record IsLone (w : WorldState) : Type 0 where
+  pub worker : WorkerState
+  pub is : w.workers ≡ worker ∷ []
+  pub holds_nothing : worker.held ≡ []
+  pub sends_nothing : worker.unsent ≡ [] ∷ []
+  pub purse : worker.purse ≡ 1
+  pub no_packet : packet_count w ≡ 0
+  pub goes_on : w.book.stop ≡ None
+  pub shaped : IsShaped w
+  pub credited : IsCredited w
+
+-- some steps, none of which is to halt the run, lead from one world to another
+pub record Reaches (w w' : WorldState) : Type 0 where
+  pub made : List (Step × Option Refusal)
+  pub run : IsRun w made w'
+  pub goes_on : HaltsNowhere made
+
+-- what may still be granted, and what may still be expanded
+abbrev pub work_left : WorldState → ℕ
+work_left w = (w.book.limit - w.book.granted) + (w.book.limit - expansion_count w)
+
+-- this step is refused so
+abbrev pub Refuses : WorldState → Step → Refusal → Type 0
+Refuses w step refusal = Next step (turn w (Some refusal) w)
+
+-- why the worker has no more to do
+abbrev pub IsStuck : WorldState → End → Type 0
+IsStuck w Quiet = Refuses w (Expand 0) refusals.NothingBelowLimit
+IsStuck w Limit = Refuses w (Grant 0) refusals.NoAllowance
+IsStuck w (Memory refused) = Refuses w (Expand 0) (refusals.Memory refused)
+
+-- some steps, and last steps, lead from one world to another, where the run has stopped
+pub record Stops (w w' : WorldState) : Type 0 where
+  pub first : List (Step × Option Refusal)
+  pub last : List (Step × Option Refusal)
+  pub run : IsRun w (first ++ last) w'
+  pub goes_on : HaltsNowhere first
+  pub ends : AreLast last w'.book.stop

@@ -1,0 +1,238 @@
+//! Jobs that one worker does alone.
+
+ghost use Rattle.std.specs.Prelude.{ℕ, ◌≡◌, ◌≢◌, ◌↔◌, ◌<◌, Ok, IfOk, IfErr, IsOk, Option, Vec};
+ghost use Rattle.std.specs.declared.alloc.Global.{Global};
+ghost use Rattle.board.specs.Classes.{SameClass};
+ghost use Rattle.board.specs.declared.moves.Move.{Move};
+ghost use Rattle.outcomes.specs.Outcomes.{Answers};
+ghost use Rattle.outcomes.specs.declared.outcome.Cause.{Cause};
+ghost use Rattle.outcomes.specs.declared.outcome.Cause.TheVariants.{Cut, Start};
+ghost use Rattle.outcomes.specs.declared.outcome.Outcome.TheVariants.{Bounded, Unsolvable};
+ghost use Rattle.outcomes.specs.declared.outcome.Why.TheVariants.{Parity};
+ghost use Rattle.world_ends.specs.declared.outcome.Ending.TheVariants as ending;
+ghost use Rattle.world_model.specs.declared.steps.Refusal.{Refusal};
+ghost use Rattle.world_model.specs.declared.steps.Step.{Step};
+ghost use Rattle.world_model.specs.Steps.{Next};
+ghost use Rattle.world_model.specs.Turns.{turn, refusal_in};
+ghost use Rattle.hda_run.specs.Alone.{IsRunAlone, IsByOne, EndsByOne};
+ghost use Rattle.hda_run.specs.Problems.{task_in};
+ghost use Rattle.hda_run.specs.Rounds.{IsLone, Reaches, work_left, Refuses, IsStuck};
+ghost use Rattle.hda_run.specs.Rounds.{Stops};
+ghost use Rattle.hda_run.specs.Worlds.{world_of, job_of};
+
+use crate::gates::{Gate, kind_of};
+use crate::job::Job;
+use crate::world::World;
+use board::laws::plans_keep_the_class;
+use board::same_class;
+use memory::OutOfMemory;
+use outcomes::{Outcome, Want, Why};
+use owners::Spread;
+use std::alloc::Global;
+use world_ends::Ending;
+use world_model::{HaltCause, Refusal, Step};
+
+// After so many expansions the worker looks whether it knows the goal.
+const EXPANSIONS_BETWEEN_LOOKS: u64 = 16;
+
+// Why the worker has no more to do.
+#[derive(Clone, Copy)]
+enum End {
+    // No board may be expanded below the limit of the best cost.
+    Quiet,
+    // No allowance is left, and none is granted.
+    Limit,
+    // Memory was refused for an expansion.
+    Memory(OutOfMemory),
+}
+
+/// Solves a job by one worker, in the calling thread: it expands the boards itself, and waits for
+/// nobody. A start that isn't in the goal's class is answered without a search. Memory is refused
+/// where there is none for the opening world; what is refused later is told by the outcome.
+pub fn solve_one<'a, S: Spread + Drop, G: Gate>(
+    alloc: Global,
+    job: Job<'a>,
+    spread: S,
+    gate: &G,
+) -> Result<Outcome, OutOfMemory>
+    ensures parity { (result ≡ Ok (Unsolvable Parity))
+        ↔ (¬ SameClass job.entry.start job.entry.goal) }
+    ensures run { SameClass job.entry.start job.entry.goal
+        → IfOk result (IsByOne S.hash_of job.entry spread) }
+    ensures answers { IfOk result (Answers (task_in job.entry)) }
+    ensures kept { IfOk result (λ outcome. (bound : ℕ) (best : Option (ℕ × Vec Move Global))
+        (cause : Cause) → outcome ≡ Bounded bound best cause → (cause ≢ Cut) × (cause ≢ Start)) }
+{
+    // By this law no plan leads from a board to another class.
+    plans_keep_the_class();
+    if !same_class(job.start(), job.goal()) {
+        return Ok(Outcome::Unsolvable { why: Why::Parity });
+    }
+    let world = run_alone(alloc, job, spread, gate)?;
+    // What each world keeps is told by this call.
+    let _ = world.workers();
+    Ok(world.finish(alloc))
+}
+
+/// The same without rows, for which no memory is taken.
+pub fn end_one<'a, S: Spread + Drop, G: Gate>(
+    alloc: Global,
+    job: Job<'a>,
+    spread: S,
+    gate: &G,
+) -> Result<Ending, OutOfMemory>
+    ensures parity { (result ≡ Ok (ending.Unsolvable Parity))
+        ↔ (¬ SameClass job.entry.start job.entry.goal) }
+    ensures run { SameClass job.entry.start job.entry.goal
+        → IfOk result (EndsByOne S.hash_of job.entry spread) }
+    ensures kept { IfOk result (λ outcome. (bound : ℕ) (best : Option (ℕ × Vec Move Global))
+        (cause : Cause) → outcome ≡ ending.Bounded bound best cause
+        → (cause ≢ Cut) × (cause ≢ Start)) }
+{
+    if !same_class(job.start(), job.goal()) {
+        return Ok(Ending::Unsolvable { why: Why::Parity });
+    }
+    let world = run_alone(alloc, job, spread, gate)?;
+    let _ = world.workers();
+    Ok(world.end(alloc))
+}
+
+// The world in which a run by one worker stops.
+fn run_alone<'a, S: Spread + Drop, G: Gate>(
+    alloc: Global,
+    job: Job<'a>,
+    spread: S,
+    gate: &G,
+) -> Result<World<'a, S>, OutOfMemory>
+    ensures run { IfOk result (λ world. IsRunAlone (job_of S.hash_of job.entry spread 1)
+        (world_of S.hash_of world)) }
+    ensures job { IfOk result (λ world. world.job ≡ job.entry) }
+{
+    let _ = job.goal();
+    let mut world = World::open(alloc, job, 1, spread)?;
+    let end = go_on(alloc, &mut world, gate);
+    stop_for(alloc, &mut world, gate, end);
+    Ok(world)
+}
+
+// Lets the worker go on until it has no more to do. Answers why.
+fn go_on<S: Spread, G: Gate>(alloc: Global, world: &mut World<'_, S>, gate: &G) -> End
+    requires { IsLone (world_of S.hash_of world.old) }
+    ensures run { Reaches (world_of S.hash_of world.old) (world_of S.hash_of world.new) }
+    ensures lone { IsLone (world_of S.hash_of world.new) }
+    ensures stuck { IsStuck (world_of S.hash_of world.new) result }
+    ensures job { world.new.job ≡ world.old.job }
+{
+    'rounds: loop {
+        if let Err(end) = round(alloc, world, gate) {
+            return end;
+        }
+    }
+}
+
+// The worker expands a board, or is granted expansions where it has no allowance. A goal that is
+// known is announced soon, so that boards above its cost are not expanded.
+fn round<S: Spread, G: Gate>(alloc: Global, world: &mut World<'_, S>, gate: &G) -> Result<(), End>
+    requires { IsLone (world_of S.hash_of world.old) }
+    ensures run { Reaches (world_of S.hash_of world.old) (world_of S.hash_of world.new) }
+    ensures lone { IsLone (world_of S.hash_of world.new) }
+    ensures less { IsOk result
+        → work_left (world_of S.hash_of world.new) < work_left (world_of S.hash_of world.old) }
+    ensures stuck { IfErr result (IsStuck (world_of S.hash_of world.new)) }
+    ensures job { world.new.job ≡ world.old.job }
+{
+    let Err(refusal) = take(alloc, world, gate, Step::Expand(0)) else {
+        announce_at_times(alloc, world, gate);
+        return Ok(());
+    };
+    match refusal {
+        Refusal::NoAllowance => be_granted(alloc, world, gate),
+        Refusal::Memory(refused) => Err(End::Memory(refused)),
+        // S1: no packet is ever filled, since the worker owns all boards.
+        _ => Err(End::Quiet),
+    }
+}
+
+// The worker is granted expansions.
+fn be_granted<S: Spread, G: Gate>(
+    alloc: Global,
+    world: &mut World<'_, S>,
+    gate: &G,
+) -> Result<(), End>
+    requires lone { IsLone (world_of S.hash_of world.old) }
+    requires spent { Refuses (world_of S.hash_of world.old) (Step.Expand 0) Refusal.NoAllowance }
+    ensures run { Reaches (world_of S.hash_of world.old) (world_of S.hash_of world.new) }
+    ensures lone { IsLone (world_of S.hash_of world.new) }
+    ensures less { IsOk result
+        → work_left (world_of S.hash_of world.new) < work_left (world_of S.hash_of world.old) }
+    ensures stuck { IfErr result (IsStuck (world_of S.hash_of world.new)) }
+    ensures job { world.new.job ≡ world.old.job }
+{
+    let Err(_) = take(alloc, world, gate, Step::Grant(0)) else {
+        return Ok(());
+    };
+    Err(End::Limit)
+}
+
+// The worker announces the goal's cost, if it knows the goal and the time has come to look.
+fn announce_at_times<S: Spread, G: Gate>(alloc: Global, world: &mut World<'_, S>, gate: &G)
+    requires { IsLone (world_of S.hash_of world.old) }
+    ensures run { Reaches (world_of S.hash_of world.old) (world_of S.hash_of world.new) }
+    ensures lone { IsLone (world_of S.hash_of world.new) }
+    ensures same { work_left (world_of S.hash_of world.new)
+        ≡ work_left (world_of S.hash_of world.old) }
+    ensures job { world.new.job ≡ world.old.job }
+{
+    if world.worker(0).expansions() % EXPANSIONS_BETWEEN_LOOKS == 0 {
+        let _ = take(alloc, world, gate, Step::Announce(0));
+    }
+}
+
+// Stops the run, by a rest or a halt.
+fn stop_for<S: Spread, G: Gate>(alloc: Global, world: &mut World<'_, S>, gate: &G, end: End)
+    requires lone { IsLone (world_of S.hash_of world.old) }
+    requires stuck { IsStuck (world_of S.hash_of world.old) end }
+    ensures stops { Stops (world_of S.hash_of world.old) (world_of S.hash_of world.new) }
+    ensures job { world.new.job ≡ world.old.job }
+{
+    match end {
+        End::Quiet => rest(alloc, world, gate),
+        End::Limit => {
+            let _ = take(alloc, world, gate, Step::Halt(0, HaltCause::Limit));
+        }
+        End::Memory(refused) => {
+            let cause = HaltCause::Memory(Want::Refused(refused));
+            let _ = take(alloc, world, gate, Step::Halt(0, cause));
+        }
+    }
+}
+
+// The worker rests, when it has announced what it knows.
+fn rest<S: Spread, G: Gate>(alloc: Global, world: &mut World<'_, S>, gate: &G)
+    requires lone { IsLone (world_of S.hash_of world.old) }
+    requires stuck { Refuses (world_of S.hash_of world.old) (Step.Expand 0)
+        Refusal.NothingBelowLimit }
+    ensures stops { Stops (world_of S.hash_of world.old) (world_of S.hash_of world.new) }
+    ensures job { world.new.job ≡ world.old.job }
+{
+    let _ = take(alloc, world, gate, Step::Announce(0));
+    let _ = take(alloc, world, gate, Step::Rest(0));
+}
+
+// Takes a step, and passes the gate where it is accepted.
+fn take<S: Spread, G: Gate>(
+    alloc: Global,
+    world: &mut World<'_, S>,
+    gate: &G,
+    step: Step,
+) -> Result<(), Refusal>
+    ensures step { Next step (turn (world_of S.hash_of world.old) (refusal_in result)
+        (world_of S.hash_of world.new)) }
+    ensures job { world.new.job ≡ world.old.job }
+{
+    let answer = world.step(alloc, step);
+    if answer.is_ok() {
+        gate.pass(0, kind_of(step));
+    }
+    answer
+}
