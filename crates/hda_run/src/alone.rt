@@ -1,6 +1,6 @@
 //! Jobs that one worker does alone.
 
-ghost use Rattle.std.specs.Prelude.{ℕ, ◌≡◌, ◌≢◌, ◌↔◌, ◌<◌, Ok, IfOk, IfErr, IsOk, Option, Vec};
+ghost use Rattle.std.specs.Prelude.{ℕ, ◌≡◌, ◌≢◌, ◌↔◌, ◌<◌, Ok, IfOk, IfErr, IsOk, IsTrue, Option, Vec};
 ghost use Rattle.std.specs.declared.alloc.Global.{Global};
 ghost use Rattle.board.specs.Classes.{SameClass};
 ghost use Rattle.board.specs.declared.moves.Move.{Move};
@@ -65,7 +65,8 @@ pub fn solve_one<'a, S: Spread + Drop, G: Gate>(
 {
     // By this law no plan leads from a board to another class.
     plans_keep_the_class();
-    if !same_class(job.start(), job.goal()) {
+    let _ = job.goal();
+    if are_apart(&job) {
         return Ok(Outcome::Unsolvable { why: Why::Parity });
     }
     let world = run_alone(alloc, job, spread, gate)?;
@@ -89,12 +90,20 @@ pub fn end_one<'a, S: Spread + Drop, G: Gate>(
         (cause : Cause) → outcome ≡ ending.Bounded bound best cause
         → (cause ≢ Cut) × (cause ≢ Start)) }
 {
-    if !same_class(job.start(), job.goal()) {
+    let _ = job.goal();
+    if are_apart(&job) {
         return Ok(Ending::Unsolvable { why: Why::Parity });
     }
     let world = run_alone(alloc, job, spread, gate)?;
     let _ = world.workers();
     Ok(world.end(alloc))
+}
+
+// Whether the start isn't in the goal's class.
+fn are_apart(job: &Job<'_>) -> bool
+    ensures { IsTrue result ↔ (¬ SameClass job.now.start job.now.goal) }
+{
+    !same_class(job.start(), job.goal())
 }
 
 // The world in which a run by one worker stops.
