@@ -3,3 +3,4 @@ pub mod Lines
 pub mod Replies
 pub mod Stepping
 pub mod Replays
+pub mod Openings

@@ -3,8 +3,11 @@
 
 mod board_line;
 mod finding;
+mod replay;
 mod sending;
 mod stepping;
+mod worlds;
 
 pub use board_line::{Opener, replay_lines};
+pub use replay::run_replay;
 pub use stepping::Run;

@@ -1,0 +1,14 @@
+use Rattle.std.proofs.Common.{sym, subst, ◌∙◌}
+use Rattle.byte_streams.specs.Streams.{change}
+use Rattle.batch_runs.specs.declared.setup.SpreadKind.{SpreadKind}
+use Rattle.replay_runs.specs.Openings.{jobs_by, hash_by, terms_of}
+use Rattle.replay_runs.specs.Replays.{Replays}
+use Rattle.replay_runs.proofs.replay.replay_with.Goals as goal
+
+pub returns-in-Zobrist-clause-replays : goal.returns-in-Zobrist-clause-replays
+returns-in-Zobrist-clause-replays g c =
+    subst (λ (kind : SpreadKind). Replays (jobs_by (hash_by kind) (terms_of c.args.setup.now c.args.bound.now)) (change g.S.Source.state c.args.source.now c.replay_spread.new.source) (change g.K.Sink.state c.args.sink.now c.replay_spread.new.sink) c.replay_spread.result) (sym (sym c.spread_kind.ensures ∙ c.in-Zobrist.is)) c.replay_spread.ensures.replays
+
+pub returns-in-Blank-clause-replays : goal.returns-in-Blank-clause-replays
+returns-in-Blank-clause-replays g c =
+    subst (λ (kind : SpreadKind). Replays (jobs_by (hash_by kind) (terms_of c.args.setup.now c.args.bound.now)) (change g.S.Source.state c.args.source.now c.replay_spread-in-Blank.new.source) (change g.K.Sink.state c.args.sink.now c.replay_spread-in-Blank.new.sink) c.replay_spread-in-Blank.result) (sym (sym c.spread_kind.ensures ∙ c.in-Blank.is)) c.replay_spread-in-Blank.ensures.replays
