@@ -79,7 +79,11 @@ module _ (task : Task) (hash : Position → ℕ) (states : List WorkerState) (w 
 
   -- the plan costs the bound
   pub plan_least : (n bound : ℕ) (there : Known) (best : ℕ × Vec Move Global) → lesser lowest (cost_in known) ≡ Some n → bound ≡ max (task.sum task.start) n → known ≡ Some there → IsTraced task hash states there.cost best.0 best.1.items → best.0 ≡ bound → EndsIn w (Optimal best.0 best.1)
-  plan_least n bound there best is most some traced same = (
-    (λ rows are. given (outcome.Optimal best.0 best.1 rows) (bound_is n best.0 is (same ∙ most), followed there best.0 best.1.items some traced, are)),
-    (λ refused. no_memory n best.0 there refused is (same ∙ most) some),
-  )
+  plan_least n bound there best is most some traced same = record {
+    lowest = lowest;
+    reached = cost_in known;
+    of_frontier = lowest_is task hash states w parts lanes lowest laned least;
+    of_goal = reached_is task hash states w parts known goal_board found;
+    bound = bound_is n best.0 is (same ∙ most);
+    followed = followed there best.0 best.1.items some traced;
+  }

@@ -3,3 +3,4 @@ pub mod PartLemmas
 pub mod PlanLemmas
 pub mod RowLemmas
 pub mod EndingLemmas
+pub mod LawLemmas

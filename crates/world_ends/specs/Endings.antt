@@ -1,21 +1,38 @@
 -- What a world gives, but for rows.
-use Rattle.std.specs.Prelude.{ℕ, Vec, None}
-use Rattle.std.specs.declared.alloc.Global.{Global}
-use Rattle.memory.specs.declared.OutOfMemory.{OutOfMemory}
-use Rattle.board.specs.Positions.{Position}
-use Rattle.outcomes.specs.declared.outcome.Cause.TheVariants.{Memory}
-use Rattle.outcomes.specs.declared.outcome.Want.TheVariants.{Refused}
+use Rattle.std.specs.Prelude.{ℕ, ◌≤◌, List, Option, length}
+use Rattle.board.specs.declared.costs.TheConstants.{GREATEST_COST}
+use Rattle.board.specs.declared.moves.Move.{Move}
+use Rattle.board.specs.Plans.{Leads, IsLeast}
+use Rattle.outcomes.specs.Outcomes.{Task, Answers}
 use Rattle.outcomes.specs.declared.outcome.Outcome.TheVariants as outcome
 use Rattle.world_model.specs.Worlds.{WorldState}
-use Rattle.world_model.specs.Outcomes.{AreRowsFor, IsGiven}
+use Rattle.world_model.specs.Frontiers.{IsLowest, IsReached}
+use Rattle.world_model.specs.Outcomes.{End, IsBoundOf, IsFollowedBack, IsGiven}
 use Rattle.world_ends.specs.declared.outcome.Ending.{Ending}
 use Rattle.world_ends.specs.declared.outcome.Ending.TheVariants.{Optimal, Unsolvable, Bounded}
 
--- The world ends so. An optimal plan is given with each vector of its rows; where memory is refused for them, its cost is given as a
--- bound.
+-- a world, with this lowest of its frontier, where the goal is known at this cost
+abbrev pub end_at : WorldState → Option ℕ → Option ℕ → End
+end_at w lowest reached = record { world = w; lowest = lowest; reached = reached }
+
+-- the plan is the one that last moves make, and its cost is just the bound that the world gives
+pub record IsProvedPlan (w : WorldState) (cost : ℕ) (plan : List Move) : Type 0 where
+  pub lowest : Option ℕ
+  pub reached : Option ℕ
+  pub of_frontier : IsLowest w lowest
+  pub of_goal : IsReached w reached
+  pub bound : IsBoundOf (end_at w lowest reached) cost
+  pub followed : IsFollowedBack (end_at w lowest reached) cost plan
+
+-- The world ends so: as an outcome that it gives, but for rows.
 abbrev pub EndsIn : WorldState → Ending → Type 0
-EndsIn w (Optimal cost plan) =
-    ((rows : Vec (Position × ℕ) Global) → AreRowsFor w cost rows.items → IsGiven w (outcome.Optimal cost plan rows))
-    × ((refused : OutOfMemory) → IsGiven w (outcome.Bounded cost None (Memory (Refused refused))))
+EndsIn w (Optimal cost plan) = IsProvedPlan w cost plan.items
 EndsIn w (Unsolvable why) = IsGiven w (outcome.Unsolvable why)
 EndsIn w (Bounded bound best cause) = IsGiven w (outcome.Bounded bound best cause)
+
+-- what an ending says is true, as what an outcome says is, but for rows
+abbrev pub EndAnswers : Task → Ending → Type 0
+EndAnswers task (Optimal cost plan) =
+    Leads task.rule task.start plan.items task.goal cost × IsLeast task.rule task.start task.goal cost × (cost ≤ GREATEST_COST) × (length plan.items ≤ GREATEST_COST)
+EndAnswers task (Unsolvable why) = Answers task (outcome.Unsolvable why)
+EndAnswers task (Bounded bound best cause) = Answers task (outcome.Bounded bound best cause)

@@ -4,3 +4,4 @@ pub mod Lowest
 pub mod Plans
 pub mod Rows
 pub mod Endings
+pub mod Laws

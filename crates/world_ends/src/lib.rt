@@ -2,6 +2,7 @@
 #![tactic(auto)]
 
 mod asked;
+pub mod laws;
 mod lowest;
 mod outcome;
 mod plan;

@@ -1,0 +1,8 @@
+use Rattle.world_ends.proofs.LawLemmas.{rows_alone, bound_left}
+use Rattle.world_ends.proofs.laws.endings_lack_rows_alone.Goals as goal
+
+pub returns-clause-rows : goal.returns-clause-rows
+returns-clause-rows c = rows_alone
+
+pub returns-clause-memory : goal.returns-clause-memory
+returns-clause-memory c = bound_left

@@ -1,0 +1,18 @@
+//! The laws of endings: each is the contract of a function that does nothing.
+
+ghost use Rattle.world_ends.specs.Laws.{EndingsLackRowsAlone, WantedRowsLeaveABound, EndingsAnswer};
+
+use world_model::laws::outcomes_answer;
+
+/// An ending is an outcome but for its rows, and a bound where memory is refused for these.
+pub fn endings_lack_rows_alone()
+    ensures rows { EndingsLackRowsAlone }
+    ensures memory { WantedRowsLeaveABound }
+{}
+
+/// The ending that a sound world gives answers its task.
+pub fn endings_answer()
+    ensures { EndingsAnswer }
+{
+    outcomes_answer();
+}
