@@ -29,10 +29,10 @@ use std::env::FillError;
 use std::io::{Eprint, Print};
 use std::process::ExitCode;
 use std::rt::Env;
-use workers::{expand_board, meet_board, settle_items};
+use workers::{expand_board, expand_in_full_table, meet_board, settle_items};
 
 // The names of all calls.
-const CALLS: [&str; 17] = [
+const CALLS: [&str; 18] = [
     "partition",
     "table",
     "unit-2x2",
@@ -50,6 +50,7 @@ const CALLS: [&str; 17] = [
     "meet",
     "settle",
     "expand",
+    "expand-more",
 ];
 
 // Makes the call of this name, or answers None where there is none.
@@ -72,6 +73,7 @@ fn call(alloc: Global, name: &str) -> Option<Answer> {
         "meet" => Some(meet_board(alloc)),
         "settle" => Some(settle_items(alloc)),
         "expand" => Some(expand_board(alloc)),
+        "expand-more" => Some(expand_in_full_table(alloc)),
         _ => None,
     }
 }

@@ -7,6 +7,7 @@ ghost use Rattle.worker_trials.specs.Jobs.{IsFit, IsLed};
 use crate::answer::Answer;
 use arrayvec::ArrayVec;
 use board::{Board, Move, Shape, Weights};
+use memory::PAGE_LENGTH;
 use message_ledger::{Allowance, Credit, Grants, Packet, Plain, Purse};
 use owners::ByBlank;
 use quiescence::Book;
@@ -284,17 +285,74 @@ pub fn expand_board(alloc: Global) -> Answer {
     let expanded = expand_it(alloc, &job, &mut worker);
     if_so(
         both(met, expanded),
-        is_expanded(&worker, &job),
+        is_expanded(&worker, &job, 3),
         "not expanded so",
     )
 }
 
-// Whether a worker that knew the start alone has expanded it.
-fn is_expanded(worker: &Worker<Plain>, job: &Job) -> bool {
+/// Expands a board where the table of known boards is full but for three places, so that the table
+/// grows too.
+pub fn expand_in_full_table(alloc: Global) -> Answer {
+    let Some(job) = job(alloc) else {
+        return Answer::Wrong("no job");
+    };
+    let (credit, purse) = Credit::plain();
+    let mut book = Book::new(credit, Grants::plain(), 7, 2);
+    let Some(mut worker) = hire(alloc, &job, purse, Allowance::plain()) else {
+        return Answer::Refused;
+    };
+    let met = fill_table(alloc, &job, &mut worker);
+    if worker.allowance() != 0 || worker.expansions() != 0 || worker.grant(&mut book).is_err() {
+        return Answer::Wrong("not granted");
+    }
+    let expanded = expand_it(alloc, &job, &mut worker);
+    if_so(
+        both(met, expanded),
+        is_expanded(&worker, &job, PAGE_LENGTH - 1),
+        "not expanded so",
+    )
+}
+
+// Meets the start at no cost, and others at a greater one, until three places are left in the first
+// page of the table.
+fn fill_table(alloc: Global, job: &Job, worker: &mut Worker<Plain>) -> Answer
+    requires job { IsFit job.now }
+    requires led { IsLed job.now worker.old.lists }
+    ensures led { IsLed job.now worker.new.lists }
+{
+    let mut answer = Answer::Whole;
+    'boards: for number in 0..PAGE_LENGTH - 3 {
+        let cost = if number == 0 { 0 } else { 20 };
+        let Some(board) = item(job, &numbered_tiles(number), cost) else {
+            return Answer::Wrong("no board");
+        };
+        answer = both(answer, meet_it(alloc, job, worker, &board));
+    }
+    answer
+}
+
+// START with its last eight tiles in an order of their own for each number below 8!; START itself
+// for 0.
+fn numbered_tiles(number: usize) -> [u8; 16] {
+    let mut tiles = START;
+    let mut left = number;
+    'places: for place in 8..15 {
+        let choices = 16 - place;
+        let other = place + left % choices;
+        let tile = tiles[place];
+        tiles[place] = tiles[other];
+        tiles[other] = tile;
+        left /= choices;
+    }
+    tiles
+}
+
+// Whether a worker that knew the start at no cost has expanded it, and knows so many boards now.
+fn is_expanded(worker: &Worker<Plain>, job: &Job, known: usize) -> bool {
     knows(worker, job, (&START, 0, Move::U, true))
         && knows(worker, job, (&BEHIND_UP, 5, Move::U, false))
         && knows(worker, job, (&BEHIND_DOWN, 9, Move::D, false))
-        && worker.lists().len() == 3
+        && worker.lists().len() == known
         && worker.allowance() == 6
         && worker.expansions() == 1
         && sends_two(worker)
