@@ -16,7 +16,7 @@ use Rattle.world_model.specs.Worlds.{WorldState}
 use Rattle.world_model.proofs.ShapeLemmas.{knows_owned, plan_short}
 use Rattle.world_ends.specs.declared.outcome.Ending.TheVariants.{Optimal, Unsolvable, Bounded}
 use Rattle.world_ends.specs.Endings.{IsProvedPlan}
-use Rattle.world_ends.specs.Laws.{EndingsLackRowsAlone, WantedRowsLeaveABound, EndingsAnswer}
+use Rattle.world_ends.specs.Laws.{EndingsLackRowsAlone, WantedRowsLeaveABound, RowsMakeAnAnswer, EndingsAnswer}
 
 pub rows_alone : EndingsLackRowsAlone
 rows_alone w cost plan rows are = (
@@ -44,3 +44,9 @@ ends_answer answers w (Optimal cost plan) shaped sound lower ends =
     (ends.followed.leads, record { reached = (plan.items, ends.followed.leads); none_below = bound.0 }, low, omega (arith, low, short))
 ends_answer answers w (Unsolvable why) shaped sound lower given = answers w (outcome.Unsolvable why) shaped sound lower given
 ends_answer answers w (Bounded bound best cause) shaped sound lower given = answers w (outcome.Bounded bound best cause) shaped sound lower given
+
+pub rows_make : RowsMakeAnAnswer
+rows_make task cost plan rows proved = (
+  λ ends. (ends.0, ends.1, proved, ends.2, ends.3),
+  λ answers. (answers.0, answers.1, answers.3, answers.4),
+)

@@ -8,6 +8,7 @@ use Rattle.board.specs.Rows.{IsLowerBound}
 use Rattle.outcomes.specs.declared.outcome.Cause.TheVariants.{Memory}
 use Rattle.outcomes.specs.declared.outcome.Want.TheVariants.{Refused}
 use Rattle.outcomes.specs.declared.outcome.Outcome.TheVariants as outcome
+use Rattle.outcomes.specs.Outcomes.{Task, Answers, AreRowsOf}
 use Rattle.world_model.specs.Shapes.{IsShaped}
 use Rattle.world_model.specs.Soundness.{IsSound}
 use Rattle.world_model.specs.Worlds.{WorldState}
@@ -29,6 +30,13 @@ WantedRowsLeaveABound =
     (w : WorldState) (cost : ℕ) (plan : Vec Move Global) (refused : OutOfMemory)
     → EndsIn w (Optimal cost plan)
     → IsGiven w (outcome.Bounded cost None (Memory (Refused refused)))
+
+-- where rows prove the cost, an ending answers its task just where it does with these rows
+abbrev pub RowsMakeAnAnswer : Type 0
+RowsMakeAnAnswer =
+    (task : Task) (cost : ℕ) (plan : Vec Move Global) (rows : Vec (Position × ℕ) Global)
+    → AreRowsOf task rows.items cost
+    → EndAnswers task (Optimal cost plan) ↔ Answers task (outcome.Optimal cost plan rows)
 
 -- the ending that a sound world gives answers its task
 abbrev pub EndingsAnswer : Type 0

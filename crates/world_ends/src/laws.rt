@@ -1,6 +1,7 @@
 //! The laws of endings: each is the contract of a function that does nothing.
 
-ghost use Rattle.world_ends.specs.Laws.{EndingsLackRowsAlone, WantedRowsLeaveABound, EndingsAnswer};
+ghost use Rattle.world_ends.specs.Laws.{EndingsLackRowsAlone, WantedRowsLeaveABound};
+ghost use Rattle.world_ends.specs.Laws.{RowsMakeAnAnswer, EndingsAnswer};
 
 use world_model::laws::outcomes_answer;
 
@@ -8,6 +9,7 @@ use world_model::laws::outcomes_answer;
 pub fn endings_lack_rows_alone()
     ensures rows { EndingsLackRowsAlone }
     ensures memory { WantedRowsLeaveABound }
+    ensures answers { RowsMakeAnAnswer }
 {}
 
 /// The ending that a sound world gives answers its task.
