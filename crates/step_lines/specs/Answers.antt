@@ -22,6 +22,10 @@ step_code AllowanceLeft = codes "S14"
 step_code NoSuchWorker = codes "S15"
 step_code PurseFull = codes "S16"
 
+-- the code of a line that says no step
+abbrev pub no_step_code : List ℕ
+no_step_code = codes "B4"
+
 -- what a step is answered by that was refused so, or wasn't refused
 abbrev pub answer_word : Option Refusal → List ℕ
 answer_word None = codes "ok"
