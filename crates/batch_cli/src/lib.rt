@@ -1,5 +1,5 @@
-//! The library of the program `tilesolve`: boards in, reports or a certificate out, and
-//! certificates checked.
+//! The library of the program `tilesolve`: boards in, reports or a certificate out, certificates
+//! checked, and runs replayed step by step.
 #![tactic(auto)]
 
 mod faults;
@@ -14,6 +14,7 @@ pub use certificate_runs::{CertifyFault, CheckFault, run_cert, run_check};
 pub use faults::BatchFault;
 pub use outcomes::{Cause, Outcome, SolveFault, Want, Why};
 pub use program::{Ending, run_program};
+pub use replay_runs::{Opener, Run, replay_lines, run_replay};
 pub use reports::{
     NoReport, accepted_report, outcome_report, refused_certificate_report, refused_report,
 };
