@@ -1,0 +1,53 @@
+//! Runs replays, and prints for each what was read and what was written, in the order of time.
+//!
+//! Standard input has paragraphs with an empty line between two. One that begins with `#` is a
+//! comment. Each other one is a replay: words that say its setup, and then the lines of its input.
+//! In these a `\` and two hexadecimal digits stand for a byte, and a `\` at the end takes the line
+//! feed away.
+//!
+//! What is printed is the words, each line of the input behind `< ` when it is begun to be read,
+//! what the replay passes on behind `> ` when it flushes, and the status or the code of the fault.
+#![tactic(auto)]
+
+mod escapes;
+mod setups;
+mod streams;
+
+use batch_cli::{Setup, run_replay};
+use byte_streams::{ByteSink, ByteSource};
+use setups::setup_of;
+use std::io::{self, ErrorKind, Read};
+use streams::{FlushPrinter, LinePrinter};
+
+fn main(rt: HostRuntime) -> io::Result<()> {
+    let text = io::read_to_string(rt.alloc(), rt.stdin())?;
+    for paragraph in text.split("\n\n") {
+        if !paragraph.starts_with('#') {
+            print_replay(&rt, paragraph)?;
+        }
+    }
+    Ok(())
+}
+
+// Runs the replay that a paragraph says, and prints it.
+fn print_replay(rt: &(impl Print + AllocGlobal), paragraph: &str) -> io::Result<()> {
+    let (words, input) = paragraph.split_once('\n').unwrap_or((paragraph, ""));
+    let Some(setup) = setup_of(rt.alloc(), words) else {
+        return Err(ErrorKind::InvalidData.into());
+    };
+    println!(rt; "{words}")?;
+    run(rt, &setup, input)
+}
+
+// Runs a replay of this input, whose lines are in escapes, and prints what happens.
+fn run(rt: &(impl Print + AllocGlobal), setup: &Setup, input: &str) -> io::Result<()> {
+    let alloc = rt.alloc();
+    let mut source = ByteSource::new(LinePrinter::new(rt, alloc, input));
+    let mut sink = ByteSink::new(FlushPrinter::new(rt, alloc));
+    let answer = run_replay(alloc, &mut source, &mut sink, setup);
+    sink.into_inner().print_rest()?;
+    match answer {
+        Ok(status) => println!(rt; "status {status}\n"),
+        Err(fault) => println!(rt; "{}\n", fault.code()),
+    }
+}
