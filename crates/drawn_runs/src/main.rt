@@ -1,0 +1,55 @@
+//! Finishes worlds of three workers after each beginning of a list of steps that are drawn at
+//! random, and prints for each board what they answered: how many bounds and how many plans, and
+//! the greatest bound.
+//!
+//! An answer is wrong that is a bound above the least cost, a plan at another cost, a plan whose
+//! certificate is refused, or the word that there is no plan.
+#![tactic(auto)]
+
+mod drawing;
+mod tallies;
+
+use board::{Board, Shape};
+use drawing::draw_steps;
+use std::io::{self, ErrorKind};
+use std::ops::Range;
+use tallies::tally_beginnings;
+use world_model::Step;
+
+// None of these beginnings meets a plan.
+const SHORT: Range<usize> = 0..401;
+
+// Of these some meet a plan of each board.
+const LONG: Range<usize> = 401..2401;
+
+fn main(rt: HostRuntime) -> io::Result<()> {
+    let Ok(steps) = draw_steps(rt.alloc(), LONG.end - 1) else {
+        return Err(ErrorKind::OutOfMemory.into());
+    };
+    for (tiles, least) in [([3, 2, 1, 0], 6), ([1, 0, 2, 3], 1)] {
+        print_board(&rt, steps.as_slice(), &tiles, least)?;
+    }
+    Ok(())
+}
+
+// Prints what the beginnings answer of a board, of which this is the least cost.
+fn print_board(
+    rt: &(impl Print + AllocGlobal),
+    steps: &[Step],
+    tiles: &[u8],
+    least: u32,
+) -> io::Result<()> {
+    let shape = Shape::new(2, 2).unwrap();
+    let Ok(start) = Board::from_tiles(shape, tiles) else {
+        return Err(ErrorKind::InvalidData.into());
+    };
+    println!(rt; "{tiles:?}, of least cost {least}")?;
+    for lengths in [SHORT, LONG] {
+        let (first, end) = (lengths.start, lengths.end);
+        let Some(tally) = tally_beginnings(rt.alloc(), steps, lengths, start, least) else {
+            return Err(ErrorKind::OutOfMemory.into());
+        };
+        println!(rt; "after {first}..{end} steps: {tally:?}")?;
+    }
+    Ok(())
+}

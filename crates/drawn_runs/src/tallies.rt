@@ -1,0 +1,104 @@
+//! What many worlds answer.
+
+ghost use Rattle.std.specs.Prelude.{◌≡◌, []};
+
+use board::{Board, Move, Shape, Weights};
+use certificate::{Certificate, Parts};
+use certificate_check::check;
+use hda_run::{Job, World, run_steps};
+use lower_bound::Bound;
+use outcomes::Outcome;
+use owners::ByBlank;
+use pattern_index::Partition;
+use std::alloc::Global;
+use std::ops::Range;
+use world_model::Step;
+
+/// How many bounds, the greatest of them, how many plans, and how many answers that are wrong.
+#[derive(Clone, Copy, Debug)]
+pub struct Tally {
+    bounds: u64,
+    greatest: u32,
+    plans: u64,
+    wrong: u64,
+}
+
+/// What worlds of a board answer after each beginning of these lengths; or None where memory was
+/// refused, or there is no such beginning.
+pub fn tally_beginnings(
+    alloc: Global,
+    steps: &[Step],
+    lengths: Range<usize>,
+    start: Board,
+    least: u32,
+) -> Option<Tally> {
+    let bound = no_tables(alloc, start.shape());
+    let mut tally = Tally {
+        bounds: 0,
+        greatest: 0,
+        plans: 0,
+        wrong: 0,
+    };
+    for length in lengths {
+        let outcome = outcome_after(alloc, &bound, steps.get(..length)?, start)?;
+        count(&mut tally, start, least, outcome);
+    }
+    Some(tally)
+}
+
+// The bound of no group, whose sums are 0.
+fn no_tables(alloc: Global, shape: Shape) -> Bound
+    ensures sides { result.split.grid ≡ shape }
+    ensures tables { result.lookups ≡ [] }
+{
+    let partition = Partition::new(shape, Vec::new(alloc)).unwrap();
+    Bound::new(partition, Vec::new(alloc)).unwrap()
+}
+
+// What a world of three workers answers after these steps.
+fn outcome_after(alloc: Global, bound: &Bound, steps: &[Step], start: Board) -> Option<Outcome>
+    requires { bound.now.lookups ≡ [] }
+{
+    let goal = Board::goal(start.shape());
+    let weights = Weights::unit(start.shape());
+    let job = Job::new(start, goal, weights, bound, u64::MAX).ok()?;
+    let world = World::new(alloc, job, 3, ByBlank).ok()?;
+    Some(run_steps(alloc, world, steps).finish(alloc))
+}
+
+// Counts an outcome.
+fn count(tally: &mut Tally, start: Board, least: u32, outcome: Outcome) {
+    match outcome {
+        Outcome::Optimal { cost, plan, rows } => {
+            tally.plans = tally.plans.saturating_add(1);
+            if cost != least || !is_accepted(start, cost, plan, rows) {
+                tally.wrong = tally.wrong.saturating_add(1);
+            }
+        }
+        Outcome::Bounded { bound, .. } => {
+            tally.bounds = tally.bounds.saturating_add(1);
+            tally.greatest = tally.greatest.max(bound);
+            if bound > least {
+                tally.wrong = tally.wrong.saturating_add(1);
+            }
+        }
+        Outcome::Unsolvable { .. } => tally.wrong = tally.wrong.saturating_add(1),
+    }
+}
+
+// Whether the checker accepts the certificate of a plan to Korf's goal with these rows.
+fn is_accepted(start: Board, cost: u32, plan: Vec<Move>, rows: Vec<(Board, u32)>) -> bool {
+    let parts = Parts {
+        shape: start.shape(),
+        costs: Weights::unit(start.shape()),
+        start,
+        goal: Board::goal(start.shape()),
+        cost,
+        plan,
+        rows,
+    };
+    match Certificate::new(parts) {
+        Some(certificate) => check(&certificate).is_ok(),
+        None => false,
+    }
+}
