@@ -180,6 +180,10 @@ pub other_magic : (text : List ℕ) → bytes_eq text (codes "TILECRT1") ≡ fal
 unfolding magic_in
 other_magic text differ = rw differ refl
 
+pub not_flipped_back : (b : Bool) → not b ≡ false → b ≡ true
+not_flipped_back true e = refl
+not_flipped_back false e = sym e
+
 pub not_flipped : (b : Bool) → not b ≡ true → b ≡ false
 not_flipped true e = sym e
 not_flipped false e = refl

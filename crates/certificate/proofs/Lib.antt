@@ -6,6 +6,7 @@ pub mod SourceLemmas
 pub mod PartLemmas
 pub mod CertificateLemmas
 pub mod RowLemmas
+pub mod GroupLemmas
 pub mod TextLemmas
 pub mod ReaderLemmas
 pub mod BoardLemmas

@@ -4,49 +4,47 @@ use Rattle.std.proofs.KnownBytes.{Consumes-trans}
 use Rattle.board.specs.Positions.{Position}
 use Rattle.board.specs.CostRules.{CostRule}
 use Rattle.board.specs.declared.moves.Move.{Move}
+use Rattle.pattern_index.specs.Splits.{Split}
 use Rattle.byte_streams.specs.Streams.{SourceState}
 use Rattle.byte_streams.specs.Streams.{from_to}
 use Rattle.certificate.specs.Certificates.{Statement}
 use Rattle.certificate.specs.Spellings.{Spells, spelling, front_text}
-use Rattle.certificate.specs.Fields.{SpellsMagic, SpellsByte, SpellsNumber, SpellsBoard, SpellsOpening, SpellsPlan, SpellsAllRows, SpellsFront}
+use Rattle.certificate.specs.Fields.{SpellsMagic, SpellsByte, SpellsNumber, SpellsBoard, SpellsOpening, SpellsPlan, SpellsAllRows, SpellsBody, SpellsFront}
 use Rattle.certificate.specs.Readings.{grid_of, costs_of}
 use Rattle.certificate.specs.Sources.{Finds, FindsAll}
 use Rattle.certificate.proofs.FieldLemmas.{all_after}
 use Rattle.certificate.proofs.TextLemmas.{OpeningParts, opening_there}
-use Rattle.certificate.proofs.CertificateLemmas.{FrontParts, bare_of, front_there, with_rows}
+use Rattle.certificate.proofs.CertificateLemmas.{BodyParts, bare_of, body_there, with_rows}
 
 -- ---- the opening
 
-pub opening_found : {a b c d e z : SourceState} {rows cols kind none : ℕ} (costs : CostRule) → Finds SpellsMagic (from_to a b) tt → Finds (SpellsByte 2 5) (from_to b c) rows → Finds (SpellsByte 2 5) (from_to c d) cols → Finds (SpellsByte 0 1) (from_to d e) kind
-    → Finds (SpellsByte 0 0) (from_to e z) none → costs ≡ costs_of (grid_of rows cols) kind → Finds SpellsOpening (from_to a z) costs
-opening_found {a = a} {b = b} {c = c} {d = d} {e = e} {z = z} {rows = rows} {cols = cols} {kind = kind} {none = none} costs m r s k g is =
-    let last = k.text ++ g.text in
-    let sides = r.text ++ (s.text ++ last) in
-    let parts : OpeningParts costs (m.text ++ sides) = (tt, m.text, sides, m.spells, (rows, r.text, s.text ++ last, r.spells, (cols, s.text, last, s.spells, (kind, k.text, g.text, k.spells, (none, g.text, [], g.spells, (is, refl), sym (append-nil g.text)), refl), refl), refl), refl) in
+pub opening_found : {a b c d z : SourceState} {rows cols kind : ℕ} (costs : CostRule) → Finds SpellsMagic (from_to a b) tt → Finds (SpellsByte 2 5) (from_to b c) rows → Finds (SpellsByte 2 5) (from_to c d) cols → Finds (SpellsByte 0 1) (from_to d z) kind
+    → costs ≡ costs_of (grid_of rows cols) kind → Finds SpellsOpening (from_to a z) costs
+opening_found {a = a} {b = b} {c = c} {d = d} {z = z} {rows = rows} {cols = cols} {kind = kind} costs m r s k is =
+    let sides = r.text ++ (s.text ++ k.text) in
+    let parts : OpeningParts costs (m.text ++ sides) = (tt, m.text, sides, m.spells, (rows, r.text, s.text ++ k.text, r.spells, (cols, s.text, k.text, s.spells, (kind, k.text, [], k.spells, (is, refl), sym (append-nil k.text)), refl), refl), refl) in
     record {
       text = m.text ++ sides;
       spells = opening_there costs (m.text ++ sides) parts;
       taken =
           Consumes-trans a.left b.left z.left m.text sides m.taken
-          (Consumes-trans b.left c.left z.left r.text (s.text ++ last) r.taken (Consumes-trans c.left d.left z.left s.text last s.taken (Consumes-trans d.left e.left z.left k.text g.text k.taken g.taken)));
-      on = (m.on.0, g.on.1);
+          (Consumes-trans b.left c.left z.left r.text (s.text ++ k.text) r.taken (Consumes-trans c.left d.left z.left s.text k.text s.taken k.taken));
+      on = (m.on.0, k.on.1);
     }
 
--- ---- all before the rows
+-- ---- the boards, the cost and the plan
 
-pub front_found : {a b c d e z : SourceState} {costs : CostRule} {start goal : Position} {cost : ℕ} {moves : List Move} (front : Statement) → Finds SpellsOpening (from_to a b) costs → Finds (SpellsBoard costs.grid) (from_to b c) start → Finds (SpellsBoard costs.grid) (from_to c d) goal
-    → Finds SpellsNumber (from_to d e) cost → Finds SpellsPlan (from_to e z) moves → front ≡ bare_of costs start goal cost moves → Finds SpellsFront (from_to a z) front
-front_found {a = a} {b = b} {c = c} {d = d} {e = e} {z = z} {costs = costs} {start = start} {goal = goal} {cost = cost} {moves = moves} front o s g n p is =
+pub body_found : {a b c d z : SourceState} {costs : CostRule} {split : Split} {start goal : Position} {cost : ℕ} {moves : List Move} (bare : Statement) → Finds (SpellsBoard costs.grid) (from_to a b) start → Finds (SpellsBoard costs.grid) (from_to b c) goal → Finds SpellsNumber (from_to c d) cost
+    → Finds SpellsPlan (from_to d z) moves → bare ≡ bare_of costs split start goal cost moves → Finds (SpellsBody costs split) (from_to a z) bare
+body_found {a = a} {b = b} {c = c} {d = d} {z = z} {costs = costs} {split = split} {start = start} {goal = goal} {cost = cost} {moves = moves} bare s g n p is =
     let last = n.text ++ p.text in
     let boards = s.text ++ (g.text ++ last) in
-    let parts : FrontParts front (o.text ++ boards) = (costs, o.text, boards, o.spells, (start, s.text, g.text ++ last, s.spells, (goal, g.text, last, g.spells, (cost, n.text, p.text, n.spells, (moves, p.text, [], p.spells, (is, refl), sym (append-nil p.text)), refl), refl), refl), refl) in
+    let parts : BodyParts costs split bare boards = (start, s.text, g.text ++ last, s.spells, (goal, g.text, last, g.spells, (cost, n.text, p.text, n.spells, (moves, p.text, [], p.spells, (is, refl), sym (append-nil p.text)), refl), refl), refl) in
     record {
-      text = o.text ++ boards;
-      spells = front_there front (o.text ++ boards) parts;
-      taken =
-          Consumes-trans a.left b.left z.left o.text boards o.taken
-          (Consumes-trans b.left c.left z.left s.text (g.text ++ last) s.taken (Consumes-trans c.left d.left z.left g.text last g.taken (Consumes-trans d.left e.left z.left n.text p.text n.taken p.taken)));
-      on = (o.on.0, p.on.1);
+      text = boards;
+      spells = body_there costs split bare boards parts;
+      taken = Consumes-trans a.left b.left z.left s.text (g.text ++ last) s.taken (Consumes-trans b.left c.left z.left g.text last g.taken (Consumes-trans c.left d.left z.left n.text p.text n.taken p.taken));
+      on = (s.on.0, p.on.1);
     }
 
 -- ---- the whole

@@ -11,7 +11,8 @@ use Rattle.byte_streams.specs.Streams.{from_to}
 use Rattle.board.specs.declared.moves.Move.{Move}
 use Rattle.board.specs.Positions.{Position}
 use Rattle.board.specs.Letters.{letter_of}
-use Rattle.certificate.specs.Spellings.{row_text}
+use Rattle.pattern_index.specs.Selections.{Selection}
+use Rattle.certificate.specs.Spellings.{group_text, row_text}
 
 -- the exit of a `?`, where more is due
 pub writes_stop : {E : Type 0} (Q : E → Type 0) (sink : Change SinkState) (s t : List ℕ) (r : Result (Unit {0}) E) → IsErrAnd r Q → FailsWriting sink s → Writes sink (s ++ t) r
@@ -28,6 +29,11 @@ writes_within Q a b c before here after whole r parts sent is fails =
 
 pub letters_cut : (plan : List Move) (i : ℕ) (d : Move) → i < length plan → map letter_of plan ≡ map letter_of (take i plan) ++ ((letter_of (get_or plan i d) ∷ []) ++ map letter_of (drop (i + 1) plan))
 letters_cut plan i d within = ap (map letter_of) (sym (take-append-drop i plan)) ∙ map-append letter_of (take i plan) (drop i plan) ∙ ap (λ (l : List Move). map letter_of (take i plan) ++ map letter_of l) (drop_more plan i d within)
+
+pub groups_cut : (groups : List Selection) (i : ℕ) (d : Selection) → i < length groups → flat_map group_text groups ≡ flat_map group_text (take i groups) ++ (group_text (get_or groups i d) ++ flat_map group_text (drop (i + 1) groups))
+groups_cut groups i d within =
+    ap (flat_map group_text) (sym (take-append-drop i groups)) ∙ flat_map-append group_text (take i groups) (drop i groups)
+    ∙ ap (λ (l : List ℕ). flat_map group_text (take i groups) ++ l) (ap (flat_map group_text) (drop_more groups i d within) ∙ flat_map-cons group_text (get_or groups i d) (drop (i + 1) groups))
 
 pub rows_cut : (rows : List (Position × ℕ)) (i : ℕ) (d : Position × ℕ) → i < length rows → flat_map row_text rows ≡ flat_map row_text (take i rows) ++ (row_text (get_or rows i d) ++ flat_map row_text (drop (i + 1) rows))
 rows_cut rows i d within =

@@ -1,14 +1,17 @@
 -- Readers of a source that follow one another: the first refuses, or a later one does.
 use Rattle.std.proofs.Common.{◌≡◌, ⊎_elim, Bool, false, cond, ℕ, zero, suc, ◌+◌, ◌<◌, List, [], ◌∷◌, ◌++◌, length, get_or, take, drop, map, Option, Some, None, Result, Ok, Err, refl, sym, ap, subst, ◌∙◌, append_assoc, append-nil, arith}
-use Rattle.std.specs.Prelude.{IfSome}
+use Rattle.std.specs.Prelude.{IfSome, All}
 use Rattle.std.specs.List.{flat_map, AllByRecursion}
 use Rattle.std.proofs.KnownBytes.{Consumes-nil, Consumes-trans}
 use Rattle.std.proofs.lemmas.List.{drop_more, take-append-drop}
 use Rattle.std.proofs.lemmas.List.Concat.{flat_map-cons}
+use Rattle.std.proofs.lemmas.List.Elements.{All-tail}
 use Rattle.board.specs.declared.moves.Move.{Move}
 use Rattle.board.specs.Grids.{Grid, IsShape}
 use Rattle.board.specs.Positions.{Position}
-use Rattle.certificate.specs.Fields.{SpellsBoard, SpellsNumber, SpellsRow}
+use Rattle.pattern_index.specs.Selections.{Selection, IsSelection}
+use Rattle.pattern_index.specs.Splits.{AreApart}
+use Rattle.certificate.specs.Fields.{SpellsBoard, SpellsGroup, SpellsNumber, SpellsRow}
 use Rattle.certificate.specs.declared.faults.FormatFault.{FormatFault}
 use Rattle.certificate.specs.declared.faults.ReadFault.{ReadFault}
 use Rattle.memory.specs.declared.OutOfMemory.{OutOfMemory}
@@ -16,8 +19,8 @@ use Rattle.certificate.specs.declared.faults.ReadFault.TheVariants.{Format, Fail
 use Rattle.certificate.specs.declared.faults.FormatFault.TheVariants.{Truncated, OutOfRange, NotRising}
 use Rattle.certificate.specs.Certificates.{Follows, IsBoardOf, IsWithinLimit, IsRow, RiseAfter}
 use Rattle.board.specs.Letters.{letter_of}
-use Rattle.certificate.specs.Spellings.{number_text, row_text}
-use Rattle.certificate.specs.Readings.{Reader, ◌>>=◌, next_reading, give, as_one, whole_reading, IsFaultOf, IsCutOff, HasNoFault, board, number, number_in, may_follow, row_order, letter, letter_in, letters, row, rows, end}
+use Rattle.certificate.specs.Spellings.{group_text, number_text, row_text}
+use Rattle.certificate.specs.Readings.{Reader, ◌>>=◌, next_reading, give, as_one, whole_reading, IsFaultOf, IsCutOff, HasNoFault, byte_within, byte_in, board, number, number_in, tiles, group, groups, may_follow, row_order, letter, letter_in, letters, row, rows, end}
 use Rattle.byte_streams.specs.Streams.{SourceState, Change}
 use Rattle.byte_streams.specs.Source.{Takes}
 use Rattle.byte_streams.specs.Streams.{from_to}
@@ -26,6 +29,7 @@ use Rattle.certificate.proofs.FieldLemmas.{if_begun, if_left, if_format, all_aft
 use Rattle.certificate.proofs.ReaderLemmas.{Law, fine, faulty, one_fails}
 use Rattle.certificate.proofs.TextLemmas.{letter_law, board_law, number_law, four_bytes}
 use Rattle.certificate.proofs.RowLemmas.{row_law, sides_of, IsBefore}
+use Rattle.certificate.proofs.GroupLemmas.{apart_pushed, first_group, group_law, none_apart, shape_of}
 
 -- ---- what is passed on from a later reader to the whole
 
@@ -180,6 +184,32 @@ letters_at (m ∷ done) (suc n) rest f fewer fails =
 pub letters_refuse : (done : List Move) (n : ℕ) (old mid new : SourceState) (f : ReadFault) → length done < n → Takes (from_to old mid) (map letter_of done) → Refuses letter (from_to mid new) f → Refuses (letters n) (from_to old new) f
 letters_refuse done n old mid new f fewer taken r = carried_cut letter (letters n) (map letter_of done) old mid new f taken (λ l g p. (p.0, letters_at done n l (g, p.0) fewer p.1)) r
 
+-- ---- several groups
+
+pub groups_text_pushed : (gs : List Selection) (g : Selection) → flat_map group_text (gs ++ g ∷ []) ≡ flat_map group_text gs ++ group_text g
+groups_text_pushed [] g = flat_map-cons group_text g [] ∙ append-nil (group_text g)
+groups_text_pushed (h ∷ gs) g = flat_map-cons group_text h (gs ++ g ∷ []) ∙ ap (λ (l : List ℕ). group_text h ++ l) (groups_text_pushed gs g) ∙ sym (append_assoc (group_text h) (flat_map group_text gs) (group_text g)) ∙ ap (λ (l : List ℕ). l ++ group_text g) (sym (flat_map-cons group_text h gs))
+
+groups_at : (grid : Grid) (before done : List Selection) (n : ℕ) (rest : List ℕ) (f : FormatFault × List ℕ) → AreApart before → length done < n → All (λ g. IsSelection g) done → All (λ g. g.grid ≡ grid) done → AreApart (before ++ done)
+    → group grid (before ++ done) rest ≡ Err f → groups grid before n (flat_map group_text done ++ rest) ≡ Err f
+unfolding groups ◌>>=◌
+groups_at grid before done zero rest f apart fewer all sides both fails = absurd (omega (arith, fewer))
+groups_at grid before [] (suc n) rest f apart fewer all sides both fails =
+    ap (next_reading (λ first. groups grid (before ++ first ∷ []) n >>= λ others. give (first ∷ others))) (subst (λ (l : List Selection). group grid l rest ≡ Err f) (append-nil before) fails)
+groups_at grid before (g ∷ done) (suc n) rest f apart fewer all sides both fails =
+    let text : flat_map group_text (g ∷ done) ++ rest ≡ group_text g ++ (flat_map group_text done ++ rest) = ap (λ (l : List ℕ). l ++ rest) (flat_map-cons group_text g done) ∙ append_assoc (group_text g) (flat_map group_text done) rest in
+    let t : SpellsGroup grid before g (group_text g) = first_group grid before g done all sides both in
+    let more : AreApart ((before ++ g ∷ []) ++ done) = subst (λ (l : List Selection). AreApart l) (sym (append_assoc before (g ∷ []) done)) both in
+    let later : group grid ((before ++ g ∷ []) ++ done) rest ≡ Err f = subst (λ (l : List Selection). group grid l rest ≡ Err f) (sym (append_assoc before (g ∷ []) done)) fails in
+    ap (groups grid before (suc n)) text
+    ∙ ap (next_reading (λ first. groups grid (before ++ first ∷ []) n >>= λ others. give (first ∷ others))) ((group_law grid before (shape_of grid before g t.next)).again g (group_text g) (flat_map group_text done ++ rest) t)
+    ∙ ap (next_reading (λ others. give (g ∷ others)))
+    (groups_at grid (before ++ g ∷ []) done n rest f (apart_pushed before g apart t.next.apart) (omega (arith, fewer)) (All-tail (λ (h : Selection). IsSelection h) g done all) (All-tail (λ (h : Selection). h.grid ≡ grid) g done sides) more later)
+
+pub groups_refuse : (grid : Grid) (done : List Selection) (n : ℕ) (old mid new : SourceState) (f : ReadFault) → length done < n → All (λ g. IsSelection g) done → All (λ g. g.grid ≡ grid) done → AreApart done
+    → Takes (from_to old mid) (flat_map group_text done) → Refuses (group grid done) (from_to mid new) f → Refuses (groups grid [] n) (from_to old new) f
+groups_refuse grid done n old mid new f fewer all sides apart taken r = carried_cut (group grid done) (groups grid [] n) (flat_map group_text done) old mid new f taken (λ l g p. (p.0, groups_at grid [] done n l (g, p.0) none_apart fewer all sides apart p.1)) r
+
 -- ---- several rows
 
 -- the board of the last row
@@ -233,6 +263,15 @@ pub letters_lack_memory : (done : List Move) (n : ℕ) (source : Change SourceSt
 letters_lack_memory done n source fewer taken fine refused =
     let cut : IsCutOff (letters n) (map letter_of done ++ []) = ([], letters_at done n [] (Truncated, []) fewer (field_short OutOfRange 1 letter_in [] (omega arith))) in
     lacks_memory source (map letter_of done) taken (subst (λ (l : List ℕ). IsCutOff (letters n) l) (append-nil (map letter_of done)) cut) fine refused
+
+-- before a group
+pub groups_lack_memory : (grid : Grid) (done : List Selection) (n : ℕ) (source : Change SourceState) → length done < n → All (λ g. IsSelection g) done → All (λ g. g.grid ≡ grid) done → AreApart done → Takes source (flat_map group_text done) → source.after.has_failed ≡ false → (refused : OutOfMemory)
+    → Refuses (groups grid [] n) source (NoMemory refused)
+unfolding group
+groups_lack_memory grid done n source fewer all sides apart taken fine refused =
+    let none : IsFaultOf (group grid done) [] Truncated = first_fault (byte_within 1 24) (λ n. tiles grid done n) [] Truncated ([], field_short OutOfRange 1 (byte_in 1 24) [] (omega arith)) in
+    let cut : IsCutOff (groups grid [] n) (flat_map group_text done ++ []) = (none.0, groups_at grid [] done n [] (Truncated, none.0) none_apart fewer all sides apart none.1) in
+    lacks_memory source (flat_map group_text done) taken (subst (λ (l : List ℕ). IsCutOff (groups grid [] n) l) (append-nil (flat_map group_text done)) cut) fine refused
 
 -- between the board of a row and its cost
 pub row_lacks_memory : (grid : Grid) (before : Option Position) (b : Position) (source : Change SourceState) → Finds (SpellsBoard grid) source b → (refused : OutOfMemory) → Refuses (row grid before) source (NoMemory refused)

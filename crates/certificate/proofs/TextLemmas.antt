@@ -210,37 +210,33 @@ costs_again costs sides (inr face) =
     (omega (arith, kind), ap (costs_of costs.grid) kind ∙ sym face)
 
 abbrev pub OpeningParts : CostRule → List ℕ → Type 0
-OpeningParts = Both SpellsMagic (λ _. Both (SpellsByte 2 5) (λ rows. Both (SpellsByte 2 5) (λ cols. Both (SpellsByte 0 1) (λ kind. Both (SpellsByte 0 0) (λ _. Known (costs_of (grid_of rows cols) kind))))))
+OpeningParts = Both SpellsMagic (λ _. Both (SpellsByte 2 5) (λ rows. Both (SpellsByte 2 5) (λ cols. Both (SpellsByte 0 1) (λ kind. Known (costs_of (grid_of rows cols) kind)))))
 
 opening_parts_law : Law opening OpeningParts
 unfolding opening
 opening_parts_law = Law-seq magic _ SpellsMagic _ magic_law (λ _ _ _.
     Law-seq (byte_within 2 5) _ (SpellsByte 2 5) _ (byte_law 2 5) (λ rows _ _.
     Law-seq (byte_within 2 5) _ (SpellsByte 2 5) _ (byte_law 2 5) (λ cols _ _.
-    Law-seq (byte_within 0 1) _ (SpellsByte 0 1) _ (byte_law 0 1) (λ kind _ _.
-    Law-seq (byte_within 0 0) _ (SpellsByte 0 0) _ (byte_law 0 0) (λ _ _ _. Law-give (costs_of (grid_of rows cols) kind))))))
+    Law-seq (byte_within 0 1) _ (SpellsByte 0 1) _ (byte_law 0 1) (λ kind _ _. Law-give (costs_of (grid_of rows cols) kind)))))
 
 opening_parts_open : Opens opening OpeningParts
 unfolding opening
 opening_parts_open = Opens-seq magic _ SpellsMagic _ magic_law magic_opens (λ _ _ _.
     Opens-seq (byte_within 2 5) _ (SpellsByte 2 5) _ (byte_law 2 5) (byte_opens 2 5 (omega arith)) (λ rows _ _.
     Opens-seq (byte_within 2 5) _ (SpellsByte 2 5) _ (byte_law 2 5) (byte_opens 2 5 (omega arith)) (λ cols _ _.
-    Opens-seq (byte_within 0 1) _ (SpellsByte 0 1) _ (byte_law 0 1) (byte_opens 0 1 (omega arith)) (λ kind _ _.
-    Opens-seq (byte_within 0 0) _ (SpellsByte 0 0) _ (byte_law 0 0) (byte_opens 0 0 (omega arith)) (λ _ _ _. Opens-give (costs_of (grid_of rows cols) kind))))))
+    Opens-seq (byte_within 0 1) _ (SpellsByte 0 1) _ (byte_law 0 1) (byte_opens 0 1 (omega arith)) (λ kind _ _. Opens-give (costs_of (grid_of rows cols) kind)))))
 
 pub opening_there : (costs : CostRule) (text : List ℕ) → OpeningParts costs text → SpellsOpening costs text
 unfolding opening_text
-opening_there costs text (u, s0, t0, m, (rows, s1, t1, r, (cols, s2, t2, c, (kind, s3, t3, k, (none, s4, t4, g, (is, nil), e4), e3), e2), e1), e0) =
+opening_there costs text (u, s0, t0, m, (rows, s1, t1, r, (cols, s2, t2, c, (kind, s3, t3, k, (is, nil), e3), e2), e1), e0) =
     let grid = grid_of rows cols in
     let sides : IsShape grid = record { rows_low = r.above; rows_high = r.below; cols_low = c.above; cols_high = c.below } in
     let p = costs_back grid kind sides k.below in
-    let zero_is : none ≡ 0 = omega (arith, g.below) in
-    let end : t3 ≡ 0 ∷ [] = e4 ∙ (λ i. g.is i ++ nil i) ∙ ap (λ (b : ℕ). b ∷ []) zero_is in
-    let bytes : text ≡ codes "TILECRT1" ++ rows ∷ cols ∷ kind ∷ 0 ∷ [] = e0 ∙ (λ i. m i ++ e1 i) ∙ (λ i. codes "TILECRT1" ++ (r.is i ++ e2 i)) ∙ (λ i. codes "TILECRT1" ++ rows ∷ (c.is i ++ e3 i)) ∙ (λ i. codes "TILECRT1" ++ rows ∷ cols ∷ (k.is i ++ end i)) in
+    let bytes : text ≡ codes "TILECRT1" ++ rows ∷ cols ∷ kind ∷ [] = e0 ∙ (λ i. m i ++ e1 i) ∙ (λ i. codes "TILECRT1" ++ (r.is i ++ e2 i)) ∙ (λ i. codes "TILECRT1" ++ rows ∷ (c.is i ++ e3 i)) ∙ (λ i. codes "TILECRT1" ++ rows ∷ cols ∷ (k.is i ++ nil i)) in
     let made : SpellsOpening (costs_of grid kind) text = record {
       sides = subst (λ (g : Grid). IsShape g) (sym p.2) sides;
       named = subst (λ (g : Grid). AreNamedCosts g (costs_of grid kind)) (sym p.2) p.1;
-      is = bytes ∙ (λ i. codes "TILECRT1" ++ (sym p.2 i).rows ∷ (sym p.2 i).cols ∷ sym p.0 i ∷ 0 ∷ []);
+      is = bytes ∙ (λ i. codes "TILECRT1" ++ (sym p.2 i).rows ∷ (sym p.2 i).cols ∷ sym p.0 i ∷ []);
     } in
     subst (λ (rule : CostRule). SpellsOpening rule text) (sym is) made
 
@@ -253,8 +249,7 @@ opening_back costs text t =
     let r : SpellsByte 2 5 grid.rows (grid.rows ∷ []) = record { above = t.sides.rows_low; below = t.sides.rows_high; is = refl } in
     let c : SpellsByte 2 5 grid.cols (grid.cols ∷ []) = record { above = t.sides.cols_low; below = t.sides.cols_high; is = refl } in
     let k : SpellsByte 0 1 kind (kind ∷ []) = record { above = omega arith; below = p.0; is = refl } in
-    let g : SpellsByte 0 0 0 (0 ∷ []) = record { above = omega arith; below = omega arith; is = refl } in
-    (tt, codes "TILECRT1", grid.rows ∷ grid.cols ∷ kind ∷ 0 ∷ [], refl, (grid.rows, grid.rows ∷ [], grid.cols ∷ kind ∷ 0 ∷ [], r, (grid.cols, grid.cols ∷ [], kind ∷ 0 ∷ [], c, (kind, kind ∷ [], 0 ∷ [], k, (0, 0 ∷ [], [], g, (sym p.1, refl), refl), refl), refl), refl), t.is)
+    (tt, codes "TILECRT1", grid.rows ∷ grid.cols ∷ kind ∷ [], refl, (grid.rows, grid.rows ∷ [], grid.cols ∷ kind ∷ [], r, (grid.cols, grid.cols ∷ [], kind ∷ [], c, (kind, kind ∷ [], [], k, (sym p.1, refl), refl), refl), refl), t.is)
 
 pub opening_law : Law opening SpellsOpening
 opening_law = Law-iff opening OpeningParts SpellsOpening opening_there opening_back opening_parts_law

@@ -1,13 +1,15 @@
 -- What bytes spell the value of a field, or of a part of a certificate: the value is one that may stand there, and they are its text.
-use Rattle.std.specs.Prelude.{ℕ, ◌≡◌, ◌≤◌, ◌<◌, ◌^◌, List, [], ◌∷◌, ◌++◌, length, map, Option, None, codes}
+use Rattle.std.specs.Prelude.{ℕ, ◌≡◌, ◌≤◌, ◌<◌, ◌^◌, List, [], ◌∷◌, ◌++◌, length, map, All, Option, None, codes}
 use Rattle.std.specs.List.{flat_map, AllByRecursion}
 use Rattle.board.specs.declared.moves.Move.{Move}
 use Rattle.board.specs.Grids.{Grid, IsShape}
 use Rattle.board.specs.Positions.{Position}
 use Rattle.board.specs.CostRules.{CostRule}
-use Rattle.certificate.specs.Certificates.{Statement, AreNamedCosts, IsBoardOf, IsWithinLimit, IsRow, Follows, RiseAfter, IsCertificate}
+use Rattle.pattern_index.specs.Selections.{Selection, IsSelection}
+use Rattle.pattern_index.specs.Splits.{Split, ShareNoTile, AreApart}
+use Rattle.certificate.specs.Certificates.{Statement, AreNamedCosts, IsSplitOf, IsBoardOf, IsWithinLimit, IsRow, Follows, RiseAfter, IsCertificate}
 use Rattle.board.specs.Letters.{letter_of}
-use Rattle.certificate.specs.Spellings.{opening_text, number_text, count_text, plan_text, row_text, front_text}
+use Rattle.certificate.specs.Spellings.{opening_text, group_text, groups_text, number_text, count_text, plan_text, row_text, body_text, front_text}
 
 -- what every certificate begins with
 abbrev pub SpellsMagic : Unit {0} → List ℕ → Type 0
@@ -44,6 +46,36 @@ pub record SpellsOpening (costs : CostRule) (text : List ℕ) : Type 0 where
   pub named : AreNamedCosts costs.grid costs
   pub is : text ≡ opening_text costs
 
+-- a group of the grid that shares no tile with the groups before it
+pub record IsNextGroup (grid : Grid) (before : List Selection) (g : Selection) : Type 0 where
+  pub group : IsSelection g
+  pub sides : g.grid ≡ grid
+  pub apart : All (λ h. ShareNoTile h.tiles g.tiles) before
+
+-- the n tiles of such a group
+pub record SpellsTiles (grid : Grid) (before : List Selection) (n : ℕ) (g : Selection) (text : List ℕ) : Type 0 where
+  pub next : IsNextGroup grid before g
+  pub count : length g.tiles ≡ n
+  pub is : text ≡ g.tiles
+
+-- such a group, with the number of its tiles
+pub record SpellsGroup (grid : Grid) (before : List Selection) (g : Selection) (text : List ℕ) : Type 0 where
+  pub next : IsNextGroup grid before g
+  pub is : text ≡ group_text g
+
+-- n groups, of which no two share a tile, nor one of them with a group before them
+pub record SpellsGroups (grid : Grid) (before : List Selection) (n : ℕ) (gs : List Selection) (text : List ℕ) : Type 0 where
+  pub count : length gs ≡ n
+  pub groups : All (λ g. IsSelection g) gs
+  pub sides : All (λ g. g.grid ≡ grid) gs
+  pub apart : AreApart (before ++ gs)
+  pub is : text ≡ flat_map group_text gs
+
+-- groups, with their number
+pub record SpellsAllGroups (grid : Grid) (groups : Split) (text : List ℕ) : Type 0 where
+  pub split : IsSplitOf grid groups
+  pub is : text ≡ groups_text groups.groups
+
 -- n moves
 pub record SpellsLetters (n : ℕ) (moves : List Move) (text : List ℕ) : Type 0 where
   pub count : length moves ≡ n
@@ -73,6 +105,15 @@ pub record SpellsAllRows (grid : Grid) (rs : List (Position × ℕ)) (text : Lis
   pub rows : AllByRecursion (IsRow grid) rs
   pub rising : RiseAfter None rs
   pub is : text ≡ count_text (length rs) ++ flat_map row_text rs
+
+-- the boards, the cost and the plan of a statement with these costs and groups, and with no rows
+pub record SpellsBody (costs : CostRule) (groups : Split) (c : Statement) (text : List ℕ) : Type 0 where
+  pub start : IsBoardOf costs.grid c.start
+  pub goal : IsBoardOf costs.grid c.goal
+  pub cost : IsWithinLimit c.cost
+  pub plan : IsWithinLimit (length c.plan)
+  pub same : c ≡ record c { grid = costs.grid; costs = costs; groups = groups; rows = [] }
+  pub is : text ≡ body_text c
 
 -- all before the rows, of a statement with none
 pub record SpellsFront (c : Statement) (text : List ℕ) : Type 0 where

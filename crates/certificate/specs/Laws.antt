@@ -1,8 +1,8 @@
 -- The laws of spellings and readings, and of what is read of a source.
-use Rattle.std.specs.Prelude.{ℕ, ◌≡◌, ◌⊎◌, ◌<◌, ◌^◌, ◌↔◌, List, [], ◌++◌, length, Some, Result, Ok, Err}
+use Rattle.std.specs.Prelude.{ℕ, ◌≡◌, ◌⊎◌, ◌<◌, ◌≤◌, ◌^◌, ◌↔◌, List, [], ◌∷◌, ◌++◌, length, Some, Result, Ok, Err}
 use Rattle.std.specs.List.{AllByRecursion}
 use Rattle.certificate.specs.Certificates.{Statement, IsCertificate}
-use Rattle.certificate.specs.Spellings.{Spells, spelling, announcement}
+use Rattle.certificate.specs.Spellings.{Spells, spelling, heading, announcement}
 use Rattle.certificate.specs.Readings.{certificate, IsFaultAt, IsFirstFault, HasNoFault}
 use Rattle.certificate.specs.Sources.{ReadsCertificate}
 use Rattle.byte_streams.specs.Streams.{SourceState, Change}
@@ -34,11 +34,25 @@ OneFirstFault = (bytes : List ℕ) (fault fault' : FormatFault) → IsFirstFault
 abbrev pub Begins : List ℕ → List ℕ → Type 0
 Begins text before = (after : List ℕ) × (text ≡ before ++ after)
 
--- What stands before the faulty field is the beginning of some spelling. Before a faulty row stands a spelling but for the number of rows, of which more are announced than stand there.
+-- before a faulty group stands a certificate's beginning, but for the number of groups, of which more are announced than stand there; and with faulty tiles, their number
+pub record AnnouncesGroups (c : Statement) (before : List ℕ) : Type 0 where
+  pub count : ℕ
+  pub more : length c.groups.groups < count
+  pub few : count ≤ 24
+  pub is : (before ≡ heading count c) ⊎ ((size : ℕ) × (0 < size) × (size ≤ 24) × (before ≡ heading count c ++ size ∷ []))
+
+-- before a faulty row stands a spelling, but for the number of rows, of which more are announced than stand there
+pub record AnnouncesRows (c : Statement) (before : List ℕ) : Type 0 where
+  pub count : ℕ
+  pub more : length c.rows < count
+  pub few : count < 2 ^ 64
+  pub is : before ≡ announcement count c
+
+-- What stands before the faulty field is the beginning of some spelling, or announces groups or rows.
 abbrev pub FaultsComeFirst : Type 0
 FaultsComeFirst =
     (bytes : List ℕ) (fault : FormatFault) (from : List ℕ) → AreBytes bytes → IsFaultAt bytes fault from
-    → (before : List ℕ) × (c : Statement) × (bytes ≡ before ++ from) × IsCertificate c × (Begins (spelling c) before ⊎ ((count : ℕ) × (length c.rows < count) × (count < 2 ^ 64) × (before ≡ announcement count c)))
+    → (before : List ℕ) × (c : Statement) × (bytes ≡ before ++ from) × IsCertificate c × (Begins (spelling c) before ⊎ AnnouncesGroups c before ⊎ AnnouncesRows c before)
 
 -- no spelling begins another one
 abbrev pub NoneBeginsAnother : Type 0

@@ -1,6 +1,6 @@
 -- Reading from front to back: each field is judged as a whole before the next is read, and the first fault decides.
-use Rattle.std.specs.Prelude.{ℕ, ◌≡◌, ◌==◌, ◌&&◌, zero, suc, Bool, true, nat_lt, nat_le, not, List, [], ◌∷◌, length, take, drop, slice_index, Option, None, Some, Result, Ok, Err, if◌then◌else◌, codes}
-use Rattle.std.specs.List.{list_all}
+use Rattle.std.specs.Prelude.{ℕ, ◌≡◌, ◌==◌, ◌&&◌, zero, suc, Bool, true, nat_lt, nat_le, not, List, [], ◌∷◌, ◌++◌, length, take, drop, slice_index, Option, None, Some, Result, Ok, Err, if◌then◌else◌, codes}
+use Rattle.std.specs.List.{list_all, list_any}
 use Rattle.std.specs.Int.{w32, w64, from_le_bytes}
 use Rattle.std.specs.Str.{bytes_eq}
 use Rattle.board.specs.declared.costs.TheConstants.{GREATEST_COST}
@@ -10,6 +10,9 @@ use Rattle.board.specs.Grids.{Grid, cell_count}
 use Rattle.board.specs.Positions.{Position}
 use Rattle.board.specs.CostRules.{CostRule, unit_rule, face_rule}
 use Rattle.board.specs.Keys.{key_of}
+use Rattle.pattern_index.specs.declared.group.TheConstants.{MAX_SIZE}
+use Rattle.pattern_index.specs.Selections.{Selection, size_of}
+use Rattle.pattern_index.specs.Splits.{Split}
 use Rattle.certificate.specs.Certificates.{Statement}
 use Rattle.certificate.specs.declared.faults.FormatFault.{FormatFault}
 use Rattle.certificate.specs.declared.faults.FormatFault.TheVariants.{OtherMagic, Truncated, OutOfRange, NotRising, BytesAfterEnd}
@@ -93,6 +96,27 @@ board_in grid text = if list_all (λ tile. nat_lt tile (cell_count grid)) text &
 abbrev pub board : Grid → Reader Position
 board grid = field OutOfRange (cell_count grid) (board_in grid)
 
+-- each number is above 0 and below the count of cells
+abbrev pub are_tiles : Grid → List ℕ → Bool
+are_tiles grid text = list_all (λ tile. nat_lt 0 tile && nat_lt tile (cell_count grid)) text
+
+-- each number is below all later ones
+abbrev pub rises : List ℕ → Bool
+rises [] = true
+rises (x ∷ xs) = list_all (λ y. nat_lt x y) xs && rises xs
+
+-- no number is in both lists
+abbrev pub shares_none : List ℕ → List ℕ → Bool
+shares_none xs ys = list_all (λ y. not (list_any (λ x. x == y) xs)) ys
+
+-- The tiles of a group, in rising order: it has no more views than a group may have, and shares no tile with the groups before it.
+unfoldable pub group_in : Grid → List Selection → List ℕ → Option Selection
+group_in grid before text =
+    if (are_tiles grid text && rises text) && (nat_le (size_of (record { grid = grid; tiles = text })) MAX_SIZE && list_all (λ h. shares_none h.tiles text) before) then Some (record { grid = grid; tiles = text }) else None
+
+abbrev pub tiles : Grid → List Selection → ℕ → Reader Selection
+tiles grid before n = field OutOfRange n (group_in grid before)
+
 unfoldable pub letter_in : List ℕ → Option Move
 letter_in text = move_of_letter (slice_index text 0)
 
@@ -115,8 +139,27 @@ opening = do
   rows ← byte_within 2 5
   cols ← byte_within 2 5
   kind ← byte_within 0 1
-  _ ← byte_within 0 0
   give (costs_of (grid_of rows cols) kind)
+
+-- the number of tiles, and the tiles
+unfoldable pub group : Grid → List Selection → Reader Selection
+group grid before = do
+  n ← byte_within 1 24
+  tiles grid before n
+
+-- so many groups, after those before them
+unfoldable pub groups : Grid → List Selection → ℕ → Reader (List Selection)
+groups grid before zero = give []
+groups grid before (suc n) = do
+  first ← group grid before
+  others ← groups grid (before ++ first ∷ []) n
+  give (first ∷ others)
+
+unfoldable pub all_groups : Grid → Reader Split
+all_groups grid = do
+  n ← byte_within 0 24
+  found ← groups grid [] n
+  give (record { grid = grid; groups = found })
 
 unfoldable pub letters : ℕ → Reader (List Move)
 letters zero = give []
@@ -162,15 +205,21 @@ unfoldable pub end : Reader (Unit {0})
 end [] = Ok (tt, [])
 end (b ∷ bytes) = Err (BytesAfterEnd, b ∷ bytes)
 
--- all before the rows
-unfoldable pub front : Reader Statement
-front = do
-  costs ← opening
+-- the boards, the cost and the plan
+unfoldable pub body : CostRule → Split → Reader Statement
+body costs groups = do
   start ← board costs.grid
   goal ← board costs.grid
   cost ← number
   moves ← plan
-  give (record { grid = costs.grid; costs = costs; start = start; goal = goal; cost = cost; plan = moves; rows = [] })
+  give (record { grid = costs.grid; costs = costs; groups = groups; start = start; goal = goal; cost = cost; plan = moves; rows = [] })
+
+-- all before the rows
+unfoldable pub front : Reader Statement
+front = do
+  costs ← opening
+  split ← all_groups costs.grid
+  body costs split
 
 unfoldable pub certificate : Reader Statement
 certificate = do

@@ -7,15 +7,20 @@ use Rattle.board.specs.Letters.{letter_of}
 use Rattle.board.specs.Equality.{rule_eq}
 use Rattle.board.specs.Positions.{Position}
 use Rattle.board.specs.CostRules.{CostRule, unit_rule}
+use Rattle.pattern_index.specs.Selections.{Selection}
 use Rattle.certificate.specs.Certificates.{Statement, IsCertificate}
 
 -- 0 where every move costs 1, else 1
 abbrev pub kind_of : CostRule → ℕ
 kind_of costs = if rule_eq costs (unit_rule costs.grid) then 0 else 1
 
--- what it is, the sides of the boards, the kind of costs, and no groups of tiles
+-- what it is, the sides of the boards, and the kind of costs
 unfoldable pub opening_text : CostRule → List ℕ
-opening_text costs = codes "TILECRT1" ++ costs.grid.rows ∷ costs.grid.cols ∷ kind_of costs ∷ 0 ∷ []
+opening_text costs = codes "TILECRT1" ++ costs.grid.rows ∷ costs.grid.cols ∷ kind_of costs ∷ []
+
+-- the number of tiles, and the tiles
+abbrev pub group_text : Selection → List ℕ
+group_text g = length g.tiles ∷ g.tiles
 
 -- a cost, or the length of a plan: four bytes
 unfoldable pub number_text : ℕ → List ℕ
@@ -33,9 +38,21 @@ plan_text plan = number_text (length plan) ++ map letter_of plan
 abbrev pub row_text : Position × ℕ → List ℕ
 row_text row = row.0.tiles ++ number_text row.1
 
+-- the opening and the groups, but for the number of groups, which is given
+abbrev pub heading : ℕ → Statement → List ℕ
+heading count c = opening_text c.costs ++ (count ∷ flat_map group_text c.groups.groups)
+
+-- the number of groups, and the groups
+abbrev pub groups_text : List Selection → List ℕ
+groups_text groups = length groups ∷ flat_map group_text groups
+
+-- the boards, the cost and the plan
+abbrev pub body_text : Statement → List ℕ
+body_text c = c.start.tiles ++ (c.goal.tiles ++ (number_text c.cost ++ plan_text c.plan))
+
 -- all before the number of rows
 abbrev pub front_text : Statement → List ℕ
-front_text c = opening_text c.costs ++ (c.start.tiles ++ (c.goal.tiles ++ (number_text c.cost ++ plan_text c.plan)))
+front_text c = opening_text c.costs ++ (groups_text c.groups.groups ++ body_text c)
 
 -- the spelling, but for the number of rows, which is given
 abbrev pub announcement : ℕ → Statement → List ℕ

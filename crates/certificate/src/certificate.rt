@@ -2,12 +2,14 @@
 
 ghost use Rattle.std.specs.Prelude.{◌≡◌, ◌↔◌, length, None, IsSome, IfSome, IsTrue};
 ghost use Rattle.std.specs.List.{AllByRecursion};
-ghost use Rattle.certificate.specs.Certificates.{Statement, statement_of, AreNamedCosts, IsBoardOf};
+ghost use Rattle.certificate.specs.Certificates.{Statement, statement_of, AreNamedCosts, IsSplitOf};
+ghost use Rattle.certificate.specs.Certificates.{IsBoardOf};
 ghost use Rattle.certificate.specs.Certificates.{IsWithinLimit, IsRow, Follows};
 ghost use Rattle.certificate.specs.Certificates.{RiseAfter, IsCertificate};
 ghost use Rattle.certificate.specs.Readings.{may_follow};
 
 use board::{Board, GREATEST_COST, Move, Shape, Weights};
+use pattern_index::Partition;
 use std::marker::Model;
 
 /// The fields of a certificate.
@@ -17,18 +19,21 @@ pub struct Parts {
     pub shape: Shape,
     /// What moves cost.
     pub costs: Weights,
+    /// The groups of tiles whose tables bound the cost from below.
+    pub groups: Partition,
     pub start: Board,
     pub goal: Board,
     /// What the plan costs.
     pub cost: u32,
     /// The moves from the start to the goal.
     pub plan: Vec<Move>,
-    /// Boards, and what it costs at most to reach them, that prove the cost to be least.
+    /// Boards, and what it costs at most to reach them, that prove with the sums of the groups'
+    /// tables that the cost is least.
     pub rows: Vec<(Board, u32)>,
 }
 
-/// An answer that any program can check. It has a spelling: all boards are of one shape, the costs
-/// are unit or face costs, no cost is above `GREATEST_COST` and the plan is no longer than that,
+/// An answer that any program can check. It has a spelling: the groups and all boards are of one
+/// shape, the costs are unit or face costs, no cost is above `GREATEST_COST` and the plan is no longer than that,
 /// and the rows rise by their lists of tiles.
 #[derive(Debug, Drop)]
 pub struct Certificate {
@@ -73,6 +78,14 @@ impl Certificate {
         ensures { result ≡ self.now.costs }
     {
         self.parts.costs
+    }
+
+    /// The groups of tiles whose tables bound the cost from below.
+    pub fn groups(&self) -> &Partition
+        ensures value { result.now ≡ self.now.groups }
+        ensures partition { IsSplitOf self.now.grid self.now.groups }
+    {
+        &self.parts.groups
     }
 
     /// The start.
@@ -136,6 +149,9 @@ fn has_spelling(parts: &Parts) -> bool
     if !are_named(shape, &parts.costs) {
         return false;
     }
+    if !is_partition_of(shape, &parts.groups) {
+        return false;
+    }
     if !is_board_of(shape, &parts.start) || !is_board_of(shape, &parts.goal) {
         return false;
     }
@@ -150,6 +166,13 @@ fn are_named(shape: Shape, costs: &Weights) -> bool
     ensures { IsTrue result ↔ AreNamedCosts shape costs.now }
 {
     *costs == Weights::unit(shape) || *costs == Weights::face(shape)
+}
+
+// Whether groups are of the shape.
+fn is_partition_of(shape: Shape, groups: &Partition) -> bool
+    ensures { IsTrue result ↔ IsSplitOf shape groups.now }
+{
+    groups.shape() == shape
 }
 
 // Whether a board is of the shape.

@@ -51,7 +51,7 @@ pub enum ReadFault {
     #[error("the input cannot be read")]
     Failed,
     /// F7
-    #[error("no memory for the plan or the rows")]
+    #[error("no memory for the groups, the plan or the rows")]
     NoMemory(OutOfMemory),
 }
 

@@ -30,7 +30,7 @@ fn next_due<S: Source>(source: &mut S) -> Result<u8, ReadFault>
 }
 
 // The bytes of a field, as many as there is room for.
-fn fill<S: Source>(source: &mut S, text: &mut [u8]) -> Result<(), ReadFault>
+pub(crate) fn fill<S: Source>(source: &mut S, text: &mut [u8]) -> Result<(), ReadFault>
     requires { 0 < length text.old }
     ensures { TakesDue (length text.old) (λ _. text.new)
         (change S.state source.old source.new) result }

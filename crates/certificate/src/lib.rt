@@ -4,6 +4,7 @@
 mod certificate;
 mod faults;
 mod fields;
+mod groups;
 pub mod laws;
 mod reading;
 mod writing;

@@ -5,9 +5,9 @@ ghost use Rattle.byte_streams.specs.Streams.{change};
 ghost use Rattle.certificate.specs.Certificates.{statement_of};
 ghost use Rattle.certificate.specs.Spellings.{Spells};
 ghost use Rattle.certificate.specs.Fields.{SpellsOpening, SpellsLetters, SpellsPlan, SpellsRows};
-ghost use Rattle.certificate.specs.Fields.{SpellsAllRows, SpellsFront};
+ghost use Rattle.certificate.specs.Fields.{SpellsAllRows, SpellsBody, SpellsFront};
 ghost use Rattle.certificate.specs.Readings.{costs_of, opening, letters, plan, rows, all_rows};
-ghost use Rattle.certificate.specs.Readings.{front, certificate};
+ghost use Rattle.certificate.specs.Readings.{body, front, certificate};
 ghost use Rattle.certificate.specs.Sources.{Reads, ReadsAll, ReadsCertificate};
 
 use crate::certificate::{Certificate, Parts};
@@ -15,12 +15,14 @@ use crate::faults::ReadFault;
 use crate::fields::{
     read_board, read_byte, read_count, read_end, read_letter, read_magic, read_number, read_row,
 };
+use crate::groups::read_all_groups;
 use board::{Board, Move, Shape, Weights};
 use byte_streams::Source;
 use memory::reserve;
+use pattern_index::Partition;
 use std::alloc::Global;
 
-// What the input is, the sides of the boards, the kind of costs, and no groups.
+// What the input is, the sides of the boards, and the kind of costs.
 fn read_opening<S: Source>(source: &mut S) -> Result<Weights, ReadFault>
     ensures { Reads opening SpellsOpening (change S.state source.old source.new) result }
 {
@@ -28,7 +30,6 @@ fn read_opening<S: Source>(source: &mut S) -> Result<Weights, ReadFault>
     let rows = read_byte(source, 2, 5)?;
     let cols = read_byte(source, 2, 5)?;
     let kind = read_byte(source, 0, 1)?;
-    read_byte(source, 0, 0)?;
     let shape = Shape::new(rows, cols).unwrap();
     Ok(named_costs(shape, kind))
 }
@@ -114,6 +115,20 @@ fn read_front<S: Source>(alloc: Global, source: &mut S) -> Result<Parts, ReadFau
         (change S.state source.old source.new) result }
 {
     let costs = read_opening(source)?;
+    let groups = read_all_groups(alloc, source, costs.shape())?;
+    read_body(alloc, source, costs, groups)
+}
+
+// The boards, the cost and the plan, with no rows.
+fn read_body<S: Source>(
+    alloc: Global,
+    source: &mut S,
+    costs: Weights,
+    groups: Partition,
+) -> Result<Parts, ReadFault>
+    ensures { Reads (body costs groups) (λ parts. SpellsBody costs groups (statement_of parts))
+        (change S.state source.old source.new) result }
+{
     let shape = costs.shape();
     let start = read_board(source, shape)?;
     let goal = read_board(source, shape)?;
@@ -122,6 +137,7 @@ fn read_front<S: Source>(alloc: Global, source: &mut S) -> Result<Parts, ReadFau
     Ok(Parts {
         shape,
         costs,
+        groups,
         start,
         goal,
         cost,
@@ -141,8 +157,8 @@ fn read_all<S: Source>(alloc: Global, source: &mut S) -> Result<Certificate, Rea
 }
 
 /// Reads a certificate, from front to back and up to its first fault: F1 to F5, F6 where the source
-/// fails, F7 for want of memory. Memory is taken for the moves and rows that are there and for one
-/// that is due, and not by their stated numbers. After a fault of the bytes the source has given
+/// fails, F7 for want of memory. Memory is taken for the groups, moves and rows that are there and
+/// for one that is due, and not by their stated numbers. After a fault of the bytes the source has given
 /// them up to and with the one that shows it; it fails, and memory is wanting, only where none
 /// stands in what it gave.
 pub fn read<S: Source>(alloc: Global, source: &mut S) -> Result<Certificate, ReadFault>

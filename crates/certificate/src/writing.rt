@@ -1,18 +1,20 @@
 //! Certificates are written to a sink, field by field.
 
-ghost use Rattle.std.specs.Prelude.{◌≡◌, ◌++◌, false, length, map};
+ghost use Rattle.std.specs.Prelude.{◌≡◌, ◌≤◌, ◌++◌, false, length, map};
 ghost use Rattle.std.specs.List.{flat_map};
 ghost use Rattle.board.specs.Letters.{letter_of};
 ghost use Rattle.byte_streams.specs.Streams.{change};
 ghost use Rattle.byte_streams.specs.Sink.{Writes};
 ghost use Rattle.certificate.specs.Certificates.{IsWithinLimit};
 ghost use Rattle.certificate.specs.Spellings.{kind_of, opening_text, number_text, count_text};
-ghost use Rattle.certificate.specs.Spellings.{plan_text, row_text, front_text, spelling};
+ghost use Rattle.certificate.specs.Spellings.{group_text, groups_text, plan_text, row_text};
+ghost use Rattle.certificate.specs.Spellings.{body_text, front_text, spelling};
 
 use crate::certificate::Certificate;
 use crate::faults::WriteFault;
 use board::{Board, Move, Weights};
 use byte_streams::{Sink, WriteFailed};
+use pattern_index::Group;
 
 /// Writes a certificate: the bytes of its spelling. F8 where the sink fails; what went out is then
 /// a beginning of them. The sink is not flushed. Nothing takes memory.
@@ -37,19 +39,27 @@ fn write_front<K: Sink>(sink: &mut K, certificate: &Certificate) -> Result<(), W
     ensures { Writes (change K.state sink.old sink.new) (front_text certificate.now) result }
 {
     write_opening(sink, &certificate.costs())?;
+    write_groups(sink, certificate.groups().groups())?;
+    write_body(sink, certificate)
+}
+
+// The boards, the cost and the plan.
+fn write_body<K: Sink>(sink: &mut K, certificate: &Certificate) -> Result<(), WriteFailed>
+    ensures { Writes (change K.state sink.old sink.new) (body_text certificate.now) result }
+{
     write_tiles(sink, &certificate.start())?;
     write_tiles(sink, &certificate.goal())?;
     write_number(sink, certificate.cost())?;
     write_plan(sink, certificate.plan())
 }
 
-// What it is, the sides of the boards, the kind of costs, and no groups.
+// What it is, the sides of the boards, and the kind of costs.
 fn write_opening<K: Sink>(sink: &mut K, costs: &Weights) -> Result<(), WriteFailed>
     ensures { Writes (change K.state sink.old sink.new) (opening_text costs.now) result }
 {
     let shape = costs.shape();
     sink.put(b"TILECRT1")?;
-    sink.put(&[shape.rows(), shape.cols(), kind(costs), 0])
+    sink.put(&[shape.rows(), shape.cols(), kind(costs)])
 }
 
 // 0 for unit costs, else 1.
@@ -61,6 +71,35 @@ fn kind(costs: &Weights) -> u8
     } else {
         1
     }
+}
+
+// The number of groups, and the groups.
+fn write_groups<K: Sink>(sink: &mut K, groups: &[Group]) -> Result<(), WriteFailed>
+    requires { length groups.now ≤ 24 }
+    ensures { Writes (change K.state sink.old sink.new) (groups_text groups.now) result }
+{
+    sink.put(&[groups.len() as u8])?;
+    write_each_group(sink, groups)
+}
+
+// The groups, one after the other.
+fn write_each_group<K: Sink>(sink: &mut K, groups: &[Group]) -> Result<(), WriteFailed>
+    requires { (K.state sink.old).has_failed ≡ false }
+    ensures { Writes (change K.state sink.old sink.new) (flat_map group_text groups.now) result }
+{
+    'groups: for group in groups {
+        write_group(sink, group)?;
+    }
+    Ok(())
+}
+
+// The number of a group's tiles, and the tiles.
+fn write_group<K: Sink>(sink: &mut K, group: &Group) -> Result<(), WriteFailed>
+    ensures { Writes (change K.state sink.old sink.new) (group_text group.now) result }
+{
+    let tiles = group.tiles();
+    sink.put(&[tiles.len() as u8])?;
+    sink.put(tiles)
 }
 
 // The tiles of a board.

@@ -1,74 +1,40 @@
-use Rattle.std.proofs.Common.{subst}
+use Rattle.std.proofs.Common.{refl, subst, List, ℕ, sym, ◌++◌}
 use Rattle.byte_streams.specs.Streams.{change}
 use Rattle.board.specs.Grids.{Grid}
-use Rattle.certificate.specs.Fields.{SpellsBoard}
-use Rattle.certificate.specs.Readings.{board, front}
+use Rattle.certificate.specs.Certificates.{statement_of}
+use Rattle.certificate.specs.Fields.{SpellsAllGroups, SpellsBody, SpellsFront}
+use Rattle.certificate.specs.Readings.{all_groups, body, front}
 use Rattle.certificate.specs.Sources.{Refuses, Finds}
+use Rattle.certificate.specs.declared.certificate.Parts.{Parts}
 use Rattle.certificate.proofs.FieldLemmas.{passed}
-use Rattle.certificate.proofs.TextLemmas.{opening_law, board_law, number_law}
-use Rattle.certificate.proofs.SourceLemmas.{first_refuses, then_refuses, found_as}
-use Rattle.certificate.proofs.PartLemmas.{front_found}
+use Rattle.certificate.proofs.ReaderLemmas.{Both}
+use Rattle.certificate.proofs.TextLemmas.{opening_law}
+use Rattle.certificate.proofs.GroupLemmas.{all_groups_law}
+use Rattle.certificate.proofs.CertificateLemmas.{front_there}
+use Rattle.certificate.proofs.SourceLemmas.{first_refuses, then_refuses, reads_after}
 use Rattle.certificate.proofs.reading.read_front.Goals as goal
 
 pub returns-in_err-costs : goal.returns-in_err-costs
 unfolding front
 returns-in_err-costs g c =
-    let state = g.S.Source.state in
-    passed front _ (change state c.args.source.now c.read_opening.new.source) c.from_residual.result c.in_err-costs.field-0.0 c.from_residual.ensures.1
+    passed front _ (change g.S.Source.state c.args.source.now c.read_opening.new.source) c.from_residual.result c.in_err-costs.field-0.0 c.from_residual.ensures.1
     (first_refuses _ c.in_err-costs.ensures)
 
-pub returns-in_err-start : goal.returns-in_err-start
+pub returns-in_err-groups : goal.returns-in_err-groups
 unfolding front
-returns-in_err-start g c =
+returns-in_err-groups g c =
     let state = g.S.Source.state in
-    let r = subst (λ (g : Grid). Refuses (board g) (change state c.read_opening.new.source c.read_board.new.source) c.in_err-start.field-0.0) c.shape-shape.ensures.value c.in_err-start.ensures in
-    passed front _ (change state c.args.source.now c.read_board.new.source) c.from_residual-in_err-start.result c.in_err-start.field-0.0 c.from_residual-in_err-start.ensures.1
+    let r = subst (λ (g : Grid). Refuses (all_groups g) (change state c.read_opening.new.source c.read_all_groups.new.source) c.in_err-groups.field-0.0) c.shape.ensures.value c.in_err-groups.ensures in
+    passed front _ (change state c.args.source.now c.read_all_groups.new.source) c.from_residual-in_err-groups.result c.in_err-groups.field-0.0 c.from_residual-in_err-groups.ensures.1
     (then_refuses _ opening_law c.in_ok-costs.ensures (first_refuses _ r))
 
-pub returns-in_err-goal : goal.returns-in_err-goal
-unfolding front
-returns-in_err-goal g c =
-    let state = g.S.Source.state in
-    let grid = c.in_ok-costs.costs.grid in
-    let start = subst (λ (g : Grid). Finds (SpellsBoard g) (change state c.read_opening.new.source c.read_board.new.source) c.in_ok-start.start) c.shape-shape.ensures.value c.in_ok-start.ensures in
-    let r = subst (λ (g : Grid). Refuses (board g) (change state c.read_board.new.source c.read_board-2.new.source) c.in_err-goal.field-0.0) c.shape-shape.ensures.value c.in_err-goal.ensures in
-    passed front _ (change state c.args.source.now c.read_board-2.new.source) c.from_residual-in_err-goal.result c.in_err-goal.field-0.0 c.from_residual-in_err-goal.ensures.1
-    (then_refuses _ opening_law c.in_ok-costs.ensures (then_refuses _ (board_law grid c.shape-shape.ensures.rule.sides) start (first_refuses _ r)))
-
-pub returns-in_err-cost : goal.returns-in_err-cost
-unfolding front
-returns-in_err-cost g c =
-    let state = g.S.Source.state in
-    let grid = c.in_ok-costs.costs.grid in
-    let start = subst (λ (g : Grid). Finds (SpellsBoard g) (change state c.read_opening.new.source c.read_board.new.source) c.in_ok-start.start) c.shape-shape.ensures.value c.in_ok-start.ensures in
-    let end = subst (λ (g : Grid). Finds (SpellsBoard g) (change state c.read_board.new.source c.read_board-2.new.source) c.in_ok-goal.goal) c.shape-shape.ensures.value c.in_ok-goal.ensures in
-    passed front _ (change state c.args.source.now c.read_number.new.source) c.from_residual-in_err-cost.result c.in_err-cost.field-0.0 c.from_residual-in_err-cost.ensures.1
-    (then_refuses _ opening_law c.in_ok-costs.ensures (then_refuses _ (board_law grid c.shape-shape.ensures.rule.sides) start (then_refuses _ (board_law grid c.shape-shape.ensures.rule.sides) end (first_refuses _ c.in_err-cost.ensures))))
-
-pub returns-in_err-plan : goal.returns-in_err-plan
-unfolding front
-returns-in_err-plan g c =
-    let state = g.S.Source.state in
-    let grid = c.in_ok-costs.costs.grid in
-    let start = subst (λ (g : Grid). Finds (SpellsBoard g) (change state c.read_opening.new.source c.read_board.new.source) c.in_ok-start.start) c.shape-shape.ensures.value c.in_ok-start.ensures in
-    let end = subst (λ (g : Grid). Finds (SpellsBoard g) (change state c.read_board.new.source c.read_board-2.new.source) c.in_ok-goal.goal) c.shape-shape.ensures.value c.in_ok-goal.ensures in
-    passed front _ (change state c.args.source.now c.read_plan.new.source) c.from_residual-in_err-plan.result c.in_err-plan.field-0.0 c.from_residual-in_err-plan.ensures.1
-    (then_refuses _ opening_law c.in_ok-costs.ensures (then_refuses _ (board_law grid c.shape-shape.ensures.rule.sides) start (then_refuses _ (board_law grid c.shape-shape.ensures.rule.sides) end (then_refuses _ number_law c.in_ok-cost.ensures (first_refuses _ c.in_err-plan.ensures)))))
-
 pub returns : goal.returns
+unfolding front
 returns g c =
     let state = g.S.Source.state in
-    let start = subst (λ (g : Grid). Finds (SpellsBoard g) (change state c.read_opening.new.source c.read_board.new.source) c.in_ok-start.start) c.shape-shape.ensures.value c.in_ok-start.ensures in
-    let end = subst (λ (g : Grid). Finds (SpellsBoard g) (change state c.read_board.new.source c.read_board-2.new.source) c.in_ok-goal.goal) c.shape-shape.ensures.value c.in_ok-goal.ensures in
-    let plan = found_as {y = c.in_ok-plan.plan.items} (λ text spells. spells) c.in_ok-plan.ensures in
-    found_as (λ text spells. spells)
-    (front_found _ c.in_ok-costs.ensures start end c.in_ok-cost.ensures plan
-    (λ i. record {
-      grid = c.shape-shape.ensures.value i;
-      costs = c.in_ok-costs.costs;
-      start = c.in_ok-start.start;
-      goal = c.in_ok-goal.goal;
-      cost = c.in_ok-cost.cost;
-      plan = c.in_ok-plan.plan.items;
-      rows = c.new.ensures.items i;
-    }))
+    let costs = c.in_ok-costs.costs in
+    let groups = subst (λ (g : Grid). Finds (SpellsAllGroups g) (change state c.read_opening.new.source c.read_all_groups.new.source) c.in_ok-groups.groups) c.shape.ensures.value c.in_ok-groups.ensures in
+    reads_after _ (λ (parts : Parts). Both (SpellsAllGroups costs.grid) (λ split. SpellsBody costs split) (statement_of parts)) (λ (parts : Parts). SpellsFront (statement_of parts)) (state c.read_body.new.source) c.read_body.result opening_law
+    (λ (parts : Parts) (s t : List ℕ) o both. front_there (statement_of parts) (s ++ t) (costs, s, t, o, both, refl)) c.in_ok-costs.ensures
+    (reads_after (λ split. body costs split) (λ (parts : Parts). SpellsBody costs c.in_ok-groups.groups (statement_of parts)) (λ (parts : Parts). Both (SpellsAllGroups costs.grid) (λ split. SpellsBody costs split) (statement_of parts)) (state c.read_body.new.source) c.read_body.result (all_groups_law costs.grid c.shape.ensures.rule.sides)
+    (λ (parts : Parts) (s t : List ℕ) p b. (c.in_ok-groups.groups, s, t, p, b, refl)) groups c.read_body.ensures)

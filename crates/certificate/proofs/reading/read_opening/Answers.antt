@@ -33,14 +33,8 @@ returns-in_err-kind g c =
     passed opening SpellsOpening (change g.S.Source.state c.args.source.now c.read_byte-3.new.source) c.from_residual-in_err-kind.result c.in_err-kind.field-0.0 c.from_residual-in_err-kind.ensures.1
     (then_refuses _ magic_law c.in_ok-read_magic.ensures (then_refuses _ (byte_law 2 5) c.in_ok-rows.ensures (then_refuses _ (byte_law 2 5) c.in_ok-cols.ensures (first_refuses _ c.in_err-kind.ensures))))
 
-pub returns-in_err-read_byte : goal.returns-in_err-read_byte
-unfolding opening
-returns-in_err-read_byte g c =
-    passed opening SpellsOpening (change g.S.Source.state c.args.source.now c.read_byte-4.new.source) c.from_residual-in_err-read_byte.result c.in_err-read_byte.field-0.0 c.from_residual-in_err-read_byte.ensures.1
-    (then_refuses _ magic_law c.in_ok-read_magic.ensures (then_refuses _ (byte_law 2 5) c.in_ok-rows.ensures (then_refuses _ (byte_law 2 5) c.in_ok-cols.ensures (then_refuses _ (byte_law 0 1) c.in_ok-kind.ensures (first_refuses _ c.in_err-read_byte.ensures)))))
-
 pub returns : goal.returns
 returns g c =
     let kind = c.in_ok-kind.kind in
     let sides : c.unwrap-shape.result ≡ grid_of c.in_ok-rows.rows c.in_ok-cols.cols = rw c.unwrap-shape.ensures at c.new.ensures.value in
-    opening_found c.named_costs.result c.in_ok-read_magic.ensures c.in_ok-rows.ensures c.in_ok-cols.ensures c.in_ok-kind.ensures c.in_ok-read_byte.ensures (c.named_costs.ensures ∙ ap (λ (grid : Grid). costs_of grid kind) sides)
+    opening_found c.named_costs.result c.in_ok-read_magic.ensures c.in_ok-rows.ensures c.in_ok-cols.ensures c.in_ok-kind.ensures (c.named_costs.ensures ∙ ap (λ (grid : Grid). costs_of grid kind) sides)

@@ -1,59 +1,40 @@
-use Rattle.std.proofs.Common.{◌++◌, List, ℕ, subst, sym, length}
+use Rattle.std.proofs.Common.{◌≡◌, ◌≤◌, ◌++◌, List, subst, sym, length, ap, ◌∙◌, arith}
 use Rattle.board.specs.CostRules.{CostRule}
-use Rattle.board.specs.Positions.{Position}
-use Rattle.board.specs.declared.moves.Move.{Move}
+use Rattle.pattern_index.specs.Selections.{Selection}
+use Rattle.pattern_index.specs.Splits.{Split}
 use Rattle.byte_streams.specs.Streams.{change}
-use Rattle.byte_streams.specs.Sink.{WritesAll, FailsWriting, Writes}
+use Rattle.byte_streams.specs.Sink.{WritesAll, FailsWriting}
 use Rattle.byte_streams.proofs.SinkLemmas.{Writes-after}
-use Rattle.certificate.specs.Certificates.{IsWithinLimit}
-use Rattle.certificate.specs.Spellings.{opening_text, number_text, plan_text}
+use Rattle.certificate.specs.Spellings.{opening_text, groups_text, body_text}
 use Rattle.certificate.proofs.SinkLemmas.{writes_stop}
 use Rattle.certificate.proofs.writing.write_front.Goals as goal
 
-pub write_plan-requires : goal.write_plan-requires
-write_plan-requires g c = subst (λ (plan : List Move). IsWithinLimit (length plan)) (sym c.plan.ensures.value) c.plan.ensures.within
+pub write_groups-requires : goal.write_groups-requires
+write_groups-requires g c =
+    let groups = c.groups-2.ensures ∙ ap (λ (s : Split). s.groups) c.groups.ensures.value in
+    subst (λ (gs : List Selection). length gs ≤ 24) (sym groups) c.groups.ensures.partition.split.few
 
 pub returns-in_err-write_opening : goal.returns-in_err-write_opening
 returns-in_err-write_opening g c =
-    let state = g.K.Sink.state in
+    let sink = change g.K.Sink.state c.args.sink.now c.write_opening.new.sink in
     let d = c.args.certificate.now in
-    let r = c.from_residual.result in
-    writes_stop _ (change state c.args.sink.now c.write_opening.new.sink) (opening_text d.costs) (d.start.tiles ++ (d.goal.tiles ++ (number_text d.cost ++ (plan_text d.plan)))) r c.from_residual.ensures.1 (subst (λ (x : CostRule). FailsWriting (change state c.args.sink.now c.write_opening.new.sink) (opening_text x)) c.costs.ensures c.in_err-write_opening.ensures)
+    writes_stop _ sink (opening_text d.costs) (groups_text d.groups.groups ++ body_text d) c.from_residual.result c.from_residual.ensures.1 (subst (λ (x : CostRule). FailsWriting sink (opening_text x)) c.costs.ensures c.in_err-write_opening.ensures)
 
-pub returns-in_err-write_tiles : goal.returns-in_err-write_tiles
-returns-in_err-write_tiles g c =
+pub returns-in_err-write_groups : goal.returns-in_err-write_groups
+returns-in_err-write_groups g c =
     let state = g.K.Sink.state in
     let d = c.args.certificate.now in
-    let r = c.from_residual-in_err-write_tiles.result in
-    Writes-after (state c.args.sink.now) (state c.write_opening.new.sink) (state c.write_tiles.new.sink) (opening_text d.costs) (d.start.tiles ++ (d.goal.tiles ++ (number_text d.cost ++ (plan_text d.plan)))) r (subst (λ (x : CostRule). WritesAll (change state c.args.sink.now c.write_opening.new.sink) (opening_text x)) c.costs.ensures c.in_ok-write_opening.ensures)
-    (writes_stop _ (change state c.write_opening.new.sink c.write_tiles.new.sink) d.start.tiles (d.goal.tiles ++ (number_text d.cost ++ (plan_text d.plan))) r c.from_residual-in_err-write_tiles.ensures.1 (subst (λ (x : Position). FailsWriting (change state c.write_opening.new.sink c.write_tiles.new.sink) x.tiles) c.start.ensures c.in_err-write_tiles.ensures))
-
-pub returns-in_err-write_tiles-2 : goal.returns-in_err-write_tiles-2
-returns-in_err-write_tiles-2 g c =
-    let state = g.K.Sink.state in
-    let d = c.args.certificate.now in
-    let r = c.from_residual-in_err-write_tiles-2.result in
-    Writes-after (state c.args.sink.now) (state c.write_opening.new.sink) (state c.write_tiles-2.new.sink) (opening_text d.costs) (d.start.tiles ++ (d.goal.tiles ++ (number_text d.cost ++ (plan_text d.plan)))) r (subst (λ (x : CostRule). WritesAll (change state c.args.sink.now c.write_opening.new.sink) (opening_text x)) c.costs.ensures c.in_ok-write_opening.ensures)
-    (Writes-after (state c.write_opening.new.sink) (state c.write_tiles.new.sink) (state c.write_tiles-2.new.sink) d.start.tiles (d.goal.tiles ++ (number_text d.cost ++ (plan_text d.plan))) r (subst (λ (x : Position). WritesAll (change state c.write_opening.new.sink c.write_tiles.new.sink) x.tiles) c.start.ensures c.in_ok-write_tiles.ensures)
-    (writes_stop _ (change state c.write_tiles.new.sink c.write_tiles-2.new.sink) d.goal.tiles (number_text d.cost ++ (plan_text d.plan)) r c.from_residual-in_err-write_tiles-2.ensures.1 (subst (λ (x : Position). FailsWriting (change state c.write_tiles.new.sink c.write_tiles-2.new.sink) x.tiles) c.goal.ensures c.in_err-write_tiles-2.ensures)))
-
-pub returns-in_err-write_number : goal.returns-in_err-write_number
-returns-in_err-write_number g c =
-    let state = g.K.Sink.state in
-    let d = c.args.certificate.now in
-    let r = c.from_residual-in_err-write_number.result in
-    Writes-after (state c.args.sink.now) (state c.write_opening.new.sink) (state c.write_number.new.sink) (opening_text d.costs) (d.start.tiles ++ (d.goal.tiles ++ (number_text d.cost ++ (plan_text d.plan)))) r (subst (λ (x : CostRule). WritesAll (change state c.args.sink.now c.write_opening.new.sink) (opening_text x)) c.costs.ensures c.in_ok-write_opening.ensures)
-    (Writes-after (state c.write_opening.new.sink) (state c.write_tiles.new.sink) (state c.write_number.new.sink) d.start.tiles (d.goal.tiles ++ (number_text d.cost ++ (plan_text d.plan))) r (subst (λ (x : Position). WritesAll (change state c.write_opening.new.sink c.write_tiles.new.sink) x.tiles) c.start.ensures c.in_ok-write_tiles.ensures)
-    (Writes-after (state c.write_tiles.new.sink) (state c.write_tiles-2.new.sink) (state c.write_number.new.sink) d.goal.tiles (number_text d.cost ++ (plan_text d.plan)) r (subst (λ (x : Position). WritesAll (change state c.write_tiles.new.sink c.write_tiles-2.new.sink) x.tiles) c.goal.ensures c.in_ok-write_tiles-2.ensures)
-    (writes_stop _ (change state c.write_tiles-2.new.sink c.write_number.new.sink) (number_text d.cost) (plan_text d.plan) r c.from_residual-in_err-write_number.ensures.1 (subst (λ (x : ℕ). FailsWriting (change state c.write_tiles-2.new.sink c.write_number.new.sink) (number_text x)) c.cost.ensures c.in_err-write_number.ensures))))
+    let r = c.from_residual-in_err-write_groups.result in
+    let groups = c.groups-2.ensures ∙ ap (λ (s : Split). s.groups) c.groups.ensures.value in
+    Writes-after (state c.args.sink.now) (state c.write_opening.new.sink) (state c.write_groups.new.sink) (opening_text d.costs) (groups_text d.groups.groups ++ body_text d) r (subst (λ (x : CostRule). WritesAll (change state c.args.sink.now c.write_opening.new.sink) (opening_text x)) c.costs.ensures c.in_ok-write_opening.ensures)
+    (writes_stop _ (change state c.write_opening.new.sink c.write_groups.new.sink) (groups_text d.groups.groups) (body_text d) r c.from_residual-in_err-write_groups.ensures.1 (subst (λ (x : List Selection). FailsWriting (change state c.write_opening.new.sink c.write_groups.new.sink) (groups_text x)) groups c.in_err-write_groups.ensures))
 
 pub returns : goal.returns
 returns g c =
     let state = g.K.Sink.state in
     let d = c.args.certificate.now in
-    let r = c.write_plan.result in
-    Writes-after (state c.args.sink.now) (state c.write_opening.new.sink) (state c.write_plan.new.sink) (opening_text d.costs) (d.start.tiles ++ (d.goal.tiles ++ (number_text d.cost ++ (plan_text d.plan)))) r (subst (λ (x : CostRule). WritesAll (change state c.args.sink.now c.write_opening.new.sink) (opening_text x)) c.costs.ensures c.in_ok-write_opening.ensures)
-    (Writes-after (state c.write_opening.new.sink) (state c.write_tiles.new.sink) (state c.write_plan.new.sink) d.start.tiles (d.goal.tiles ++ (number_text d.cost ++ (plan_text d.plan))) r (subst (λ (x : Position). WritesAll (change state c.write_opening.new.sink c.write_tiles.new.sink) x.tiles) c.start.ensures c.in_ok-write_tiles.ensures)
-    (Writes-after (state c.write_tiles.new.sink) (state c.write_tiles-2.new.sink) (state c.write_plan.new.sink) d.goal.tiles (number_text d.cost ++ (plan_text d.plan)) r (subst (λ (x : Position). WritesAll (change state c.write_tiles.new.sink c.write_tiles-2.new.sink) x.tiles) c.goal.ensures c.in_ok-write_tiles-2.ensures)
-    (Writes-after (state c.write_tiles-2.new.sink) (state c.write_number.new.sink) (state c.write_plan.new.sink) (number_text d.cost) (plan_text d.plan) r (subst (λ (x : ℕ). WritesAll (change state c.write_tiles-2.new.sink c.write_number.new.sink) (number_text x)) c.cost.ensures c.in_ok-write_number.ensures)
-    (subst (λ (x : List Move). Writes (change state c.write_number.new.sink c.write_plan.new.sink) (plan_text x) r) c.plan.ensures.value c.write_plan.ensures))))
+    let r = c.write_body.result in
+    let groups = c.groups-2.ensures ∙ ap (λ (s : Split). s.groups) c.groups.ensures.value in
+    Writes-after (state c.args.sink.now) (state c.write_opening.new.sink) (state c.write_body.new.sink) (opening_text d.costs) (groups_text d.groups.groups ++ body_text d) r (subst (λ (x : CostRule). WritesAll (change state c.args.sink.now c.write_opening.new.sink) (opening_text x)) c.costs.ensures c.in_ok-write_opening.ensures)
+    (Writes-after (state c.write_opening.new.sink) (state c.write_groups.new.sink) (state c.write_body.new.sink) (groups_text d.groups.groups) (body_text d) r (subst (λ (x : List Selection). WritesAll (change state c.write_opening.new.sink c.write_groups.new.sink) (groups_text x)) groups c.in_ok-write_groups.ensures)
+    c.write_body.ensures)
