@@ -1,2 +1,3 @@
 pub mod RefusalLemmas
 pub mod RowLemmas
+pub mod GroupLemmas

@@ -17,8 +17,9 @@ use Rattle.board.specs.Rows.{HasRow}
 use Rattle.board.proofs.MoveLemmas.{one_move}
 use Rattle.board.specs.Keys.{key_of, Precedes}
 use Rattle.board.proofs.KeyLemmas.{packed_in_order, tiles_small}
+use Rattle.lower_bound.specs.Tables.{Tables}
 use Rattle.certificate.specs.Certificates.{Statement, IsBoardOf, IsRow, RiseAfter, IsCertificate}
-use Rattle.certificate_check.specs.Refusals.{HasRowAt, LeavesOpen, LeavesOpenAt, IsFirstOpen}
+use Rattle.certificate_check.specs.Refusals.{sum_in, HasRowAt, LeavesOpen, LeavesOpenAt, IsFirstOpen}
 use Rattle.certificate_check.proofs.RefusalLemmas.{contains_at, at_contains}
 
 abbrev Rows : Type 0
@@ -159,24 +160,28 @@ no_row_within c b cost none = ((λ e. absurd (true≢false (sym e))), (λ h. let
 
 -- ---- open successors
 
-pub opens : (c : Statement) (row : Position × ℕ) (m : Move) (next : Position) (k : ℕ) → Moves c.costs row.0 m next k → row.1 + k < c.cost → (t : Bool) → (IsTrue t ↔ HasRow c.rows next (row.1 + k)) → IsTrue (not t) ↔ LeavesOpen c row m
-opens c row m next k moves low true test = (
+pub opens : (c : Statement) (t : Tables) (row : Position × ℕ) (m : Move) (next : Position) (k : ℕ) → Moves c.costs row.0 m next k → sum_in t next + (row.1 + k) < c.cost → (r : Bool) → (IsTrue r ↔ HasRow c.rows next (row.1 + k)) → IsTrue (not r) ↔ LeavesOpen c t row m
+opens c t row m next k moves low true test = (
   (λ e. absurd (true≢false (sym e))),
   (λ o.
       let one = one_move c.costs row.0 m next o.0 k o.1 moves o.2 in
       let has : HasRow c.rows o.0 (row.1 + o.1) = subst (λ (x : Position). HasRow c.rows x (row.1 + o.1)) (sym one.0) (subst (λ (n : ℕ). HasRow c.rows next (row.1 + n)) (sym one.1) (test.0 refl)) in
       absurd (o.4 has)),
 )
-opens c row m next k moves low false test = ((λ e. (next, k, moves, low, (λ has. true≢false (sym (test.1 has))))), (λ o. refl))
+opens c t row m next k moves low false test = ((λ e. (next, k, moves, low, (λ has. true≢false (sym (test.1 has))))), (λ o. refl))
 
-pub opens_not : (c : Statement) (row : Position × ℕ) (m : Move) (next : Position) (k cost : ℕ) → Moves c.costs row.0 m next k → cost ≡ c.cost → cost ≤ row.1 + k → IsTrue (ltb (row.1 + k) cost) ↔ LeavesOpen c row m
-opens_not c row m next k cost moves same high = (
-  (λ e. let low = (Decides-ltb (row.1 + k) cost).0 e in absurd (omega (arith, low, high))),
-  (λ o. let one = one_move c.costs row.0 m next o.0 k o.1 moves o.2 in let low = o.3 in absurd (omega (arith, low, high, same, one.1))),
+pub opens_not : (c : Statement) (t : Tables) (row : Position × ℕ) (m : Move) (next : Position) (k cost sum : ℕ) → Moves c.costs row.0 m next k → cost ≡ c.cost → sum ≡ sum_in t next → cost ≤ sum + (row.1 + k) → IsTrue (ltb (sum + (row.1 + k)) cost) ↔ LeavesOpen c t row m
+opens_not c t row m next k cost sum moves same sum_is high = (
+  (λ e. let low = (Decides-ltb (sum + (row.1 + k)) cost).0 e in absurd (omega (arith, low, high))),
+  (λ o.
+      let one = one_move c.costs row.0 m next o.0 k o.1 moves o.2 in
+      let there : sum_in t o.0 ≡ sum_in t next = ap (sum_in t) one.0 in
+      let low = o.3 in
+      absurd (omega (arith, low, high, same, sum_is, there, one.1))),
 )
 
-pub opens_never : (c : Statement) (row : Position × ℕ) (m : Move) → ((next : Position) (k : ℕ) → Moves c.costs row.0 m next k → ⊥) → IsTrue false ↔ LeavesOpen c row m
-opens_never c row m edge = ((λ e. absurd (true≢false (sym e))), (λ o. absurd (edge o.0 o.1 o.2)))
+pub opens_never : (c : Statement) (t : Tables) (row : Position × ℕ) (m : Move) → ((next : Position) (k : ℕ) → Moves c.costs row.0 m next k → ⊥) → IsTrue false ↔ LeavesOpen c t row m
+opens_never c t row m edge = ((λ e. absurd (true≢false (sym e))), (λ o. absurd (edge o.0 o.1 o.2)))
 
 pub number_at : (i : ℕ) → i < 4 → number_of (get_or (U ∷ L ∷ R ∷ D ∷ []) i U) ≡ i
 number_at zero low = refl
@@ -195,40 +200,40 @@ pub same_move : (m m' : Move) → number_of m ≡ number_of m' → m ≡ m'
 same_move m m' e = (moves_Decide m m').0 (eq-eqb (number_of m) (number_of m') e)
 
 -- one move more, in their order
-pub one_move_more : (c : Statement) (row : Position × ℕ) (i : ℕ) → i < 4 → ((m : Move) → number_of m < i → LeavesOpen c row m → ⊥) → (LeavesOpen c row (get_or (U ∷ L ∷ R ∷ D ∷ []) i U) → ⊥) → (m : Move) → number_of m < i + 1 → LeavesOpen c row m → ⊥
-one_move_more c row i low before here m less open_here =
+pub one_move_more : (c : Statement) (t : Tables) (row : Position × ℕ) (i : ℕ) → i < 4 → ((m : Move) → number_of m < i → LeavesOpen c t row m → ⊥) → (LeavesOpen c t row (get_or (U ∷ L ∷ R ∷ D ∷ []) i U) → ⊥) → (m : Move) → number_of m < i + 1 → LeavesOpen c t row m → ⊥
+one_move_more c t row i low before here m less open_here =
     ⊎_elim (λ (l : number_of m < i). before m l open_here)
     (λ (le : i ≤ number_of m).
     let at : Move = get_or (U ∷ L ∷ R ∷ D ∷ []) i U in
     let number : number_of at ≡ i = number_at i low in
     let same : m ≡ at = same_move m at (omega (arith, number, le, less)) in
-    here (subst (LeavesOpen c row) same open_here))
+    here (subst (LeavesOpen c t row) same open_here))
     (cases_lt (number_of m) i)
 
 -- what is left open from the row at a place is left open from that row
-row_again : (c : Statement) (p place : ℕ) (row : Position × ℕ) (m : Move) → p ≡ place → slice_get c.rows place ≡ Some row → LeavesOpenAt c p m → LeavesOpen c row m
-row_again c p place row m same at o =
+row_again : (c : Statement) (t : Tables) (p place : ℕ) (row : Position × ℕ) (m : Move) → p ≡ place → slice_get c.rows place ≡ Some row → LeavesOpenAt c t p m → LeavesOpen c t row m
+row_again c t p place row m same at o =
     let there : slice_get c.rows place ≡ Some o.0 = subst (λ (k : ℕ). slice_get c.rows k ≡ Some o.0) same o.1 in
     let one : o.0 ≡ row = ap (λ (x : Option (Position × ℕ)). unwrap_or x row) (sym there ∙ at) in
-    subst (λ (r : Position × ℕ). LeavesOpen c r m) one o.2
+    subst (λ (r : Position × ℕ). LeavesOpen c t r m) one o.2
 
 -- the first open successor of a row is the first of all where the rows before have none
-pub first_here : (c : Statement) (place : ℕ) (row : Position × ℕ) (m : Move) → slice_get c.rows place ≡ Some row → LeavesOpen c row m → ((m' : Move) → number_of m' < number_of m → LeavesOpen c row m' → ⊥) → ((p : ℕ) (m' : Move) → p < place → LeavesOpenAt c p m' → ⊥) → IsFirstOpen c place m
-first_here c place row m at opened first before = ((row, at, opened), earlier)
+pub first_here : (c : Statement) (t : Tables) (place : ℕ) (row : Position × ℕ) (m : Move) → slice_get c.rows place ≡ Some row → LeavesOpen c t row m → ((m' : Move) → number_of m' < number_of m → LeavesOpen c t row m' → ⊥) → ((p : ℕ) (m' : Move) → p < place → LeavesOpenAt c t p m' → ⊥) → IsFirstOpen c t place m
+first_here c t place row m at opened first before = ((row, at, opened), earlier)
   where
-    earlier : (p : ℕ) (m' : Move) → Precedes (p ∷ number_of m' ∷ []) (place ∷ number_of m ∷ []) → LeavesOpenAt c p m' → ⊥
+    earlier : (p : ℕ) (m' : Move) → Precedes (p ∷ number_of m' ∷ []) (place ∷ number_of m ∷ []) → LeavesOpenAt c t p m' → ⊥
     earlier p m' (inl l) o = before p m' l o
-    earlier p m' (inr (same, inl l)) o = first m' l (row_again c p place row m' same at o)
+    earlier p m' (inr (same, inl l)) o = first m' l (row_again c t p place row m' same at o)
     earlier p m' (inr (same, inr e)) o = e.1
 
 -- one row more
-pub one_row_more : (c : Statement) (place : ℕ) (row : Position × ℕ) → slice_get c.rows place ≡ Some row → ((p : ℕ) (m : Move) → p < place → LeavesOpenAt c p m → ⊥) → ((m : Move) → LeavesOpen c row m → ⊥) → (p : ℕ) (m : Move) → p < place + 1 → LeavesOpenAt c p m → ⊥
-one_row_more c place row at before here p m less o =
-    ⊎_elim (λ (l : p < place). before p m l o) (λ (le : place ≤ p). let same : p ≡ place = omega (arith, le, less) in here m (row_again c p place row m same at o)) (cases_lt p place)
+pub one_row_more : (c : Statement) (t : Tables) (place : ℕ) (row : Position × ℕ) → slice_get c.rows place ≡ Some row → ((p : ℕ) (m : Move) → p < place → LeavesOpenAt c t p m → ⊥) → ((m : Move) → LeavesOpen c t row m → ⊥) → (p : ℕ) (m : Move) → p < place + 1 → LeavesOpenAt c t p m → ⊥
+one_row_more c t place row at before here p m less o =
+    ⊎_elim (λ (l : p < place). before p m l o) (λ (le : place ≤ p). let same : p ≡ place = omega (arith, le, less) in here m (row_again c t p place row m same at o)) (cases_lt p place)
 
 -- an open successor is one of a row, so it is among those seen where all rows were seen
-pub place_of_open : (c : Statement) (rows : Rows) (seen place : ℕ) (m : Move) → rows ≡ c.rows → length rows ≤ seen → LeavesOpenAt c place m → place < seen
-place_of_open c rows seen place m same all o =
+pub place_of_open : (c : Statement) (t : Tables) (rows : Rows) (seen place : ℕ) (m : Move) → rows ≡ c.rows → length rows ≤ seen → LeavesOpenAt c t place m → place < seen
+place_of_open c t rows seen place m same all o =
     let within = slice_get_within c.rows place o.0 o.1 in
     let count : length rows ≡ length c.rows = ap (λ (rs : Rows). length rs) same in
     omega (arith, within, count, all)

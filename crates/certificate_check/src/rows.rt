@@ -9,9 +9,11 @@ ghost use Rattle.board.specs.Keys.{key_of};
 ghost use Rattle.board.specs.Rows.{HasRow};
 ghost use Rattle.certificate.specs.Certificates.{IsCertificate, IsBoardOf, IsRow};
 ghost use Rattle.certificate_check.specs.Refusals.{HasRowAt, LeavesOpen, LeavesOpenAt, IsFirstOpen};
+ghost use Rattle.certificate_check.specs.Refusals.{sum_in};
 
 use board::{Board, Move};
 use certificate::Certificate;
+use lower_bound::Bound;
 
 // The first place from which on no key is below this one: the rows are halved until one place is
 // left.
@@ -51,23 +53,29 @@ fn has_row(certificate: &Certificate, board: &Board, cost: u32) -> bool
     }
 }
 
-// Whether the start has a row at 0, where the cost is above 0.
-pub(crate) fn is_start_proved(certificate: &Certificate) -> bool
-    requires { IsCertificate certificate.now }
+// Whether the start has a row at 0, where its sum is below the cost.
+pub(crate) fn is_start_proved(certificate: &Certificate, bound: &Bound) -> bool
+    requires certificate { IsCertificate certificate.now }
+    requires shape { bound.now.split.grid ≡ certificate.now.grid }
     ensures { IsTrue result
-        ↔ (HasRow certificate.now.rows certificate.now.start 0 ⊎ (certificate.now.cost ≤ 0)) }
+        ↔ (HasRow certificate.now.rows certificate.now.start 0
+        ⊎ (certificate.now.cost ≤ sum_in bound.now certificate.now.start)) }
 {
-    certificate.cost() == 0 || has_row(certificate, &certificate.start(), 0)
+    let start = certificate.start();
+    certificate.cost() <= bound.of(&start) || has_row(certificate, &start, 0)
 }
 
 // The first open successor of a row: the place of the row, and the move.
-pub(crate) fn find_open(certificate: &Certificate) -> Option<(usize, Move)>
-    requires { IsCertificate certificate.now }
-    ensures first { IfSome result (λ found. IsFirstOpen certificate.now found.0 found.1) }
-    ensures none { IsNone result → (place : ℕ) (m : Move) → ¬ LeavesOpenAt certificate.now place m }
+pub(crate) fn find_open(certificate: &Certificate, bound: &Bound) -> Option<(usize, Move)>
+    requires certificate { IsCertificate certificate.now }
+    requires shape { bound.now.split.grid ≡ certificate.now.grid }
+    ensures first { IfSome result (λ found.
+        IsFirstOpen certificate.now bound.now found.0 found.1) }
+    ensures none { IsNone result → (place : ℕ) (m : Move) →
+        ¬ LeavesOpenAt certificate.now bound.now place m }
 {
     'rows: for (place, row) in certificate.rows().iter().enumerate() {
-        if let Some(direction) = open_move(certificate, row) {
+        if let Some(direction) = open_move(certificate, bound, row) {
             return Some((place, direction));
         }
     }
@@ -75,32 +83,41 @@ pub(crate) fn find_open(certificate: &Certificate) -> Option<(usize, Move)>
 }
 
 // The first move from a row to an open board.
-fn open_move(certificate: &Certificate, row: &(Board, u32)) -> Option<Move>
+fn open_move(certificate: &Certificate, bound: &Bound, row: &(Board, u32)) -> Option<Move>
     requires certificate { IsCertificate certificate.now }
+    requires shape { bound.now.split.grid ≡ certificate.now.grid }
     requires row { IsRow certificate.now.grid row.now }
-    ensures leaves { IfSome result (LeavesOpen certificate.now row.now) }
+    ensures leaves { IfSome result (LeavesOpen certificate.now bound.now row.now) }
     ensures first { IfSome result (λ m. (m' : Move) →
-        number_of m' < number_of m → ¬ LeavesOpen certificate.now row.now m') }
-    ensures none { IsNone result → (m : Move) → ¬ LeavesOpen certificate.now row.now m }
+        number_of m' < number_of m → ¬ LeavesOpen certificate.now bound.now row.now m') }
+    ensures none { IsNone result → (m : Move) →
+        ¬ LeavesOpen certificate.now bound.now row.now m }
 {
     'moves: for direction in Move::ALL {
-        if leaves_open(certificate, row, direction) {
+        if leaves_open(certificate, bound, row, direction) {
             return Some(direction);
         }
     }
     None
 }
 
-// Whether a move leads from a row to a board that is below the cost and has no row with at most the
-// cost of going there.
-fn leaves_open(certificate: &Certificate, row: &(Board, u32), direction: Move) -> bool
+// Whether a move leads from a row to a board whose sum and the cost of going there are below the
+// cost, and that has no row with at most the cost of going there.
+fn leaves_open(
+    certificate: &Certificate,
+    bound: &Bound,
+    row: &(Board, u32),
+    direction: Move,
+) -> bool
     requires certificate { IsCertificate certificate.now }
+    requires shape { bound.now.split.grid ≡ certificate.now.grid }
     requires row { IsRow certificate.now.grid row.now }
-    ensures { IsTrue result ↔ LeavesOpen certificate.now row.now direction }
+    ensures { IsTrue result ↔ LeavesOpen certificate.now bound.now row.now direction }
 {
     let Some(next) = row.0.step(direction, &certificate.costs()) else {
         return false;
     };
     let cost = row.1 + next.1;
-    cost < certificate.cost() && !has_row(certificate, &next.0, cost)
+    let reached = bound.of(&next.0) + cost;
+    reached < certificate.cost() && !has_row(certificate, &next.0, cost)
 }
