@@ -1,12 +1,21 @@
 -- From an outcome to a certificate, and from a reply to what is written.
 use Rattle.std.proofs.Common.{◌≡◌, ◌≢◌, ℕ, suc, ◌+◌, ◌<◌, ◌^◌, List, [], ◌∷◌, None, Some, Result, Ok, Err, Vec, All, AllPairs, length, codes, refl, sym, ap, subst, ◌∙◌, inl, inr, arith}
 use Rattle.std.specs.List.{AllByRecursion}
-use Rattle.std.proofs.lemmas.List.Elements.{recursion_from_All}
+use Rattle.std.proofs.lemmas.List.Elements.{recursion_from_All, All-nil}
 use Rattle.byte_streams.specs.Streams.{SourceState, SinkState, Change}
 use Rattle.board.specs.Grids.{Grid}
 use Rattle.board.specs.Positions.{Position, IsBoard}
 use Rattle.board.specs.Keys.{key_of}
 use Rattle.board.specs.Laws.{KeysAreInOrder}
+use Rattle.board.specs.Plans.{Leads}
+use Rattle.board.specs.Rows.{Proves}
+use Rattle.pattern_index.specs.Selections.{Selection, IsSelection}
+use Rattle.pattern_index.specs.Splits.{Split, IsSplit}
+use Rattle.database_build.specs.Values.{IsPotential}
+use Rattle.database_build.specs.Tables.{Lookup, HoldsValues, value_in}
+use Rattle.lower_bound.specs.Tables.{Tables}
+use Rattle.certificate_check.specs.Refusals.{IsProved}
+use Rattle.certificate_runs.specs.Built.{AreBuiltFor}
 use Rattle.outcomes.specs.Outcomes.{Task, AreRowsOf, Answers}
 use Rattle.outcomes.specs.declared.outcome.Outcome.TheVariants.{Optimal}
 use Rattle.board.specs.declared.moves.Move.{Move}
@@ -33,7 +42,7 @@ use Rattle.batch_runs.proofs.BatchLemmas.{answer_is}
 use Rattle.certificate_runs.specs.declared.certifying.Reply.{Reply}
 use Rattle.certificate_runs.specs.declared.certifying.Reply.TheVariants.{Certified, Reported}
 use Rattle.certificate_runs.specs.Outputs.{Output}
-use Rattle.certificate_runs.specs.Certifying.{IsCertificateFor, IsNotOptimal, ReportsLine, IsReply, IsRefusal, FindsFirst, FindsLine, PutsReply, EndsReplying, first_line, report_of, reply_output}
+use Rattle.certificate_runs.specs.Certifying.{IsCertificateOf, IsCertificateFor, IsNotOptimal, ReportsLine, IsReply, IsRefusal, FindsFirst, FindsLine, PutsReply, EndsReplying, first_line, report_of, reply_output}
 
 -- a line that is to be read
 abbrev pub within : ℕ → Line
@@ -108,11 +117,38 @@ replied rules source sink line kept (Reported text told) (Err fault) (readable, 
     let reported = reply_is rules source first line kept (Reported text told) judged at reply in
     subst (λ (f : CertifyFault). EndsReplying rules source sink (Err f)) (sym put.1) (readable, (reply_output (Reported text told), (first, reported), put.0))
 
+-- no groups
+abbrev pub none_of : Grid → Split
+none_of grid = record { grid = grid; groups = [] }
+
+abbrev pub no_tables : Grid → Tables
+no_tables grid = record { split = none_of grid; lookups = [] }
+
+pub split_of_none : (grid : Grid) → IsSplit (none_of grid)
+split_of_none grid = record {
+  groups = All-nil (λ (g : Selection). IsSelection g);
+  of_grid = All-nil (λ (g : Selection). g.grid ≡ grid);
+  few = omega arith;
+  apart = λ i j d lt below. absurd (omega (arith, below));
+}
+
+pub built_of_none : (grid : Grid) (c : Statement) → c.groups ≡ none_of grid → AreBuiltFor c (no_tables grid)
+built_of_none grid c none = record { groups = sym none; one_each = refl; values = All-nil (λ (table : Lookup). HoldsValues table c.costs c.goal) }
+
+-- rows that prove a cost without sums
+pub proved_of_none : (grid : Grid) (c : Statement) → c.groups ≡ none_of grid → Leads c.costs c.start c.plan c.goal c.cost → Proves c.costs c.rows (λ _. 0) c.start c.goal c.cost → IsProved c (no_tables grid)
+proved_of_none grid c none leads proves = record {
+  plan = leads;
+  fit = record { groups = sym none; potentials = All-nil (λ (table : Lookup). IsPotential c.costs table.selection.tiles c.goal (value_in table)) };
+  rows = proves;
+}
+
 -- an outcome that names a plan of least cost has a certificate
-pub certificate_is : (order : KeysAreInOrder) (setup : SetupState) (b : Position) (cost : ℕ) (plan : Vec Move Global) (rows : Vec (Position × ℕ) Global) → IsBoard setup.goal → IsBoardOf setup.goal.grid b → AreNamedCosts setup.goal.grid setup.rule → length rows.items < 2 ^ 64 → Answers (task_of setup b) (Optimal cost plan rows) → IsCertificate (record { grid = setup.goal.grid; costs = setup.rule; start = b; goal = setup.goal; cost = cost; plan = plan.items; rows = rows.items })
+pub certificate_is : (order : KeysAreInOrder) (setup : SetupState) (b : Position) (cost : ℕ) (plan : Vec Move Global) (rows : Vec (Position × ℕ) Global) → IsBoard setup.goal → IsBoardOf setup.goal.grid b → AreNamedCosts setup.goal.grid setup.rule → length rows.items < 2 ^ 64 → Answers (task_of setup b) (Optimal cost plan rows) → IsCertificate (record { grid = setup.goal.grid; costs = setup.rule; groups = none_of setup.goal.grid; start = b; goal = setup.goal; cost = cost; plan = plan.items; rows = rows.items })
 certificate_is order setup b cost plan rows goal start named few answers = record {
   sides = goal.sides;
   costs = named;
+  groups = record { split = split_of_none setup.goal.grid; sides = refl };
   start = start;
   goal = record { board = goal; sides = refl };
   cost = answers.3;
@@ -121,3 +157,21 @@ certificate_is order setup b cost plan rows goal start named few answers = recor
   rows = rows_fit (task_of setup b) rows.items cost answers.2;
   rising = rise order setup.goal.grid rows.items answers.2.boards answers.2.rising;
 }
+
+-- a certificate with the fields of such an outcome answers its task
+pub certificate_of : (setup : SetupState) (b : Position) (cost : ℕ) (plan : Vec Move Global) (rows : Vec (Position × ℕ) Global) (c : Statement) → c ≡ record { grid = setup.goal.grid; costs = setup.rule; groups = none_of setup.goal.grid; start = b; goal = setup.goal; cost = cost; plan = plan.items; rows = rows.items } → IsCertificate c
+    → Answers (task_of setup b) (Optimal cost plan rows) → IsCertificateOf (task_of setup b) c
+certificate_of setup b cost plan rows c same is answers =
+    let none : c.groups ≡ none_of setup.goal.grid = ap (λ (d : Statement). d.groups) same in
+    let leads : Leads c.costs c.start c.plan c.goal c.cost = subst (λ (d : Statement). Leads d.costs d.start d.plan d.goal d.cost) (sym same) answers.0 in
+    let proves : Proves c.costs c.rows (λ _. 0) c.start c.goal c.cost = subst (λ (d : Statement). Proves d.costs d.rows (λ _. 0) d.start d.goal d.cost) (sym same) answers.2.proves in
+    record {
+      sides = ap (λ (d : Statement). d.grid) same;
+      costs = ap (λ (d : Statement). d.costs) same;
+      start = ap (λ (d : Statement). d.start) same;
+      goal = ap (λ (d : Statement). d.goal) same;
+      certificate = is;
+      tables = no_tables setup.goal.grid;
+      built = built_of_none setup.goal.grid c none;
+      proved = proved_of_none setup.goal.grid c none leads proves;
+    }

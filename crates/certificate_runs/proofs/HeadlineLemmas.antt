@@ -19,14 +19,18 @@ use Rattle.reports.specs.Reports.{accepted_data, refused_certificate_data, repor
 use Rattle.reports.specs.Readings.{IsSmall}
 use Rattle.reports.specs.Readings.IsReport.{of_cost, of_certificate}
 use Rattle.reports.proofs.ReadLemmas.{report_read}
-use Rattle.certificate.specs.Certificates.{Statement}
+use Rattle.certificate.specs.Certificates.{Statement, IsCertificate}
 use Rattle.certificate.specs.Spellings.{Spells, spelling}
 use Rattle.certificate.specs.Faults.{format_code}
 use Rattle.certificate.specs.Sources.{Tells}
 use Rattle.certificate.specs.declared.faults.ReadFault.{ReadFault}
 use Rattle.certificate.specs.declared.faults.ReadFault.TheVariants.{Format, Failed, NoMemory}
 use Rattle.certificate.proofs.LawLemmas.{spelled_read}
-use Rattle.certificate_check.specs.Refusals.{IsProved, refusal_code}
+use Rattle.certificate_check.specs.Refusals.{refusal_code}
+use Rattle.pattern_index.specs.Splits.{Split, IsSplit}
+use Rattle.lower_bound.specs.Tables.{Tables, IsTables}
+use Rattle.lower_bound.proofs.TableLemmas.{tables_are_bounds}
+use Rattle.certificate_runs.specs.Built.{AreBuiltFor}
 use Rattle.certificate_check.proofs.RefusalLemmas.{proved_is_least}
 use Rattle.batch_runs.specs.Batches.{Rules, IsTruthful, Answer, AnswersKind, AnswersLine, AnswersLines, AreAll, AreFirst, answer_text, answers_text}
 use Rattle.batch_runs.specs.Batches.Answer.{passed_over}
@@ -120,6 +124,10 @@ moved : (P : CostRule → Position → Position → Type 0) (task : Task) (c : S
 moved P task c costs start goal fact =
     subst (λ (q : Position). P task.rule task.start q) goal (subst (λ (b : Position). P task.rule b c.goal) start (subst (λ (rule : CostRule). P rule c.start c.goal) costs fact))
 
+-- groups with the tables that were built for them
+tables_there : (c : Statement) (t : Tables) → IsCertificate c → AreBuiltFor c t → IsTables t
+tables_there c t is built = record { partition = subst (λ (s : Split). IsSplit s) (sym built.groups) is.groups.split; one_each = built.one_each }
+
 certifies_least : (task : Task) (c : Statement) → IsCertificateOf task c → CertifiesLeast task c (spelling c)
 certifies_least task c of = record {
   read = spelled_read (spelling c) c (of.certificate, refl);
@@ -127,7 +135,9 @@ certifies_least task c of = record {
   goal = of.goal;
   costs = of.costs;
   leads = moved (λ rule b q. Leads rule b c.plan q c.cost) task c of.costs of.start of.goal of.proved.plan;
-  least = moved (λ rule b q. IsLeast rule b q c.cost) task c of.costs of.start of.goal (proved_is_least c of.certificate.start.board of.proved);
+  least = moved (λ rule b q. IsLeast rule b q c.cost) task c of.costs of.start of.goal (proved_is_least c of.tables tables_are_bounds (tables_there c of.tables of.certificate of.built) of.certificate of.proved);
+  tables = of.tables;
+  built = of.built;
   proved = of.proved;
 }
 
@@ -185,10 +195,10 @@ abbrev first_letter : Option Data → ℕ
 first_letter None = 0
 first_letter (Some d) = get_or (text_in d) 0 0
 
-accepted_true : (input : List ℕ) (c : Statement) → Spells c input → IsProved c → IsLeast c.costs c.start c.goal c.cost → IsTrueVerdict input (accepted_data c.cost)
-accepted_true input c spells proved least = record {
+accepted_true : (input : List ℕ) (c : Statement) → Spells c input → Leads c.costs c.start c.plan c.goal c.cost → IsLeast c.costs c.start c.goal c.cost → IsTrueVerdict input (accepted_data c.cost)
+accepted_true input c spells leads least = record {
   status = inl refl;
-  accepted = λ e. (c, spelled_read input c spells, refl, proved.plan, least);
+  accepted = λ e. (c, spelled_read input c spells, refl, leads, least);
   refused = λ e. let z = ap first_letter e in absurd (omega arith);
 }
 
@@ -199,10 +209,10 @@ refused_true input code by = record {
   refused = λ e. (code, refl, by);
 }
 
-accepted_written : (sink : Change SinkState) (input : List ℕ) (c : Statement) → Puts sink (report_text (accepted_data c.cost)) → Spells c input → IsProved c → IsLeast c.costs c.start c.goal c.cost → WritesVerdict sink input
-accepted_written sink input c put spells proved least =
+accepted_written : (sink : Change SinkState) (input : List ℕ) (c : Statement) → Puts sink (report_text (accepted_data c.cost)) → Spells c input → Leads c.costs c.start c.plan c.goal c.cost → IsLeast c.costs c.start c.goal c.cost → WritesVerdict sink input
+accepted_written sink input c put spells leads least =
     let small : IsSmall c.cost = omega (arith, spells.0.cost) in
-    record { line = compact_text (accepted_data c.cost); value = accepted_data c.cost; put = put; json = report_read (accepted_data c.cost) (of_cost c.cost small); truth = accepted_true input c spells proved least }
+    record { line = compact_text (accepted_data c.cost); value = accepted_data c.cost; put = put; json = report_read (accepted_data c.cost) (of_cost c.cost small); truth = accepted_true input c spells leads least }
 
 refused_written : (sink : Change SinkState) (input code : List ℕ) → Puts sink (report_text (refused_certificate_data code)) → IsRefusedBy input code → WritesVerdict sink input
 refused_written sink input code put by =
@@ -214,9 +224,9 @@ module _ (sink : Change SinkState) (input : List ℕ) (output : Output) (put : P
   put_text text status is = subst (Puts sink) (ap (λ (o : Output). o.text) is) put
 
   judged : (c : Statement) → Spells c input → IsJudgement c output → WritesVerdict sink input
-  judged c spells (inl accepted) = accepted_written sink input c (put_text (report_text (accepted_data c.cost)) 0 accepted.written) spells accepted.proved accepted.least
-  judged c spells (inr (refusal, first, refused)) =
-      refused_written sink input (refusal_code refusal) (put_text (report_text (refused_certificate_data (refusal_code refusal))) 5 refused) (inr (c, refusal, spelled_read input c spells, first, refl))
+  judged c spells (tables, built, inl accepted) = accepted_written sink input c (put_text (report_text (accepted_data c.cost)) 0 accepted.written) spells accepted.proved.plan accepted.least
+  judged c spells (tables, built, inr (refusal, first, refused)) =
+      refused_written sink input (refusal_code refusal) (put_text (report_text (refused_certificate_data (refusal_code refusal))) 5 refused) (inr (c, tables, refusal, spelled_read input c spells, built, first, refl))
 
   verdict_written : (read : Result Statement ReadFault) → Tells read input → IsVerdict read output → WritesVerdict sink input
   verdict_written (Ok c) tells verdict = judged c tells verdict

@@ -18,7 +18,9 @@ use Rattle.batch_runs.specs.Batches.{Rules, IsTruthful, Answer, AnswersKind, Are
 use Rattle.batch_runs.specs.Batches.Answer.{passed_over, refused, answered}
 use Rattle.batch_runs.specs.Setups.{SetupState}
 use Rattle.batch_runs.specs.Solving.{task_of}
+use Rattle.lower_bound.specs.Tables.{Tables}
 use Rattle.certificate_runs.specs.Outputs.{Output, IsUntouched}
+use Rattle.certificate_runs.specs.Built.{AreBuiltFor}
 use Rattle.certificate_runs.specs.declared.certifying.Reply.{Reply}
 use Rattle.certificate_runs.specs.declared.certifying.Reply.TheVariants.{Certified, Reported}
 use Rattle.certificate_runs.specs.declared.faults.CertifyFault.{CertifyFault}
@@ -30,14 +32,16 @@ pub record AreRulesFor (setup : SetupState) (rules : Rules) : Type 0 where
   pub task : rules.task ≡ task_of setup
   pub truthful : IsTruthful rules
 
--- a certificate that answers this task: its plan leads from the start to the goal at its cost, and its rows prove it
+-- a certificate that answers this task: its plan leads from the start to the goal at its cost, and its rows prove it with the sums of its groups' tables
 pub record IsCertificateOf (task : Task) (c : Statement) : Type 0 where
   pub sides : c.grid ≡ task.goal.grid
   pub costs : c.costs ≡ task.rule
   pub start : c.start ≡ task.start
   pub goal : c.goal ≡ task.goal
   pub certificate : IsCertificate c
-  pub proved : IsProved c
+  pub tables : Tables
+  pub built : AreBuiltFor c tables
+  pub proved : IsProved c tables
 
 -- a certificate of the board that these bytes name
 abbrev pub IsCertificateFor : Rules → List ℕ → Statement → Type 0

@@ -12,13 +12,16 @@ use Rattle.certificate.specs.Sources.{ReadsCertificate}
 use Rattle.certificate.specs.Faults.{format_code}
 use Rattle.certificate_check.specs.declared.refusals.Refusal.{Refusal}
 use Rattle.certificate_check.specs.Refusals.{IsProved, IsFirstRefusal, refusal_code}
+use Rattle.memory.specs.declared.OutOfMemory.{OutOfMemory}
+use Rattle.lower_bound.specs.Tables.{Tables}
 use Rattle.certificate_runs.specs.Outputs.{Output, IsUntouched}
+use Rattle.certificate_runs.specs.Built.{AreBuiltFor}
 use Rattle.certificate_runs.specs.declared.faults.CheckFault.{CheckFault}
 use Rattle.certificate_runs.specs.declared.faults.CheckFault.TheVariants.{CertificateRead, CertificateMemory, Write, Memory}
 
--- the plan leads at its cost and the rows prove it, so the cost is the least: it is reported with the status 0
-pub record IsAccepted (c : Statement) (output : Output) : Type 0 where
-  pub proved : IsProved c
+-- the plan leads at its cost and the rows prove it with the sums of these tables, so the cost is the least: it is reported with the status 0
+pub record IsAccepted (c : Statement) (tables : Tables) (output : Output) : Type 0 where
+  pub proved : IsProved c tables
   pub least : IsLeast c.costs c.start c.goal c.cost
   pub written : output ≡ record { text = report_text (accepted_data c.cost); status = 0 }
 
@@ -26,9 +29,13 @@ pub record IsAccepted (c : Statement) (output : Output) : Type 0 where
 abbrev pub IsRefused : List ℕ → Output → Type 0
 IsRefused code output = output ≡ record { text = report_text (refused_certificate_data code); status = 5 }
 
--- a certificate is accepted, or refused for the first cause
+-- a certificate is accepted with these tables, or refused for the first cause
+abbrev pub IsJudgementBy : Tables → Statement → Output → Type 0
+IsJudgementBy tables c output = IsAccepted c tables output ⊎ ((refusal : Refusal) × IsFirstRefusal c tables refusal × IsRefused (refusal_code refusal) output)
+
+-- the same with the tables of its groups
 abbrev pub IsJudgement : Statement → Output → Type 0
-IsJudgement c output = IsAccepted c output ⊎ ((refusal : Refusal) × IsFirstRefusal c refusal × IsRefused (refusal_code refusal) output)
+IsJudgement c output = (tables : Tables) × AreBuiltFor c tables × IsJudgementBy tables c output
 
 -- the verdict on what was read: a certificate is judged, and a fault of the bytes refused; there is none on a failure of the source or a want of memory
 abbrev pub IsVerdict : Result Statement ReadFault → Output → Type 0
@@ -53,13 +60,17 @@ abbrev pub PutsVerdict : Change SinkState → Output → Result ℕ CheckFault �
 PutsVerdict sink output (Ok status) = WritesAll sink output.text × (status ≡ output.status)
 PutsVerdict sink output (Err fault) = FailsWriting sink output.text × (fault ≡ Write)
 
+-- memory was wanting for the certificate, or for the tables of the one that was read
+abbrev pub WantsMemory : Result Statement ReadFault → OutOfMemory → Type 0
+WantsMemory read refused = (read ≡ Err (NoMemory refused)) ⊎ ((c : Statement) × (read ≡ Ok c))
+
 -- How the run ends after this was read: the verdict on it is written; or writing failed, and a beginning of it is written; or memory was wanting for it, and nothing is written. Where there is none, that is what is answered.
 abbrev pub EndsCheck : Result Statement ReadFault → Change SinkState → Result ℕ CheckFault → Type 0
 EndsCheck read sink (Ok status) = (output : Output) × IsVerdict read output × WritesAll sink output.text × (status ≡ output.status)
 EndsCheck read sink (Err Write) = (output : Output) × IsVerdict read output × FailsWriting sink output.text
 EndsCheck read sink (Err (Memory lacking)) = HasVerdict read × IsUntouched sink
 EndsCheck read sink (Err CertificateRead) = (read ≡ Err Failed) × IsUntouched sink
-EndsCheck read sink (Err (CertificateMemory refused)) = (read ≡ Err (NoMemory refused)) × IsUntouched sink
+EndsCheck read sink (Err (CertificateMemory refused)) = WantsMemory read refused × IsUntouched sink
 
 -- a certificate is read of the source, and the run ends so
 abbrev pub Checks : Change SourceState → Change SinkState → Result ℕ CheckFault → Type 0

@@ -16,12 +16,14 @@ use Rattle.certificate_check.specs.declared.refusals.Refusal.{Refusal}
 use Rattle.batch_runs.specs.Batches.{Rules, AreFirst}
 use Rattle.batch_runs.specs.Meanings.{questions, Names}
 use Rattle.batch_runs.specs.Headline.{TellsTheTruth}
+use Rattle.lower_bound.specs.Tables.{Tables}
+use Rattle.certificate_runs.specs.Built.{AreBuiltFor}
 use Rattle.certificate_runs.specs.declared.faults.CertifyFault.{CertifyFault}
 use Rattle.certificate_runs.specs.declared.faults.CheckFault.{CheckFault}
 
 -- ---- a line in, a certificate out
 
--- The bytes, read again, are this certificate. Its plan leads from the start to the goal at its cost, and no plan costs less, which its rows prove.
+-- The bytes, read again, are this certificate. Its plan leads from the start to the goal at its cost, and no plan costs less, which its rows prove with the sums of its groups' tables.
 pub record CertifiesLeast (task : Task) (c : Statement) (bytes : List ℕ) : Type 0 where
   pub read : certificate bytes ≡ Ok (c, [])
   pub start : c.start ≡ task.start
@@ -29,7 +31,9 @@ pub record CertifiesLeast (task : Task) (c : Statement) (bytes : List ℕ) : Typ
   pub costs : c.costs ≡ task.rule
   pub leads : Leads task.rule task.start c.plan task.goal c.cost
   pub least : IsLeast task.rule task.start task.goal c.cost
-  pub proved : IsProved c
+  pub tables : Tables
+  pub built : AreBuiltFor c tables
+  pub proved : IsProved c tables
 
 -- Where all of these lines are passed over, nothing is written. Else one alone is not, and the output is a certificate of the board that it names, or a report that tells the truth of it.
 pub data AnswersFirst (rules : Rules) (lines : List (List ℕ)) (output : List ℕ) : Type 0 where
@@ -51,10 +55,10 @@ IsTrueAnswer rules source sink result = IfOk result (λ status. WritesAnswer rul
 
 -- ---- a certificate in, a verdict out
 
--- the input is refused by a fault with this code: by the first fault of its bytes, or by the first cause against the certificate that it is
+-- the input is refused by a fault with this code: by the first fault of its bytes, or by the first cause against the certificate that it is, with the tables of its groups
 abbrev pub IsRefusedBy : List ℕ → List ℕ → Type 0
 IsRefusedBy input code =
-    ((fault : FormatFault) × IsFirstFault input fault × (code ≡ format_code fault)) ⊎ ((c : Statement) × (refusal : Refusal) × (certificate input ≡ Ok (c, [])) × IsFirstRefusal c refusal × (code ≡ refusal_code refusal))
+    ((fault : FormatFault) × IsFirstFault input fault × (code ≡ format_code fault)) ⊎ ((c : Statement) × (tables : Tables) × (refusal : Refusal) × (certificate input ≡ Ok (c, [])) × AreBuiltFor c tables × IsFirstRefusal c tables refusal × (code ≡ refusal_code refusal))
 
 -- the input is a certificate, whose plan leads from its start to its goal at the cost that is said, and no plan costs less
 abbrev pub SaysLeastCost : List ℕ → Data → Type 0

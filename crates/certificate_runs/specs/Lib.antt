@@ -1,4 +1,5 @@
 pub mod Outputs
+pub mod Built
 pub mod Faults
 pub mod Checking
 pub mod Certifying

@@ -16,10 +16,11 @@ use crate::faults::CertifyFault;
 use batch_lines::{EntryFault, Line, LineKind, LineReader, read_entry};
 use batch_runs::{Setup, Solver};
 use board::laws::keys_are_in_order;
-use board::{Board, Move};
+use board::{Board, Move, Shape};
 use byte_streams::{ReadFailed, Sink, Source};
 use certificate::{Certificate, Parts, write};
 use outcomes::{Outcome, SolveFault};
+use pattern_index::Partition;
 use reports::{NoReport, outcome_report, refused_report};
 use std::alloc::Global;
 
@@ -133,7 +134,7 @@ fn reply_to_entry<A: Solver>(
     };
     match solver.solve(alloc, &entry.board) {
         Ok(Outcome::Optimal { cost, plan, rows }) => {
-            let certificate = certify(setup, entry.board, cost, plan, rows);
+            let certificate = certify(alloc, setup, entry.board, cost, plan, rows);
             Ok(Reply::Certified(certificate))
         }
         Ok(outcome) => {
@@ -161,8 +162,10 @@ fn status_of(outcome: &Outcome) -> u8
     }
 }
 
-// The certificate of a plan of least cost.
+// The certificate of a plan of least cost. The search that found it had no tables, so it has no
+// groups.
 fn certify(
+    alloc: Global,
     setup: &Setup,
     start: Board,
     cost: u32,
@@ -180,6 +183,7 @@ fn certify(
     let parts = Parts {
         shape: goal.shape(),
         costs: setup.weights(),
+        groups: no_groups(alloc, goal.shape()),
         start,
         goal,
         cost,
@@ -187,6 +191,13 @@ fn certify(
         rows,
     };
     Certificate::new(parts).unwrap()
+}
+
+// No groups, of boards of this shape.
+fn no_groups(alloc: Global, shape: Shape) -> Partition
+    ensures { result ≡ record { grid = shape; groups = [] } }
+{
+    Partition::new(shape, Vec::new(alloc)).unwrap()
 }
 
 // Writes a reply, and answers its status.

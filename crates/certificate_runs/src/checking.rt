@@ -2,22 +2,25 @@
 
 ghost use Rattle.std.specs.Prelude.{IfOk};
 ghost use Rattle.byte_streams.specs.Streams.{change};
-ghost use Rattle.certificate_runs.specs.Checking.{IsJudgement, IsRefused, Checks, PutsVerdict};
+ghost use Rattle.certificate_runs.specs.Checking.{IsJudgementBy, IsRefused, Checks};
+ghost use Rattle.certificate_runs.specs.Checking.{PutsVerdict};
 ghost use Rattle.certificate_runs.specs.Checking.{verdict_output};
 ghost use Rattle.certificate_runs.specs.Headline.{IsTrueCheck};
 
+use crate::building::build_bound;
 use crate::faults::CheckFault;
 use byte_streams::{Sink, Source};
 use certificate::{Certificate, ReadFault, read};
 use certificate_check::check;
+use lower_bound::Bound;
 use reports::{NoReport, accepted_report, refused_certificate_report};
 use std::alloc::Global;
 
-/// Checks the certificate that the source spells, and writes one line: the least cost, or the code
-/// of the first fault. Answers the status: 0 where it is accepted, 5 where it is refused.
+/// Checks the certificate that the source spells with tables that are built for its groups, and
+/// writes one line: the least cost, or the code of the first fault. Answers the status: 0 where it is accepted, 5 where it is refused.
 ///
-/// Nothing is written where the source fails, or where there is no memory for the certificate or
-/// for the line. Nothing is flushed.
+/// Nothing is written where the source fails, or where there is no memory for the certificate, for
+/// its tables or for the line. Nothing is flushed.
 pub fn run_check<S: Source, K: Sink>(
     alloc: Global,
     source: &mut S,
@@ -41,9 +44,12 @@ fn check_source<S: Source, K: Sink>(
         result }
 {
     match read(alloc, source) {
-        Ok(certificate) => match judge(alloc, &certificate) {
-            Ok((text, status)) => put_verdict(sink, text.as_str(), status),
-            Err(lacking) => Err(CheckFault::Memory(lacking)),
+        Ok(certificate) => match build_bound(alloc, &certificate) {
+            Ok(bound) => match judge(alloc, &certificate, &bound) {
+                Ok((text, status)) => put_verdict(sink, text.as_str(), status),
+                Err(lacking) => Err(CheckFault::Memory(lacking)),
+            },
+            Err(refused) => Err(CheckFault::CertificateMemory(refused)),
         },
         Err(ReadFault::Format(fault)) => match refuse(alloc, fault.code()) {
             Ok((text, status)) => put_verdict(sink, text.as_str(), status),
@@ -54,11 +60,12 @@ fn check_source<S: Source, K: Sink>(
     }
 }
 
-// The line that is written of a certificate, and its status.
-fn judge(alloc: Global, certificate: &Certificate) -> Result<(String, u8), NoReport>
-    ensures { IfOk result (λ verdict. IsJudgement certificate.now (verdict_output verdict)) }
+// The line that is written of a certificate that is checked with these tables, and its status.
+fn judge(alloc: Global, certificate: &Certificate, bound: &Bound) -> Result<(String, u8), NoReport>
+    ensures { IfOk result
+        (λ verdict. IsJudgementBy bound.now certificate.now (verdict_output verdict)) }
 {
-    match check(certificate) {
+    match check(certificate, bound) {
         Ok(()) => Ok((accepted_report(alloc, certificate.cost())?, 0)),
         Err(refusal) => refuse(alloc, refusal.code()),
     }

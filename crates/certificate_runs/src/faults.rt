@@ -45,7 +45,7 @@ pub enum CheckFault {
     #[error("the certificate cannot be read")]
     CertificateRead,
     /// F7
-    #[error("no memory for the certificate")]
+    #[error("no memory for the certificate or its tables")]
     CertificateMemory(OutOfMemory),
     /// B2
     #[error("the output cannot be written")]

@@ -2,6 +2,7 @@
 //! verdict out.
 #![tactic(auto)]
 
+mod building;
 mod certifying;
 mod checking;
 mod faults;

@@ -1,10 +1,10 @@
-use Rattle.std.proofs.Common.{ℕ, List, Result, Ok, Err, refl, sym, subst}
+use Rattle.std.proofs.Common.{ℕ, List, Result, Ok, Err, refl, sym, subst, inr}
 use Rattle.byte_streams.specs.Streams.{change}
 use Rattle.certificate.specs.Certificates.{Statement}
 use Rattle.certificate.specs.declared.faults.ReadFault.{ReadFault}
 use Rattle.certificate.specs.declared.faults.ReadFault.TheVariants.{Format}
 use Rattle.certificate_runs.specs.Outputs.{Output}
-use Rattle.certificate_runs.specs.Checking.{IsJudgement, IsRefused}
+use Rattle.certificate_runs.specs.Checking.{IsJudgement, IsJudgementBy, IsRefused}
 use Rattle.certificate_runs.proofs.CheckLemmas.{checked}
 use Rattle.certificate_runs.proofs.checking.check_source.Goals as goal
 
@@ -14,7 +14,8 @@ returns-in-Ok-judge g c =
     let sink = change g.K.Sink.state c.args.sink.now c.put_verdict.new.sink in
     let read : Result Statement ReadFault = Ok c.in-Ok.certificate in
     let output : Output = record { text = c.as_str.result.now; status = c.in-Ok-judge.status } in
-    let judgement : IsJudgement c.in-Ok.certificate output = subst (λ (text : List ℕ). IsJudgement c.in-Ok.certificate (record { text = text; status = c.in-Ok-judge.status })) (sym c.as_str.ensures.value) c.in-Ok-judge.ensures in
+    let bound = c.in-Ok-build_bound.bound in
+    let judgement : IsJudgement c.in-Ok.certificate output = (bound, c.in-Ok-build_bound.ensures, subst (λ (text : List ℕ). IsJudgementBy bound c.in-Ok.certificate (record { text = text; status = c.in-Ok-judge.status })) (sym c.as_str.ensures.value) c.in-Ok-judge.ensures) in
     checked source sink read output c.put_verdict.result c.in-Ok.ensures judgement c.put_verdict.ensures
 
 pub returns-in-Ok-refuse : goal.returns-in-Ok-refuse
@@ -28,6 +29,11 @@ returns-in-Ok-refuse g c =
 
 pub returns-in-Ok : goal.returns-in-Ok
 returns-in-Ok g c =
+    let read : Result Statement ReadFault = Ok c.in-Ok.certificate in
+    (read, c.in-Ok.ensures, (inr (c.in-Ok.certificate, refl), refl))
+
+pub returns-in-Ok-build_bound : goal.returns-in-Ok-build_bound
+returns-in-Ok-build_bound g c =
     let read : Result Statement ReadFault = Ok c.in-Ok.certificate in
     (read, c.in-Ok.ensures, (tt, refl))
 
