@@ -9,6 +9,7 @@ ghost use Rattle.outcomes.specs.declared.outcome.Cause.{Cause};
 ghost use Rattle.outcomes.specs.declared.outcome.Cause.TheVariants.{Cut, Start};
 ghost use Rattle.outcomes.specs.declared.outcome.Outcome.TheVariants.{Bounded, Unsolvable};
 ghost use Rattle.outcomes.specs.declared.outcome.Why.TheVariants.{Parity};
+ghost use Rattle.world_ends.specs.Endings.{EndAnswers};
 ghost use Rattle.world_ends.specs.declared.outcome.Ending.TheVariants as ending;
 ghost use Rattle.world_model.specs.declared.steps.Refusal.{Refusal};
 ghost use Rattle.world_model.specs.declared.steps.Step.{Step};
@@ -86,10 +87,13 @@ pub fn end_one<'a, S: Spread + Drop, G: Gate>(
         ↔ (¬ SameClass job.entry.start job.entry.goal) }
     ensures run { SameClass job.entry.start job.entry.goal
         → IfOk result (EndsByOne S.hash_of job.entry spread) }
+    ensures answers { IfOk result (EndAnswers (task_in job.entry)) }
     ensures kept { IfOk result (λ outcome. (bound : ℕ) (best : Option (ℕ × Vec Move Global))
         (cause : Cause) → outcome ≡ ending.Bounded bound best cause
         → (cause ≢ Cut) × (cause ≢ Start)) }
 {
+    // By this law no plan leads from a board to another class.
+    plans_keep_the_class();
     let _ = job.goal();
     if are_apart(&job) {
         return Ok(Ending::Unsolvable { why: Why::Parity });

@@ -8,7 +8,7 @@ ghost use Rattle.outcomes.specs.Outcomes.{Answers};
 ghost use Rattle.world_model.specs.Outcomes.{IsGiven};
 ghost use Rattle.world_model.specs.Workers.{Packet, Lane};
 ghost use Rattle.world_ends.specs.Lowest.{IsLeastBeside, IsOfItem, AreItemsOn};
-ghost use Rattle.world_ends.specs.Endings.{EndsIn};
+ghost use Rattle.world_ends.specs.Endings.{EndsIn, EndAnswers};
 ghost use Rattle.hda_run.specs.Problems.{task_in};
 ghost use Rattle.hda_run.specs.Lanes.{IsOfOne, IsInLane, IsInLanes};
 ghost use Rattle.hda_run.specs.Worlds.{world_of, IsLawful};
@@ -22,6 +22,7 @@ use outcomes::Outcome;
 use owners::Spread;
 use std::alloc::Global;
 use worker_core::Queue;
+use world_ends::laws::endings_answer;
 use world_ends::{Asked, Ending, ending_of, lowest_of, outcome_of};
 use world_model::laws::outcomes_answer;
 
@@ -41,8 +42,12 @@ impl<'a, S: Spread + Drop> World<'a, S> {
 
     /// The same without rows, for which no memory is taken.
     pub fn end(self, alloc: Global) -> Ending
-        ensures { EndsIn (world_of S.hash_of self.entry) result }
+        ensures ends { EndsIn (world_of S.hash_of self.entry) result }
+        ensures answers { EndAnswers (task_in self.entry.job) result }
     {
+        endings_answer();
+        // That the sums are lower bounds is told by this call.
+        let _ = self.parts.job.bound();
         end_parts(alloc, self.parts)
     }
 }

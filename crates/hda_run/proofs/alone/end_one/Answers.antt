@@ -9,4 +9,4 @@ returns-clause-kept g c =
     let hash = g.S.Spread.hash_of in
     let is = is_job hash c.args.spread c.args.job 1 c.goal.ensures.task (omega arith, omega arith) in
     let known = c.workers.ensures in
-    ending_kept (job_of hash c.args.job c.args.spread 1) (world_of hash c.in_ok-world.world) is c.in_ok-world.ensures.run known.shaped known.sound known.bounded c.end.result c.end.ensures
+    ending_kept (job_of hash c.args.job c.args.spread 1) (world_of hash c.in_ok-world.world) is c.in_ok-world.ensures.run known.shaped known.sound known.bounded c.end.result c.end.ensures.ends
