@@ -82,7 +82,7 @@ const FIRST: Scene = Scene {
 const SECOND: Scene = Scene { me: 1, ..FIRST };
 
 /// All scenes.
-pub const SCENES: [Scene; 22] = [
+pub static SCENES: [Scene; 22] = [
     Scene {
         title: "Boards are expanded",
         acts: &[
