@@ -3,6 +3,7 @@
 
 mod patterns;
 mod puzzle;
+mod replays;
 mod runs;
 
 use std::io;
@@ -10,5 +11,6 @@ use std::io;
 fn main(rt: HostRuntime) -> io::Result<()> {
     puzzle::visit(&rt)?;
     runs::visit(&rt)?;
-    patterns::visit(&rt)
+    patterns::visit(&rt)?;
+    replays::visit(&rt)
 }

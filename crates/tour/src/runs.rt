@@ -43,7 +43,8 @@ fn setup_of_faces() -> Setup
     Setup::new(Board::goal(shape), Weights::face(shape))
 }
 
-fn print_text(rt: &impl Print, bytes: &[u8]) -> io::Result<()> {
+/// Prints a text.
+pub fn print_text(rt: &impl Print, bytes: &[u8]) -> io::Result<()> {
     match str::from_utf8(bytes) {
         Ok(text) => rt.print(text),
         Err(_) => rt.println("no text"),
