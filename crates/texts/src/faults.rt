@@ -111,6 +111,7 @@ fn print_refusals(rt: &impl Print) -> io::Result<()> {
         Refusal::IllegalMove(3),
         Refusal::OtherEnd,
         Refusal::OtherCost,
+        Refusal::UnfitGroup(1),
         Refusal::StartUnproved,
         Refusal::GoalRow(0),
         Refusal::OpenSuccessor(2, Move::U),
