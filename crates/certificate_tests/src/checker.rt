@@ -1,19 +1,29 @@
 //! The checker: certificates that it accepts, and one for each refusal.
 
-use crate::vectors::{GOAL, ONE_MOVE, THREE_MOVES};
+use crate::groups::bound_for;
+use crate::vectors::{GOAL, ONE_MOVE, THREE_MOVES, WITH_GROUPS};
 use board::Move;
 use byte_streams::ByteSource;
 use certificate::{FormatFault, ReadFault, read};
 use certificate_check::{Refusal, check};
 use std::alloc::Global;
+use std::test::Fail;
 
 // Where the kind of costs stands.
 const KIND: usize = 10;
 
-// What is answered for the certificate that bytes spell.
-fn answer(alloc: Global, bytes: &[u8]) -> Result<Result<(), Refusal>, ReadFault> {
-    let certificate = read(alloc, &mut ByteSource::new(bytes))?;
-    Ok(check(&certificate))
+// What is answered for bytes: why they are no certificate, or what the checker says of the one that
+// they spell, with the tables of its groups.
+type Answer = Result<Result<(), Refusal>, ReadFault>;
+
+fn answer(alloc: Global, bytes: &[u8]) -> Result<Answer, Fail> {
+    match read(alloc, &mut ByteSource::new(bytes)) {
+        Ok(certificate) => {
+            let bound = bound_for(alloc, &certificate)?;
+            Ok(Ok(check(&certificate, &bound)))
+        }
+        Err(fault) => Ok(Err(fault)),
+    }
 }
 
 // The bytes of three moves, with other bytes from a place on.
@@ -26,11 +36,12 @@ fn changed(place: usize, bytes: &[u8]) -> [u8; 79] {
 }
 
 #[test]
-fn known_answers(rt: HostRuntime) {
-    let answers: [(&[u8], Result<Result<(), Refusal>, ReadFault>); 5] = [
+fn known_answers(rt: HostRuntime) -> Result<(), Fail> {
+    let answers: [(&[u8], Answer); 6] = [
         (&GOAL, Ok(Ok(()))),
         (&ONE_MOVE, Ok(Ok(()))),
         (&THREE_MOVES, Ok(Ok(()))),
+        (&WITH_GROUPS, Ok(Ok(()))),
         // Fields that are cut off are not judged.
         (b"\xff", Err(ReadFault::Format(FormatFault::Truncated))),
         (
@@ -39,13 +50,14 @@ fn known_answers(rt: HostRuntime) {
         ),
     ];
     for (bytes, want) in answers {
-        assert_eq!(rt; answer(rt.alloc(), bytes), want, "{bytes:?}");
+        assert_eq!(rt; answer(rt.alloc(), bytes)?, want, "{bytes:?}");
     }
+    Ok(())
 }
 
 #[test]
-fn each_fault_and_refusal(rt: HostRuntime) {
-    let changes: [(usize, &[u8], Result<Result<(), Refusal>, ReadFault>); 12] = [
+fn each_fault_and_refusal(rt: HostRuntime) -> Result<(), Fail> {
+    let changes: [(usize, &[u8], Answer); 12] = [
         // Another text in front.
         (7, b"2", Err(ReadFault::Format(FormatFault::OtherMagic))),
         // More rows announced than any memory holds.
@@ -88,18 +100,19 @@ fn each_fault_and_refusal(rt: HostRuntime) {
     ];
     for (place, bytes, want) in changes {
         let text = changed(place, bytes);
-        assert_eq!(rt; answer(rt.alloc(), &text), want, "{bytes:?} at {place}");
+        assert_eq!(rt; answer(rt.alloc(), &text)?, want, "{bytes:?} at {place}");
     }
+    Ok(())
 }
 
 #[test]
-fn each_byte_changed(rt: HostRuntime) {
+fn each_byte_changed(rt: HostRuntime) -> Result<(), Fail> {
     let mut accepted: usize = 0;
     for place in 0..ONE_MOVE.len() {
         for step in 1..=255 {
             let mut bytes = ONE_MOVE;
             bytes[place] = bytes[place].wrapping_add(step);
-            if answer(rt.alloc(), &bytes) == Ok(Ok(())) {
+            if answer(rt.alloc(), &bytes)? == Ok(Ok(())) {
                 // Tile 1 moves, so face cost is 1 too.
                 assert_eq!(rt; (place, bytes[place]), (KIND, 1));
                 accepted = accepted.saturating_add(1);
@@ -107,4 +120,5 @@ fn each_byte_changed(rt: HostRuntime) {
         }
     }
     assert_eq!(rt; accepted, 1);
+    Ok(())
 }

@@ -1,6 +1,7 @@
 //! Certificates by their fields and by their bytes.
 
-use crate::vectors::{FOUR_LETTERS, GOAL, ONE_MOVE};
+use crate::groups::partition_of;
+use crate::vectors::{FOUR_LETTERS, GOAL, ONE_MOVE, WITH_GROUPS};
 use board::{Board, GREATEST_COST, Move, Shape, Weights};
 use byte_streams::{ByteSink, ByteSource};
 use certificate::{Certificate, Parts, read, write};
@@ -11,6 +12,7 @@ use std::test::Fail;
 #[derive(Clone, Copy)]
 struct Example {
     costs: Weights,
+    groups: &'static [&'static [u8]],
     start: &'static [u8],
     cost: u32,
     plan: &'static [Move],
@@ -28,6 +30,7 @@ fn parts_of(alloc: Global, example: &Example) -> Result<Parts, Fail> {
     Ok(Parts {
         shape,
         costs: example.costs,
+        groups: partition_of(alloc, shape, example.groups)?,
         start: Board::from_tiles(shape, example.start)?,
         goal: Board::goal(shape),
         cost: example.cost,
@@ -40,6 +43,7 @@ fn parts_of(alloc: Global, example: &Example) -> Result<Parts, Fail> {
 fn has_fields(certificate: &Certificate, parts: &Parts) -> bool {
     certificate.shape() == parts.shape
         && certificate.costs() == parts.costs
+        && certificate.groups().groups() == parts.groups.groups()
         && certificate.start() == parts.start
         && certificate.goal() == parts.goal
         && certificate.cost() == parts.cost
@@ -70,6 +74,7 @@ fn written_and_read(rt: HostRuntime) -> Result<(), Fail> {
     let examples = [
         Example {
             costs: Weights::unit(square),
+            groups: &[],
             start: &[0, 1, 2, 3],
             cost: 0,
             plan: &[],
@@ -78,6 +83,7 @@ fn written_and_read(rt: HostRuntime) -> Result<(), Fail> {
         },
         Example {
             costs: Weights::unit(square),
+            groups: &[],
             start: &[1, 0, 2, 3],
             cost: 1,
             plan: &[L],
@@ -85,7 +91,17 @@ fn written_and_read(rt: HostRuntime) -> Result<(), Fail> {
             bytes: &ONE_MOVE,
         },
         Example {
+            costs: Weights::unit(square),
+            groups: &[&[1], &[3]],
+            start: &[1, 3, 0, 2],
+            cost: 3,
+            plan: &[R, U, L],
+            rows: &[(&[1, 3, 0, 2], 0)],
+            bytes: &WITH_GROUPS,
+        },
+        Example {
             costs: Weights::face(high),
+            groups: &[],
             start: &[1, 2, 0, 3, 4, 5],
             cost: 0x03_0201,
             plan: &[U, L, R, D],

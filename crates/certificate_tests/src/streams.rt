@@ -10,6 +10,7 @@ use std::test::Fail;
 
 #[test]
 fn each_read_fails_in_turn(rt: HostRuntime) {
+    // One group is announced, of one tile, which is 0.
     let mut with_groups = ONE_MOVE;
     with_groups[11] = 1;
     // Each byte is a read, and so is the end. Nothing behind a fault is read.
@@ -17,7 +18,7 @@ fn each_read_fails_in_turn(rt: HostRuntime) {
         (&ONE_MOVE, 46, None),
         (
             &with_groups,
-            12,
+            14,
             Some(ReadFault::Format(FormatFault::OutOfRange)),
         ),
     ] {

@@ -31,6 +31,16 @@ pub(crate) const THREE_MOVES: [u8; 79] = [
     3, 0, 1, 2, 2, 0, 0, 0, // and at 2
 ];
 
+// The same with the groups 1 and 3, whose sums leave the start alone to be proved by a row.
+pub(crate) const WITH_GROUPS: [u8; 51] = [
+    0x54, 0x49, 0x4c, 0x45, 0x43, 0x52, 0x54, 0x31, 2, 2, 0, // the opening
+    2, 1, 1, 1, 3, // the groups
+    1, 3, 0, 2, 0, 1, 2, 3, // start and goal
+    3, 0, 0, 0, 3, 0, 0, 0, b'R', b'U', b'L', // the cost and the plan
+    1, 0, 0, 0, 0, 0, 0, 0, // the count of rows
+    1, 3, 0, 2, 0, 0, 0, 0, // the row
+];
+
 // All four letters, face costs, and sides that differ. It proves nothing.
 pub(crate) const FOUR_LETTERS: [u8; 64] = [
     0x54, 0x49, 0x4c, 0x45, 0x43, 0x52, 0x54, 0x31, 3, 2, 1, 0, // the opening
