@@ -1,0 +1,77 @@
+//! What workers answer after a list of steps.
+
+ghost use Rattle.std.specs.Prelude.{◌≡◌, []};
+
+use crate::cases::{RUN_START, Run};
+use board::{Board, Shape, Weights};
+use hda_run::{Job, run_and_finish};
+use lower_bound::Bound;
+use outcomes::Outcome;
+use owners::ByBlank;
+use pattern_index::Partition;
+use std::alloc::Global;
+use std::io::{self, ErrorKind, Print};
+
+/// Prints what `run_and_finish` answers, with the rows.
+pub fn print_answer(rt: &(impl Print + AllocGlobal), run: &Run) -> io::Result<()> {
+    let alloc = rt.alloc();
+    let workers = run.workers;
+    let bound = no_tables(alloc);
+    println!(rt; "# {}", run.title)?;
+    println!(rt; "{RUN_START:?}, workers {workers}")?;
+    let Some(job) = job_of(&bound) else {
+        return Err(ErrorKind::InvalidData.into());
+    };
+    match run_and_finish(alloc, job, workers, ByBlank, run.steps) {
+        Ok(outcome) => print_outcome(rt, &outcome)?,
+        Err(fault) => println!(rt; "run_and_finish: {}", fault.code())?,
+    }
+    rt.println("")
+}
+
+// The bound of no group, whose sums are 0.
+fn no_tables(alloc: Global) -> Bound
+    ensures { result.lookups ≡ [] }
+{
+    let shape = Shape::new(2, 2).unwrap();
+    let partition = Partition::new(shape, Vec::new(alloc)).unwrap();
+    Bound::new(partition, Vec::new(alloc)).unwrap()
+}
+
+// The job at unit cost, without a limit.
+fn job_of<'a>(bound: &'a Bound) -> Option<Job<'a>>
+    requires { bound.now.lookups ≡ [] }
+{
+    let shape = Shape::new(2, 2).ok()?;
+    let start = Board::from_tiles(shape, &RUN_START).ok()?;
+    Job::new(
+        start,
+        Board::goal(shape),
+        Weights::unit(shape),
+        bound,
+        u64::MAX,
+    )
+    .ok()
+}
+
+fn print_outcome(rt: &impl Print, outcome: &Outcome) -> io::Result<()> {
+    match outcome {
+        Outcome::Optimal { cost, plan, rows } => {
+            println!(rt; "run_and_finish: cost {cost}, plan {plan:?}")?;
+            print_rows(rt, rows)
+        }
+        Outcome::Unsolvable { why } => println!(rt; "run_and_finish: unsolvable, {why:?}"),
+        Outcome::Bounded { bound, best, cause } => {
+            println!(rt; "run_and_finish: bound {bound}, best {best:?}, cause {cause:?}")
+        }
+    }
+}
+
+// Prints each row, a board and its cost.
+fn print_rows(rt: &impl Print, rows: &[(Board, u32)]) -> io::Result<()> {
+    for row in rows {
+        let (board, cost) = *row;
+        println!(rt; "row {:?} at {cost}", board.tiles())?;
+    }
+    Ok(())
+}

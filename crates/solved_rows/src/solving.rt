@@ -1,0 +1,148 @@
+//! What one worker answers alone.
+
+ghost use Rattle.std.specs.Prelude.{◌≡◌, IfSome};
+ghost use Rattle.lower_bound.specs.Tables.{ArePotentials};
+
+use crate::cases::{Case, Costs, Division};
+use crate::tables::bound_of;
+use board::{Board, Move, Shape, Weights};
+use hda_run::{Free, Job, end_one, solve_one};
+use lower_bound::Bound;
+use outcomes::Outcome;
+use owners::{ByBlank, Zobrist};
+use std::alloc::Global;
+use std::io::{self, ErrorKind, Print};
+use world_ends::Ending;
+
+// A job but for its tables.
+#[derive(Clone, Copy)]
+struct Problem {
+    start: Board,
+    goal: Board,
+    weights: Weights,
+    limit: u64,
+}
+
+/// Prints what `solve_one` and `end_one` answer.
+pub fn print_answers(rt: &(impl Print + AllocGlobal), case: &Case) -> io::Result<()> {
+    let alloc = rt.alloc();
+    let start = case.start;
+    println!(rt; "# {}", case.title)?;
+    println!(rt; "{start:?} at {} cost", case.costs.word())?;
+    let Some((outcome, ending)) = answers(alloc, case) else {
+        return Err(ErrorKind::OutOfMemory.into());
+    };
+    print_outcome(rt, case, &outcome)?;
+    print_ending(rt, case, &ending)?;
+    rt.println("")
+}
+
+// What both answer, or None where the case has no job, or finds no memory.
+fn answers(alloc: Global, case: &Case) -> Option<(Outcome, Ending)> {
+    let problem = problem_of(case)?;
+    let bound = bound_of(alloc, &problem.goal, &problem.weights, case.groups)?;
+    let outcome = solved(alloc, &problem, &bound, case.division)?;
+    let ending = ended(alloc, &problem, &bound, case.division)?;
+    Some((outcome, ending))
+}
+
+// The job of a case but for its tables, or None where the case has no board.
+fn problem_of(case: &Case) -> Option<Problem>
+    ensures { IfSome result (λ problem. problem.weights.grid ≡ problem.goal.grid) }
+{
+    let shape = Shape::new(case.side, case.side).ok()?;
+    let start = Board::from_tiles(shape, case.start).ok()?;
+    Some(Problem {
+        start,
+        goal: Board::goal(shape),
+        weights: weights_of(case.costs, shape),
+        limit: case.limit,
+    })
+}
+
+// What the moves of boards of this shape cost.
+fn weights_of(costs: Costs, shape: Shape) -> Weights
+    ensures { result.grid ≡ shape }
+{
+    match costs {
+        Costs::Unit => Weights::unit(shape),
+        Costs::Face => Weights::face(shape),
+    }
+}
+
+// What `solve_one` answers.
+fn solved(alloc: Global, problem: &Problem, bound: &Bound, division: Division) -> Option<Outcome>
+    requires { ArePotentials problem.now.weights problem.now.goal bound.now }
+{
+    let shape = problem.goal.shape();
+    let job = job_of(problem, bound)?;
+    match division {
+        Division::ByBlank => solve_one(alloc, job, ByBlank, &Free).ok(),
+        Division::ByHash => solve_one(alloc, job, Zobrist::new(shape), &Free).ok(),
+    }
+}
+
+// What `end_one` answers.
+fn ended(alloc: Global, problem: &Problem, bound: &Bound, division: Division) -> Option<Ending>
+    requires { ArePotentials problem.now.weights problem.now.goal bound.now }
+{
+    let shape = problem.goal.shape();
+    let job = job_of(problem, bound)?;
+    match division {
+        Division::ByBlank => end_one(alloc, job, ByBlank, &Free).ok(),
+        Division::ByHash => end_one(alloc, job, Zobrist::new(shape), &Free).ok(),
+    }
+}
+
+// The job with these tables, or None where its parts are not of one shape.
+fn job_of<'a>(problem: &Problem, bound: &'a Bound) -> Option<Job<'a>>
+    requires { ArePotentials problem.now.weights problem.now.goal bound.now }
+{
+    Job::new(
+        problem.start,
+        problem.goal,
+        problem.weights,
+        bound,
+        problem.limit,
+    )
+    .ok()
+}
+
+fn print_outcome(
+    rt: &(impl Print + AllocGlobal),
+    case: &Case,
+    outcome: &Outcome,
+) -> io::Result<()> {
+    match outcome {
+        Outcome::Optimal { cost, plan, rows } => {
+            let plan = plan_text(rt.alloc(), case, plan)?;
+            println!(rt; "solve_one: cost {cost}, plan {plan}, {} rows", rows.len())
+        }
+        Outcome::Unsolvable { why } => println!(rt; "solve_one: unsolvable, {why:?}"),
+        Outcome::Bounded { bound, best, cause } => {
+            println!(rt; "solve_one: bound {bound}, best {best:?}, cause {cause:?}")
+        }
+    }
+}
+
+fn print_ending(rt: &(impl Print + AllocGlobal), case: &Case, ending: &Ending) -> io::Result<()> {
+    match ending {
+        Ending::Optimal { cost, plan } => {
+            let plan = plan_text(rt.alloc(), case, plan)?;
+            println!(rt; "end_one: cost {cost}, plan {plan}")
+        }
+        Ending::Unsolvable { why } => println!(rt; "end_one: unsolvable, {why:?}"),
+        Ending::Bounded { bound, best, cause } => {
+            println!(rt; "end_one: bound {bound}, best {best:?}, cause {cause:?}")
+        }
+    }
+}
+
+// The moves of a plan, or how many there are.
+fn plan_text(alloc: Global, case: &Case, plan: &[Move]) -> io::Result<String> {
+    if case.are_moves_told {
+        return Ok(format!(in alloc; "{plan:?}")?);
+    }
+    let count = plan.len();
+    Ok(format!(in alloc; "of {count} moves")?)
+}

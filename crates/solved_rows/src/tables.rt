@@ -1,0 +1,58 @@
+//! The tables by which the search is led.
+
+ghost use Rattle.std.specs.Prelude.{◌≡◌, All, IfSome};
+ghost use Rattle.database_build.specs.Tables.{value_in};
+ghost use Rattle.database_build.specs.Values.{IsPotential};
+ghost use Rattle.lower_bound.specs.Tables.{ArePotentials};
+
+use board::{Board, Shape, Weights};
+use database_build::{Table, build, is_potential};
+use lower_bound::Bound;
+use pattern_index::{Group, Partition};
+use std::alloc::Global;
+
+/// The bound of these groups by their tables, or None where they make no partition, or find no
+/// memory.
+pub fn bound_of(alloc: Global, goal: &Board, weights: &Weights, lists: &[&[u8]]) -> Option<Bound>
+    requires { weights.now.grid ≡ goal.now.grid }
+    ensures { IfSome result (λ bound. ArePotentials weights.now goal.now bound) }
+{
+    let shape = goal.shape();
+    let groups = groups_of(alloc, shape, lists)?;
+    let mut tables = Vec::new(alloc);
+    'tables: for tiles in lists {
+        let table = table_of(alloc, goal, weights, tiles)?;
+        tables.push(table).ok()?;
+    }
+    let partition = Partition::new(shape, groups).ok()?;
+    let Ok(bound) = Bound::new(partition, tables) else {
+        return None;
+    };
+    Some(bound)
+}
+
+// Groups of these tiles.
+fn groups_of(alloc: Global, shape: Shape, lists: &[&[u8]]) -> Option<Vec<Group>>
+    ensures { IfSome result (λ groups. All (λ g. g.grid ≡ shape) groups.items) }
+{
+    let mut groups = Vec::new(alloc);
+    'groups: for tiles in lists {
+        let group = Group::new(shape, tiles).ok()?;
+        groups.push(group).ok()?;
+    }
+    Some(groups)
+}
+
+// The table of the group of these tiles.
+fn table_of(alloc: Global, goal: &Board, weights: &Weights, tiles: &[u8]) -> Option<Table>
+    requires { weights.now.grid ≡ goal.now.grid }
+    ensures { IfSome result
+        (λ table. IsPotential weights.now table.selection.tiles goal.now (value_in table)) }
+{
+    let group = Group::new(goal.shape(), tiles).ok()?;
+    let table = build(alloc, &group, goal, weights).ok()?;
+    if !is_potential(&table, &group, goal, weights) {
+        return None;
+    }
+    Some(table)
+}
