@@ -314,7 +314,7 @@ pub fn expand_in_full_table(alloc: Global) -> Answer {
 }
 
 // Meets the start at no cost, and others at a greater one, until three places are left in the first
-// page of the table.
+// page of the table. A board that is refused memory is met once more.
 fn fill_table(alloc: Global, job: &Job, worker: &mut Worker<Plain>) -> Answer
     requires job { IsFit job.now }
     requires led { IsLed job.now worker.old.lists }
@@ -326,7 +326,13 @@ fn fill_table(alloc: Global, job: &Job, worker: &mut Worker<Plain>) -> Answer
         let Some(board) = item(job, &numbered_tiles(number), cost) else {
             return Answer::Wrong("no board");
         };
-        answer = both(answer, meet_it(alloc, job, worker, &board));
+        if matches!(meet(alloc, job, worker, &board), Some(Ok(()))) {
+            continue;
+        }
+        let Some(Ok(())) = meet(alloc, job, worker, &board) else {
+            return Answer::Wrong("not met at last");
+        };
+        answer = Answer::Refused;
     }
     answer
 }
