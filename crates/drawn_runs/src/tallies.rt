@@ -14,15 +14,6 @@ use std::alloc::Global;
 use std::ops::Range;
 use world_model::Step;
 
-// A board that is asked about, of this least cost, and the tables by which it is searched.
-#[derive(Clone, Copy)]
-struct Question<'a> {
-    alloc: Global,
-    bound: &'a Bound,
-    start: Board,
-    least: u32,
-}
-
 /// How many bounds, the greatest of them, how many plans, and how many answers that are wrong.
 #[derive(Clone, Copy, Debug)]
 pub struct Tally {
@@ -42,12 +33,6 @@ pub fn tally_beginnings(
     least: u32,
 ) -> Option<Tally> {
     let bound = no_tables(alloc, start.shape());
-    let question = Question {
-        alloc,
-        bound: &bound,
-        start,
-        least,
-    };
     let mut tally = Tally {
         bounds: 0,
         greatest: 0,
@@ -56,7 +41,7 @@ pub fn tally_beginnings(
     };
     for length in lengths {
         let outcome = outcome_after(alloc, &bound, steps.get(..length)?, start)?;
-        count(&mut tally, question, outcome);
+        count(&mut tally, alloc, &bound, start, least, outcome);
     }
     Some(tally)
 }
@@ -82,18 +67,25 @@ fn outcome_after(alloc: Global, bound: &Bound, steps: &[Step], start: Board) -> 
 }
 
 // Counts an outcome.
-fn count(tally: &mut Tally, question: Question<'_>, outcome: Outcome) {
+fn count(
+    tally: &mut Tally,
+    alloc: Global,
+    tables: &Bound,
+    start: Board,
+    least: u32,
+    outcome: Outcome,
+) {
     match outcome {
         Outcome::Optimal { cost, plan, rows } => {
             tally.plans = tally.plans.saturating_add(1);
-            if cost != question.least || !is_accepted(question, cost, plan, rows) {
+            if cost != least || !is_accepted(alloc, tables, start, cost, plan, rows) {
                 tally.wrong = tally.wrong.saturating_add(1);
             }
         }
         Outcome::Bounded { bound, .. } => {
             tally.bounds = tally.bounds.saturating_add(1);
             tally.greatest = tally.greatest.max(bound);
-            if bound > question.least {
+            if bound > least {
                 tally.wrong = tally.wrong.saturating_add(1);
             }
         }
@@ -103,24 +95,26 @@ fn count(tally: &mut Tally, question: Question<'_>, outcome: Outcome) {
 
 // Whether the checker accepts the certificate of a plan to Korf's goal with these rows.
 fn is_accepted(
-    question: Question<'_>,
+    alloc: Global,
+    tables: &Bound,
+    start: Board,
     cost: u32,
     plan: Vec<Move>,
     rows: Vec<(Board, u32)>,
 ) -> bool {
-    let shape = question.start.shape();
+    let shape = start.shape();
     let parts = Parts {
         shape,
         costs: Weights::unit(shape),
-        groups: Partition::new(shape, Vec::new(question.alloc)).unwrap(),
-        start: question.start,
+        groups: Partition::new(shape, Vec::new(alloc)).unwrap(),
+        start,
         goal: Board::goal(shape),
         cost,
         plan,
         rows,
     };
     match Certificate::new(parts) {
-        Some(certificate) => check(&certificate, question.bound).is_ok(),
+        Some(certificate) => check(&certificate, tables).is_ok(),
         None => false,
     }
 }
