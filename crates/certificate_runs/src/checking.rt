@@ -17,7 +17,8 @@ use reports::{NoReport, accepted_report, refused_certificate_report};
 use std::alloc::Global;
 
 /// Checks the certificate that the source spells with tables that are built for its groups, and
-/// writes one line: the least cost, or the code of the first fault. Answers the status: 0 where it is accepted, 5 where it is refused.
+/// writes one line: the least cost, or the code of the first fault. Answers the status: 0 where it
+/// is accepted, 5 where it is refused.
 ///
 /// Nothing is written where the source fails, or where there is no memory for the certificate, for
 /// its tables or for the line. Nothing is flushed.
