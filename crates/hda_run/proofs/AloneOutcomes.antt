@@ -8,8 +8,8 @@ use Rattle.outcomes.specs.declared.outcome.Cause.{Cause}
 use Rattle.outcomes.specs.declared.outcome.Cause.TheVariants.{Cut, Start}
 use Rattle.outcomes.specs.declared.outcome.Outcome.{Outcome}
 use Rattle.outcomes.specs.declared.outcome.Outcome.TheVariants as outcomes
-use Rattle.world_ends.specs.declared.outcome.Ending.{Ending}
-use Rattle.world_ends.specs.declared.outcome.Ending.TheVariants as endings
+use Rattle.outcomes.specs.declared.outcome.Ending.{Ending}
+use Rattle.outcomes.specs.declared.outcome.Ending.TheVariants as endings
 use Rattle.world_ends.specs.Endings.{EndsIn}
 use Rattle.world_model.specs.declared.steps.Stop.{Stop}
 use Rattle.world_model.specs.declared.steps.Stop.TheVariants as stops

@@ -17,7 +17,7 @@ use Rattle.world_model.specs.Openings.{Job, opening}
 use Rattle.world_model.specs.Outcomes.{IsGiven}
 use Rattle.world_model.specs.Steps.{IsRun}
 use Rattle.world_model.specs.Worlds.{WorldState}
-use Rattle.world_ends.specs.declared.outcome.Ending.{Ending}
+use Rattle.outcomes.specs.declared.outcome.Ending.{Ending}
 use Rattle.world_ends.specs.Endings.{EndsIn}
 use Rattle.hda_run.specs.Problems.{Problem}
 use Rattle.hda_run.specs.Worlds.{job_of}

@@ -9,8 +9,8 @@ ghost use Rattle.outcomes.specs.declared.outcome.Cause.{Cause};
 ghost use Rattle.outcomes.specs.declared.outcome.Cause.TheVariants.{Cut, Start};
 ghost use Rattle.outcomes.specs.declared.outcome.Outcome.TheVariants.{Bounded, Unsolvable};
 ghost use Rattle.outcomes.specs.declared.outcome.Why.TheVariants.{Parity};
-ghost use Rattle.world_ends.specs.Endings.{EndAnswers};
-ghost use Rattle.world_ends.specs.declared.outcome.Ending.TheVariants as ending;
+ghost use Rattle.outcomes.specs.Endings.{EndAnswers};
+ghost use Rattle.outcomes.specs.declared.outcome.Ending.TheVariants as ending;
 ghost use Rattle.world_model.specs.declared.steps.Refusal.{Refusal};
 ghost use Rattle.world_model.specs.declared.steps.Step.{Step};
 ghost use Rattle.world_model.specs.Steps.{Next};
@@ -27,10 +27,9 @@ use crate::world::World;
 use board::laws::plans_keep_the_class;
 use board::same_class;
 use memory::OutOfMemory;
-use outcomes::{Outcome, Want, Why};
+use outcomes::{Ending, Outcome, Want, Why};
 use owners::Spread;
 use std::alloc::Global;
-use world_ends::Ending;
 use world_model::{HaltCause, Refusal, Step};
 
 // After so many expansions the worker looks whether it knows the goal.

@@ -8,7 +8,8 @@ ghost use Rattle.outcomes.specs.Outcomes.{Answers};
 ghost use Rattle.world_model.specs.Outcomes.{IsGiven};
 ghost use Rattle.world_model.specs.Workers.{Packet, Lane};
 ghost use Rattle.world_ends.specs.Lowest.{IsLeastBeside, IsOfItem, AreItemsOn};
-ghost use Rattle.world_ends.specs.Endings.{EndsIn, EndAnswers};
+ghost use Rattle.outcomes.specs.Endings.{EndAnswers};
+ghost use Rattle.world_ends.specs.Endings.{EndsIn};
 ghost use Rattle.hda_run.specs.Problems.{task_in};
 ghost use Rattle.hda_run.specs.Lanes.{IsOfOne, IsInLane, IsInLanes};
 ghost use Rattle.hda_run.specs.Worlds.{world_of, IsLawful};
@@ -18,12 +19,12 @@ use crate::parts::Parts;
 use crate::world::World;
 use lower_bound::Bound;
 use message_ledger::Plain;
-use outcomes::Outcome;
+use outcomes::{Ending, Outcome};
 use owners::Spread;
 use std::alloc::Global;
 use worker_core::Queue;
 use world_ends::laws::endings_answer;
-use world_ends::{Asked, Ending, ending_of, lowest_of, outcome_of};
+use world_ends::{Asked, ending_of, lowest_of, outcome_of};
 use world_model::laws::outcomes_answer;
 
 impl<'a, S: Spread + Drop> World<'a, S> {

@@ -8,8 +8,10 @@ use Rattle.board.specs.Classes.{SameClass}
 use Rattle.outcomes.specs.declared.outcome.Why.{Why}
 use Rattle.outcomes.specs.declared.outcome.Why.TheVariants.{Parity}
 use Rattle.outcomes.specs.declared.outcome.Cause.{Cause}
+use Rattle.outcomes.specs.declared.outcome.Outcome.{Outcome}
 use Rattle.outcomes.specs.declared.outcome.Outcome.TheVariants.{Optimal, Unsolvable, Bounded}
 use Rattle.outcomes.specs.Outcomes.{Task, Answers}
+use Rattle.outcomes.specs.Endings.{EndAnswers, without_rows}
 
 -- optimal outcomes of one task have one cost
 abbrev pub OptimalsAgree : Type 0
@@ -44,3 +46,7 @@ BestPlansAreAbove =
     (task : Task) (bound cost : ℕ) (plan : Vec Move Global) (cause : Cause)
     → Answers task (Bounded bound (Some (cost, plan)) cause)
     → Leads task.rule task.start plan.items task.goal cost × (bound < cost)
+
+-- what answers a task does so without rows too
+abbrev pub RowsCanBeLeft : Type 0
+RowsCanBeLeft = (task : Task) (outcome : Outcome) → Answers task outcome → EndAnswers task (without_rows outcome)

@@ -2,6 +2,7 @@
 
 ghost use Rattle.outcomes.specs.Laws.{OptimalsAgree, OptimalsAreSolvable, BoundsAreBelow};
 ghost use Rattle.outcomes.specs.Laws.{ParityIsOfAnotherClass, BestPlansAreAbove};
+ghost use Rattle.outcomes.specs.Laws.{RowsCanBeLeft};
 
 /// Optimal outcomes of one task have one cost.
 pub fn optimals_agree()
@@ -26,4 +27,9 @@ pub fn parity_is_of_another_class()
 /// The best plan beside a bound leads to the goal, at a cost above the bound.
 pub fn best_plans_are_above()
     ensures { BestPlansAreAbove }
+{}
+
+/// What answers a task does so without rows too.
+pub fn rows_can_be_left()
+    ensures { RowsCanBeLeft }
 {}

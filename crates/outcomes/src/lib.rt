@@ -6,4 +6,4 @@ pub mod laws;
 mod outcome;
 
 pub use faults::SolveFault;
-pub use outcome::{Cause, Outcome, Want, Why};
+pub use outcome::{Cause, Ending, Outcome, Want, Why};

@@ -2,6 +2,7 @@
 
 ghost use Rattle.std.specs.Prelude.{◌≡◌};
 ghost use Rattle.outcomes.specs.Words.{why_word, cause_word};
+ghost use Rattle.outcomes.specs.Endings.{without_rows};
 
 use board::{Board, Move};
 use memory::OutOfMemory;
@@ -74,6 +75,39 @@ pub enum Outcome {
         cost: u32,
         plan: Vec<Move>,
         rows: Vec<(Board, u32)>,
+    },
+    /// No plan leads to the goal.
+    Unsolvable {
+        why: Why,
+    },
+    /// No plan costs less than the bound; the best plan found, with its cost, if there is one.
+    Bounded {
+        bound: u32,
+        best: Option<(u32, Vec<Move>)>,
+        cause: Cause,
+    },
+}
+
+impl Outcome {
+    /// The same without rows, which are given back.
+    pub fn without_rows(self) -> Ending
+        ensures { result ≡ without_rows self }
+    {
+        match self {
+            Outcome::Optimal { cost, plan, .. } => Ending::Optimal { cost, plan },
+            Outcome::Unsolvable { why } => Ending::Unsolvable { why },
+            Outcome::Bounded { bound, best, cause } => Ending::Bounded { bound, best, cause },
+        }
+    }
+}
+
+/// What a run answers, but for rows.
+#[derive(Debug, Drop)]
+pub enum Ending {
+    /// A plan of least cost.
+    Optimal {
+        cost: u32,
+        plan: Vec<Move>,
     },
     /// No plan leads to the goal.
     Unsolvable {

@@ -15,8 +15,8 @@ use Rattle.serde_json.proofs.Numbers.{number_of-decimal}
 use Rattle.serde_json.proofs.Texts.{print-outline}
 use Rattle.board.specs.declared.moves.Move.{Move}
 use Rattle.outcomes.specs.Outcomes.{best_of}
-use Rattle.outcomes.specs.declared.outcome.Outcome.{Outcome}
-use Rattle.outcomes.specs.declared.outcome.Outcome.TheVariants.{Optimal, Unsolvable, Bounded}
+use Rattle.outcomes.specs.declared.outcome.Ending.{Ending}
+use Rattle.outcomes.specs.declared.outcome.Ending.TheVariants.{Optimal, Unsolvable, Bounded}
 use Rattle.reports.specs.Reports.{outcome_data, refused_data, accepted_data, refused_certificate_data, report_text, best_data}
 use Rattle.reports.specs.Readings.IsReport.{of_outcome, of_line, of_cost, of_certificate}
 use Rattle.reports.specs.Readings.{IsSmall, AreSmall, IsSmallBest, IsReport}
@@ -47,8 +47,8 @@ best_same : (best : Option (ℕ × List Move)) → IsSmallBest best → of_json 
 best_same None h = refl
 best_same (Some best) h = rw (number_of-decimal best.0 h) refl
 
-outcome_readable : (id : List ℕ) (outcome : Outcome) → AreSmall outcome → IsReadable (outcome_data id outcome)
-outcome_readable id (Optimal cost plan rows) h =
+outcome_readable : (id : List ℕ) (outcome : Ending) → AreSmall outcome → IsReadable (outcome_data id outcome)
+outcome_readable id (Optimal cost plan) h =
     record { numbers = (IsNumber-decimal cost h, (tt, (tt, (tt, tt)))); shallow = omega arith; same = rw (number_of-decimal cost h) refl }
 outcome_readable id (Unsolvable why) h = record { numbers = (tt, (tt, (tt, tt))); shallow = omega arith; same = refl }
 outcome_readable id (Bounded bound best cause) h =

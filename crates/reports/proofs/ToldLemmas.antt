@@ -10,8 +10,8 @@ use Rattle.outcomes.specs.Outcomes.{best_of}
 use Rattle.outcomes.specs.Words.{why_word, cause_word}
 use Rattle.outcomes.specs.declared.outcome.Why.{Why}
 use Rattle.outcomes.specs.declared.outcome.Why.TheVariants.{Parity, Exhausted}
-use Rattle.outcomes.specs.declared.outcome.Outcome.{Outcome}
-use Rattle.outcomes.specs.declared.outcome.Outcome.TheVariants.{Optimal, Unsolvable, Bounded}
+use Rattle.outcomes.specs.declared.outcome.Ending.{Ending}
+use Rattle.outcomes.specs.declared.outcome.Ending.TheVariants.{Optimal, Unsolvable, Bounded}
 use Rattle.reports.specs.Reports.{outcome_data, refused_data, accepted_data, refused_certificate_data, report_text, best_data, letters_of}
 use Rattle.reports.specs.Readings.SaySame.{optimal, unsolvable, bounded}
 use Rattle.reports.specs.Readings.IsReport.{of_outcome, of_line, of_cost, of_certificate}
@@ -69,19 +69,19 @@ same_why Parity Exhausted e = let z = ap (λ (word : List ℕ). get_or word 0 0)
 same_why Exhausted Parity e = let z = ap (λ (word : List ℕ). get_or word 0 0) e in absurd (omega arith)
 same_why Exhausted Exhausted e = refl
 
-say_same : (id id' : List ℕ) (outcome outcome' : Outcome) → outcome_data id outcome ≡ outcome_data id' outcome' → SaySame outcome outcome'
-say_same id id' (Optimal cost plan rows) (Optimal cost' plan' rows') e =
+say_same : (id id' : List ℕ) (outcome outcome' : Ending) → outcome_data id outcome ≡ outcome_data id' outcome' → SaySame outcome outcome'
+say_same id id' (Optimal cost plan) (Optimal cost' plan') e =
     let costs : cost ≡ cost' = ap (number_at (codes "cost")) e in
     let plans : plan.items ≡ plan'.items = sym (own_plan plan.items) ∙ ap (λ (d : Data). plan_of (text_at (codes "plan") d)) e ∙ own_plan plan'.items in
-    subst (λ (c : ℕ). SaySame (Optimal cost plan rows) (Optimal c plan' rows')) costs (optimal cost plan plan' rows rows' plans)
-say_same id id' (Optimal cost plan rows) (Unsolvable why') e = let z = ap first_letter e in absurd (omega arith)
-say_same id id' (Optimal cost plan rows) (Bounded bound' best' cause') e = let z = ap first_letter e in absurd (omega arith)
-say_same id id' (Unsolvable why) (Optimal cost' plan' rows') e = let z = ap first_letter e in absurd (omega arith)
+    subst (λ (c : ℕ). SaySame (Optimal cost plan) (Optimal c plan')) costs (optimal cost plan plan' plans)
+say_same id id' (Optimal cost plan) (Unsolvable why') e = let z = ap first_letter e in absurd (omega arith)
+say_same id id' (Optimal cost plan) (Bounded bound' best' cause') e = let z = ap first_letter e in absurd (omega arith)
+say_same id id' (Unsolvable why) (Optimal cost' plan') e = let z = ap first_letter e in absurd (omega arith)
 say_same id id' (Unsolvable why) (Unsolvable why') e =
     let words : why_word why ≡ why_word why' = ap (text_at (codes "why")) e in
     subst (λ (w : Why). SaySame (Unsolvable why) (Unsolvable w)) (same_why why why' words) (unsolvable why)
 say_same id id' (Unsolvable why) (Bounded bound' best' cause') e = let z = ap first_letter e in absurd (omega arith)
-say_same id id' (Bounded bound best cause) (Optimal cost' plan' rows') e = let z = ap first_letter e in absurd (omega arith)
+say_same id id' (Bounded bound best cause) (Optimal cost' plan') e = let z = ap first_letter e in absurd (omega arith)
 say_same id id' (Bounded bound best cause) (Unsolvable why') e = let z = ap first_letter e in absurd (omega arith)
 say_same id id' (Bounded bound best cause) (Bounded bound' best' cause') e =
     let bounds : bound ≡ bound' = ap (number_at (codes "bound")) e in
@@ -89,24 +89,24 @@ say_same id id' (Bounded bound best cause) (Bounded bound' best' cause') e =
     let causes : cause_word cause ≡ cause_word cause' = ap (text_at (codes "cause")) e in
     subst (λ (c : ℕ). SaySame (Bounded bound best cause) (Bounded c best' cause')) bounds (bounded bound best best' cause cause' bests causes)
 
-pub told_alike : (id : List ℕ) (outcome outcome' : Outcome) → SaySame outcome outcome' → outcome_data id outcome ≡ outcome_data id outcome'
-told_alike id outcome outcome' (optimal cost plan plan' rows rows' plans) =
+pub told_alike : (id : List ℕ) (outcome outcome' : Ending) → SaySame outcome outcome' → outcome_data id outcome ≡ outcome_data id outcome'
+told_alike id outcome outcome' (optimal cost plan plan' plans) =
     ap (λ (moves : List Move). object (member (codes "cost") (number (unsigned cost)) (member (codes "id") (string id) (member (codes "plan") (string (letters_of moves)) (member (codes "status") (string (codes "optimal")) no_members))))) plans
 told_alike id outcome outcome' (unsolvable why) = refl
 told_alike id outcome outcome' (bounded bound best best' cause cause' bests causes) = λ i.
     object (member (codes "best") (best_data (bests i)) (member (codes "bound") (number (unsigned bound)) (member (codes "cause") (string (causes i)) (member (codes "id") (string id) (member (codes "status") (string (codes "bounded")) no_members)))))
 
-same_id : (id id' : List ℕ) (outcome outcome' : Outcome) → outcome_data id outcome ≡ outcome_data id' outcome' → id ≡ id'
+same_id : (id id' : List ℕ) (outcome outcome' : Ending) → outcome_data id outcome ≡ outcome_data id' outcome' → id ≡ id'
 same_id id id' outcome outcome' e = sym (own_id id outcome) ∙ ap (text_at (codes "id")) e ∙ own_id id' outcome'
   where
-    own_id : (id : List ℕ) (outcome : Outcome) → text_at (codes "id") (outcome_data id outcome) ≡ id
-    own_id id (Optimal cost plan rows) = refl
+    own_id : (id : List ℕ) (outcome : Ending) → text_at (codes "id") (outcome_data id outcome) ≡ id
+    own_id id (Optimal cost plan) = refl
     own_id id (Unsolvable why) = refl
     own_id id (Bounded bound best cause) = refl
 
 -- ---- the laws
 
-pub outcome_told : (id id' : List ℕ) (outcome outcome' : Outcome) → AreSmall outcome → AreSmall outcome' → report_text (outcome_data id outcome) ≡ report_text (outcome_data id' outcome') → (id ≡ id') × SaySame outcome outcome'
+pub outcome_told : (id id' : List ℕ) (outcome outcome' : Ending) → AreSmall outcome → AreSmall outcome' → report_text (outcome_data id outcome) ≡ report_text (outcome_data id' outcome') → (id ≡ id') × SaySame outcome outcome'
 outcome_told id id' outcome outcome' small small' same =
     let e = one_thing (outcome_data id outcome) (outcome_data id' outcome') (of_outcome id outcome small) (of_outcome id' outcome' small') same in
     (same_id id id' outcome outcome' e, say_same id id' outcome outcome' e)

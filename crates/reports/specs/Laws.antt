@@ -3,7 +3,7 @@ use Rattle.std.specs.Prelude.{ℕ, ◌≡◌, ◌≢◌, List, [], ◌∷◌, �
 use Rattle.std.specs.List.{AllByRecursion}
 use Rattle.serde_json.specs.Data.{Data}
 use Rattle.serde_json.specs.Written.{compact_text}
-use Rattle.outcomes.specs.declared.outcome.Outcome.{Outcome}
+use Rattle.outcomes.specs.declared.outcome.Ending.{Ending}
 use Rattle.reports.specs.Reports.{outcome_data, refused_data, accepted_data, refused_certificate_data, report_text}
 use Rattle.reports.specs.Readings.{IsSmall, AreSmall, IsReport, Reads, SaySame}
 
@@ -22,7 +22,7 @@ ReportsSayOneThing = (d e : Data) → IsReport d → IsReport e → report_text 
 -- from the report of an outcome its id, status, cost, plan, bound, reason and word of a cause are read back
 abbrev pub OutcomesAreTold : Type 0
 OutcomesAreTold =
-    (id id' : List ℕ) (outcome outcome' : Outcome)
+    (id id' : List ℕ) (outcome outcome' : Ending)
     → AreSmall outcome
     → AreSmall outcome'
     → report_text (outcome_data id outcome) ≡ report_text (outcome_data id' outcome')
@@ -30,7 +30,7 @@ OutcomesAreTold =
 
 -- and outcomes that say the same have one report
 abbrev pub OutcomesAreToldAlike : Type 0
-OutcomesAreToldAlike = (id : List ℕ) (outcome outcome' : Outcome) → SaySame outcome outcome' → outcome_data id outcome ≡ outcome_data id outcome'
+OutcomesAreToldAlike = (id : List ℕ) (outcome outcome' : Ending) → SaySame outcome outcome' → outcome_data id outcome ≡ outcome_data id outcome'
 
 -- from the report of a refused line its code and number are read back
 abbrev pub RefusalsAreTold : Type 0

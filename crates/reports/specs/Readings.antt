@@ -5,13 +5,12 @@ use Rattle.serde_json.specs.Find.{get}
 use Rattle.serde_json.specs.Read.{read}
 use Rattle.std.specs.declared.alloc.Global.{Global}
 use Rattle.board.specs.declared.moves.Move.{Move}
-use Rattle.board.specs.Positions.{Position}
 use Rattle.outcomes.specs.Outcomes.{best_of}
 use Rattle.outcomes.specs.Words.{cause_word}
 use Rattle.outcomes.specs.declared.outcome.Why.{Why}
 use Rattle.outcomes.specs.declared.outcome.Cause.{Cause}
-use Rattle.outcomes.specs.declared.outcome.Outcome.{Outcome}
-use Rattle.outcomes.specs.declared.outcome.Outcome.TheVariants.{Optimal, Unsolvable, Bounded}
+use Rattle.outcomes.specs.declared.outcome.Ending.{Ending}
+use Rattle.outcomes.specs.declared.outcome.Ending.TheVariants.{Optimal, Unsolvable, Bounded}
 use Rattle.reports.specs.Reports.{outcome_data, refused_data, accepted_data, refused_certificate_data}
 
 -- ---- the values that are reports
@@ -26,14 +25,14 @@ IsSmallBest None = ⊤
 IsSmallBest (Some best) = IsSmall best.0
 
 -- the numbers of an outcome's report are such numbers
-abbrev pub AreSmall : Outcome → Type 0
-AreSmall (Optimal cost plan rows) = IsSmall cost
+abbrev pub AreSmall : Ending → Type 0
+AreSmall (Optimal cost plan) = IsSmall cost
 AreSmall (Unsolvable why) = ⊤
 AreSmall (Bounded bound best cause) = IsSmall bound × IsSmallBest (best_of best)
 
 -- the value of a report: of an outcome, of a refused line, of a certificate that is accepted or refused
 pub data IsReport : Data → Type 0 where
-  of_outcome : (id : List ℕ) (outcome : Outcome) → AreSmall outcome → IsReport (outcome_data id outcome)
+  of_outcome : (id : List ℕ) (outcome : Ending) → AreSmall outcome → IsReport (outcome_data id outcome)
   of_line : (code : List ℕ) (line : ℕ) → IsSmall line → IsReport (refused_data code line)
   of_cost : (cost : ℕ) → IsSmall cost → IsReport (accepted_data cost)
   of_certificate : (code : List ℕ) → IsReport (refused_certificate_data code)
@@ -60,8 +59,8 @@ SaysNumber d key n = Says d key (number (unsigned n))
 abbrev pub HasStatus : Data → List ℕ → Type 0
 HasStatus d word = SaysText d (codes "status") word
 
--- two outcomes have one report: all is the same but the rows, and how memory came to be wanting
-pub data SaySame : Outcome → Outcome → Type 0 where
-  optimal : (cost : ℕ) (plan plan' : Vec Move Global) (rows rows' : Vec (Position × ℕ) Global) → plan.items ≡ plan'.items → SaySame (Optimal cost plan rows) (Optimal cost plan' rows')
+-- two outcomes have one report: all is the same but how memory came to be wanting
+pub data SaySame : Ending → Ending → Type 0 where
+  optimal : (cost : ℕ) (plan plan' : Vec Move Global) → plan.items ≡ plan'.items → SaySame (Optimal cost plan) (Optimal cost plan')
   unsolvable : (why : Why) → SaySame (Unsolvable why) (Unsolvable why)
   bounded : (bound : ℕ) (best best' : Option (ℕ × Vec Move Global)) (cause cause' : Cause) → best_of best ≡ best_of best' → cause_word cause ≡ cause_word cause' → SaySame (Bounded bound best cause) (Bounded bound best' cause')

@@ -6,8 +6,8 @@ use Rattle.board.specs.declared.moves.Move.{Move}
 use Rattle.board.specs.Letters.{letter_of}
 use Rattle.outcomes.specs.Outcomes.{best_of}
 use Rattle.outcomes.specs.Words.{why_word, cause_word}
-use Rattle.outcomes.specs.declared.outcome.Outcome.{Outcome}
-use Rattle.outcomes.specs.declared.outcome.Outcome.TheVariants.{Optimal, Unsolvable, Bounded}
+use Rattle.outcomes.specs.declared.outcome.Ending.{Ending}
+use Rattle.outcomes.specs.declared.outcome.Ending.TheVariants.{Optimal, Unsolvable, Bounded}
 
 -- the letters of a plan
 abbrev pub letters_of : List Move → List ℕ
@@ -18,9 +18,9 @@ abbrev pub best_data : Option (ℕ × List Move) → Data
 best_data None = null
 best_data (Some best) = object (member (codes "cost") (number (unsigned best.0)) (member (codes "plan") (string (letters_of best.1)) no_members))
 
--- the report of an outcome for the line with this id
-abbrev pub outcome_data : List ℕ → Outcome → Data
-outcome_data id (Optimal cost plan rows) =
+-- the report of an outcome, without its rows, for the line with this id
+abbrev pub outcome_data : List ℕ → Ending → Data
+outcome_data id (Optimal cost plan) =
     object
     (member (codes "cost") (number (unsigned cost)) (member (codes "id") (string id) (member (codes "plan") (string (letters_of plan.items)) (member (codes "status") (string (codes "optimal")) no_members))))
 outcome_data id (Unsolvable why) = object (member (codes "id") (string id) (member (codes "status") (string (codes "unsolvable")) (member (codes "why") (string (why_word why)) no_members)))

@@ -19,8 +19,7 @@ pub fn reports_say_one_thing()
     ensures { ReportsSayOneThing }
 {}
 
-/// An outcome's report is that of no other outcome, but for the rows, and for how memory came to be
-/// wanting.
+/// An outcome's report is that of no other outcome, but for how memory came to be wanting.
 pub fn outcomes_are_told()
     ensures told { OutcomesAreTold }
     ensures alike { OutcomesAreToldAlike }

@@ -5,16 +5,15 @@ ghost use Rattle.std.specs.declared.alloc.Global.{Global};
 ghost use Rattle.serde_json.specs.View.{view};
 ghost use Rattle.serde_json.specs.Written.{has_float};
 ghost use Rattle.board.specs.declared.moves.Move.{Move};
-ghost use Rattle.board.specs.declared.boards.Board.{Board};
 ghost use Rattle.outcomes.specs.Outcomes.{best_of};
-ghost use Rattle.outcomes.specs.declared.outcome.Outcome.TheVariants.{Optimal, Unsolvable, Bounded};
+ghost use Rattle.outcomes.specs.declared.outcome.Ending.TheVariants.{Optimal, Unsolvable, Bounded};
 ghost use Rattle.reports.specs.Readings.{IsSmall, IsSmallBest, AreSmall};
 ghost use Rattle.reports.specs.Reports.{letters_of, best_data, outcome_data, refused_data};
 ghost use Rattle.reports.specs.Reports.{accepted_data, refused_certificate_data, report_text};
 
 use board::Move;
 use memory::{OutOfMemory, json_text, push_char, put, text_value};
-use outcomes::{Cause, Outcome, Why};
+use outcomes::{Cause, Ending, Why};
 use serde_json::{Map, Value};
 use std::alloc::Global;
 
@@ -25,7 +24,7 @@ pub struct NoReport {
 }
 
 /// The report of an outcome for a line with this id: one JSON object and a line feed.
-pub fn outcome_report(alloc: Global, id: &str, outcome: &Outcome) -> Result<String, NoReport>
+pub fn outcome_report(alloc: Global, id: &str, outcome: &Ending) -> Result<String, NoReport>
     ensures text { IfOk result (λ text.
         string_bytes text ≡ report_text (outcome_data id.now outcome.now)) }
     ensures small { IfOk result (λ _. AreSmall outcome.now) }
@@ -74,23 +73,23 @@ pub fn refused_certificate_report(alloc: Global, code: &str) -> Result<String, N
 }
 
 // The object of an outcome.
-fn outcome_value(alloc: Global, id: &str, outcome: &Outcome) -> Result<Value, OutOfMemory>
+fn outcome_value(alloc: Global, id: &str, outcome: &Ending) -> Result<Value, OutOfMemory>
     ensures value { IfOk result (λ built. view built ≡ outcome_data id.now outcome.now) }
     ensures no_float { IfOk result (λ built. has_float (view built) ≡ false) }
     ensures small { IfOk result (λ _. AreSmall outcome.now) }
 {
     match outcome {
-        Outcome::Optimal { cost, plan, .. } => optimal_value(alloc, id, *cost, plan),
-        Outcome::Unsolvable { why } => unsolvable_value(alloc, id, *why),
-        Outcome::Bounded { bound, best, cause } => bounded_value(alloc, id, *bound, best, *cause),
+        Ending::Optimal { cost, plan } => optimal_value(alloc, id, *cost, plan),
+        Ending::Unsolvable { why } => unsolvable_value(alloc, id, *why),
+        Ending::Bounded { bound, best, cause } => bounded_value(alloc, id, *bound, best, *cause),
     }
 }
 
-// The object of a plan of least cost, whatever the rows that prove it.
+// The object of a plan of least cost.
 fn optimal_value(alloc: Global, id: &str, cost: u32, plan: &[Move]) -> Result<Value, OutOfMemory>
-    ensures value { (kept : Vec Move Global) (rows : Vec (Board × ℕ) Global) →
+    ensures value { (kept : Vec Move Global) →
         kept.items ≡ plan.now →
-        IfOk result (λ built. view built ≡ outcome_data id.now (Optimal cost kept rows)) }
+        IfOk result (λ built. view built ≡ outcome_data id.now (Optimal cost kept)) }
     ensures no_float { IfOk result (λ built. has_float (view built) ≡ false) }
     ensures small { IsSmall cost }
 {

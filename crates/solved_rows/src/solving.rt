@@ -8,11 +8,10 @@ use crate::tables::bound_of;
 use board::{Board, Move, Shape, Weights};
 use hda_run::{Free, Job, end_one, solve_one};
 use lower_bound::Bound;
-use outcomes::Outcome;
+use outcomes::{Ending, Outcome};
 use owners::{ByBlank, Zobrist};
 use std::alloc::Global;
 use std::io::{self, ErrorKind, Print};
-use world_ends::Ending;
 
 // A job but for its tables.
 #[derive(Clone, Copy)]

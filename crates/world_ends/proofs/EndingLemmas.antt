@@ -20,7 +20,7 @@ use Rattle.world_model.specs.Costs.{lesser}
 use Rattle.world_model.specs.Workers.{WorkerState, IsTaskBoard}
 use Rattle.world_model.specs.Worlds.{WorldState}
 use Rattle.world_model.specs.Outcomes.{End, IsBoundOf, IsFollowedBack, IsByLastMoves, IsGiven, IsGivenAt, cause_of, cause_at}
-use Rattle.world_ends.specs.declared.outcome.Ending.TheVariants.{Optimal, Unsolvable, Bounded}
+use Rattle.outcomes.specs.declared.outcome.Ending.TheVariants.{Optimal, Unsolvable, Bounded}
 use Rattle.world_ends.specs.Parts.{HasParts, known_in}
 use Rattle.world_ends.specs.Lowest.{IsLeastBeside, IsOfWorkers, IsLowestInLanes}
 use Rattle.world_ends.specs.Plans.{IsTraced}

@@ -14,7 +14,7 @@ use Rattle.world_model.specs.Laws.{OutcomesAnswer}
 use Rattle.world_model.specs.Shapes.{IsShaped}
 use Rattle.world_model.specs.Worlds.{WorldState}
 use Rattle.world_model.proofs.ShapeLemmas.{knows_owned, plan_short}
-use Rattle.world_ends.specs.declared.outcome.Ending.TheVariants.{Optimal, Unsolvable, Bounded}
+use Rattle.outcomes.specs.declared.outcome.Ending.TheVariants.{Optimal, Unsolvable, Bounded}
 use Rattle.world_ends.specs.Endings.{IsProvedPlan}
 use Rattle.world_ends.specs.Laws.{EndingsLackRowsAlone, WantedRowsLeaveABound, RowsMakeAnAnswer, EndingsAnswer}
 

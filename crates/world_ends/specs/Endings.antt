@@ -1,15 +1,12 @@
 -- What a world gives, but for rows.
-use Rattle.std.specs.Prelude.{ℕ, ◌≤◌, List, Option, length}
-use Rattle.board.specs.declared.costs.TheConstants.{GREATEST_COST}
+use Rattle.std.specs.Prelude.{ℕ, List, Option}
 use Rattle.board.specs.declared.moves.Move.{Move}
-use Rattle.board.specs.Plans.{Leads, IsLeast}
-use Rattle.outcomes.specs.Outcomes.{Task, Answers}
 use Rattle.outcomes.specs.declared.outcome.Outcome.TheVariants as outcome
 use Rattle.world_model.specs.Worlds.{WorldState}
 use Rattle.world_model.specs.Frontiers.{IsLowest, IsReached}
 use Rattle.world_model.specs.Outcomes.{End, IsBoundOf, IsFollowedBack, IsGiven}
-use Rattle.world_ends.specs.declared.outcome.Ending.{Ending}
-use Rattle.world_ends.specs.declared.outcome.Ending.TheVariants.{Optimal, Unsolvable, Bounded}
+use Rattle.outcomes.specs.declared.outcome.Ending.{Ending}
+use Rattle.outcomes.specs.declared.outcome.Ending.TheVariants.{Optimal, Unsolvable, Bounded}
 
 -- a world, with this lowest of its frontier, where the goal is known at this cost
 abbrev pub end_at : WorldState → Option ℕ → Option ℕ → End
@@ -29,10 +26,3 @@ abbrev pub EndsIn : WorldState → Ending → Type 0
 EndsIn w (Optimal cost plan) = IsProvedPlan w cost plan.items
 EndsIn w (Unsolvable why) = IsGiven w (outcome.Unsolvable why)
 EndsIn w (Bounded bound best cause) = IsGiven w (outcome.Bounded bound best cause)
-
--- what an ending says is true, as what an outcome says is, but for rows
-abbrev pub EndAnswers : Task → Ending → Type 0
-EndAnswers task (Optimal cost plan) =
-    Leads task.rule task.start plan.items task.goal cost × IsLeast task.rule task.start task.goal cost × (cost ≤ GREATEST_COST) × (length plan.items ≤ GREATEST_COST)
-EndAnswers task (Unsolvable why) = Answers task (outcome.Unsolvable why)
-EndAnswers task (Bounded bound best cause) = Answers task (outcome.Bounded bound best cause)

@@ -13,9 +13,10 @@ use Rattle.world_model.specs.Shapes.{IsShaped}
 use Rattle.world_model.specs.Soundness.{IsSound}
 use Rattle.world_model.specs.Worlds.{WorldState}
 use Rattle.world_model.specs.Outcomes.{AreRowsFor, IsGiven}
-use Rattle.world_ends.specs.declared.outcome.Ending.{Ending}
-use Rattle.world_ends.specs.declared.outcome.Ending.TheVariants.{Optimal}
-use Rattle.world_ends.specs.Endings.{EndsIn, EndAnswers}
+use Rattle.outcomes.specs.declared.outcome.Ending.{Ending}
+use Rattle.outcomes.specs.declared.outcome.Ending.TheVariants.{Optimal}
+use Rattle.outcomes.specs.Endings.{EndAnswers}
+use Rattle.world_ends.specs.Endings.{EndsIn}
 
 -- a world ends with a plan just where it gives that plan with the rows that are due
 abbrev pub EndingsLackRowsAlone : Type 0

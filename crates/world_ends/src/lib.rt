@@ -10,5 +10,5 @@ mod rows;
 
 pub use asked::Asked;
 pub use lowest::lowest_of;
-pub use outcome::{Ending, ending_of, outcome_of};
+pub use outcome::{ending_of, outcome_of};
 pub use rows::rows_for;

@@ -13,34 +13,14 @@ use crate::asked::Asked;
 use crate::lowest::{lesser, lowest_of_workers};
 use crate::plan::{known_of, plan_back};
 use crate::rows::rows_for;
-use board::{GREATEST_EXPANDED_COST, Move};
+use board::GREATEST_EXPANDED_COST;
 use memory::OutOfMemory;
 use message_ledger::Counting;
-use outcomes::{Cause, Outcome, Want, Why};
+use outcomes::{Cause, Ending, Outcome, Want, Why};
 use owners::Spread;
 use std::alloc::Global;
 use worker_core::Worker;
 use world_model::{Known, Stop};
-
-/// What a run answers, but for rows.
-#[derive(Debug, Drop)]
-pub enum Ending {
-    /// A plan of least cost.
-    Optimal {
-        cost: u32,
-        plan: Vec<Move>,
-    },
-    /// No plan leads to the goal.
-    Unsolvable {
-        why: Why,
-    },
-    /// No plan costs less than the bound; the best plan found, with its cost, if there is one.
-    Bounded {
-        bound: u32,
-        best: Option<(u32, Vec<Move>)>,
-        cause: Cause,
-    },
-}
 
 /// The outcome that the workers of a world give, at any moment. `lanes` is the least cost plus sum
 /// of the items in the lanes, and `stop` what stopped the run.

@@ -3,4 +3,4 @@ use Rattle.reports.proofs.report.outcome_value.Goals as goal
 
 pub returns-in-Optimal-clause-value : goal.returns-in-Optimal-clause-value
 returns-in-Optimal-clause-value c =
-    rw c.in-Optimal.is (c.optimal_value.ensures.value c.in-Optimal.plan c.in-Optimal.rows (sym c.deref.ensures.value))
+    rw c.in-Optimal.is (c.optimal_value.ensures.value c.in-Optimal.plan (sym c.deref.ensures.value))

@@ -1,5 +1,6 @@
 use Rattle.std.proofs.Common.{subst}
-use Rattle.world_ends.specs.Endings.{EndsIn, EndAnswers}
+use Rattle.outcomes.specs.Endings.{EndAnswers}
+use Rattle.world_ends.specs.Endings.{EndsIn}
 use Rattle.hda_run.specs.declared.parts.Parts.{Parts}
 use Rattle.hda_run.specs.Problems.{task_in}
 use Rattle.hda_run.specs.Worlds.{world_of}
