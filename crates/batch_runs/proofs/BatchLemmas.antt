@@ -13,7 +13,7 @@ use Rattle.batch_runs.specs.Batches.{Rules, Answer, AnswersEntry, AnswersKind, A
 use Rattle.batch_runs.specs.Batches.Answer.{passed_over, refused, answered}
 use Rattle.batch_lines.specs.declared.lines.LineKind.{LineKind}
 use Rattle.batch_lines.specs.declared.lines.LineKind.TheVariants.{PassedOver, Within, TooLong}
-use Rattle.outcomes.specs.declared.outcome.Outcome.TheVariants.{Optimal, Unsolvable, Bounded}
+use Rattle.outcomes.specs.declared.outcome.Ending.TheVariants.{Optimal, Unsolvable, Bounded}
 use Rattle.batch_runs.specs.declared.batch.Summary.{Summary}
 
 -- ---- one answer more
@@ -66,7 +66,7 @@ total counts = counts.optimal + counts.unsolvable + counts.bounded + counts.refu
 counted_once : (before : Summary) (answer : Answer) → total (with_answer before answer) ≤ total before + 1
 counted_once before passed_over = omega arith
 counted_once before (refused code) = omega arith
-counted_once before (answered id (Optimal cost plan rows)) = omega arith
+counted_once before (answered id (Optimal cost plan)) = omega arith
 counted_once before (answered id (Unsolvable why)) = omega arith
 counted_once before (answered id (Bounded bound best cause)) = omega arith
 

@@ -6,7 +6,7 @@ use Rattle.batch_lines.specs.declared.lines.TheConstants.{INPUT_LIMIT}
 use Rattle.batch_runs.specs.declared.faults.LinesFault.TheVariants.{Read, Write, Memory}
 use Rattle.batch_runs.specs.Batches.{Rules, AnswersLines, AreAll, AreFirst, IsTooLong, answers_text}
 use Rattle.batch_runs.specs.Headline.{TellsTheTruth, OutputsTellTheTruth, BeginningsTellTheTruth}
-use Rattle.batch_runs.specs.Laws.{LinesAreLostToFailures, ParityWantsNoMemory, ParityIsAnswered, OutputsAreAnswers, FailedWritesAreTold}
+use Rattle.batch_runs.specs.Laws.{LinesAreLostToFailures, OutputsAreAnswers, FailedWritesAreTold}
 
 -- an input within the limit is not too long
 fits : (left : Option (List ℕ)) (input : List ℕ) → left ≡ Some input → length input ≤ INPUT_LIMIT → ¬ IsTooLong left
@@ -18,13 +18,6 @@ lost source lines input is short losing = of_cause losing.cause
     of_cause : (source.after.has_failed ≡ true) ⊎ IsTooLong source.before.left → source.after.has_failed ≡ true
     of_cause (inl failed) = failed
     of_cause (inr long) = absurd (fits source.before.left input is short long)
-
-pub unwanted : ParityWantsNoMemory
-unwanted setup b other same = other same
-
-pub by_parity : ParityIsAnswered
-by_parity setup b outcome other (answers, inl (same, searched)) = absurd (other same)
-by_parity setup b outcome other (answers, inr (another, is)) = is
 
 -- what was put into an empty sink is what it holds
 held : (before after : Option (List ℕ)) (bytes : List ℕ) → before ≡ Some [] → Appends before after bytes → after ≡ Some bytes

@@ -1,5 +1,4 @@
 pub mod BatchLemmas
-pub mod SolvingLemmas
 pub mod NameLemmas
 pub mod TruthLemmas
 pub mod BeginningLemmas

@@ -3,8 +3,6 @@ use Rattle.std.proofs.Common.{[], Result, Ok, Err, append-nil, sym, ap, ◌∙�
 use Rattle.byte_streams.specs.Streams.{SourceState, SinkState, Change}
 use Rattle.batch_runs.specs.Batches.{Rules, IsTruthful, ReportsLines, answers_text, status_of_counts}
 use Rattle.batch_runs.specs.Headline.{IsTrueRun}
-use Rattle.batch_runs.specs.Setups.{SetupState}
-use Rattle.batch_runs.specs.Solving.{rules_of}
 use Rattle.batch_runs.specs.declared.batch.Summary.{Summary}
 use Rattle.batch_runs.specs.declared.faults.LinesFault.{LinesFault}
 use Rattle.batch_runs.specs.declared.faults.LinesFault.TheVariants.{Read, Write, Memory}
@@ -30,7 +28,3 @@ run_true rules truthful source sink (Err (Memory lacking)) (first, readable, kep
   begun = record { sent = answers_text 1 first.answers; unsent = []; parts = sym (append-nil (answers_text 1 first.answers)); put = first.written };
   truth = truth rules truthful first.lines first.answers first.few first.answered;
 }
-
--- a setup solves truthfully
-pub setup_truthful : (setup : SetupState) → IsTruthful (rules_of setup)
-setup_truthful setup b outcome allowed = allowed.0

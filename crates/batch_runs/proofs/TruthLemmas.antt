@@ -13,9 +13,10 @@ use Rattle.batch_lines.specs.Words.{entry_code}
 use Rattle.batch_lines.specs.declared.lines.LineKind.{LineKind}
 use Rattle.batch_lines.specs.declared.lines.LineKind.TheVariants.{PassedOver, Within, TooLong}
 use Rattle.batch_lines.specs.declared.lines.TheConstants.{LINE_LIMIT}
-use Rattle.outcomes.specs.Outcomes.{Task, Answers, best_of}
-use Rattle.outcomes.specs.declared.outcome.Outcome.{Outcome}
-use Rattle.outcomes.specs.declared.outcome.Outcome.TheVariants.{Optimal, Unsolvable, Bounded}
+use Rattle.outcomes.specs.Outcomes.{Task, best_of}
+use Rattle.outcomes.specs.Endings.{EndAnswers}
+use Rattle.outcomes.specs.declared.outcome.Ending.{Ending}
+use Rattle.outcomes.specs.declared.outcome.Ending.TheVariants.{Optimal, Unsolvable, Bounded}
 use Rattle.reports.specs.Reports.{outcome_data, refused_data, report_text}
 use Rattle.reports.specs.Readings.{IsSmall, AreSmall, IsReport, HasStatus}
 use Rattle.reports.specs.Readings.IsReport.{of_outcome, of_line}
@@ -58,21 +59,21 @@ kind_asks line e =
 data Tells (rules : Rules) (n : ℕ) (line : List ℕ) : Data → Type 0 where
   of_fault : (code : List ℕ) → IsSmall n → HasFault rules.grid line code → Tells rules n line (refused_data code n)
   of_want : (id : List ℕ) (b : Position) → IsSmall n → Names rules.grid line id b → rules.allows b None → Tells rules n line (refused_data (codes "V3") n)
-  of_board : (id : List ℕ) (b : Position) (outcome : Outcome) → Names rules.grid line id b → rules.allows b (Some outcome) → AreSmall outcome → Tells rules n line (outcome_data id outcome)
+  of_board : (id : List ℕ) (b : Position) (outcome : Ending) → Names rules.grid line id b → rules.allows b (Some outcome) → AreSmall outcome → Tells rules n line (outcome_data id outcome)
 
 -- an answer that names a least plan, or that there is none
 abbrev pub IsSettledAnswer : Answer → Type 0
 IsSettledAnswer passed_over = ⊤
 IsSettledAnswer (refused code) = ⊥
-IsSettledAnswer (answered id (Optimal cost plan rows)) = ⊤
+IsSettledAnswer (answered id (Optimal cost plan)) = ⊤
 IsSettledAnswer (answered id (Unsolvable why)) = ⊤
 IsSettledAnswer (answered id (Bounded bound best cause)) = ⊥
 
 abbrev IsSettledData : Data → Type 0
 IsSettledData d = HasStatus d (codes "optimal") ⊎ HasStatus d (codes "unsolvable")
 
-outcome_settled : (id : List ℕ) (outcome : Outcome) → IsSettledAnswer (answered id outcome) → IsSettledData (outcome_data id outcome)
-outcome_settled id (Optimal cost plan rows) is = inl refl
+outcome_settled : (id : List ℕ) (outcome : Ending) → IsSettledAnswer (answered id outcome) → IsSettledData (outcome_data id outcome)
+outcome_settled id (Optimal cost plan) is = inl refl
 outcome_settled id (Unsolvable why) is = inr refl
 outcome_settled id (Bounded bound best cause) is = absurd is
 
@@ -177,8 +178,8 @@ text_in (object ms) = []
 abbrev first_letter : Option Data → ℕ
 first_letter o = get_or (text_in (data_or o)) 0 0
 
-outcome_true : (task : Task) (id : List ℕ) (outcome : Outcome) → Answers task outcome → IsTrueOf task id (outcome_data id outcome)
-outcome_true task id (Optimal cost plan rows) answers = record {
+outcome_true : (task : Task) (id : List ℕ) (outcome : Ending) → EndAnswers task outcome → IsTrueOf task id (outcome_data id outcome)
+outcome_true task id (Optimal cost plan) answers = record {
   status = inl refl;
   named = refl;
   optimal = λ e. (cost, plan.items, refl, refl, answers.0, answers.1);
@@ -207,7 +208,7 @@ module _ (rules : Rules) (n : ℕ) (id : List ℕ) (b : Position) where
       inr ((refl, refl, refl), subst (λ (p : Position). rules.allows p None) (same_name rules.grid line id id' b b' names names').1 lacking)
   named_true truthful line d names (of_board id' b' outcome names' allowed small) =
       let same = same_name rules.grid line id id' b b' names names' in
-      let answers : Answers (rules.task b) outcome = subst (λ (p : Position). Answers (rules.task p) outcome) same.1 (truthful b' outcome allowed) in
+      let answers : EndAnswers (rules.task b) outcome = subst (λ (p : Position). EndAnswers (rules.task p) outcome) same.1 (truthful b' outcome allowed) in
       inl (subst (λ (name : List ℕ). IsTrueOf (rules.task b) id (outcome_data name outcome)) (sym same.0) (outcome_true (rules.task b) id outcome answers))
 
 module _ (rules : Rules) where
@@ -257,7 +258,7 @@ grows counts (answer ∷ answers) = omega (arith, once counts answer, grows (wit
     once : (counts : Summary) (answer : Answer) → is_open counts ≤ is_open (with_answer counts answer)
     once counts passed_over = omega arith
     once counts (refused code) = omega arith
-    once counts (answered id (Optimal cost plan rows)) = omega arith
+    once counts (answered id (Optimal cost plan)) = omega arith
     once counts (answered id (Unsolvable why)) = omega arith
     once counts (answered id (Bounded bound best cause)) = omega arith
 
@@ -269,7 +270,7 @@ none_open counts (answer ∷ answers) none = (first answer (omega (arith, none, 
     first : (answer : Answer) → is_open (with_answer counts answer) ≡ 0 → IsSettledAnswer answer
     first passed_over e = tt
     first (refused code) e = absurd (omega arith)
-    first (answered id (Optimal cost plan rows)) e = tt
+    first (answered id (Optimal cost plan)) e = tt
     first (answered id (Unsolvable why)) e = tt
     first (answered id (Bounded bound best cause)) e = absurd (omega arith)
 

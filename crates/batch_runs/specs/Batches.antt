@@ -14,9 +14,10 @@ use Rattle.batch_lines.specs.declared.lines.LineKind.TheVariants.{PassedOver, Wi
 use Rattle.batch_lines.specs.declared.lines.TheConstants.{INPUT_LIMIT}
 use Rattle.reports.specs.Readings.{AreSmall}
 use Rattle.reports.specs.Reports.{outcome_data, refused_data, report_text}
-use Rattle.outcomes.specs.declared.outcome.Outcome.{Outcome}
-use Rattle.outcomes.specs.Outcomes.{Task, Answers}
-use Rattle.outcomes.specs.declared.outcome.Outcome.TheVariants.{Optimal, Unsolvable, Bounded}
+use Rattle.outcomes.specs.declared.outcome.Ending.{Ending}
+use Rattle.outcomes.specs.Outcomes.{Task}
+use Rattle.outcomes.specs.Endings.{EndAnswers}
+use Rattle.outcomes.specs.declared.outcome.Ending.TheVariants.{Optimal, Unsolvable, Bounded}
 use Rattle.batch_runs.specs.declared.batch.Summary.{Summary}
 use Rattle.batch_runs.specs.declared.faults.LinesFault.{LinesFault}
 use Rattle.batch_runs.specs.declared.faults.LinesFault.TheVariants.{Read, Write, Memory}
@@ -25,11 +26,11 @@ use Rattle.batch_runs.specs.declared.faults.LinesFault.TheVariants.{Read, Write,
 pub record Rules : Type 1 where
   pub grid : Grid
   pub task : Position → Task
-  pub allows : Position → Option Outcome → Type 0
+  pub allows : Position → Option Ending → Type 0
 
 -- each outcome that a board may be answered by answers what is asked of it
 abbrev pub IsTruthful : Rules → Type 0
-IsTruthful rules = (b : Position) (outcome : Outcome) → rules.allows b (Some outcome) → Answers (rules.task b) outcome
+IsTruthful rules = (b : Position) (outcome : Ending) → rules.allows b (Some outcome) → EndAnswers (rules.task b) outcome
 
 -- ---- the answer to a line
 
@@ -37,12 +38,12 @@ IsTruthful rules = (b : Position) (outcome : Outcome) → rules.allows b (Some o
 pub data Answer : Type 0 where
   passed_over : Answer
   refused : (code : List ℕ) → Answer
-  answered : (id : List ℕ) (outcome : Outcome) → Answer
+  answered : (id : List ℕ) (outcome : Ending) → Answer
 
 -- a line to be read is refused by its first fault, or it is answered by an outcome that is allowed for its board and whose numbers a report can tell, or refused by V3 where a want of memory before the first step is allowed for it
 pub data AnswersEntry (rules : Rules) (line : List ℕ) : Answer → Type 0 where
   by_fault : (fault : EntryFault) → IsFirstEntryFault rules.grid line fault → AnswersEntry rules line (refused (entry_code fault))
-  by_outcome : (id : List ℕ) (b : Position) (outcome : Outcome) → IsEntry rules.grid line id b → rules.allows b (Some outcome) → AreSmall outcome → AnswersEntry rules line (answered id outcome)
+  by_outcome : (id : List ℕ) (b : Position) (outcome : Ending) → IsEntry rules.grid line id b → rules.allows b (Some outcome) → AreSmall outcome → AnswersEntry rules line (answered id outcome)
   by_want : (id : List ℕ) (b : Position) → IsEntry rules.grid line id b → rules.allows b None → AnswersEntry rules line (refused (codes "V3"))
 
 -- the answer to a line of this kind with these bytes
@@ -76,8 +77,8 @@ answers_text n [] = []
 answers_text n (answer ∷ answers) = answer_text n answer ++ answers_text (n + 1) answers
 
 -- one line more of the kind of this outcome
-abbrev pub with_outcome : Summary → Outcome → Summary
-with_outcome counts (Optimal cost plan rows) = record counts { optimal = counts.optimal + 1 }
+abbrev pub with_outcome : Summary → Ending → Summary
+with_outcome counts (Optimal cost plan) = record counts { optimal = counts.optimal + 1 }
 with_outcome counts (Unsolvable why) = record counts { unsolvable = counts.unsolvable + 1 }
 with_outcome counts (Bounded bound best cause) = record counts { bounded = counts.bounded + 1 }
 

@@ -1,32 +1,17 @@
 -- The laws of the definitions. Each is the contract of a function that does nothing.
 use Rattle.std.specs.Prelude.{ℕ, ◌≡◌, ◌≢◌, ◌≤◌, true, false, List, [], length, None, Some, Result, Ok, Err}
-use Rattle.board.specs.Positions.{Position}
-use Rattle.board.specs.Classes.{SameClass}
 use Rattle.byte_streams.specs.Streams.{SourceState, SinkState, Change}
 use Rattle.batch_lines.specs.Lines.{lines_of}
 use Rattle.batch_lines.specs.declared.lines.TheConstants.{INPUT_LIMIT}
-use Rattle.outcomes.specs.declared.outcome.Outcome.{Outcome}
-use Rattle.outcomes.specs.declared.outcome.Outcome.TheVariants.{Unsolvable}
-use Rattle.outcomes.specs.declared.outcome.Why.TheVariants.{Parity}
 use Rattle.batch_runs.specs.declared.batch.Summary.{Summary}
 use Rattle.batch_runs.specs.declared.faults.LinesFault.{LinesFault}
 use Rattle.batch_runs.specs.declared.faults.LinesFault.TheVariants.{Write}
 use Rattle.batch_runs.specs.Batches.{Rules, Answer, AnswersLines, LosesLine, ReportsLines, answers_text}
-use Rattle.batch_runs.specs.Setups.{SetupState}
-use Rattle.batch_runs.specs.Solving.{MayAnswer}
 
 -- a line of an input within the limit is lost only where the source has failed
 abbrev pub LinesAreLostToFailures : Type 0
 LinesAreLostToFailures =
     (source : Change SourceState) (lines : List (List ℕ)) (input : List ℕ) → source.before.left ≡ Some input → length input ≤ INPUT_LIMIT → LosesLine source lines → source.after.has_failed ≡ true
-
--- a board of the other class is refused for no want of memory
-abbrev pub ParityWantsNoMemory : Type 0
-ParityWantsNoMemory = (setup : SetupState) (b : Position) → ¬ SameClass b setup.goal → ¬ MayAnswer setup b None
-
--- and it is answered by its parity alone
-abbrev pub ParityIsAnswered : Type 0
-ParityIsAnswered = (setup : SetupState) (b : Position) (outcome : Outcome) → ¬ SameClass b setup.goal → MayAnswer setup b (Some outcome) → outcome ≡ Unsolvable Parity
 
 -- where the input is known and the output was empty, a run that ends well leaves an answer to each line, and nothing else
 abbrev pub OutputsAreAnswers : Rules → Type 0

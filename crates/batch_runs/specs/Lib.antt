@@ -1,7 +1,6 @@
 pub mod Faults
 pub mod Batches
 pub mod Setups
-pub mod Solving
 pub mod Meanings
 pub mod Headline
 pub mod Laws

@@ -1,25 +1,33 @@
 -- What a setup shows: what all lines have in common.
-use Rattle.std.specs.Prelude.{ℕ, ◌≡◌, ◌≤◌, ◌^◌, ◌-◌, Option, None, IfSome}
-use Rattle.board.specs.Positions.{Position}
+use Rattle.std.specs.Prelude.{ℕ, ◌≡◌, ◌≤◌, ◌^◌, ◌-◌, []}
+use Rattle.board.specs.Grids.{Grid}
+use Rattle.board.specs.Positions.{Position, blank_of}
 use Rattle.board.specs.CostRules.{CostRule}
-use Rattle.lower_bound.specs.Tables.{Tables, ArePotentials}
+use Rattle.outcomes.specs.Outcomes.{Task}
+use Rattle.lower_bound.specs.Bounds.{sum_of}
+use Rattle.lower_bound.specs.Tables.{Tables, ArePotentials, parts_of}
+use Rattle.owners.specs.Hashes.{hash_of}
 use Rattle.world_model.specs.declared.limits.TheConstants.{WORKER_LIMIT}
 use Rattle.batch_runs.specs.declared.setup.SpreadKind.{SpreadKind}
-use Rattle.batch_runs.specs.declared.setup.SpreadKind.TheVariants.{Zobrist}
+use Rattle.batch_runs.specs.declared.setup.SpreadKind.TheVariants.{Zobrist, Blank}
 
--- the goal and the cost rule; the tables whose values are added, if there are any; how many boards may be expanded for a line; how many
--- workers there are, and how boards are spread over them
+-- the goal and the cost rule; the tables whose values are added; how many boards may be expanded for a line; how many workers there
+-- are, and how boards are spread over them
 pub record SetupState : Type 0 where
   pub goal : Position
   pub rule : CostRule
-  pub bound : Option Tables
+  pub tables : Tables
   pub limit : ℕ
   pub workers : ℕ
   pub spread : SpreadKind
 
+-- those of no group, whose sums are 0
+abbrev pub no_tables : Grid → Tables
+no_tables grid = record { split = record { grid = grid; groups = [] }; lookups = [] }
+
 -- without tables and without a limit, for one worker
 abbrev pub plain_setup : Position → CostRule → SetupState
-plain_setup goal rule = record { goal = goal; rule = rule; bound = None; limit = 2 ^ 64 - 1; workers = 1; spread = Zobrist }
+plain_setup goal rule = record { goal = goal; rule = rule; tables = no_tables goal.grid; limit = 2 ^ 64 - 1; workers = 1; spread = Zobrist }
 
 -- the tables are of the goal's grid, and potentials for the goal and the costs
 abbrev pub Guides : Position → CostRule → Tables → Type 0
@@ -28,6 +36,15 @@ Guides goal rule tables = (tables.split.grid ≡ goal.grid) × ArePotentials rul
 -- weights and tables fit the goal, and there are workers, not too many
 pub record IsSetup (setup : SetupState) : Type 0 where
   pub sides : setup.rule.grid ≡ setup.goal.grid
-  pub guided : IfSome setup.bound (Guides setup.goal setup.rule)
+  pub guided : Guides setup.goal setup.rule setup.tables
   pub some : 1 ≤ setup.workers
   pub few : setup.workers ≤ WORKER_LIMIT
+
+-- the hash by which boards are spread
+abbrev pub hash_by : SpreadKind → Position → ℕ
+hash_by Zobrist b = hash_of b
+hash_by Blank b = blank_of b
+
+-- what is asked of a board: the plans from it to the setup's goal, at the setup's costs
+abbrev pub task_of : SetupState → Position → Task
+task_of setup start = record { start = start; goal = setup.goal; rule = setup.rule; sum = sum_of (parts_of setup.tables) }

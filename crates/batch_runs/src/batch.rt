@@ -14,7 +14,7 @@ use batch_lines::{EntryFault, Line, LineKind, LineReader, read_entry};
 use board::{Board, Shape};
 use byte_streams::{Sink, Source, WriteFailed};
 use memory::OutOfMemory;
-use outcomes::{Outcome, SolveFault};
+use outcomes::{Ending, SolveFault};
 use reports::{NoReport, outcome_report, refused_report};
 use std::alloc::Global;
 
@@ -25,7 +25,7 @@ pub trait Solver {
     ghost rules: { Self → Rules };
 
     /// Solves a board. The error tells a want of memory before the first step.
-    fn solve(&self, alloc: Global, start: &Board) -> Result<Outcome, OutOfMemory>
+    fn solve(&self, alloc: Global, start: &Board) -> Result<Ending, OutOfMemory>
         requires { start.now.grid ≡ (rules self.now).grid }
         ensures answered { IfOk result (λ outcome.
             (rules self.now).allows start.now (Some outcome)) }
@@ -43,15 +43,15 @@ pub struct Summary {
 
 impl Summary {
     // One line more that was answered so.
-    fn with_outcome(self, outcome: &Outcome) -> Self
+    fn with_outcome(self, outcome: &Ending) -> Self
         requires { HasRoom self }
         ensures { result ≡ with_outcome self outcome.now }
     {
         let mut counts = self;
         match outcome {
-            Outcome::Optimal { .. } => counts.optimal += 1,
-            Outcome::Unsolvable { .. } => counts.unsolvable += 1,
-            Outcome::Bounded { .. } => counts.bounded += 1,
+            Ending::Optimal { .. } => counts.optimal += 1,
+            Ending::Unsolvable { .. } => counts.unsolvable += 1,
+            Ending::Bounded { .. } => counts.bounded += 1,
         }
         counts
     }

@@ -2,9 +2,8 @@
 
 ghost use Rattle.batch_runs.specs.Headline.{AnswersTellTheTruth, BeginningsAreOfLines};
 ghost use Rattle.batch_runs.specs.Headline.{OutputsTellTheTruth, BeginningsTellTheTruth};
-ghost use Rattle.batch_runs.specs.Laws.{LinesAreLostToFailures, ParityWantsNoMemory};
-ghost use Rattle.batch_runs.specs.Laws.{ParityIsAnswered};
-ghost use Rattle.batch_runs.specs.Laws.{OutputsAreAnswers, FailedWritesAreTold};
+ghost use Rattle.batch_runs.specs.Laws.{LinesAreLostToFailures, OutputsAreAnswers};
+ghost use Rattle.batch_runs.specs.Laws.{FailedWritesAreTold};
 
 use crate::batch::Solver;
 
@@ -48,14 +47,4 @@ pub fn runs_are_told<A: Solver>(solver: &A)
 /// A line of an input within the limit is lost only where the source has failed.
 pub fn lines_are_lost_to_failures()
     ensures { LinesAreLostToFailures }
-{}
-
-/// A board of the other class is refused for no want of memory.
-pub fn parity_wants_no_memory()
-    ensures { ParityWantsNoMemory }
-{}
-
-/// A board of the other class is answered by its parity alone.
-pub fn parity_is_answered()
-    ensures { ParityIsAnswered }
 {}

@@ -1,13 +1,12 @@
-//! The lines of an input, each answered: what a batch is, and how it is run with a search.
+//! The lines of an input, each answered: what a batch is, what its lines have in common, and how it
+//! is run with any solver.
 #![tactic(auto)]
 
 mod batch;
 mod faults;
 pub mod laws;
 mod setup;
-mod solving;
 
 pub use batch::{Solver, Summary, run_lines};
 pub use faults::LinesFault;
 pub use setup::{Setup, SpreadKind};
-pub use solving::run_batch;

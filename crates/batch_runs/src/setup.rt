@@ -1,12 +1,14 @@
 //! What all lines of a batch have in common.
 
-ghost use Rattle.std.specs.Prelude.{◌≡◌, ◌≤◌, ◌↔◌, None, Some, IsOk, IfOk, IfErr, MatchOption};
+ghost use Rattle.std.specs.Prelude.{◌≡◌, ◌≤◌, ◌↔◌, IsOk, IfOk, IfErr};
 ghost use Rattle.batch_runs.specs.Setups.{Guides, plain_setup};
 ghost use Rattle.world_model.specs.declared.limits.TheConstants.{WORKER_LIMIT};
 
 use board::{Board, Shape, Weights};
 use lower_bound::Bound;
 use outcomes::SolveFault;
+use pattern_index::Partition;
+use std::alloc::Global;
 use std::marker::Model;
 use world_model::WORKER_LIMIT;
 
@@ -25,7 +27,7 @@ pub enum SpreadKind {
 pub struct Setup {
     goal: Board,
     weights: Weights,
-    bound: Option<Bound>,
+    bound: Bound,
     limit: u64,
     workers: usize,
     spread: SpreadKind,
@@ -39,7 +41,7 @@ impl Model for Setup {
     ghost view = { λ s. record {
       goal = s.goal;
       rule = s.weights;
-      bound = s.bound;
+      tables = s.bound;
       limit = s.limit;
       workers = s.workers;
       spread = s.spread;
@@ -48,7 +50,7 @@ impl Model for Setup {
     ghost invariant = { λ s. IsSetup (record {
       goal = s.goal;
       rule = s.weights;
-      bound = s.bound;
+      tables = s.bound;
       limit = s.limit;
       workers = s.workers;
       spread = s.spread;
@@ -58,14 +60,17 @@ impl Model for Setup {
 impl Setup {
     /// The setup with this goal and these weights, which have one shape: without tables and without
     /// a limit, for one worker.
-    pub fn new(goal: Board, weights: Weights) -> Self
+    pub fn new(alloc: Global, goal: Board, weights: Weights) -> Self
         requires { weights.grid ≡ goal.grid }
         ensures { result ≡ plain_setup goal weights }
     {
+        // Empty lists take no memory.
+        let groups = Partition::new(goal.shape(), Vec::new(alloc)).unwrap();
+        let bound = Bound::new(groups, Vec::new(alloc)).unwrap();
         Setup {
             goal,
             weights,
-            bound: None,
+            bound,
             limit: u64::MAX,
             workers: 1,
             spread: SpreadKind::Zobrist,
@@ -76,10 +81,10 @@ impl Setup {
     /// and the weights.
     pub fn bound(self, bound: Bound) -> Self
         requires { Guides self.goal self.rule bound }
-        ensures { result ≡ record self { bound = Some bound } }
+        ensures { result ≡ record self { tables = bound } }
     {
         let mut setup = self;
-        setup.bound = Some(bound);
+        setup.bound = bound;
         setup
     }
 
@@ -140,13 +145,12 @@ impl Setup {
         self.goal.shape()
     }
 
-    /// The tables, if there are any.
-    pub fn tables(&self) -> Option<&Bound>
-        ensures { MatchOption result (self.now.bound ≡ None)
-            (λ bound. (self.now.bound ≡ Some bound.now)
-            × Guides self.now.goal self.now.rule bound.now) }
+    /// The tables that guide the search; without groups where none were given.
+    pub fn tables(&self) -> &Bound
+        ensures value { result.now ≡ self.now.tables }
+        ensures guides { Guides self.now.goal self.now.rule result.now }
     {
-        self.bound.as_ref()
+        &self.bound
     }
 
     /// How many boards may be expanded for a line.

@@ -1,0 +1,39 @@
+-- How the boards of a setup are answered.
+use Rattle.std.specs.Prelude.{ℕ, ◌≡◌, ◌≢◌, ◌⊎◌, Option, None, Some, Vec}
+use Rattle.std.specs.declared.alloc.Global.{Global}
+use Rattle.board.specs.declared.moves.Move.{Move}
+use Rattle.board.specs.Positions.{Position}
+use Rattle.board.specs.Classes.{SameClass}
+use Rattle.outcomes.specs.declared.outcome.Cause.{Cause}
+use Rattle.outcomes.specs.declared.outcome.Cause.TheVariants.{Cut, Start}
+use Rattle.outcomes.specs.declared.outcome.Ending.{Ending}
+use Rattle.outcomes.specs.declared.outcome.Ending.TheVariants.{Unsolvable, Bounded}
+use Rattle.outcomes.specs.declared.outcome.Why.TheVariants.{Parity}
+use Rattle.outcomes.specs.Endings.{EndAnswers}
+use Rattle.hda_run.specs.Problems.{Problem, problem}
+use Rattle.hda_run.specs.Alone.{EndsByOne}
+use Rattle.batch_runs.specs.Setups.{SetupState, hash_by, task_of}
+use Rattle.batch_runs.specs.Batches.{Rules}
+
+-- what is to be solved for a board: the setup says the rest
+abbrev pub problem_of : SetupState → Position → Problem
+problem_of setup start = problem start setup.goal setup.rule setup.tables setup.limit
+
+-- a bound is named for no run that was cut, and for no thread that was wanting
+abbrev pub IsNeverCut : Ending → Type 0
+IsNeverCut ending = (bound : ℕ) (best : Option (ℕ × Vec Move Global)) (cause : Cause) → ending ≡ Bounded bound best cause → (cause ≢ Cut) × (cause ≢ Start)
+
+-- the ending is that of a run by one worker, which is guided by the setup's tables and keeps to its limit
+abbrev pub IsOfRun : SetupState → Position → Ending → Type 0
+IsOfRun setup start ending = EndsByOne hash_by (problem_of setup start) setup.spread ending × IsNeverCut ending
+
+-- A board is answered by an ending that answers its task. A board that isn't in the goal's class is answered by its parity; any other one by a run, which may want memory before the first step: when it does, no definition can tell.
+abbrev pub MayAnswer : SetupState → Position → Option Ending → Type 0
+MayAnswer setup start None = SameClass start setup.goal
+MayAnswer setup start (Some ending) =
+    EndAnswers (task_of setup start) ending
+    × ((SameClass start setup.goal × IsOfRun setup start ending) ⊎ ((¬ SameClass start setup.goal) × (ending ≡ Unsolvable Parity)))
+
+-- the boards of the setup's shape, what is asked of them, and how they may be answered
+abbrev pub rules_of : SetupState → Rules
+rules_of setup = record { grid = setup.goal.grid; task = task_of setup; allows = MayAnswer setup }

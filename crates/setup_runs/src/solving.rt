@@ -1,0 +1,48 @@
+//! The solver of a setup's boards.
+
+ghost use Rattle.std.specs.Prelude.{◌≡◌};
+ghost use Rattle.setup_runs.specs.Solving.{problem_of};
+
+use batch_runs::{Setup, Solver, SpreadKind};
+use board::Board;
+use hda_run::{Gate, Job, end_one};
+use memory::OutOfMemory;
+use outcomes::Ending;
+use owners::{ByBlank, Zobrist};
+use std::alloc::Global;
+
+/// What solves the boards of a setup, by one worker in the calling thread.
+pub struct Guided<'a, G> {
+    pub setup: &'a Setup,
+    pub gate: &'a G,
+}
+
+impl<'a, G: Gate> Solver for Guided<'a, G> {
+    ghost use Rattle.setup_runs.specs.Solving.{rules_of};
+
+    ghost rules = { λ guided. rules_of guided.setup.now };
+
+    fn solve(&self, alloc: Global, start: &Board) -> Result<Ending, OutOfMemory> {
+        let setup = self.setup;
+        let job = job_for(setup, start);
+        match setup.spread_kind() {
+            SpreadKind::Zobrist => end_one(alloc, job, Zobrist::new(setup.shape()), self.gate),
+            SpreadKind::Blank => end_one(alloc, job, ByBlank, self.gate),
+        }
+    }
+}
+
+/// The job of a board: the setup says the rest.
+pub(crate) fn job_for<'a>(setup: &'a Setup, start: &Board) -> Job<'a>
+    requires { start.now.grid ≡ setup.now.goal.grid }
+    ensures { result ≡ problem_of setup.now start.now }
+{
+    Job::new(
+        *start,
+        setup.goal(),
+        setup.weights(),
+        setup.tables(),
+        setup.expansion_limit(),
+    )
+    .unwrap()
+}
