@@ -1,5 +1,5 @@
 -- The laws of the definitions. Each is the contract of a function that does nothing.
-use Rattle.std.specs.Prelude.{ℕ, ◌≡◌, ◌≢◌, ◌≤◌, true, false, List, [], length, None, Some, Result, Ok, Err}
+use Rattle.std.specs.Prelude.{ℕ, ◌≡◌, ◌≢◌, ◌≤◌, true, false, List, [], length, Some, Result, Ok, Err}
 use Rattle.byte_streams.specs.Streams.{SourceState, SinkState, Change}
 use Rattle.batch_lines.specs.Lines.{lines_of}
 use Rattle.batch_lines.specs.declared.lines.TheConstants.{INPUT_LIMIT}

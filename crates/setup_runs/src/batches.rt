@@ -11,6 +11,8 @@ use batch_runs::{LinesFault, Setup, Summary, run_lines};
 use byte_streams::{Sink, Source};
 use hda_run::Gate;
 use std::alloc::Global;
+use std::sync::Wait;
+use std::thread::Threads;
 
 /// Writes a report for each line of the source that isn't passed over, in order: that of its first
 /// fault, or of an ending that answers its board. A board that isn't in the goal's class is
