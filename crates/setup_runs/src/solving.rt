@@ -12,6 +12,7 @@ use owners::{ByBlank, Zobrist};
 use std::alloc::Global;
 
 /// What solves the boards of a setup, by one worker in the calling thread.
+#[derive(Drop)]
 pub struct Guided<'a, G> {
     pub setup: &'a Setup,
     pub gate: &'a G,
