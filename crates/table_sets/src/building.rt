@@ -1,0 +1,150 @@
+//! Tables are built, group by group or side by side.
+
+ghost use Rattle.std.specs.Prelude.{◌≡◌, ◌<◌, ◌≤◌, All, length, sum_by, IfOk, IsSome};
+ghost use Rattle.std.specs.Prelude.{MatchOption, map, Some, Ok};
+ghost use Rattle.pattern_index.specs.Selections.{size_of};
+ghost use Rattle.lower_bound.specs.Tables.{ArePotentials};
+ghost use Rattle.table_sets.specs.Built.{AreBuilt, AreTrueTables, IsTrueTableAt, FitAll};
+
+use board::{Board, Weights};
+use database_build::{Table, build};
+use lower_bound::Bound;
+use memory::{OutOfMemory, push, with_capacity};
+use pattern_index::{Group, Partition};
+use rayon::prelude::*;
+use std::alloc::Global;
+use std::thread::Threads;
+
+/// From so many views on, tables are built by several threads. Fewer are built in less time than
+/// would pay for the threads and for the memory of several searches at once.
+const PARALLEL_VIEWS: usize = 1_000_000;
+
+/// Where a thread leaves the table that it built, or that memory was refused for it. None before.
+type Place = Option<Result<Table, OutOfMemory>>;
+
+/// The bound of these groups by tables that are built for this goal and these weights: a table for
+/// each group, in the order of the groups, with the value of each of its views. So its sums are
+/// admissible.
+///
+/// Where the groups have a million views or more in all, the tables are built side by side, by as
+/// many threads as there are processors, else one after the other. They are the same either way.
+/// An error is answered only where memory was refused for one of them.
+pub fn build_bound(
+    rt: &(impl Threads + Sync),
+    alloc: Global,
+    groups: Partition,
+    goal: &Board,
+    weights: &Weights,
+) -> Result<Bound, OutOfMemory>
+    requires goal { goal.now.grid ≡ groups.grid }
+    requires weights { weights.now.grid ≡ groups.grid }
+    ensures built { IfOk result (AreBuilt groups weights.now goal.now) }
+    ensures potentials { IfOk result (ArePotentials weights.now goal.now) }
+{
+    // What holds of every partition and of every board is told by these calls.
+    let _ = groups.shape();
+    let _ = goal.shape();
+    let tables = build_tables(rt, alloc, groups.groups(), goal, weights)?;
+    Ok(Bound::new(groups, tables).unwrap())
+}
+
+// A table for each of these groups, in their order.
+fn build_tables(
+    rt: &(impl Threads + Sync),
+    alloc: Global,
+    groups: &[Group],
+    goal: &Board,
+    weights: &Weights,
+) -> Result<Vec<Table>, OutOfMemory>
+    requires few { length groups.now ≤ 24 }
+    requires fit { FitAll groups.now weights.now goal.now }
+    ensures { IfOk result (λ tables. AreTrueTables groups.now weights.now goal.now tables.items) }
+{
+    if count_views(groups) < PARALLEL_VIEWS {
+        return build_one_after_the_other(alloc, groups, goal, weights);
+    }
+    build_side_by_side(rt, alloc, groups, goal, weights)
+}
+
+// How many views the groups have in all.
+fn count_views(groups: &[Group]) -> usize
+    requires { length groups.now ≤ 24 }
+    ensures { result ≡ sum_by size_of groups.now }
+{
+    let mut views = 0;
+    'groups: for group in groups {
+        views += group.size();
+    }
+    views
+}
+
+// The tables, built by this thread.
+fn build_one_after_the_other(
+    alloc: Global,
+    groups: &[Group],
+    goal: &Board,
+    weights: &Weights,
+) -> Result<Vec<Table>, OutOfMemory>
+    requires { FitAll groups.now weights.now goal.now }
+    ensures { IfOk result (λ tables. AreTrueTables groups.now weights.now goal.now tables.items) }
+{
+    let mut tables = Vec::new(alloc);
+    'groups: for group in groups {
+        let table = build(alloc, group, goal, weights)?;
+        push(&mut tables, table)?;
+    }
+    Ok(tables)
+}
+
+// The tables, built by as many threads as there are processors or groups.
+fn build_side_by_side(
+    rt: &(impl Threads + Sync),
+    alloc: Global,
+    groups: &[Group],
+    goal: &Board,
+    weights: &Weights,
+) -> Result<Vec<Table>, OutOfMemory>
+    requires few { length groups.now ≤ 24 }
+    requires fit { FitAll groups.now weights.now goal.now }
+    ensures { IfOk result (λ tables. AreTrueTables groups.now weights.now goal.now tables.items) }
+{
+    let mut places = empty_places(alloc, groups.len())?;
+    par_for_each_mut(
+        rt,
+        places.as_mut_slice(),
+        |i: usize, place: &mut Place|
+            requires within { i < length groups.now }
+            requires fit { FitAll groups.now weights.now goal.now }
+            ensures { MatchOption place.new ⊥ (λ built. IfOk built
+                (IsTrueTableAt groups.entry.now weights.entry.now goal.entry.now i)) }
+        {
+            *place = Some(build(alloc, &groups[i], goal, weights));
+        },
+    );
+    take_tables(alloc, places)
+}
+
+// So many places where nothing is built yet.
+fn empty_places(alloc: Global, count: usize) -> Result<Vec<Place>, OutOfMemory>
+    requires { count ≤ 24 }
+    ensures { IfOk result (λ places. length places.items ≡ count) }
+{
+    let mut places = with_capacity(alloc, count)?;
+    'places: for _ in 0..count {
+        push(&mut places, None)?;
+    }
+    Ok(places)
+}
+
+// The tables that were built at their places, or that memory was refused for one.
+fn take_tables(alloc: Global, places: Vec<Place>) -> Result<Vec<Table>, OutOfMemory>
+    requires { All IsSome places.items }
+    ensures { IfOk result (λ tables. places.items ≡ map (λ table. Some (Ok table)) tables.items) }
+{
+    let mut tables = Vec::new(alloc);
+    'places: for place in places {
+        let table = place.unwrap()?;
+        push(&mut tables, table)?;
+    }
+    Ok(tables)
+}
