@@ -123,7 +123,7 @@ surplus grid words few more (TileOutOfRange place) = (λ fault. absurd (let e = 
 surplus grid words few more (TileRepeated place) = (λ fault. absurd (let e = fault.0.one_each in omega (arith, length-map (take 26 words) tile_number, length-take 26 words)), λ fault. absurd (let e = fault.4.one_each in omega arith))
 
 -- the first fault of the numbers that are read is that of the words
-read_fault : (grid : Grid) (words : List (List ℕ)) (numbers : List ℕ) → cell_count grid ≤ 25 → numbers ≡ map tile_number (take 26 words) → (fault : TilesFault) → IsFirstFault grid numbers fault ↔ IsFirstWordFault grid words fault
+pub read_fault : (grid : Grid) (words : List (List ℕ)) (numbers : List ℕ) → cell_count grid ≤ 25 → numbers ≡ map tile_number (take 26 words) → (fault : TilesFault) → IsFirstFault grid numbers fault ↔ IsFirstWordFault grid words fault
 read_fault grid words numbers few read fault =
     subst (λ (ns : List ℕ). IsFirstFault grid ns fault ↔ IsFirstWordFault grid words fault) (sym read)
     (⊎_elim
@@ -136,7 +136,7 @@ spell_each [] small = tt
 spell_each (word ∷ words) small = (Spells-from_number word (All-head (λ n. n < 255) (tile_number word) (map tile_number words) small), spell_each words (All-tail (λ n. n < 255) (tile_number word) (map tile_number words) small))
 
 -- the words spell the tiles of a board
-spelled : (grid : Grid) (words : List (List ℕ)) (numbers : List ℕ) → cell_count grid ≤ 25 → numbers ≡ map tile_number (take 26 words) → IsBoard (record { grid = grid; tiles = numbers }) → SpellEach words numbers
+pub spelled : (grid : Grid) (words : List (List ℕ)) (numbers : List ℕ) → cell_count grid ≤ 25 → numbers ≡ map tile_number (take 26 words) → IsBoard (record { grid = grid; tiles = numbers }) → SpellEach words numbers
 spelled grid words numbers few read board =
     let all : length words ≤ 26 = omega (arith, board.one_each, ap length read, length-map (take 26 words) tile_number, length-take 26 words) in
     let same : numbers ≡ map tile_number words = read ∙ ap (λ (ws : List (List ℕ)). map tile_number ws) (take_all 26 words all) in

@@ -7,4 +7,4 @@ mod words;
 mod worked;
 
 pub use lines::{INPUT_LIMIT, LINE_LIMIT, Line, LineKind, LineReader};
-pub use words::{Entry, EntryFault, cut_word, read_entry};
+pub use words::{Entry, EntryFault, cut_word, read_entry, tile_number};

@@ -81,8 +81,8 @@ fn tile_numbers(text: &str) -> ArrayVec<u8, 26>
     numbers
 }
 
-// The number that a word of digits says, and 255 for a greater number and for any other word.
-fn tile_number(word: &[u8]) -> u8
+/// The number that a word of digits says, and 255 for a greater number and for any other word.
+pub fn tile_number(word: &[u8]) -> u8
     ensures { result ≡ tile_number word.now }
 {
     if word.is_empty() {

@@ -1,0 +1,2 @@
+mod TextLemmas
+mod DefaultLemmas

@@ -1,0 +1,38 @@
+-- What the texts of options say: a goal, and groups of tiles.
+use Rattle.std.specs.Prelude.{ℕ, ◌≡◌, ◌==◌, List, [], ◌∷◌, map, if◌then◌else◌, codes, IsPermutation}
+use Rattle.std.specs.List.{slice_split, AllZip}
+use Rattle.std.specs.Str.{bytes_eq}
+use Rattle.board.specs.Grids.{Grid}
+use Rattle.board.specs.Positions.{Position, IsBoard}
+use Rattle.pattern_index.specs.Selections.{Selection, IsSelection}
+use Rattle.batch_lines.specs.TileNumbers.{tile_number}
+use Rattle.batch_lines.specs.Words.{SpellEach}
+
+-- the words of a text: what stands before, between and behind its commas
+abbrev pub comma_words : List ℕ → List (List ℕ)
+comma_words text = slice_split (λ byte. byte == 44) text
+
+-- the board whose tiles the words spell, cell by cell
+pub record IsGoalOf (grid : Grid) (text : List ℕ) (b : Position) : Type 0 where
+  pub spelled : SpellEach (comma_words text) b.tiles
+  pub board : IsBoard b
+  pub sides : b.grid ≡ grid
+
+-- the texts of groups: what stands before, between and behind the slashes; `none` says that there is no group
+abbrev pub group_texts : List ℕ → List (List ℕ)
+group_texts text = if bytes_eq text (codes "none") then [] else slice_split (λ byte. byte == 47) text
+
+-- the numbers that the words of a group say; a text of no bytes has no word
+abbrev pub group_numbers : List ℕ → List ℕ
+group_numbers [] = []
+group_numbers (byte ∷ bytes) = map tile_number (comma_words (byte ∷ bytes))
+
+-- the group whose tiles the words say, in any order
+pub record IsGroupOf (grid : Grid) (text : List ℕ) (g : Selection) : Type 0 where
+  pub tiles : IsPermutation (group_numbers text) g.tiles
+  pub group : IsSelection g
+  pub sides : g.grid ≡ grid
+
+-- text by text, these groups
+abbrev pub AreGroupsOf : Grid → List (List ℕ) → List Selection → Type 0
+AreGroupsOf grid texts groups = AllZip (IsGroupOf grid) texts groups

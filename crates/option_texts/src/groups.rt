@@ -1,0 +1,78 @@
+//! Groups that texts say.
+
+ghost use Rattle.std.specs.Prelude.{◌≡◌, ◌↔◌, IfOk, IfErr, IsErrOf, take};
+ghost use Rattle.pattern_index.specs.Faults.{IsFirstFault};
+ghost use Rattle.pattern_index.specs.declared.faults.GroupFault.{GroupFault};
+ghost use Rattle.option_texts.specs.Texts.{group_texts, group_numbers, IsGroupOf, AreGroupsOf};
+ghost use Rattle.option_texts.specs.Faults.{IsFirstGroupsFault};
+
+use crate::faults::GroupsFault;
+use crate::words::numbers_in;
+use arrayvec::ArrayVec;
+use board::Shape;
+use memory::push;
+use pattern_index::{Group, GroupFault, Partition};
+use std::alloc::Global;
+
+/// The partition that a text says, as `--groups` takes it: `none`, or groups with slashes between,
+/// each of tiles with commas between. Or the first fault: of the groups from the left the first
+/// fault of the first group that has one, E5 where it has no word, else by place E6 where a word is
+/// no tile, E7 where its tile stood before, else E8; and where no group has one, E10 where there
+/// are too many groups, else E9 where two share a tile. Memory may be refused for the groups.
+pub fn read_groups(alloc: Global, shape: Shape, text: &str) -> Result<Partition, GroupsFault>
+    ensures groups { IfOk result
+        (λ p. (p.grid ≡ shape) × AreGroupsOf shape (group_texts text.now) p.groups) }
+    ensures fault { IfErr result (IsFirstGroupsFault shape (group_texts text.now)) }
+{
+    let groups = match groups_in(alloc, shape, text) {
+        Ok(groups) => groups,
+        Err(fault) => return Err(fault),
+    };
+    match Partition::new(shape, groups) {
+        Ok(partition) => Ok(partition),
+        Err(fault) => Err(GroupsFault::NoPartition(fault)),
+    }
+}
+
+// The groups of a text, or the first fault of one.
+fn groups_in(alloc: Global, shape: Shape, text: &str) -> Result<Vec<Group>, GroupsFault>
+    ensures groups { IfOk result (λ groups. AreGroupsOf shape (group_texts text.now) groups.items) }
+    ensures fault { IfErr result (IsFirstGroupsFault shape (group_texts text.now)) }
+{
+    let mut groups = Vec::new(alloc);
+    if text == "none" {
+        return Ok(groups);
+    }
+    'groups: for piece in text.split('/') {
+        let group = match read_group(shape, piece) {
+            Ok(group) => group,
+            Err(fault) => return Err(GroupsFault::NoGroup(fault)),
+        };
+        if let Err(refused) = push(&mut groups, group) {
+            return Err(GroupsFault::Memory(refused));
+        }
+    }
+    Ok(groups)
+}
+
+// The group of a text, or its first fault.
+fn read_group(shape: Shape, text: &str) -> Result<Group, GroupFault>
+    ensures group { IfOk result (IsGroupOf shape text.now) }
+    ensures fault { (fault : GroupFault) → IsErrOf result fault
+        ↔ IsFirstFault shape (group_numbers text.now) fault }
+{
+    // What the last clause needs of the shape, that it is one, is told by this call.
+    let _ = shape.cells();
+    let numbers = group_numbers_in(text);
+    Group::new(shape, numbers.as_slice())
+}
+
+// The numbers that the words of a group say.
+fn group_numbers_in(text: &str) -> ArrayVec<u8, 26>
+    ensures { result.items ≡ take 26 (group_numbers text.now) }
+{
+    if text.is_empty() {
+        return ArrayVec::new();
+    }
+    numbers_in(text)
+}
