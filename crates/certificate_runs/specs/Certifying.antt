@@ -1,9 +1,12 @@
 -- What is written for the first line of an input that isn't passed over: a certificate, or a report.
-use Rattle.std.specs.Prelude.{ℕ, ◌≡◌, ◌⊎◌, ◌+◌, ◌^◌, ◌<◌, List, [], ◌∷◌, ◌++◌, length, Option, None, Some, Result, Ok, Err, All, string_bytes, ⊤}
+use Rattle.std.specs.Prelude.{ℕ, ◌≡◌, ◌⊎◌, ◌+◌, ◌^◌, ◌<◌, List, [], ◌∷◌, ◌++◌, length, Option, None, Some, Result, Ok, Err, Vec, All, string_bytes, ⊤}
+use Rattle.std.specs.declared.alloc.Global.{Global}
 use Rattle.byte_streams.specs.Streams.{SourceState, SinkState, Change}
 use Rattle.byte_streams.specs.Sink.{WritesAll, FailsWriting}
 use Rattle.byte_streams.specs.declared.source.ReadFailed.{ReadFailed}
+use Rattle.board.specs.declared.moves.Move.{Move}
 use Rattle.board.specs.Positions.{Position}
+use Rattle.board.specs.Plans.{Leads, IsLeast}
 use Rattle.batch_lines.specs.Lines.{without_return, kind_of}
 use Rattle.batch_lines.specs.Readings.{IsJudged}
 use Rattle.batch_lines.specs.Words.{IsEntry}
@@ -12,52 +15,57 @@ use Rattle.batch_lines.specs.declared.lines.LineKind.TheVariants.{PassedOver, Wi
 use Rattle.certificate.specs.Certificates.{Statement, IsCertificate}
 use Rattle.certificate.specs.Spellings.{spelling}
 use Rattle.certificate_check.specs.Refusals.{IsProved}
-use Rattle.outcomes.specs.declared.outcome.Outcome.TheVariants.{Optimal, Unsolvable, Bounded}
+use Rattle.pattern_index.specs.Splits.{Split}
+use Rattle.outcomes.specs.declared.outcome.Ending.TheVariants.{Optimal, Unsolvable, Bounded}
 use Rattle.outcomes.specs.Outcomes.{Task}
 use Rattle.batch_runs.specs.Batches.{Rules, IsTruthful, Answer, AnswersKind, AreRead, AreAll, TakesSome, LosesLine, IsReadable, answer_text, with_answer, no_lines, status_of_counts}
 use Rattle.batch_runs.specs.Batches.Answer.{passed_over, refused, answered}
-use Rattle.batch_runs.specs.Setups.{SetupState}
-use Rattle.batch_runs.specs.Solving.{task_of}
+use Rattle.batch_runs.specs.Setups.{SetupState, task_of}
 use Rattle.lower_bound.specs.Tables.{Tables}
 use Rattle.certificate_runs.specs.Outputs.{Output, IsUntouched}
 use Rattle.certificate_runs.specs.Built.{AreBuiltFor}
 use Rattle.certificate_runs.specs.declared.certifying.Reply.{Reply}
 use Rattle.certificate_runs.specs.declared.certifying.Reply.TheVariants.{Certified, Reported}
 use Rattle.certificate_runs.specs.declared.faults.CertifyFault.{CertifyFault}
-use Rattle.certificate_runs.specs.declared.faults.CertifyFault.TheVariants.{Read, Write, Memory, CertificateWrite}
+use Rattle.certificate_runs.specs.declared.faults.CertifyFault.TheVariants.{Read, Write, Memory, GroupsMemory, CertificateWrite}
 
--- these rules are of a solver of the setup's boards, whose outcomes answer what is asked
+-- these rules are of a prover of the setup's boards, whose endings answer what is asked
 pub record AreRulesFor (setup : SetupState) (rules : Rules) : Type 0 where
   pub grid : rules.grid ≡ setup.goal.grid
   pub task : rules.task ≡ task_of setup
   pub truthful : IsTruthful rules
 
--- a certificate that answers this task: its plan leads from the start to the goal at its cost, and its rows prove it with the sums of its groups' tables
-pub record IsCertificateOf (task : Task) (c : Statement) : Type 0 where
+-- A certificate that answers this task with these groups. Its plan leads from the start to the goal at its cost, and no plan costs less. Its rows prove it with the sums of the groups' tables, whoever builds them.
+pub record IsCertificateOf (split : Split) (task : Task) (c : Statement) : Type 0 where
   pub sides : c.grid ≡ task.goal.grid
   pub costs : c.costs ≡ task.rule
+  pub groups : c.groups ≡ split
   pub start : c.start ≡ task.start
   pub goal : c.goal ≡ task.goal
   pub certificate : IsCertificate c
-  pub tables : Tables
-  pub built : AreBuiltFor c tables
-  pub proved : IsProved c tables
+  pub leads : Leads c.costs c.start c.plan c.goal c.cost
+  pub least : IsLeast c.costs c.start c.goal c.cost
+  pub proved : (tables : Tables) → AreBuiltFor c tables → IsProved c tables
 
 -- a certificate of the board that these bytes name
-abbrev pub IsCertificateFor : Rules → List ℕ → Statement → Type 0
-IsCertificateFor rules bytes c = (id : List ℕ) × (b : Position) × IsEntry rules.grid bytes id b × IsCertificateOf (rules.task b) c
+abbrev pub IsCertificateFor : Split → Rules → List ℕ → Statement → Type 0
+IsCertificateFor split rules bytes c = (id : List ℕ) × (b : Position) × IsEntry rules.grid bytes id b × IsCertificateOf split (rules.task b) c
+
+-- the bytes name a board for which a plan of least cost may be answered
+abbrev pub NamesLeast : Rules → List ℕ → Type 0
+NamesLeast rules bytes = (id : List ℕ) × (b : Position) × (cost : ℕ) × (plan : Vec Move Global) × IsEntry rules.grid bytes id b × rules.allows b (Some (Optimal cost plan))
 
 -- ---- what is written for a line
 
 -- the certificate of the board that these bytes name, with the status 0
-abbrev pub Certifies : Rules → List ℕ → Output → Type 0
-Certifies rules bytes output = (c : Statement) × IsCertificateFor rules bytes c × (output ≡ record { text = spelling c; status = 0 })
+abbrev pub Certifies : Split → Rules → List ℕ → Output → Type 0
+Certifies split rules bytes output = (c : Statement) × IsCertificateFor split rules bytes c × (output ≡ record { text = spelling c; status = 0 })
 
 -- an answer that names no least plan
 abbrev pub IsNotOptimal : Answer → Type 0
 IsNotOptimal passed_over = ⊤
 IsNotOptimal (refused code) = ⊤
-IsNotOptimal (answered id (Optimal cost plan rows)) = ⊥
+IsNotOptimal (answered id (Optimal cost plan)) = ⊥
 IsNotOptimal (answered id (Unsolvable why)) = ⊤
 IsNotOptimal (answered id (Bounded bound best cause)) = ⊤
 
@@ -70,13 +78,21 @@ abbrev pub ReportsLine : Rules → Line → List ℕ → Output → Type 0
 ReportsLine rules line bytes output = (answer : Answer) × AnswersKind rules line.kind bytes answer × IsNotOptimal answer × (output ≡ report_of line.number answer)
 
 -- the certificate or the report of a line with these bytes
-abbrev pub RepliesTo : Rules → Line → List ℕ → Output → Type 0
-RepliesTo rules line bytes output = ((line.kind ≡ Within) × Certifies rules bytes output) ⊎ ReportsLine rules line bytes output
+abbrev pub RepliesTo : Split → Rules → Line → List ℕ → Output → Type 0
+RepliesTo split rules line bytes output = ((line.kind ≡ Within) × Certifies split rules bytes output) ⊎ ReportsLine rules line bytes output
 
 -- the same of what is to be written
-abbrev pub IsReply : Rules → Line → List ℕ → Reply → Type 0
-IsReply rules line bytes (Certified c) = (line.kind ≡ Within) × IsCertificateFor rules bytes c
-IsReply rules line bytes (Reported text status) = ReportsLine rules line bytes (record { text = string_bytes text; status = status })
+abbrev pub IsReply : Split → Rules → Line → List ℕ → Reply → Type 0
+IsReply split rules line bytes (Certified c) = (line.kind ≡ Within) × IsCertificateFor split rules bytes c
+IsReply split rules line bytes (Reported text status) = ReportsLine rules line bytes (record { text = string_bytes text; status = status })
+
+-- why there is none: memory was wanting for a report, or for the groups of a certificate
+abbrev pub HasNoReply : Rules → Line → List ℕ → CertifyFault → Type 0
+HasNoReply rules line bytes Read = ⊥
+HasNoReply rules line bytes Write = ⊥
+HasNoReply rules line bytes (Memory lacking) = ⊤
+HasNoReply rules line bytes (GroupsMemory refused) = (line.kind ≡ Within) × NamesLeast rules bytes
+HasNoReply rules line bytes CertificateWrite = ⊥
 
 -- what is written of a reply, and its status
 abbrev pub reply_output : Reply → Output
@@ -136,24 +152,29 @@ SeeksFirst source kept result = TakesSome source × FindsLine source kept result
 -- ---- how the run ends
 
 -- this is written for the first line
-abbrev pub RepliesToFirst : Rules → Change SourceState → Output → Type 0
-RepliesToFirst rules source output = (first : FindsFirst source) × RepliesTo rules (first_line source first) (without_return first.line) output
+abbrev pub RepliesToFirst : Split → Rules → Change SourceState → Output → Type 0
+RepliesToFirst split rules source output = (first : FindsFirst source) × RepliesTo split rules (first_line source first) (without_return first.line) output
 
 abbrev pub ReportsFirst : Rules → Change SourceState → Output → Type 0
 ReportsFirst rules source output = (first : FindsFirst source) × ReportsLine rules (first_line source first) (without_return first.line) output
 
-abbrev pub CertifiesFirst : Rules → Change SourceState → Output → Type 0
-CertifiesFirst rules source output = (first : FindsFirst source) × (kind_of first.line ≡ Within) × Certifies rules (without_return first.line) output
+abbrev pub CertifiesFirst : Split → Rules → Change SourceState → Output → Type 0
+CertifiesFirst split rules source output = (first : FindsFirst source) × (kind_of first.line ≡ Within) × Certifies split rules (without_return first.line) output
+
+-- there is no reply to the first line, by this fault
+abbrev pub LacksReply : Rules → Change SourceState → CertifyFault → Type 0
+LacksReply rules source fault = (first : FindsFirst source) × HasNoReply rules (first_line source first) (without_return first.line) fault
 
 -- How the run ends: all lines are passed over, and nothing is written; or the first other one is replied to. Else the line was lost, or memory was wanting, and nothing was written; or writing failed.
-abbrev pub EndsReplying : Rules → Change SourceState → Change SinkState → Result ℕ CertifyFault → Type 0
-EndsReplying rules source sink (Ok status) =
-    IsReadable source × ((PassesAll source × IsUntouched sink × (status ≡ 0)) ⊎ ((output : Output) × RepliesToFirst rules source output × WritesAll sink output.text × (status ≡ output.status)))
-EndsReplying rules source sink (Err Read) = LosesFirst source × IsUntouched sink
-EndsReplying rules source sink (Err Write) = IsReadable source × ((output : Output) × ReportsFirst rules source output × FailsWriting sink output.text)
-EndsReplying rules source sink (Err (Memory lacking)) = IsReadable source × FindsFirst source × IsUntouched sink
-EndsReplying rules source sink (Err CertificateWrite) = IsReadable source × ((output : Output) × CertifiesFirst rules source output × FailsWriting sink output.text)
+abbrev pub EndsReplying : Split → Rules → Change SourceState → Change SinkState → Result ℕ CertifyFault → Type 0
+EndsReplying split rules source sink (Ok status) =
+    IsReadable source × ((PassesAll source × IsUntouched sink × (status ≡ 0)) ⊎ ((output : Output) × RepliesToFirst split rules source output × WritesAll sink output.text × (status ≡ output.status)))
+EndsReplying split rules source sink (Err Read) = LosesFirst source × IsUntouched sink
+EndsReplying split rules source sink (Err Write) = IsReadable source × ((output : Output) × ReportsFirst rules source output × FailsWriting sink output.text)
+EndsReplying split rules source sink (Err (Memory lacking)) = IsReadable source × LacksReply rules source (Memory lacking) × IsUntouched sink
+EndsReplying split rules source sink (Err (GroupsMemory refused)) = IsReadable source × LacksReply rules source (GroupsMemory refused) × IsUntouched sink
+EndsReplying split rules source sink (Err CertificateWrite) = IsReadable source × ((output : Output) × CertifiesFirst split rules source output × FailsWriting sink output.text)
 
 -- some bytes were taken, from the front, and the run ends so
-abbrev pub Replies : Rules → Change SourceState → Change SinkState → Result ℕ CertifyFault → Type 0
-Replies rules source sink result = TakesSome source × EndsReplying rules source sink result
+abbrev pub Replies : Split → Rules → Change SourceState → Change SinkState → Result ℕ CertifyFault → Type 0
+Replies split rules source sink result = TakesSome source × EndsReplying split rules source sink result

@@ -2,7 +2,7 @@
 use Rattle.std.specs.Prelude.{ℕ, List, codes}
 use Rattle.certificate_runs.specs.declared.faults.CertifyFault.{CertifyFault}
 use Rattle.certificate_runs.specs.declared.faults.CheckFault.{CheckFault}
-use Rattle.certificate_runs.specs.declared.faults.CertifyFault.TheVariants.{Read, Write, Memory, CertificateWrite}
+use Rattle.certificate_runs.specs.declared.faults.CertifyFault.TheVariants.{Read, Write, Memory, GroupsMemory, CertificateWrite}
 use Rattle.certificate_runs.specs.declared.faults.CheckFault.TheVariants as check
 
 -- the code that a fault is reported by
@@ -10,6 +10,7 @@ abbrev pub certify_code : CertifyFault → List ℕ
 certify_code Read = codes "B1"
 certify_code Write = codes "B2"
 certify_code (Memory lacking) = codes "B3"
+certify_code (GroupsMemory refused) = codes "B3"
 certify_code CertificateWrite = codes "F8"
 
 abbrev pub check_code : CheckFault → List ℕ

@@ -5,6 +5,7 @@ use Rattle.byte_streams.specs.Streams.{SourceState, SinkState, Change}
 use Rattle.byte_streams.specs.Sink.{Puts}
 use Rattle.board.specs.Positions.{Position}
 use Rattle.board.specs.Plans.{Leads, IsLeast}
+use Rattle.pattern_index.specs.Splits.{Split}
 use Rattle.outcomes.specs.Outcomes.{Task}
 use Rattle.reports.specs.Readings.{Reads, SaysText, SaysNumber, HasStatus}
 use Rattle.certificate.specs.Certificates.{Statement}
@@ -23,35 +24,34 @@ use Rattle.certificate_runs.specs.declared.faults.CheckFault.{CheckFault}
 
 -- ---- a line in, a certificate out
 
--- The bytes, read again, are this certificate. Its plan leads from the start to the goal at its cost, and no plan costs less, which its rows prove with the sums of its groups' tables.
-pub record CertifiesLeast (task : Task) (c : Statement) (bytes : List ℕ) : Type 0 where
+-- The bytes, read again, are this certificate, which names these groups. Its plan leads from the start to the goal at its cost, and no plan costs less. Its rows prove it with the sums of the groups' tables, so whoever builds these accepts it.
+pub record CertifiesLeast (split : Split) (task : Task) (c : Statement) (bytes : List ℕ) : Type 0 where
   pub read : certificate bytes ≡ Ok (c, [])
+  pub groups : c.groups ≡ split
   pub start : c.start ≡ task.start
   pub goal : c.goal ≡ task.goal
   pub costs : c.costs ≡ task.rule
   pub leads : Leads task.rule task.start c.plan task.goal c.cost
   pub least : IsLeast task.rule task.start task.goal c.cost
-  pub tables : Tables
-  pub built : AreBuiltFor c tables
-  pub proved : IsProved c tables
+  pub proved : (tables : Tables) → AreBuiltFor c tables → IsProved c tables
 
--- Where all of these lines are passed over, nothing is written. Else one alone is not, and the output is a certificate of the board that it names, or a report that tells the truth of it.
-pub data AnswersFirst (rules : Rules) (lines : List (List ℕ)) (output : List ℕ) : Type 0 where
-  by_none : questions 1 lines ≡ [] → output ≡ [] → AnswersFirst rules lines output
-  by_certificate : (n : ℕ) (line id : List ℕ) (b : Position) (c : Statement) → questions 1 lines ≡ (n, line) ∷ [] → Names rules.grid line id b → CertifiesLeast (rules.task b) c output → AnswersFirst rules lines output
-  by_report : (n : ℕ) (line : List ℕ) → questions 1 lines ≡ (n, line) ∷ [] → TellsTheTruth rules lines output → AnswersFirst rules lines output
+-- Where all of these lines are passed over, nothing is written. Else one alone is not, and the output is a certificate of the board that it names, with these groups, or a report that tells the truth of it.
+pub data AnswersFirst (split : Split) (rules : Rules) (lines : List (List ℕ)) (output : List ℕ) : Type 0 where
+  by_none : questions 1 lines ≡ [] → output ≡ [] → AnswersFirst split rules lines output
+  by_certificate : (n : ℕ) (line id : List ℕ) (b : Position) (c : Statement) → questions 1 lines ≡ (n, line) ∷ [] → Names rules.grid line id b → CertifiesLeast split (rules.task b) c output → AnswersFirst split rules lines output
+  by_report : (n : ℕ) (line : List ℕ) → questions 1 lines ≡ (n, line) ∷ [] → TellsTheTruth rules lines output → AnswersFirst split rules lines output
 
 -- this was written for the first lines of the input
-pub record WritesAnswer (rules : Rules) (source : Change SourceState) (sink : Change SinkState) : Type 0 where
+pub record WritesAnswer (split : Split) (rules : Rules) (source : Change SourceState) (sink : Change SinkState) : Type 0 where
   pub lines : List (List ℕ)
   pub output : List ℕ
   pub first : AreFirst source.before.left lines
   pub put : Puts sink output
-  pub answer : AnswersFirst rules lines output
+  pub answer : AnswersFirst split rules lines output
 
 -- a run that ends well wrote such an answer
-abbrev pub IsTrueAnswer : Rules → Change SourceState → Change SinkState → Result ℕ CertifyFault → Type 0
-IsTrueAnswer rules source sink result = IfOk result (λ status. WritesAnswer rules source sink)
+abbrev pub IsTrueAnswer : Split → Rules → Change SourceState → Change SinkState → Result ℕ CertifyFault → Type 0
+IsTrueAnswer split rules source sink result = IfOk result (λ status. WritesAnswer split rules source sink)
 
 -- ---- a certificate in, a verdict out
 

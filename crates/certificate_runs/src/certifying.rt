@@ -1,68 +1,94 @@
 //! A line in, a certificate out.
 
-ghost use Rattle.std.specs.Prelude.{◌≡◌, ◌≢◌, [], IfOk};
+ghost use Rattle.std.specs.Prelude.{◌≡◌, ◌≢◌, All, Some, None, IfOk, IfErr, OnErr};
 ghost use Rattle.byte_streams.specs.Streams.{change};
 ghost use Rattle.outcomes.specs.declared.outcome.Outcome.TheVariants.{Optimal};
 ghost use Rattle.outcomes.specs.Outcomes.{Answers};
+ghost use Rattle.outcomes.specs.Endings.{without_rows};
+ghost use Rattle.reports.specs.declared.report.NoReport.{NoReport};
 ghost use Rattle.batch_lines.specs.declared.lines.LineKind.TheVariants.{PassedOver, Within};
 ghost use Rattle.certificate.specs.Certificates.{AreNamedCosts, IsBoardOf};
-ghost use Rattle.batch_runs.specs.Batches.{no_lines, with_outcome, status_of_counts};
-ghost use Rattle.batch_runs.specs.Solving.{task_of, rules_of};
+ghost use Rattle.certificate_runs.specs.declared.faults.CertifyFault.{CertifyFault};
+ghost use Rattle.batch_runs.specs.Batches.{Rules, no_lines, with_outcome, status_of_counts};
+ghost use Rattle.batch_runs.specs.Setups.{task_of};
 ghost use Rattle.certificate_runs.specs.Certifying.{Replies, SeeksFirst, PutsReply};
 ghost use Rattle.certificate_runs.specs.Headline.{IsTrueAnswer};
-ghost use Rattle.certificate_runs.specs.Certifying.{AreRulesFor, IsCertificateOf, IsReply, IsRefusal};
+ghost use Rattle.certificate_runs.specs.Certifying.{AreRulesFor, IsCertificateOf, IsReply};
+ghost use Rattle.certificate_runs.specs.Certifying.{IsRefusal, HasNoReply};
+ghost use Rattle.certificate_runs.specs.Built.{HasSmallEntries};
 
 use crate::faults::CertifyFault;
 use batch_lines::{EntryFault, Line, LineKind, LineReader, read_entry};
-use batch_runs::{Setup, Solver};
+use batch_runs::Setup;
 use board::laws::keys_are_in_order;
-use board::{Board, Move, Shape};
+use board::{Board, Move};
 use byte_streams::{ReadFailed, Sink, Source};
 use certificate::{Certificate, Parts, write};
-use outcomes::{Outcome, SolveFault};
-use pattern_index::Partition;
-use reports::{NoReport, outcome_report, refused_report};
+use database_build::Table;
+use memory::OutOfMemory;
+use outcomes::{Ending, Outcome, SolveFault};
+use reports::{outcome_report, refused_report};
 use std::alloc::Global;
 
+/// What solves boards and proves its plans: a plan of least cost comes with rows.
+pub trait Prover {
+    // The shape of the boards that it solves, what is asked of a board, and which endings it may be
+    // answered by.
+    ghost rules: { Self → Rules };
+
+    /// Solves a board. The error tells a want of memory before the first step.
+    fn prove(&self, alloc: Global, start: &Board) -> Result<Outcome, OutOfMemory>
+        requires { start.now.grid ≡ (rules self.now).grid }
+        ensures allowed { IfOk result (λ outcome.
+            (rules self.now).allows start.now (Some (without_rows outcome))) }
+        ensures answers { IfOk result (Answers ((rules self.now).task start.now)) }
+        ensures lacking { OnErr result ((rules self.now).allows start.now None) };
+}
+
 /// Answers the first line of the source that isn't passed over, and takes nothing behind it: where
-/// a plan of least cost is found, its certificate is written, else the line's report.
+/// a plan of least cost is found, its certificate is written, else the line's report. A certificate
+/// names the groups of the setup's tables.
 ///
 /// Answers the status: 0 for a certificate, for a board without a plan, and where no line is to be
 /// answered; 1 for a bound and for a line that is refused. Nothing is written where reading fails
 /// or memory is wanting. Nothing is flushed.
-pub fn run_cert<S: Source, K: Sink>(
+///
+/// What is written tells the truth: so says the clause `truth`, in words of what a reader sees.
+pub fn certify_first<S: Source, K: Sink, A: Prover>(
     alloc: Global,
     source: &mut S,
     sink: &mut K,
     setup: &Setup,
-) -> Result<u8, CertifyFault>
-    requires { AreNamedCosts setup.now.goal.grid setup.now.rule }
-    ensures replies { Replies (rules_of setup.now) (change S.state source.old source.new)
-        (change K.state sink.old sink.new) result }
-    ensures truth { IsTrueAnswer (rules_of setup.now) (change S.state source.old source.new)
-        (change K.state sink.old sink.new) result }
-{
-    reply_to_first(alloc, source, sink, setup, setup)
-}
-
-// The same by any solver of the setup's boards.
-fn reply_to_first<S: Source, K: Sink, A: Solver>(
-    alloc: Global,
-    source: &mut S,
-    sink: &mut K,
-    setup: &Setup,
-    solver: &A,
+    prover: &A,
 ) -> Result<u8, CertifyFault>
     requires named { AreNamedCosts setup.now.goal.grid setup.now.rule }
-    requires rules { AreRulesFor setup.now (A.rules solver.now) }
-    ensures { Replies (A.rules solver.now) (change S.state source.old source.new)
-        (change K.state sink.old sink.new) result }
+    requires rules { AreRulesFor setup.now (A.rules prover.now) }
+    ensures replies { Replies setup.now.tables.split (A.rules prover.now)
+        (change S.state source.old source.new) (change K.state sink.old sink.new) result }
+    ensures truth { IsTrueAnswer setup.now.tables.split (A.rules prover.now)
+        (change S.state source.old source.new) (change K.state sink.old sink.new) result }
+{
+    reply_to_first(alloc, source, sink, setup, prover)
+}
+
+// The same, by what was replied.
+fn reply_to_first<S: Source, K: Sink, A: Prover>(
+    alloc: Global,
+    source: &mut S,
+    sink: &mut K,
+    setup: &Setup,
+    prover: &A,
+) -> Result<u8, CertifyFault>
+    requires named { AreNamedCosts setup.now.goal.grid setup.now.rule }
+    requires rules { AreRulesFor setup.now (A.rules prover.now) }
+    ensures { Replies setup.now.tables.split (A.rules prover.now)
+        (change S.state source.old source.new) (change K.state sink.old sink.new) result }
 {
     let mut reader = LineReader::new();
     match find_line(source, &mut reader) {
-        Ok(Some(line)) => match reply_to_line(alloc, setup, solver, line, reader.bytes()) {
+        Ok(Some(line)) => match reply_to_line(alloc, setup, prover, line, reader.bytes()) {
             Ok(reply) => put_reply(sink, &reply),
-            Err(lacking) => Err(CertifyFault::Memory(lacking)),
+            Err(fault) => Err(fault),
         },
         Ok(None) => Ok(0),
         Err(_) => Err(CertifyFault::Read),
@@ -97,73 +123,86 @@ fn find_line<S: Source>(source: &mut S, reader: &mut LineReader) -> Result<Optio
 }
 
 // The reply to a line that isn't passed over, whose bytes are given where it is to be read.
-fn reply_to_line<A: Solver>(
+fn reply_to_line<A: Prover>(
     alloc: Global,
     setup: &Setup,
-    solver: &A,
+    prover: &A,
     line: Line,
     bytes: &[u8],
-) -> Result<Reply, NoReport>
+) -> Result<Reply, CertifyFault>
     requires named { AreNamedCosts setup.now.goal.grid setup.now.rule }
-    requires rules { AreRulesFor setup.now (A.rules solver.now) }
+    requires rules { AreRulesFor setup.now (A.rules prover.now) }
     requires kind { line.kind ≢ PassedOver }
-    ensures { IfOk result (IsReply (A.rules solver.now) line bytes.now) }
+    ensures reply { IfOk result
+        (IsReply setup.now.tables.split (A.rules prover.now) line bytes.now) }
+    ensures lacking { IfErr result (HasNoReply (A.rules prover.now) line bytes.now) }
 {
     match line.kind {
-        LineKind::Within => reply_to_entry(alloc, setup, solver, line.number, bytes),
+        LineKind::Within => reply_to_entry(alloc, setup, prover, line.number, bytes),
         _ => refuse(alloc, EntryFault::NoText.code(), line.number),
     }
 }
 
 // The reply to a line that is to be read.
-fn reply_to_entry<A: Solver>(
+fn reply_to_entry<A: Prover>(
     alloc: Global,
     setup: &Setup,
-    solver: &A,
+    prover: &A,
     number: u64,
     bytes: &[u8],
-) -> Result<Reply, NoReport>
+) -> Result<Reply, CertifyFault>
     requires named { AreNamedCosts setup.now.goal.grid setup.now.rule }
-    requires rules { AreRulesFor setup.now (A.rules solver.now) }
-    ensures { IfOk result
-        (IsReply (A.rules solver.now) (record { number = number; kind = Within }) bytes.now) }
+    requires rules { AreRulesFor setup.now (A.rules prover.now) }
+    ensures reply { IfOk result (IsReply setup.now.tables.split (A.rules prover.now)
+        (record { number = number; kind = Within }) bytes.now) }
+    ensures lacking { IfErr result (HasNoReply (A.rules prover.now)
+        (record { number = number; kind = Within }) bytes.now) }
 {
     let entry = match read_entry(setup.shape(), bytes) {
         Ok(entry) => entry,
         Err(fault) => return refuse(alloc, fault.code(), number),
     };
-    match solver.solve(alloc, &entry.board) {
+    match prover.prove(alloc, &entry.board) {
         Ok(Outcome::Optimal { cost, plan, rows }) => {
-            let certificate = certify(alloc, setup, entry.board, cost, plan, rows);
-            Ok(Reply::Certified(certificate))
+            match certify(alloc, setup, entry.board, cost, plan, rows) {
+                Ok(certificate) => Ok(Reply::Certified(certificate)),
+                Err(refused) => Err(CertifyFault::GroupsMemory(refused)),
+            }
         }
         Ok(outcome) => {
-            let text = outcome_report(alloc, entry.id, &outcome)?;
-            Ok(Reply::Reported(text, status_of(&outcome)))
+            let ending = outcome.without_rows();
+            match outcome_report(alloc, entry.id, &ending) {
+                Ok(text) => Ok(Reply::Reported(text, status_of(&ending))),
+                Err(lacking) => Err(CertifyFault::Memory(lacking)),
+            }
         }
         Err(refused) => refuse(alloc, SolveFault::Memory(refused).code(), number),
     }
 }
 
 // The report of a line that is refused.
-fn refuse(alloc: Global, code: &str, number: u64) -> Result<Reply, NoReport>
-    ensures { IfOk result (IsRefusal code.now number) }
+fn refuse(alloc: Global, code: &str, number: u64) -> Result<Reply, CertifyFault>
+    ensures refusal { IfOk result (IsRefusal code.now number) }
+    ensures lacking { IfErr result (λ fault. (lacking : NoReport)
+        × (fault ≡ CertifyFault.Memory lacking)) }
 {
-    Ok(Reply::Reported(refused_report(alloc, code, number)?, 1))
+    match refused_report(alloc, code, number) {
+        Ok(text) => Ok(Reply::Reported(text, 1)),
+        Err(lacking) => Err(CertifyFault::Memory(lacking)),
+    }
 }
 
 // 1 for a bound, 0 for a board without a plan.
-fn status_of(outcome: &Outcome) -> u8
-    ensures { result ≡ status_of_counts (with_outcome no_lines outcome.now) }
+fn status_of(ending: &Ending) -> u8
+    ensures { result ≡ status_of_counts (with_outcome no_lines ending.now) }
 {
-    match outcome {
-        Outcome::Bounded { .. } => 1,
+    match ending {
+        Ending::Bounded { .. } => 1,
         _ => 0,
     }
 }
 
-// The certificate of a plan of least cost. The search that found it had no tables, so it has no
-// groups.
+// The certificate of a plan of least cost, with the groups of the setup's tables.
 fn certify(
     alloc: Global,
     setup: &Setup,
@@ -171,33 +210,38 @@ fn certify(
     cost: u32,
     plan: Vec<Move>,
     rows: Vec<(Board, u32)>,
-) -> Certificate
+) -> Result<Certificate, OutOfMemory>
     requires named { AreNamedCosts setup.now.goal.grid setup.now.rule }
     requires start { IsBoardOf setup.now.goal.grid start }
     requires answers { Answers (task_of setup.now start) (Optimal cost plan rows) }
-    ensures { IsCertificateOf (task_of setup.now start) result }
+    ensures { IfOk result (IsCertificateOf setup.now.tables.split (task_of setup.now start)) }
 {
     // The order of the rows, which is by key, is that of their lists of tiles by this law.
     keys_are_in_order();
+    let tables = setup.tables();
+    tell_entries(tables.tables());
+    let groups = tables.partition().copy(alloc)?;
     let goal = setup.goal();
     let parts = Parts {
         shape: goal.shape(),
         costs: setup.weights(),
-        groups: no_groups(alloc, goal.shape()),
+        groups,
         start,
         goal,
         cost,
         plan,
         rows,
     };
-    Certificate::new(parts).unwrap()
+    Ok(Certificate::new(parts).unwrap())
 }
 
-// No groups, of boards of this shape.
-fn no_groups(alloc: Global, shape: Shape) -> Partition
-    ensures { result ≡ record { grid = shape; groups = [] } }
+// The entries of tables are numbers of 16 bits.
+fn tell_entries(tables: &[Table])
+    ensures { All HasSmallEntries tables.now }
 {
-    Partition::new(shape, Vec::new(alloc)).unwrap()
+    'tables: for table in tables {
+        let _ = table.values();
+    }
 }
 
 // Writes a reply, and answers its status.

@@ -19,6 +19,9 @@ pub enum CertifyFault {
     /// B3
     #[error("no memory for a report")]
     Memory(NoReport),
+    /// B3
+    #[error("no memory for the groups of a certificate")]
+    GroupsMemory(OutOfMemory),
     /// F8
     #[error("the certificate cannot be written")]
     CertificateWrite,
@@ -32,7 +35,7 @@ impl CertifyFault {
         match self {
             CertifyFault::Read => "B1",
             CertifyFault::Write => "B2",
-            CertifyFault::Memory(_) => "B3",
+            CertifyFault::Memory(_) | CertifyFault::GroupsMemory(_) => "B3",
             CertifyFault::CertificateWrite => "F8",
         }
     }

@@ -3,13 +3,13 @@
 ghost use Rattle.certificate_runs.specs.Laws.{OtherFaultsLeaveTheSink, OtherFaultsWriteNoVerdict};
 ghost use Rattle.certificate_runs.specs.Laws.{SilenceIsUnasked};
 
-use batch_runs::Solver;
+use crate::certifying::Prover;
 
 /// A run that writes a certificate leaves the sink as it was, but after a fault of writing.
-pub fn other_faults_leave_the_sink<A: Solver>(solver: &A)
-    ensures { OtherFaultsLeaveTheSink (A.rules solver.now) }
+pub fn other_faults_leave_the_sink<A: Prover>(prover: &A)
+    ensures { OtherFaultsLeaveTheSink (A.rules prover.now) }
 {
-    let _ = solver;
+    let _ = prover;
 }
 
 /// And so does one that checks a certificate.
@@ -18,6 +18,8 @@ pub fn other_faults_write_no_verdict()
 {}
 
 /// Where nothing is written for lines, none of them asks for an answer.
-pub fn silence_is_unasked()
-    ensures { SilenceIsUnasked }
-{}
+pub fn silence_is_unasked<A: Prover>(prover: &A)
+    ensures { SilenceIsUnasked (A.rules prover.now) }
+{
+    let _ = prover;
+}

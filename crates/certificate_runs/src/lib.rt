@@ -8,6 +8,6 @@ mod checking;
 mod faults;
 pub mod laws;
 
-pub use certifying::run_cert;
+pub use certifying::{Prover, certify_first};
 pub use checking::run_check;
 pub use faults::{CertifyFault, CheckFault};
