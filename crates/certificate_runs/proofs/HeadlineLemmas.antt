@@ -19,7 +19,7 @@ use Rattle.reports.specs.Reports.{accepted_data, refused_certificate_data, repor
 use Rattle.reports.specs.Readings.{IsSmall}
 use Rattle.reports.specs.Readings.IsReport.{of_cost, of_certificate}
 use Rattle.reports.proofs.ReadLemmas.{report_read}
-use Rattle.certificate.specs.Certificates.{Statement, IsCertificate}
+use Rattle.certificate.specs.Certificates.{Statement}
 use Rattle.certificate.specs.Spellings.{Spells, spelling}
 use Rattle.certificate.specs.Faults.{format_code}
 use Rattle.certificate.specs.Sources.{Tells}
@@ -27,11 +27,7 @@ use Rattle.certificate.specs.declared.faults.ReadFault.{ReadFault}
 use Rattle.certificate.specs.declared.faults.ReadFault.TheVariants.{Format, Failed, NoMemory}
 use Rattle.certificate.proofs.LawLemmas.{spelled_read}
 use Rattle.certificate_check.specs.Refusals.{refusal_code}
-use Rattle.pattern_index.specs.Splits.{Split, IsSplit}
-use Rattle.lower_bound.specs.Tables.{Tables, IsTables}
-use Rattle.lower_bound.proofs.TableLemmas.{tables_are_bounds}
-use Rattle.certificate_runs.specs.Built.{AreBuiltFor}
-use Rattle.certificate_check.proofs.RefusalLemmas.{proved_is_least}
+use Rattle.pattern_index.specs.Splits.{Split}
 use Rattle.batch_runs.specs.Batches.{Rules, IsTruthful, Answer, AnswersKind, AnswersLine, AnswersLines, AreAll, AreFirst, answer_text, answers_text}
 use Rattle.batch_runs.specs.Batches.Answer.{passed_over}
 use Rattle.batch_runs.specs.Meanings.{asks, questions}
@@ -124,20 +120,15 @@ moved : (P : CostRule → Position → Position → Type 0) (task : Task) (c : S
 moved P task c costs start goal fact =
     subst (λ (q : Position). P task.rule task.start q) goal (subst (λ (b : Position). P task.rule b c.goal) start (subst (λ (rule : CostRule). P rule c.start c.goal) costs fact))
 
--- groups with the tables that were built for them
-tables_there : (c : Statement) (t : Tables) → IsCertificate c → AreBuiltFor c t → IsTables t
-tables_there c t is built = record { partition = subst (λ (s : Split). IsSplit s) (sym built.groups) is.groups.split; one_each = built.one_each }
-
-certifies_least : (task : Task) (c : Statement) → IsCertificateOf task c → CertifiesLeast task c (spelling c)
-certifies_least task c of = record {
+certifies_least : (split : Split) (task : Task) (c : Statement) → IsCertificateOf split task c → CertifiesLeast split task c (spelling c)
+certifies_least split task c of = record {
   read = spelled_read (spelling c) c (of.certificate, refl);
+  groups = of.groups;
   start = of.start;
   goal = of.goal;
   costs = of.costs;
-  leads = moved (λ rule b q. Leads rule b c.plan q c.cost) task c of.costs of.start of.goal of.proved.plan;
-  least = moved (λ rule b q. IsLeast rule b q c.cost) task c of.costs of.start of.goal (proved_is_least c of.tables tables_are_bounds (tables_there c of.tables of.certificate of.built) of.certificate of.proved);
-  tables = of.tables;
-  built = of.built;
+  leads = moved (λ rule b q. Leads rule b c.plan q c.cost) task c of.costs of.start of.goal of.leads;
+  least = moved (λ rule b q. IsLeast rule b q c.cost) task c of.costs of.start of.goal of.least;
   proved = of.proved;
 }
 
@@ -150,8 +141,8 @@ first_all (Some bytes) lines all = ([], all ∙ sym (append-nil lines))
 untouched : (sink : Change SinkState) → IsUntouched sink → Puts sink []
 untouched sink same = subst (λ (after : SinkState). Puts (record { before = sink.before; after = after }) []) (sym same) (Appends-nil sink.before.contents)
 
-module _ (rules : Rules) (truthful : IsTruthful rules) (source : Change SourceState) (sink : Change SinkState) where
-  none_answered : PassesAll source → IsUntouched sink → WritesAnswer rules source sink
+module _ (split : Split) (rules : Rules) (truthful : IsTruthful rules) (source : Change SourceState) (sink : Change SinkState) where
+  none_answered : PassesAll source → IsUntouched sink → WritesAnswer split rules source sink
   none_answered (lines, all, over) same = record {
     lines = lines;
     output = [];
@@ -160,17 +151,17 @@ module _ (rules : Rules) (truthful : IsTruthful rules) (source : Change SourceSt
     answer = by_none (none_ask 1 lines (recursion_from_All IsPassedOver lines over)) refl;
   }
 
-  first_answered : (output : Output) (first : FindsFirst source) → RepliesTo rules (first_line source first) (without_return first.line) output → AnswersFirst rules (first.passed ++ first.line ∷ []) output.text
+  first_answered : (output : Output) (first : FindsFirst source) → RepliesTo split rules (first_line source first) (without_return first.line) output → AnswersFirst split rules (first.passed ++ first.line ∷ []) output.text
   first_answered output first (inl (within, (c, (id, b, entry, of), written))) =
       let over = recursion_from_All IsPassedOver first.passed first.before in
       by_certificate (1 + length first.passed) first.line id b c (one_asks 1 first.passed first.line over first.here) (within, entry)
-      (subst (CertifiesLeast (rules.task b) c) (sym (ap (λ (o : Output). o.text) written)) (certifies_least (rules.task b) c of))
+      (subst (CertifiesLeast split (rules.task b) c) (sym (ap (λ (o : Output). o.text) written)) (certifies_least split (rules.task b) c of))
   first_answered output first (inr (answer, is, other, written)) =
       let over = recursion_from_All IsPassedOver first.passed first.before in
       by_report (1 + length first.passed) first.line (one_asks 1 first.passed first.line over first.here)
       (subst (TellsTheTruth rules (first.passed ++ first.line ∷ [])) (sym (ap (λ (o : Output). o.text) written)) (last_true rules truthful first.passed first.line answer first.few over is))
 
-  pub answer_true : (result : Result ℕ CertifyFault) → Replies rules source sink result → IsTrueAnswer rules source sink result
+  pub answer_true : (result : Result ℕ CertifyFault) → Replies split rules source sink result → IsTrueAnswer split rules source sink result
   answer_true (Ok status) (some, (readable, inl (all, same, told))) = none_answered all same
   answer_true (Ok status) (some, (readable, inr (output, (first, replies), put, told))) = record {
     lines = first.passed ++ first.line ∷ [];

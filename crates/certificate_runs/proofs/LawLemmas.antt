@@ -6,10 +6,11 @@ use Rattle.certificate_runs.specs.declared.faults.CertifyFault.TheVariants as ce
 use Rattle.certificate_runs.specs.declared.faults.CheckFault.TheVariants as check
 
 pub left : (rules : Rules) → OtherFaultsLeaveTheSink rules
-left rules source sink certify.Read other others replies = replies.1.1
-left rules source sink certify.Write other others replies = absurd (other refl)
-left rules source sink (certify.Memory lacking) other others replies = replies.1.2
-left rules source sink certify.CertificateWrite other others replies = absurd (others refl)
+left rules split source sink certify.Read other others replies = replies.1.1
+left rules split source sink certify.Write other others replies = absurd (other refl)
+left rules split source sink (certify.Memory lacking) other others replies = replies.1.2
+left rules split source sink (certify.GroupsMemory wanting) other others replies = replies.1.2
+left rules split source sink certify.CertificateWrite other others replies = absurd (others refl)
 
 pub no_verdict : OtherFaultsWriteNoVerdict
 no_verdict source sink check.CertificateRead other checks = checks.2.1

@@ -5,3 +5,4 @@ pub mod HeadlineLemmas
 pub mod LawLemmas
 pub mod SilenceLemmas
 pub mod BuildLemmas
+pub mod TableLemmas

@@ -3,6 +3,7 @@ use Rattle.std.proofs.Common.{ℕ, ◌≡◌, List, [], length, get_or, ap, arit
 use Rattle.certificate.specs.Certificates.{Statement}
 use Rattle.certificate.specs.Spellings.{opening_text, spelling}
 use Rattle.certificate.proofs.CertificateLemmas.{read_takes}
+use Rattle.batch_runs.specs.Batches.{Rules}
 use Rattle.certificate_runs.specs.Headline.AnswersFirst.{by_none, by_certificate, by_report}
 use Rattle.certificate_runs.specs.Laws.{SilenceIsUnasked}
 
@@ -11,10 +12,10 @@ spelled : (c : Statement) → ¬ ([] ≡ spelling c)
 unfolding opening_text
 spelled c e = let z = ap (λ (text : List ℕ). get_or text 0 0) e in omega arith
 
-pub silence : SilenceIsUnasked
-silence setup lines (by_none none empty) = none
-silence setup lines (by_certificate n line id b c asked names certifies) = absurd (spelled c (read_takes [] tt c [] certifies.read).0.1)
-silence setup lines (by_report n line asked truth) =
+pub silence : (rules : Rules) → SilenceIsUnasked rules
+silence rules split lines (by_none none empty) = none
+silence rules split lines (by_certificate n line id b c asked names certifies) = absurd (spelled c (read_takes [] tt c [] certifies.read).0.1)
+silence rules split lines (by_report n line asked truth) =
     let many = truth.one_each in
     let one = ap (λ (asking : List (ℕ × List ℕ)). length asking) asked in
     absurd (omega (arith, many, one))

@@ -1,6 +1,5 @@
 -- The tables that a certificate is checked with.
 use Rattle.std.specs.Prelude.{ℕ, ◌≡◌, ◌≤◌, All, slice_index}
-use Rattle.pattern_index.specs.Splits.{Split}
 use Rattle.database_build.specs.Tables.{Lookup, HoldsValues}
 use Rattle.database_build.specs.declared.table.TheConstants.{NO_VALUE}
 use Rattle.lower_bound.specs.Tables.{Tables, AreTablesOf}

@@ -91,7 +91,7 @@ abbrev pub HasNoReply : Rules → Line → List ℕ → CertifyFault → Type 0
 HasNoReply rules line bytes Read = ⊥
 HasNoReply rules line bytes Write = ⊥
 HasNoReply rules line bytes (Memory lacking) = ⊤
-HasNoReply rules line bytes (GroupsMemory refused) = (line.kind ≡ Within) × NamesLeast rules bytes
+HasNoReply rules line bytes (GroupsMemory wanting) = (line.kind ≡ Within) × NamesLeast rules bytes
 HasNoReply rules line bytes CertificateWrite = ⊥
 
 -- what is written of a reply, and its status
@@ -172,7 +172,7 @@ EndsReplying split rules source sink (Ok status) =
 EndsReplying split rules source sink (Err Read) = LosesFirst source × IsUntouched sink
 EndsReplying split rules source sink (Err Write) = IsReadable source × ((output : Output) × ReportsFirst rules source output × FailsWriting sink output.text)
 EndsReplying split rules source sink (Err (Memory lacking)) = IsReadable source × LacksReply rules source (Memory lacking) × IsUntouched sink
-EndsReplying split rules source sink (Err (GroupsMemory refused)) = IsReadable source × LacksReply rules source (GroupsMemory refused) × IsUntouched sink
+EndsReplying split rules source sink (Err (GroupsMemory wanting)) = IsReadable source × LacksReply rules source (GroupsMemory wanting) × IsUntouched sink
 EndsReplying split rules source sink (Err CertificateWrite) = IsReadable source × ((output : Output) × CertifiesFirst split rules source output × FailsWriting sink output.text)
 
 -- some bytes were taken, from the front, and the run ends so

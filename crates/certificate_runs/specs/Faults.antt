@@ -10,7 +10,7 @@ abbrev pub certify_code : CertifyFault → List ℕ
 certify_code Read = codes "B1"
 certify_code Write = codes "B2"
 certify_code (Memory lacking) = codes "B3"
-certify_code (GroupsMemory refused) = codes "B3"
+certify_code (GroupsMemory wanting) = codes "B3"
 certify_code CertificateWrite = codes "F8"
 
 abbrev pub check_code : CheckFault → List ℕ

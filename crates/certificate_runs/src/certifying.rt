@@ -1,6 +1,7 @@
 //! A line in, a certificate out.
 
-ghost use Rattle.std.specs.Prelude.{◌≡◌, ◌≢◌, All, Some, None, IfOk, IfErr, OnErr};
+ghost use Rattle.std.specs.Prelude.{ℕ, ◌≡◌, ◌≢◌, ◌≤◌, [], All, Some, None, IfOk, IfErr, OnErr, slice_index};
+ghost use Rattle.database_build.specs.declared.table.TheConstants.{NO_VALUE};
 ghost use Rattle.byte_streams.specs.Streams.{change};
 ghost use Rattle.outcomes.specs.declared.outcome.Outcome.TheVariants.{Optimal};
 ghost use Rattle.outcomes.specs.Outcomes.{Answers};
@@ -162,21 +163,24 @@ fn reply_to_entry<A: Prover>(
         Ok(entry) => entry,
         Err(fault) => return refuse(alloc, fault.code(), number),
     };
-    match prover.prove(alloc, &entry.board) {
-        Ok(Outcome::Optimal { cost, plan, rows }) => {
+    let outcome = match prover.prove(alloc, &entry.board) {
+        Ok(outcome) => outcome,
+        Err(refused) => return refuse(alloc, SolveFault::Memory(refused).code(), number),
+    };
+    match outcome {
+        Outcome::Optimal { cost, plan, rows } => {
             match certify(alloc, setup, entry.board, cost, plan, rows) {
                 Ok(certificate) => Ok(Reply::Certified(certificate)),
                 Err(refused) => Err(CertifyFault::GroupsMemory(refused)),
             }
         }
-        Ok(outcome) => {
-            let ending = outcome.without_rows();
+        other => {
+            let ending = other.without_rows();
             match outcome_report(alloc, entry.id, &ending) {
                 Ok(text) => Ok(Reply::Reported(text, status_of(&ending))),
                 Err(lacking) => Err(CertifyFault::Memory(lacking)),
             }
         }
-        Err(refused) => refuse(alloc, SolveFault::Memory(refused).code(), number),
     }
 }
 
@@ -235,13 +239,20 @@ fn certify(
     Ok(Certificate::new(parts).unwrap())
 }
 
-// The entries of tables are numbers of 16 bits.
+// No entry of a table is above the greatest value.
 fn tell_entries(tables: &[Table])
     ensures { All HasSmallEntries tables.now }
 {
-    'tables: for table in tables {
-        let _ = table.values();
+    'tables: for place in 0..tables.len() {
+        tell_values(tables[place].values());
     }
+}
+
+// Numbers of 16 bits are at most the greatest value.
+fn tell_values(values: &[u16])
+    ensures { (rank : ℕ) → slice_index values.now rank ≤ NO_VALUE }
+{
+    let _ = values;
 }
 
 // Writes a reply, and answers its status.

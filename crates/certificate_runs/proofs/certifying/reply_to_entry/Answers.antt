@@ -1,30 +1,61 @@
-use Rattle.std.proofs.Common.{refl, rules, string_bytes, sym, subst}
-use Rattle.std.proofs.lemmas.Result.{IfOk-weaker}
+use Rattle.std.proofs.Common.{refl, rules, string_bytes, sym, subst, ◌≡◌, Some}
+use Rattle.outcomes.specs.declared.outcome.Ending.{Ending}
+use Rattle.outcomes.specs.Endings.{without_rows}
+use Rattle.std.proofs.lemmas.Result.{IfOk-weaker, IfErr-weaker}
+use Rattle.reports.specs.declared.report.NoReport.{NoReport}
 use Rattle.board.specs.Grids.{Grid}
 use Rattle.batch_lines.specs.Words.{IsEntry, IsFirstEntryFault}
-use Rattle.certificate_runs.specs.Certifying.{IsReply, IsRefusal, IsNotOptimal}
+use Rattle.certificate_runs.specs.declared.faults.CertifyFault.TheVariants.{Memory}
+use Rattle.certificate_runs.specs.Certifying.{IsReply, IsRefusal, HasNoReply, IsNotOptimal}
 use Rattle.batch_runs.specs.Batches.Answer.{answered}
-use Rattle.certificate_runs.proofs.CertifyLemmas.{within, refused_entry, refused_board, reported_entry}
+use Rattle.certificate_runs.proofs.CertifyLemmas.{within, refused_entry, refused_board, reported_entry, report_lacks}
 use Rattle.certificate_runs.proofs.certifying.reply_to_entry.Goals as goal
 
-pub returns-in-Err : goal.returns-in-Err
-returns-in-Err g c =
-    let solver = g.A.Solver.rules c.args.solver.now in
+pub returns-in-Err-clause-reply : goal.returns-in-Err-clause-reply
+returns-in-Err-clause-reply g c =
+    let split = c.args.setup.now.tables.split in
+    let prover = g.A.Prover.rules c.args.prover.now in
     let fault = subst (λ (grid : Grid). IsFirstEntryFault grid c.args.bytes.now c.in-Err.fault) (sym c.requires.rules.grid) (rw c.shape.ensures at (c.in-Err.ensures.fault c.in-Err.fault).0 refl) in
-    IfOk-weaker c.refuse.result (IsRefusal c.code.result.now c.args.number) (IsReply solver (within c.args.number) c.args.bytes.now)
-    (λ reply refused. refused_entry solver c.args.number c.args.bytes.now c.in-Err.fault reply fault (rw c.code.ensures at refused)) c.refuse.ensures
+    IfOk-weaker c.refuse.result (IsRefusal c.code.result.now c.args.number) (IsReply split prover (within c.args.number) c.args.bytes.now)
+    (λ reply refused. refused_entry split prover c.args.number c.args.bytes.now c.in-Err.fault reply fault (rw c.code.ensures at refused)) c.refuse.ensures.refusal
 
-pub returns-in-Err-solve : goal.returns-in-Err-solve
-returns-in-Err-solve g c =
-    let solver = g.A.Solver.rules c.args.solver.now in
+pub returns-in-Err-clause-lacking : goal.returns-in-Err-clause-lacking
+returns-in-Err-clause-lacking g c =
+    let prover = g.A.Prover.rules c.args.prover.now in
+    IfErr-weaker c.refuse.result (λ fault. (lacking : NoReport) × (fault ≡ Memory lacking)) (HasNoReply prover (within c.args.number) c.args.bytes.now)
+    (λ fault lacks. report_lacks prover (within c.args.number) c.args.bytes.now fault lacks) c.refuse.ensures.lacking
+
+pub returns-in-Err-prove-clause-reply : goal.returns-in-Err-prove-clause-reply
+returns-in-Err-prove-clause-reply g c =
+    let split = c.args.setup.now.tables.split in
+    let prover = g.A.Prover.rules c.args.prover.now in
     let entry = subst (λ (grid : Grid). IsEntry grid c.args.bytes.now c.in-Ok.entry.id.now c.in-Ok.entry.board) (sym c.requires.rules.grid) (rw c.shape.ensures at c.in-Ok.ensures.entry) in
-    IfOk-weaker c.refuse-in-Err-solve.result (IsRefusal c.code-in-Err-solve.result.now c.args.number) (IsReply solver (within c.args.number) c.args.bytes.now)
-    (λ reply refused. refused_board solver c.args.number c.args.bytes.now c.in-Ok.entry.id.now c.in-Ok.entry.board reply entry c.in-Err-solve.ensures.lacking (rw c.code-in-Err-solve.ensures at refused)) c.refuse-in-Err-solve.ensures
+    IfOk-weaker c.refuse-in-Err-prove.result (IsRefusal c.code-in-Err-prove.result.now c.args.number) (IsReply split prover (within c.args.number) c.args.bytes.now)
+    (λ reply refused. refused_board split prover c.args.number c.args.bytes.now c.in-Ok.entry.id.now c.in-Ok.entry.board reply entry c.in-Err-prove.ensures.lacking (rw c.code-in-Err-prove.ensures at refused)) c.refuse-in-Err-prove.ensures.refusal
 
-pub returns-in_ok-text-in-Ok-solve : goal.returns-in_ok-text-in-Ok-solve
-returns-in_ok-text-in-Ok-solve g c =
-    let solver = g.A.Solver.rules c.args.solver.now in
+pub returns-in-Err-prove-clause-lacking : goal.returns-in-Err-prove-clause-lacking
+returns-in-Err-prove-clause-lacking g c =
+    let prover = g.A.Prover.rules c.args.prover.now in
+    IfErr-weaker c.refuse-in-Err-prove.result (λ fault. (lacking : NoReport) × (fault ≡ Memory lacking)) (HasNoReply prover (within c.args.number) c.args.bytes.now)
+    (λ fault lacks. report_lacks prover (within c.args.number) c.args.bytes.now fault lacks) c.refuse-in-Err-prove.ensures.lacking
+
+pub returns-in-Optimal-clause-lacking : goal.returns-in-Optimal-clause-lacking
+returns-in-Optimal-clause-lacking g c =
+    let prover = g.A.Prover.rules c.args.prover.now in
     let entry = c.in-Ok.entry in
     let named = subst (λ (grid : Grid). IsEntry grid c.args.bytes.now entry.id.now entry.board) (sym c.requires.rules.grid) (rw c.shape.ensures at c.in-Ok.ensures.entry) in
-    let other : IsNotOptimal (answered entry.id.now c.in-Ok-solve.outcome) = search rules in
-    reported_entry solver c.args.number c.args.bytes.now entry.id.now (string_bytes c.in_ok-text-in-Ok-solve.text) entry.board c.in-Ok-solve.outcome c.status_of.result named c.in-Ok-solve.ensures.answered c.in_ok-text-in-Ok-solve.ensures.small other c.in_ok-text-in-Ok-solve.ensures.text c.status_of.ensures
+    (refl, (entry.id.now, entry.board, c.in-Optimal.cost, c.in-Optimal.plan, named, rw c.in-Optimal.is at c.in-Ok-prove.ensures.allowed))
+
+pub returns-in-Ok-outcome_report : goal.returns-in-Ok-outcome_report
+returns-in-Ok-outcome_report g c =
+    let prover = g.A.Prover.rules c.args.prover.now in
+    let entry = c.in-Ok.entry in
+    let ending = c.without_rows-ending.result in
+    let named = subst (λ (grid : Grid). IsEntry grid c.args.bytes.now entry.id.now entry.board) (sym c.requires.rules.grid) (rw c.shape.ensures at c.in-Ok.ensures.entry) in
+    let is : ending ≡ without_rows c.in-Ok-prove.outcome = c.without_rows-ending.ensures in
+    let allowed : prover.allows entry.board (Some ending) = subst (λ (e : Ending). prover.allows entry.board (Some e)) (sym is) c.in-Ok-prove.ensures.allowed in
+    let other : IsNotOptimal (answered entry.id.now ending) = subst (λ (e : Ending). IsNotOptimal (answered entry.id.now e)) (sym is) (search rules) in
+    record {
+      reply = reported_entry prover c.args.number c.args.bytes.now entry.id.now (string_bytes c.in-Ok-outcome_report.text) entry.board ending c.status_of.result named allowed c.in-Ok-outcome_report.ensures.small other c.in-Ok-outcome_report.ensures.text c.status_of.ensures;
+      lacking = tt;
+    }

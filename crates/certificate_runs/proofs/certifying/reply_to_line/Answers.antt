@@ -1,10 +1,20 @@
-use Rattle.std.proofs.lemmas.Result.{IfOk-weaker}
-use Rattle.certificate_runs.specs.Certifying.{IsReply, IsRefusal}
-use Rattle.certificate_runs.proofs.CertifyLemmas.{refused_line}
+use Rattle.std.proofs.lemmas.Result.{IfOk-weaker, IfErr-weaker}
+use Rattle.reports.specs.declared.report.NoReport.{NoReport}
+use Rattle.std.proofs.Common.{◌≡◌}
+use Rattle.certificate_runs.specs.declared.faults.CertifyFault.TheVariants.{Memory}
+use Rattle.certificate_runs.specs.Certifying.{IsReply, IsRefusal, HasNoReply}
+use Rattle.certificate_runs.proofs.CertifyLemmas.{refused_line, report_lacks}
 use Rattle.certificate_runs.proofs.certifying.reply_to_line.Goals as goal
 
-pub returns-in_default : goal.returns-in_default
-returns-in_default g c =
-    let rules = g.A.Solver.rules c.args.solver.now in
-    IfOk-weaker c.refuse.result (IsRefusal c.code.result.now c.args.line.number) (IsReply rules c.args.line c.args.bytes.now)
-    (λ reply refused. refused_line rules c.args.line.number c.args.line.kind c.args.bytes.now reply c.requires.kind c.in_default.not-Within (rw c.code.ensures at refused)) c.refuse.ensures
+pub returns-in_default-clause-reply : goal.returns-in_default-clause-reply
+returns-in_default-clause-reply g c =
+    let split = c.args.setup.now.tables.split in
+    let rules = g.A.Prover.rules c.args.prover.now in
+    IfOk-weaker c.refuse.result (IsRefusal c.code.result.now c.args.line.number) (IsReply split rules c.args.line c.args.bytes.now)
+    (λ reply refused. refused_line split rules c.args.line.number c.args.line.kind c.args.bytes.now reply c.requires.kind c.in_default.not-Within (rw c.code.ensures at refused)) c.refuse.ensures.refusal
+
+pub returns-in_default-clause-lacking : goal.returns-in_default-clause-lacking
+returns-in_default-clause-lacking g c =
+    let rules = g.A.Prover.rules c.args.prover.now in
+    IfErr-weaker c.refuse.result (λ fault. (lacking : NoReport) × (fault ≡ Memory lacking)) (HasNoReply rules c.args.line c.args.bytes.now)
+    (λ fault lacks. report_lacks rules c.args.line c.args.bytes.now fault lacks) c.refuse.ensures.lacking

@@ -1,0 +1,109 @@
+-- Rows that prove a cost with the sums of potentials prove it with those of the tables that are built for their groups.
+use Rattle.std.proofs.Common.{◌≡◌, ℕ, ◌+◌, ◌<◌, ◌≤◌, List, [], ◌∷◌, map, length, drop, get_or, sym, ap, ◌∙◌, subst, inl, inr, ⊎_elim, arith}
+use Rattle.std.specs.Prelude.{All}
+use Rattle.std.specs.List.{AllByRecursion}
+use Rattle.std.proofs.lemmas.Bool.{cases_lt}
+use Rattle.std.proofs.lemmas.List.Elements.{recursion_from_All, All-contains}
+use Rattle.std.proofs.lemmas.List.Sums.{sum_by-cons}
+use Rattle.board.specs.Grids.{Grid}
+use Rattle.board.specs.Positions.{Position, IsBoard}
+use Rattle.board.specs.CostRules.{CostRule}
+use Rattle.board.specs.Rows.{HasRow, Proves}
+use Rattle.board.proofs.MoveLemmas.{moved_board}
+use Rattle.pattern_index.specs.Views.{IsView, ViewLeads, view_of}
+use Rattle.pattern_index.specs.Selections.{Selection, IsGroup, IsSelection, rank_in}
+use Rattle.pattern_index.specs.Splits.{Split}
+use Rattle.pattern_index.proofs.ViewMoveLemmas.{board_view}
+use Rattle.database_build.specs.declared.table.TheConstants.{NO_VALUE}
+use Rattle.database_build.specs.Values.{IsPotential}
+use Rattle.database_build.specs.Tables.{Lookup, HoldsValues, value_in}
+use Rattle.database_build.proofs.PotentialLemmas.{potential_below, values_potential}
+use Rattle.lower_bound.specs.Bounds.{Part, sum_of}
+use Rattle.lower_bound.specs.Tables.{Tables, IsTables, ArePotentials, part_of, parts_of}
+use Rattle.lower_bound.proofs.TableLemmas.{of_tables, table_grids}
+use Rattle.certificate_runs.specs.Built.{HasSmallEntries}
+
+-- a table of no group
+abbrev nothing : Selection
+nothing = record { grid = record { rows = 0; cols = 0 }; tiles = [] }
+
+module _ (rule : CostRule) (goal b : Position) (board : IsBoard b) (same : goal.grid ≡ b.grid) where
+  abbrev IsGuide : Lookup → Type 0
+  IsGuide table = IsPotential rule table.selection.tiles goal (value_in table)
+
+  -- a table that is built for a group of the board's grid
+  abbrev IsTrue : Lookup → Type 0
+  IsTrue table = IsSelection table.selection × (table.selection.grid ≡ b.grid) × HoldsValues table rule goal
+
+  abbrev said : Lookup → ℕ
+  said table = value_in table (view_of table.selection.tiles b)
+
+  -- a potential of a group says no more of the board than the group's table
+  value_below : (guide table : Lookup) → guide.selection ≡ table.selection → IsGuide guide → HasSmallEntries guide → IsTrue table → said guide ≤ said table
+  value_below guide table of_one potential small (group, sides, holds) =
+      let tiles = table.selection.tiles in
+      let view : IsView b.grid tiles (view_of tiles b) = board_view tiles b board (subst (λ (g : Grid). IsGroup g tiles) sides group.group) in
+      let is = holds (view_of tiles b) (subst (λ (g : Grid). IsView g tiles (view_of tiles b)) (sym sides) view) in
+      let falls : IsPotential rule tiles goal (value_in guide) = subst (λ (s : Selection). IsPotential rule s.tiles goal (value_in guide)) of_one potential in
+      let view' : IsView goal.grid tiles (view_of tiles b) = subst (λ (g : Grid). IsView g tiles (view_of tiles b)) (sym same) view in
+      let cap : value_in guide (view_of tiles b) ≤ NO_VALUE = small (rank_in guide.selection.grid (view_of tiles b)) in
+      let below : value_in guide (view_of tiles b) ≤ value_in table (view_of tiles b) = (⊎_elim
+      (λ (low : value_in table (view_of tiles b) < NO_VALUE).
+      let way = is.reached low in
+      potential_below rule tiles goal (value_in guide) falls (view_of tiles b) way.0 (value_in table (view_of tiles b)) view' (subst (λ (g : Grid). ViewLeads (record { grid = g; rule = rule; tiles = tiles }) (view_of tiles b) way.0 (view_of tiles goal) (value_in table (view_of tiles b))) (sides ∙ sym same) way.1))
+      (λ (high : NO_VALUE ≤ value_in table (view_of tiles b)). omega (arith, cap, high))
+      (cases_lt (value_in table (view_of tiles b)) NO_VALUE)) in
+      let at : value_in guide (view_of tiles b) ≡ said guide = ap (λ (s : Selection). value_in guide (view_of s.tiles b)) (sym of_one) in
+      omega (arith, at, below)
+
+  -- nor does the sum of such potentials
+  sum_below : (guides tables : List Lookup) → map (λ (t : Lookup). t.selection) guides ≡ map (λ (t : Lookup). t.selection) tables → AllByRecursion IsGuide guides → AllByRecursion HasSmallEntries guides → AllByRecursion IsTrue tables → sum_of (map part_of guides) b ≤ sum_of (map part_of tables) b
+  sum_below [] tables of_one guide small true_ = omega arith
+  sum_below (g ∷ guides) [] of_one guide small true_ = let count = ap (λ (ss : List Selection). length ss) of_one in absurd (omega (arith, count))
+  sum_below (g ∷ guides) (t ∷ tables) of_one guide small true_ =
+      let first = value_below g t (ap (λ (ss : List Selection). get_or ss 0 nothing) of_one) guide.0 small.0 true_.0 in
+      let rest = sum_below guides tables (ap (λ (ss : List Selection). drop 1 ss) of_one) guide.1 small.1 true_.1 in
+      let before = sum_by-cons (λ (p : Part). p.value (view_of p.tiles b)) (part_of g) (map part_of guides) in
+      let after = sum_by-cons (λ (p : Part). p.value (view_of p.tiles b)) (part_of t) (map part_of tables) in
+      omega (arith, first, rest, before, after)
+
+-- tables for the groups of others, which are built for the goal and the costs
+pub record AreTrue (rule : CostRule) (goal : Position) (tables : Tables) : Type 0 where
+  pub tables_there : IsTables tables
+  pub sides : tables.split.grid ≡ goal.grid
+  pub values : All (λ table. HoldsValues table rule goal) tables.lookups
+
+-- the sum of potentials is at most that of the tables of their groups
+pub sums_below : (rule : CostRule) (goal b : Position) (guides tables : Tables) → IsTables guides → guides.split ≡ tables.split → ArePotentials rule goal guides → All HasSmallEntries guides.lookups → AreTrue rule goal tables → IsBoard b → b.grid ≡ goal.grid → sum_of (parts_of guides) b ≤ sum_of (parts_of tables) b
+sums_below rule goal b guides tables there of_one potentials small built board same =
+    sum_below rule goal b board (sym same) guides.lookups tables.lookups
+    (there.one_each ∙ ap (λ (s : Split). s.groups) of_one ∙ sym built.tables_there.one_each)
+    (recursion_from_All (λ table. IsPotential rule table.selection.tiles goal (value_in table)) guides.lookups potentials)
+    (recursion_from_All HasSmallEntries guides.lookups small)
+    (recursion_from_All (λ table. IsSelection table.selection × (table.selection.grid ≡ b.grid) × HoldsValues table rule goal) tables.lookups each)
+  where
+    each : All (λ table. IsSelection table.selection × (table.selection.grid ≡ b.grid) × HoldsValues table rule goal) tables.lookups
+    each k d k_in = (
+      of_tables (λ s. IsSelection s) tables.split.groups tables.lookups built.tables_there.one_each built.tables_there.partition.groups k d k_in,
+      table_grids tables built.tables_there k d k_in ∙ built.sides ∙ sym same,
+      built.values k d k_in,
+    )
+
+-- and these are potentials themselves
+pub true_potentials : (rule : CostRule) (goal : Position) (tables : Tables) → IsBoard goal → AreTrue rule goal tables → ArePotentials rule goal tables
+true_potentials rule goal tables board built k d k_in =
+    values_potential (get_or tables.lookups k d) rule goal (built.values k d k_in)
+    (of_tables (λ s. IsSelection s) tables.split.groups tables.lookups built.tables_there.one_each built.tables_there.partition.groups k d k_in) board
+    (sym (table_grids tables built.tables_there k d k_in ∙ built.sides))
+
+-- what rows prove with sums they prove with greater ones
+pub proved_above : (rule : CostRule) (rows : List (Position × ℕ)) (low high : Position → ℕ) (b goal : Position) (k : ℕ) → IsBoard b → b.grid ≡ goal.grid → All (λ row. IsBoard row.0 × (row.0.grid ≡ goal.grid)) rows
+    → ((r : Position) → IsBoard r → r.grid ≡ goal.grid → low r ≤ high r) → Proves rule rows low b goal k → Proves rule rows high b goal k
+proved_above rule rows low high b goal k board same boards above proves = record {
+  start = ⊎_elim (λ (row : HasRow rows b 0). inl row) (λ (most : k ≤ low b). let more = above b board same in inr (omega (arith, most, more))) proves.start;
+  no_goal = proves.no_goal;
+  closed = λ r g within m r' c moves.
+      let row = All-contains (λ (row : Position × ℕ). IsBoard row.0 × (row.0.grid ≡ goal.grid)) rows (r, g) boards within in
+      let more = above r' (moved_board rule r row.0 m r' c moves) (ap (λ (x : Position). x.grid) moves.after ∙ row.1) in
+      ⊎_elim (λ (most : k ≤ low r' + (g + c)). inl (omega (arith, most, more))) (λ (next : HasRow rows r' (g + c)). inr next) (proves.closed r g within m r' c moves);
+}
