@@ -7,13 +7,14 @@ use Rattle.certificate_runs.specs.declared.faults.CertifyFault.TheVariants as ce
 use Rattle.certificate_runs.specs.declared.faults.CheckFault.{CheckFault}
 use Rattle.certificate_runs.specs.declared.faults.CheckFault.TheVariants as check
 use Rattle.batch_cli.specs.declared.faults.BatchFault.{BatchFault}
-use Rattle.batch_cli.specs.declared.faults.BatchFault.TheVariants.{Read, Write, Memory, CertificateRead, CertificateMemory, CertificateWrite}
+use Rattle.batch_cli.specs.declared.faults.BatchFault.TheVariants.{Read, Write, Memory, GroupsMemory, CertificateRead, CertificateMemory, CertificateWrite}
 
 -- the code that a fault is reported by
 abbrev pub batch_code : BatchFault → List ℕ
 batch_code Read = codes "B1"
 batch_code Write = codes "B2"
 batch_code (Memory lacking) = codes "B3"
+batch_code (GroupsMemory wanting) = codes "B3"
 batch_code CertificateRead = codes "F6"
 batch_code (CertificateMemory refused) = codes "F7"
 batch_code CertificateWrite = codes "F8"
@@ -29,6 +30,7 @@ abbrev pub of_certify : CertifyFault → BatchFault
 of_certify certify.Read = Read
 of_certify certify.Write = Write
 of_certify (certify.Memory lacking) = Memory lacking
+of_certify (certify.GroupsMemory wanting) = GroupsMemory wanting
 of_certify certify.CertificateWrite = CertificateWrite
 
 -- of a run that checks one

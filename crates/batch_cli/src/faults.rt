@@ -21,6 +21,9 @@ pub enum BatchFault {
     /// B3
     #[error("no memory for a report")]
     Memory(NoReport),
+    /// B3
+    #[error("no memory for the groups of a certificate")]
+    GroupsMemory(OutOfMemory),
     /// F6
     #[error("the certificate cannot be read")]
     CertificateRead,
@@ -40,7 +43,7 @@ impl BatchFault {
         match self {
             BatchFault::Read => "B1",
             BatchFault::Write => "B2",
-            BatchFault::Memory(_) => "B3",
+            BatchFault::Memory(_) | BatchFault::GroupsMemory(_) => "B3",
             BatchFault::CertificateRead => "F6",
             BatchFault::CertificateMemory(_) => "F7",
             BatchFault::CertificateWrite => "F8",
@@ -82,6 +85,7 @@ impl From<CertifyFault> for BatchFault {
             CertifyFault::Read => BatchFault::Read,
             CertifyFault::Write => BatchFault::Write,
             CertifyFault::Memory(lacking) => BatchFault::Memory(lacking),
+            CertifyFault::GroupsMemory(wanting) => BatchFault::GroupsMemory(wanting),
             CertifyFault::CertificateWrite => BatchFault::CertificateWrite,
         }
     }

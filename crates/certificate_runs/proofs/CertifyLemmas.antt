@@ -153,9 +153,9 @@ proved_by : (setup : SetupState) (b : Position) (cost : ℕ) (plan : Vec Move Gl
     → (tables : Tables) → AreBuiltFor (stated setup b cost plan rows) tables → IsProved (stated setup b cost plan rows) tables
 proved_by setup b cost plan rows goal there guides small start answers tables built =
     let true_ : AreTrue setup.rule setup.goal tables = record {
-      tables_there = record { partition = subst (λ (s : Split). IsSplit s) (sym built.groups) there.partition; one_each = built.one_each };
+      tables_there = record { partition = subst (λ (s : Split). IsSplit s) (sym built.groups) there.partition; one_each = built.each.one_each ∙ ap (λ (s : Split). s.groups) (sym built.groups) };
       sides = ap (λ (s : Split). s.grid) built.groups ∙ guides.0;
-      values = built.values;
+      values = built.each.values;
     } in
     record {
       plan = answers.0;

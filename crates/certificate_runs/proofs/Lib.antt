@@ -4,5 +4,4 @@ pub mod CertifyLemmas
 pub mod HeadlineLemmas
 pub mod LawLemmas
 pub mod SilenceLemmas
-pub mod BuildLemmas
 pub mod TableLemmas

@@ -1,15 +1,14 @@
 -- The tables that a certificate is checked with.
-use Rattle.std.specs.Prelude.{ℕ, ◌≡◌, ◌≤◌, All, slice_index}
-use Rattle.database_build.specs.Tables.{Lookup, HoldsValues}
+use Rattle.std.specs.Prelude.{ℕ, ◌≤◌, slice_index}
+use Rattle.database_build.specs.Tables.{Lookup}
 use Rattle.database_build.specs.declared.table.TheConstants.{NO_VALUE}
-use Rattle.lower_bound.specs.Tables.{Tables, AreTablesOf}
+use Rattle.lower_bound.specs.Tables.{Tables}
+use Rattle.table_sets.specs.Built.{AreBuilt}
 use Rattle.certificate.specs.Certificates.{Statement}
 
 -- the tables of the certificate's groups, each with the value of each view for the certificate's goal and costs
-pub record AreBuiltFor (c : Statement) (tables : Tables) : Type 0 where
-  pub groups : tables.split ≡ c.groups
-  pub one_each : AreTablesOf tables.split.groups tables.lookups
-  pub values : All (λ table. HoldsValues table c.costs c.goal) tables.lookups
+abbrev pub AreBuiltFor : Statement → Tables → Type 0
+AreBuiltFor c tables = AreBuilt c.groups c.costs c.goal tables
 
 -- no entry of the table is above the greatest value
 abbrev pub HasSmallEntries : Lookup → Type 0

@@ -6,23 +6,27 @@ ghost use Rattle.certificate_runs.specs.Checking.{IsJudgementBy, IsRefused, Chec
 ghost use Rattle.certificate_runs.specs.Checking.{PutsVerdict};
 ghost use Rattle.certificate_runs.specs.Checking.{verdict_output};
 ghost use Rattle.certificate_runs.specs.Headline.{IsTrueCheck};
+ghost use Rattle.certificate_runs.specs.Built.{AreBuiltFor};
 
-use crate::building::build_bound;
 use crate::faults::CheckFault;
 use byte_streams::{Sink, Source};
 use certificate::{Certificate, ReadFault, read};
 use certificate_check::check;
 use lower_bound::Bound;
+use memory::OutOfMemory;
 use reports::{NoReport, accepted_report, refused_certificate_report};
 use std::alloc::Global;
+use std::thread::Threads;
+use table_sets::build_bound;
 
 /// Checks the certificate that the source spells with tables that are built for its groups, and
 /// writes one line: the least cost, or the code of the first fault. Answers the status: 0 where it
-/// is accepted, 5 where it is refused.
+/// is accepted, 5 where it is refused. Large tables are built side by side, by several threads.
 ///
 /// Nothing is written where the source fails, or where there is no memory for the certificate, for
 /// its tables or for the line. Nothing is flushed.
-pub fn run_check<S: Source, K: Sink>(
+pub fn run_check<R: Threads + Sync, S: Source, K: Sink>(
+    rt: &R,
     alloc: Global,
     source: &mut S,
     sink: &mut K,
@@ -32,11 +36,12 @@ pub fn run_check<S: Source, K: Sink>(
     ensures truth { IsTrueCheck (change S.state source.old source.new)
         (change K.state sink.old sink.new) result }
 {
-    check_source(alloc, source, sink)
+    check_source(rt, alloc, source, sink)
 }
 
 // The same, by what was read.
-fn check_source<S: Source, K: Sink>(
+fn check_source<R: Threads + Sync, S: Source, K: Sink>(
+    rt: &R,
     alloc: Global,
     source: &mut S,
     sink: &mut K,
@@ -45,7 +50,7 @@ fn check_source<S: Source, K: Sink>(
         result }
 {
     match read(alloc, source) {
-        Ok(certificate) => match build_bound(alloc, &certificate) {
+        Ok(certificate) => match build_for(rt, alloc, &certificate) {
             Ok(bound) => match judge(alloc, &certificate, &bound) {
                 Ok((text, status)) => put_verdict(sink, text.as_str(), status),
                 Err(lacking) => Err(CheckFault::Memory(lacking)),
@@ -59,6 +64,20 @@ fn check_source<S: Source, K: Sink>(
         Err(ReadFault::Failed) => Err(CheckFault::CertificateRead),
         Err(ReadFault::NoMemory(refused)) => Err(CheckFault::CertificateMemory(refused)),
     }
+}
+
+// The groups of a certificate with their tables, for its goal and costs.
+fn build_for<R: Threads + Sync>(
+    rt: &R,
+    alloc: Global,
+    certificate: &Certificate,
+) -> Result<Bound, OutOfMemory>
+    ensures { IfOk result (AreBuiltFor certificate.now) }
+{
+    // What holds of every certificate, as that its boards are of one shape, is told by this call.
+    let _ = certificate.shape();
+    let groups = certificate.groups().copy(alloc)?;
+    build_bound(rt, alloc, groups, &certificate.goal(), &certificate.costs())
 }
 
 // The line that is written of a certificate that is checked with these tables, and its status.

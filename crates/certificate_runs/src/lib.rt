@@ -2,7 +2,6 @@
 //! verdict out.
 #![tactic(auto)]
 
-mod building;
 mod certifying;
 mod checking;
 mod faults;

@@ -1,1 +1,2 @@
 pub mod SolvingLemmas
+pub mod CertifyingLemmas

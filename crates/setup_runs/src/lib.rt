@@ -1,9 +1,12 @@
-//! Batches whose lines are answered by the search that a setup guides.
+//! Batches whose lines are answered by the search that a setup guides, and certificates of what it
+//! proves.
 #![tactic(auto)]
 
 mod batches;
+mod certifying;
 pub mod laws;
 mod solving;
 
 pub use batches::run_batch;
+pub use certifying::run_cert;
 pub use solving::Guided;

@@ -1,0 +1,73 @@
+-- What one worker proves may be answered.
+use Rattle.std.proofs.Common.{ℕ, ◌≡◌, ◌≢◌, ◌⊎◌, ◌↔◌, Option, None, Some, Result, Ok, Err, IfOk, Vec, refl, ap}
+use Rattle.std.specs.declared.alloc.Global.{Global}
+use Rattle.board.specs.declared.moves.Move.{Move}
+use Rattle.board.specs.Positions.{Position}
+use Rattle.board.specs.Classes.{SameClass}
+use Rattle.memory.specs.declared.OutOfMemory.{OutOfMemory}
+use Rattle.outcomes.specs.declared.outcome.Cause.{Cause}
+use Rattle.outcomes.specs.declared.outcome.Cause.TheVariants.{Cut, Start}
+use Rattle.outcomes.specs.declared.outcome.Outcome.{Outcome}
+use Rattle.outcomes.specs.declared.outcome.Outcome.TheVariants as outcome
+use Rattle.outcomes.specs.declared.outcome.Ending.{Ending}
+use Rattle.outcomes.specs.declared.outcome.Ending.TheVariants.{Optimal, Unsolvable, Bounded}
+use Rattle.outcomes.specs.declared.outcome.Why.TheVariants.{Parity}
+use Rattle.outcomes.specs.Endings.{EndAnswers, without_rows}
+use Rattle.outcomes.specs.Outcomes.{Answers}
+use Rattle.outcomes.specs.Laws.{RowsCanBeLeft}
+use Rattle.hda_run.specs.Alone.{IsByOne, EndsByOne}
+use Rattle.hda_run.specs.Problems.{Problem}
+use Rattle.world_ends.proofs.LawLemmas.{rows_alone}
+use Rattle.batch_runs.specs.Setups.{SetupState, hash_by, task_of}
+use Rattle.batch_runs.specs.declared.setup.SpreadKind.{SpreadKind}
+use Rattle.setup_runs.specs.Solving.{problem_of, IsNeverCut, MayAnswer}
+use Rattle.setup_runs.proofs.SolvingLemmas.{allowed}
+
+-- a run that gives an outcome ends with what it says, but for rows
+pub ends_by_one : {S : Type 0} (hash : S → Position → ℕ) (p : Problem) (owners : S) (o : Outcome) → IsByOne hash p owners o → EndsByOne hash p owners (without_rows o)
+ends_by_one hash p owners (outcome.Optimal cost plan rows) (w, run, given) = (w, run, (rows_alone w cost plan rows given.4.2).1 given)
+ends_by_one hash p owners (outcome.Unsolvable why) (w, run, given) = (w, run, given)
+ends_by_one hash p owners (outcome.Bounded bound best cause) (w, run, given) = (w, run, given)
+
+-- the outcome was not cut
+abbrev pub IsKeptOutcome : Outcome → Type 0
+IsKeptOutcome o = (bound : ℕ) (best : Option (ℕ × Vec Move Global)) (cause : Cause) → o ≡ outcome.Bounded bound best cause → (cause ≢ Cut) × (cause ≢ Start)
+
+-- the ending as an outcome, where it has a place for no rows
+abbrev with_none : Ending → Outcome
+with_none (Optimal cost plan) = outcome.Unsolvable Parity
+with_none (Unsolvable why) = outcome.Unsolvable why
+with_none (Bounded bound best cause) = outcome.Bounded bound best cause
+
+ending_kept : (o : Outcome) → IsKeptOutcome o → IsNeverCut (without_rows o)
+ending_kept (outcome.Optimal cost plan rows) kept bound best cause e = absurd (cc)
+ending_kept (outcome.Unsolvable why) kept bound best cause e = absurd (cc)
+ending_kept (outcome.Bounded bound' best' cause') kept bound best cause e = kept bound best cause (ap with_none e)
+
+-- the ending of a result
+abbrev ending_of : Result Outcome OutOfMemory → Result Ending OutOfMemory
+ending_of (Ok o) = Ok (without_rows o)
+ending_of (Err refused) = Err refused
+
+-- the outcome of a result's ending
+abbrev outcome_of : Result Ending OutOfMemory → Result Outcome OutOfMemory
+outcome_of (Ok ending) = Ok (with_none ending)
+outcome_of (Err refused) = Err refused
+
+parity_back : (o : Outcome) → ending_of (Ok o) ≡ Ok (Unsolvable Parity) → Ok {E = OutOfMemory} o ≡ Ok (outcome.Unsolvable Parity)
+parity_back (outcome.Optimal cost plan rows) e = absurd (cc)
+parity_back (outcome.Unsolvable why) e = ap outcome_of e
+parity_back (outcome.Bounded bound best cause) e = absurd (cc)
+
+module _ (setup : SetupState) (start : Position) where
+  abbrev IsProof : (Position → ℕ) → Outcome → Type 0
+  IsProof hash o = IsByOne {S = SpreadKind} (λ kind. hash) (problem_of setup start) setup.spread o
+
+  pub proof_allowed : (hash : Position → ℕ) → hash ≡ hash_by setup.spread → RowsCanBeLeft → (result : Result Outcome OutOfMemory) → (result ≡ Ok (outcome.Unsolvable Parity)) ↔ (¬ SameClass start setup.goal) → (SameClass start setup.goal → IfOk result (IsProof hash)) → IfOk result (Answers (task_of setup start)) → IfOk result IsKeptOutcome → IfOk result (λ o. MayAnswer setup start (Some (without_rows o)))
+  proof_allowed hash spread rows (Err refused) parity run answers kept = tt
+  proof_allowed hash spread rows (Ok o) parity run answers kept =
+      allowed setup start hash spread (Ok (without_rows o))
+      ((λ e. parity.0 (parity_back o e)), (λ other. ap ending_of (parity.1 other)))
+      (λ same. ends_by_one (λ kind. hash) (problem_of setup start) setup.spread o (run same))
+      (rows (task_of setup start) o answers)
+      (ending_kept o kept)
