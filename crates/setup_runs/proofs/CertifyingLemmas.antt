@@ -1,5 +1,5 @@
 -- What one worker proves may be answered.
-use Rattle.std.proofs.Common.{ℕ, ◌≡◌, ◌≢◌, ◌⊎◌, ◌↔◌, Option, None, Some, Result, Ok, Err, IfOk, Vec, refl, ap}
+use Rattle.std.proofs.Common.{ℕ, ◌≡◌, ◌≢◌, ◌↔◌, Option, Some, Result, Ok, Err, IfOk, Vec, ap}
 use Rattle.std.specs.declared.alloc.Global.{Global}
 use Rattle.board.specs.declared.moves.Move.{Move}
 use Rattle.board.specs.Positions.{Position}
@@ -12,7 +12,7 @@ use Rattle.outcomes.specs.declared.outcome.Outcome.TheVariants as outcome
 use Rattle.outcomes.specs.declared.outcome.Ending.{Ending}
 use Rattle.outcomes.specs.declared.outcome.Ending.TheVariants.{Optimal, Unsolvable, Bounded}
 use Rattle.outcomes.specs.declared.outcome.Why.TheVariants.{Parity}
-use Rattle.outcomes.specs.Endings.{EndAnswers, without_rows}
+use Rattle.outcomes.specs.Endings.{without_rows}
 use Rattle.outcomes.specs.Outcomes.{Answers}
 use Rattle.outcomes.specs.Laws.{RowsCanBeLeft}
 use Rattle.hda_run.specs.Alone.{IsByOne, EndsByOne}
@@ -54,7 +54,10 @@ abbrev outcome_of : Result Ending OutOfMemory → Result Outcome OutOfMemory
 outcome_of (Ok ending) = Ok (with_none ending)
 outcome_of (Err refused) = Err refused
 
-parity_back : (o : Outcome) → ending_of (Ok o) ≡ Ok (Unsolvable Parity) → Ok {E = OutOfMemory} o ≡ Ok (outcome.Unsolvable Parity)
+abbrev given : Outcome → Result Outcome OutOfMemory
+given o = Ok o
+
+parity_back : (o : Outcome) → ending_of (given o) ≡ Ok (Unsolvable Parity) → given o ≡ Ok (outcome.Unsolvable Parity)
 parity_back (outcome.Optimal cost plan rows) e = absurd (cc)
 parity_back (outcome.Unsolvable why) e = ap outcome_of e
 parity_back (outcome.Bounded bound best cause) e = absurd (cc)

@@ -1,4 +1,3 @@
-use Rattle.batch_runs.specs.Setups.{task_of}
 use Rattle.std.proofs.Common.{refl}
 use Rattle.setup_runs.proofs.SolvingLemmas.{setup_truthful}
 use Rattle.setup_runs.proofs.certifying.run_cert.Goals as goal
