@@ -14,6 +14,7 @@ use Rattle.batch_lines.specs.declared.words.EntryFault.{EntryFault}
 use Rattle.batch_lines.specs.declared.lines.LineKind.{LineKind}
 use Rattle.batch_lines.specs.declared.lines.LineKind.TheVariants.{PassedOver, Within, TooLong}
 use Rattle.outcomes.specs.declared.outcome.Outcome.{Outcome}
+use Rattle.outcomes.specs.Endings.{without_rows}
 use Rattle.reports.specs.Reports.{outcome_data, refused_data, report_text}
 use Rattle.world_model.specs.Openings.{opening}
 use Rattle.world_model.specs.Worlds.{WorldState}
@@ -29,16 +30,16 @@ use Rattle.replay_runs.specs.Replays.{Jobs, IsGuidedJob, IsRefusedBy, IsPlay, Is
 -- ---- the report of the outcome
 
 -- the report is written behind the replies
-pub finishes : (source : Change SourceState) (lines : List (List ℕ)) (w v : WorldState) (x y z : SinkState) (id : List ℕ) (fine : Bool) (outcome : Outcome) (status : ℕ) → AnswersLines source lines (from_to w v) (from_to x y) (Ok fine) → IsReportOf v outcome → WritesAll (from_to y z) (report_text (outcome_data id outcome)) → status ≡ status_of fine outcome
+pub finishes : (source : Change SourceState) (lines : List (List ℕ)) (w v : WorldState) (x y z : SinkState) (id : List ℕ) (fine : Bool) (outcome : Outcome) (status : ℕ) → AnswersLines source lines (from_to w v) (from_to x y) (Ok fine) → IsReportOf v outcome → WritesAll (from_to y z) (report_text (outcome_data id (without_rows outcome))) → status ≡ status_of fine (without_rows outcome)
     → Finishes source lines w id (from_to x z) (Ok status)
 finishes source lines w v x y z id fine outcome status (later, replies, all, replied, put, said, readable, kept) given written is =
-    (later, replies, v, outcome, all, replied, given, Appends-trans x.contents y.contents z.contents (replies_text replies) (report_text (outcome_data id outcome)) put written.0, is ∙ ap (λ (b : Bool). status_of b outcome) said, readable, written.1.1 ∙ sym written.1.0 ∙ kept)
+    (later, replies, v, outcome, all, replied, given, Appends-trans x.contents y.contents z.contents (replies_text replies) (report_text (outcome_data id (without_rows outcome))) put written.0, is ∙ ap (λ (b : Bool). status_of b (without_rows outcome)) said, readable, written.1.1 ∙ sym written.1.0 ∙ kept)
 
 -- a beginning of it is
-pub finishes_part : (source : Change SourceState) (lines : List (List ℕ)) (w v : WorldState) (x y z : SinkState) (id : List ℕ) (fine : Bool) (outcome : Outcome) → AnswersLines source lines (from_to w v) (from_to x y) (Ok fine) → IsReportOf v outcome → FailsWriting (from_to y z) (report_text (outcome_data id outcome))
+pub finishes_part : (source : Change SourceState) (lines : List (List ℕ)) (w v : WorldState) (x y z : SinkState) (id : List ℕ) (fine : Bool) (outcome : Outcome) → AnswersLines source lines (from_to w v) (from_to x y) (Ok fine) → IsReportOf v outcome → FailsWriting (from_to y z) (report_text (outcome_data id (without_rows outcome)))
     → Finishes source lines w id (from_to x z) (Err Write)
 finishes_part source lines w v x y z id fine outcome (later, replies, all, replied, put, said, readable, kept) given failed =
-    inr (later, replies, v, outcome, all, replied, given, PutsBeginning-after x y z (replies_text replies) (report_text (outcome_data id outcome)) put failed.0, readable, failed.1)
+    inr (later, replies, v, outcome, all, replied, given, PutsBeginning-after x y z (replies_text replies) (report_text (outcome_data id (without_rows outcome))) put failed.0, readable, failed.1)
 
 -- ---- the board line
 

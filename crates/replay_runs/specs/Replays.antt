@@ -7,6 +7,7 @@ use Rattle.board.specs.Rows.{IsLowerBound}
 use Rattle.byte_streams.specs.Streams.{SourceState, SinkState, Change, from_to}
 use Rattle.byte_streams.specs.Sink.{Puts, PutsBeginning, WritesAll, FailsWriting}
 use Rattle.outcomes.specs.Outcomes.{Answers}
+use Rattle.outcomes.specs.Endings.{without_rows}
 use Rattle.outcomes.specs.declared.outcome.Outcome.{Outcome}
 use Rattle.reports.specs.Reports.{refused_data, report_text}
 use Rattle.world_model.specs.Openings.{Job, IsJob, opening}
@@ -79,7 +80,7 @@ WritesRefusal jobs source sink status = (output : List ℕ) × RefusesFirst jobs
 abbrev pub WritesPlay : Jobs → Change SourceState → Change SinkState → ℕ → Type 0
 WritesPlay jobs source sink status =
     (lines : List (List ℕ)) × (id : List ℕ) × (replies : List Reply) × (outcome : Outcome) × AreAll source.before.left lines × IsEnd jobs lines id replies outcome
-    × Puts sink (output_of replies id outcome) × (status ≡ status_of (are_fine replies) outcome)
+    × Puts sink (output_of replies id outcome) × (status ≡ status_of (are_fine replies) (without_rows outcome))
 
 -- a line was lost, and what is due for the lines before it was written
 abbrev pub LosesReplay : Jobs → Change SourceState → Change SinkState → Type 0

@@ -7,8 +7,8 @@ use Rattle.batch_lines.specs.Lines.{without_return, kind_of}
 use Rattle.batch_lines.specs.Words.{words_of}
 use Rattle.batch_lines.specs.declared.lines.LineKind.{LineKind}
 use Rattle.batch_lines.specs.declared.lines.LineKind.TheVariants.{PassedOver, Within, TooLong}
-use Rattle.outcomes.specs.declared.outcome.Outcome.{Outcome}
-use Rattle.outcomes.specs.declared.outcome.Outcome.TheVariants.{Optimal, Unsolvable, Bounded}
+use Rattle.outcomes.specs.declared.outcome.Ending.{Ending}
+use Rattle.outcomes.specs.declared.outcome.Ending.TheVariants.{Optimal, Unsolvable, Bounded}
 use Rattle.world_model.specs.declared.steps.Refusal.{Refusal}
 use Rattle.world_model.specs.declared.steps.Step.{Step}
 use Rattle.world_model.specs.Turns.{turn}
@@ -84,8 +84,8 @@ are_fine [] = true
 are_fine (reply ∷ replies) = is_fine reply && are_fine replies
 
 -- the status: 1 for a bound, and where some line said no step
-abbrev pub status_of : Bool → Outcome → ℕ
-status_of fine (Optimal cost plan rows) = if fine then 0 else 1
+abbrev pub status_of : Bool → Ending → ℕ
+status_of fine (Optimal cost plan) = if fine then 0 else 1
 status_of fine (Unsolvable why) = if fine then 0 else 1
 status_of fine (Bounded bound best cause) = 1
 

@@ -3,6 +3,7 @@ use Rattle.std.specs.Prelude.{ℕ, ◌≡◌, ◌⊎◌, List, ◌++◌, Bool, R
 use Rattle.byte_streams.specs.Streams.{SourceState, SinkState, Change, from_to}
 use Rattle.byte_streams.specs.Sink.{Puts, PutsBeginning}
 use Rattle.outcomes.specs.declared.outcome.Outcome.{Outcome}
+use Rattle.outcomes.specs.Endings.{without_rows}
 use Rattle.reports.specs.Readings.{AreSmall}
 use Rattle.reports.specs.Reports.{outcome_data, report_text}
 use Rattle.world_model.specs.Worlds.{WorldState}
@@ -20,11 +21,11 @@ pub record IsReplied (world : Change WorldState) (later : List (List ℕ)) (repl
 
 -- the outcome that a world gives, whose numbers a report can tell
 abbrev pub IsReportOf : WorldState → Outcome → Type 0
-IsReportOf w outcome = IsGiven w outcome × AreSmall outcome
+IsReportOf w outcome = IsGiven w outcome × AreSmall (without_rows outcome)
 
--- the replies, and then the report of the outcome by this id
+-- the replies, and then the report of the outcome by this id, without its rows
 abbrev pub output_of : List Reply → List ℕ → Outcome → List ℕ
-output_of replies id outcome = replies_text replies ++ report_text (outcome_data id outcome)
+output_of replies id outcome = replies_text replies ++ report_text (outcome_data id (without_rows outcome))
 
 -- Behind the lines before all later ones were read, and the replies to them written; or a line was lost behind them; or writing failed.
 abbrev pub AnswersLines : Change SourceState → List (List ℕ) → Change WorldState → Change SinkState → Result Bool LinesFault → Type 0
@@ -43,7 +44,7 @@ abbrev pub Finishes : Change SourceState → List (List ℕ) → WorldState → 
 Finishes source lines w id sink (Ok status) =
     (later : List (List ℕ)) × (replies : List Reply) × (end : WorldState) × (outcome : Outcome) × AreAll source.before.left (lines ++ later)
     × IsReplied (from_to w end) later replies × IsReportOf end outcome × Puts sink (output_of replies id outcome)
-    × (status ≡ status_of (are_fine replies) outcome) × IsReadable source × KeepsFailure sink
+    × (status ≡ status_of (are_fine replies) (without_rows outcome)) × IsReadable source × KeepsFailure sink
 Finishes source lines w id sink (Err Read) =
     (later : List (List ℕ)) × (replies : List Reply) × (end : WorldState) × LosesLine source (lines ++ later) × IsReplied (from_to w end) later replies
     × Puts sink (replies_text replies) × KeepsFailure sink

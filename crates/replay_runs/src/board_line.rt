@@ -29,13 +29,9 @@ pub trait Opener<R: Run> {
     // The shape of the boards, the job of each, and when memory is wanting for it.
     ghost jobs: { Self → Jobs };
 
-    // What it needs of itself to open runs.
-    ghost is_ready: { Self → Type 0 };
-
     /// Opens the run of a board's job. The error tells a want of memory.
     fn open(self, alloc: Global, start: &Board) -> Result<R, OutOfMemory>
-        requires grid { start.now.grid ≡ (jobs self).grid }
-        requires ready { is_ready self }
+        requires { start.now.grid ≡ (jobs self).grid }
         ensures opened { IfOk result (λ run. (via : Move)
             × (R.world run ≡ opening ((jobs self).job start.now) via)) }
         ensures guided { IfOk result (λ run. IsGuidedJob ((jobs self).job start.now)) }
@@ -52,8 +48,7 @@ pub fn replay_lines<S: Source, K: Sink, R: Run + Drop, O: Opener<R> + Drop>(
     shape: Shape,
     opener: O,
 ) -> Result<u8, LinesFault>
-    requires grid { (O.jobs opener).grid ≡ shape }
-    requires ready { O.is_ready opener }
+    requires { (O.jobs opener).grid ≡ shape }
     ensures replays { Replays (O.jobs opener) (change S.state source.old source.new)
         (change K.state sink.old sink.new) result }
     ensures flushed { K.is_flushed sink.new ⊎ (sink.new ≡ sink.old)
@@ -94,8 +89,7 @@ fn replay_board<S: Source, K: Sink, R: Run + Drop, O: Opener<R> + Drop>(
     number: u64,
     bytes: &[u8],
 ) -> Result<u8, LinesFault>
-    requires grid { (O.jobs opener).grid ≡ shape }
-    requires ready { O.is_ready opener }
+    requires { (O.jobs opener).grid ≡ shape }
     ensures replays { (begun : SourceState) (passed : List (List ℕ)) (line : List ℕ)
         → FindsFirst (from_to begun (S.state source.old)) passed line
         → HasRead (from_to begun (S.state source.old)) reader.old (passed ++ line ∷ [])

@@ -1,21 +1,18 @@
 //! Replays with the worlds of a setup.
 
-ghost use Rattle.std.specs.Prelude.{◌≡◌, ◌⊎◌, None};
+ghost use Rattle.std.specs.Prelude.{◌≡◌, ◌⊎◌};
 ghost use Rattle.byte_streams.specs.Streams.{change};
 ghost use Rattle.batch_runs.specs.Batches.{HasFailed};
-ghost use Rattle.batch_runs.specs.Setups.{Guides};
 ghost use Rattle.replay_runs.specs.Replays.{Replays};
-ghost use Rattle.replay_runs.specs.Openings.{setup_jobs, jobs_by, hash_by, terms_of, tables_or};
+ghost use Rattle.replay_runs.specs.Openings.{setup_jobs, jobs_by};
 
 use crate::board_line::replay_lines;
 use crate::worlds::Opening;
 use batch_runs::{LinesFault, Setup, SpreadKind};
-use board::Shape;
 use byte_streams::{Sink, Source};
-use lower_bound::Bound;
 use owners::{ByBlank, Spread, Zobrist};
-use pattern_index::Partition;
 use std::alloc::Global;
+use std::thread::Threads;
 
 /// Replays the steps that the lines of the source say, in a run of the board that the first line
 /// names. Each line behind it is answered: `ok`, the code of the refusal, or `B4` where it says no
@@ -27,7 +24,8 @@ use std::alloc::Global;
 /// Answers the status: 0 for a plan or none, where no line was answered by `B4`, and where there is
 /// no board line; else 1. After `Read` the answers of the lines that were read whole are written,
 /// after `Memory` those of all lines, and after `Write` a beginning.
-pub fn run_replay<S: Source, K: Sink>(
+pub fn run_replay<R: Threads + Sync, S: Source, K: Sink>(
+    rt: &R,
     alloc: Global,
     source: &mut S,
     sink: &mut K,
@@ -38,41 +36,14 @@ pub fn run_replay<S: Source, K: Sink>(
     ensures flushed { K.is_flushed sink.new ⊎ (sink.new ≡ sink.old)
         ⊎ HasFailed (K.state sink.new) }
 {
-    let Some(bound) = setup.tables() else {
-        let bound = no_tables(alloc, setup.shape());
-        return replay_with(alloc, source, sink, setup, &bound);
-    };
-    replay_with(alloc, source, sink, setup, bound)
-}
-
-// Those of no group, whose sums are 0. No memory is taken.
-fn no_tables(alloc: Global, shape: Shape) -> Bound
-    ensures { result ≡ tables_or shape None }
-{
-    let partition = Partition::new(shape, Vec::new(alloc)).unwrap();
-    Bound::new(partition, Vec::new(alloc)).unwrap()
-}
-
-// The same with these tables.
-fn replay_with<S: Source, K: Sink>(
-    alloc: Global,
-    source: &mut S,
-    sink: &mut K,
-    setup: &Setup,
-    bound: &Bound,
-) -> Result<u8, LinesFault>
-    requires { Guides setup.now.goal setup.now.rule bound.now }
-    ensures replays { Replays (jobs_by (hash_by setup.now.spread) (terms_of setup.now bound.now))
-        (change S.state source.old source.new) (change K.state sink.old sink.new) result }
-    ensures flushed { K.is_flushed sink.new ⊎ (sink.new ≡ sink.old)
-        ⊎ HasFailed (K.state sink.new) }
-{
+    // The calling thread takes the steps of all workers: none is started for them.
+    let _ = rt;
     match setup.spread_kind() {
         SpreadKind::Zobrist => {
             let spread = Zobrist::new(setup.shape());
-            replay_spread(alloc, source, sink, setup, bound, spread)
+            replay_spread(alloc, source, sink, setup, spread)
         }
-        SpreadKind::Blank => replay_spread(alloc, source, sink, setup, bound, ByBlank),
+        SpreadKind::Blank => replay_spread(alloc, source, sink, setup, ByBlank),
     }
 }
 
@@ -82,22 +53,13 @@ fn replay_spread<S: Source, K: Sink, P: Spread + Drop>(
     source: &mut S,
     sink: &mut K,
     setup: &Setup,
-    bound: &Bound,
     spread: P,
 ) -> Result<u8, LinesFault>
-    requires { Guides setup.now.goal setup.now.rule bound.now }
-    ensures replays { Replays (jobs_by (P.hash_of spread) (terms_of setup.now bound.now))
+    ensures replays { Replays (jobs_by (P.hash_of spread) setup.now)
         (change S.state source.old source.new) (change K.state sink.old sink.new) result }
     ensures flushed { K.is_flushed sink.new ⊎ (sink.new ≡ sink.old)
         ⊎ HasFailed (K.state sink.new) }
 {
-    let opening = Opening {
-        goal: setup.goal(),
-        weights: setup.weights(),
-        bound,
-        limit: setup.expansion_limit(),
-        workers: setup.worker_count(),
-        spread,
-    };
+    let opening = Opening { setup, spread };
     replay_lines(alloc, source, sink, setup.shape(), opening)
 }

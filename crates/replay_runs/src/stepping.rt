@@ -17,7 +17,7 @@ use crate::sending::{send, send_word};
 use batch_lines::{Line, LineKind, LineReader};
 use batch_runs::LinesFault;
 use byte_streams::{Sink, Source, WriteFailed};
-use outcomes::Outcome;
+use outcomes::{Ending, Outcome};
 use reports::outcome_report;
 use std::alloc::Global;
 use step_lines::{NO_STEP, answer_word, read_step};
@@ -59,23 +59,25 @@ pub(crate) fn replay_steps<S: Source, K: Sink, R: Run + Drop>(
         Ok(said) => said,
         Err(fault) => return Err(fault),
     };
+    // A report has no rows: what they take is given back before it is made.
     let outcome = run.finish(alloc);
-    let report = match outcome_report(alloc, id, &outcome) {
+    let ending = outcome.without_rows();
+    let report = match outcome_report(alloc, id, &ending) {
         Ok(report) => report,
         Err(lacking) => return Err(LinesFault::Memory(lacking)),
     };
     let Ok(()) = send(sink, report.as_str()) else {
         return Err(LinesFault::Write);
     };
-    Ok(status_of(said, &outcome))
+    Ok(status_of(said, &ending))
 }
 
 // 0 for a plan or none, where each line said a step; else 1.
-fn status_of(said: bool, outcome: &Outcome) -> u8
-    ensures { result ≡ status_of said outcome.now }
+fn status_of(said: bool, ending: &Ending) -> u8
+    ensures { result ≡ status_of said ending.now }
 {
-    match outcome {
-        Outcome::Bounded { .. } => 1,
+    match ending {
+        Ending::Bounded { .. } => 1,
         _ => { if said { 0 } else { 1 } }
     }
 }

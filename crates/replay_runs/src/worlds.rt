@@ -2,9 +2,9 @@
 
 use crate::board_line::Opener;
 use crate::stepping::Run;
-use board::{Board, Weights};
+use batch_runs::Setup;
+use board::Board;
 use hda_run::{Job, World, WorldFault};
-use lower_bound::Bound;
 use memory::OutOfMemory;
 use outcomes::Outcome;
 use owners::Spread;
@@ -25,50 +25,32 @@ impl<'a, P: Spread + Drop> Run for World<'a, P> {
     }
 }
 
-/// Opens worlds: what the jobs of all boards have in common, and how boards are spread over workers.
+/// Opens the worlds of a setup's boards, which are spread so over its workers.
 #[derive(Drop)]
 pub(crate) struct Opening<'a, P: Spread> {
-    pub(crate) goal: Board,
-    pub(crate) weights: Weights,
-    pub(crate) bound: &'a Bound,
-    pub(crate) limit: u64,
-    pub(crate) workers: usize,
+    pub(crate) setup: &'a Setup,
     pub(crate) spread: P,
 }
 
 impl<'a, P: Spread + Drop> Opener<World<'a, P>> for Opening<'a, P> {
-    ghost use Rattle.replay_runs.specs.Openings.{jobs_by, AreTerms};
+    ghost use Rattle.replay_runs.specs.Openings.{jobs_by};
 
-    ghost jobs = { λ o. jobs_by (P.hash_of o.spread) (record {
-      goal = o.goal;
-      rule = o.weights;
-      tables = o.bound.now;
-      limit = o.limit;
-      workers = o.workers;
-    }) };
-
-    ghost is_ready = { λ o. AreTerms (record {
-      goal = o.goal;
-      rule = o.weights;
-      tables = o.bound.now;
-      limit = o.limit;
-      workers = o.workers;
-    }) };
+    ghost jobs = { λ opening. jobs_by (P.hash_of opening.spread) opening.setup.now };
 
     fn open(self, alloc: Global, start: &Board) -> Result<World<'a, P>, OutOfMemory> {
-        let Opening {
-            goal,
-            weights,
-            bound,
-            limit,
-            workers,
-            spread,
-        } = self;
-        let job = Job::new(*start, goal, weights, bound, limit).unwrap();
+        let Opening { setup, spread } = self;
+        let job = Job::new(
+            *start,
+            setup.goal(),
+            setup.weights(),
+            setup.tables(),
+            setup.expansion_limit(),
+        )
+        .unwrap();
         // What the law of runs needs of the job is told by these calls.
         let _ = job.goal();
         let _ = job.bound();
-        match World::new(alloc, job, workers, spread) {
+        match World::new(alloc, job, setup.worker_count(), spread) {
             Ok(world) => Ok(world),
             Err(WorldFault::Memory(refused)) => Err(refused),
             Err(WorldFault::WorkerCount) => unreachable!(),

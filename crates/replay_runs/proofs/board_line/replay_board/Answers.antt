@@ -8,19 +8,19 @@ use Rattle.replay_runs.proofs.board_line.replay_board.Goals as goal
 pub returns-in-Err-clause-replays : goal.returns-in-Err-clause-replays
 returns-in-Err-clause-replays g c = λ begun passed line first has within same at readable.
     let jobs = g.O.Opener.jobs c.args.opener in
-    let fault = subst (λ (grid : Grid). IsFirstEntryFault grid c.args.bytes.now c.in-Err.fault) (sym c.requires.grid) ((c.in-Err.ensures.fault c.in-Err.fault).0 refl) in
+    let fault = subst (λ (grid : Grid). IsFirstEntryFault grid c.args.bytes.now c.in-Err.fault) (sym c.requires) ((c.in-Err.ensures.fault c.in-Err.fault).0 refl) in
     refused jobs begun (g.S.Source.state c.args.source.now) (g.K.Sink.state c.args.sink.now) (g.K.Sink.state c.refuse.new.sink) passed line (entry_code c.in-Err.fault) c.args.number c.refuse.result first (refused_fault jobs line c.args.bytes.now c.in-Err.fault within same fault) at readable (rw c.code.ensures at c.refuse.ensures.refuses)
 
 pub returns-in-Err-open-clause-replays : goal.returns-in-Err-open-clause-replays
 returns-in-Err-open-clause-replays g c = λ begun passed line first has within same at readable.
     let jobs = g.O.Opener.jobs c.args.opener in
-    let entry = subst (λ (grid : Grid). IsEntry grid c.args.bytes.now c.in-Ok.entry.id.now c.in-Ok.entry.board) (sym c.requires.grid) c.in-Ok.ensures.entry in
+    let entry = subst (λ (grid : Grid). IsEntry grid c.args.bytes.now c.in-Ok.entry.id.now c.in-Ok.entry.board) (sym c.requires) c.in-Ok.ensures.entry in
     refused jobs begun (g.S.Source.state c.args.source.now) (g.K.Sink.state c.args.sink.now) (g.K.Sink.state c.refuse-in-Err-open.new.sink) passed line (codes "V3") c.args.number c.refuse-in-Err-open.result first (refused_want jobs line c.args.bytes.now c.in-Ok.entry.id.now c.in-Ok.entry.board within same entry c.in-Err-open.ensures.lacking) at readable (rw c.code-in-Err-open.ensures at c.refuse-in-Err-open.ensures.refuses)
 
 pub returns-clause-replays : goal.returns-clause-replays
 returns-clause-replays g c = λ begun passed line first has within same at readable.
     let jobs = g.O.Opener.jobs c.args.opener in
-    let entry = subst (λ (grid : Grid). IsEntry grid c.args.bytes.now c.in-Ok.entry.id.now c.in-Ok.entry.board) (sym c.requires.grid) c.in-Ok.ensures.entry in
+    let entry = subst (λ (grid : Grid). IsEntry grid c.args.bytes.now c.in-Ok.entry.id.now c.in-Ok.entry.board) (sym c.requires) c.in-Ok.ensures.entry in
     let opened = c.in-Ok-open.ensures.opened in
     let play : IsBegun jobs passed line c.in-Ok.entry.id.now (g.R.Run.world c.in-Ok-open.run') =
     record {
