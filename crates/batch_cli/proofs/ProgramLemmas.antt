@@ -9,8 +9,8 @@ use Rattle.batch_runs.specs.Headline.{WritesTruth, BeginsTruth, IsTrueRun}
 use Rattle.batch_runs.specs.declared.batch.Summary.{Summary}
 use Rattle.batch_runs.specs.declared.faults.LinesFault.{LinesFault}
 use Rattle.batch_runs.specs.declared.faults.LinesFault.TheVariants as lines
-use Rattle.batch_runs.proofs.RunLemmas.{run_true, setup_truthful}
-use Rattle.batch_cli.specs.Programs.{default_setup, default_rules, status_of, ending_of, first_fault, EndsRun, IsTrue}
+use Rattle.batch_runs.proofs.RunLemmas.{run_true}
+use Rattle.batch_cli.specs.Programs.{default_rules, status_of, ending_of, first_fault, EndsRun, IsTrue}
 
 AreFirst-all : (input : Option (List ℕ)) (lines : List (List ℕ)) → AreAll input lines → AreFirst input lines
 AreFirst-all None lines all = tt
@@ -57,7 +57,7 @@ whole source sink (Err fault) flushed counts first true_run = absurd cc
 -- what the run wrote, with the status of its end
 pub run_tells : (source : Change SourceState) (sink : Change SinkState) (result : Result Summary LinesFault) (status : ℕ) → EndsRun source sink result → status ≡ status_of (ending_of result) → IsTrue status source sink
 run_tells source sink result status ended told =
-    let ran = run_true default_rules (setup_truthful default_setup) source (from_to sink.before ended.between) ended.ran ended.lines in
+    let ran = run_true default_rules (λ b ending allowed. allowed.0) source (from_to sink.before ended.between) ended.ran ended.lines in
     let kept = flush_none (from_to ended.between sink.after) ended.flushed ended.flush in
     (BeginsTruth-kept source sink.before ended.between sink.after (begun source (from_to sink.before ended.between) ended.ran ran) kept, λ fine. WritesTruth-kept source sink.before ended.between sink.after status (by_result result told ended.first ran fine) kept)
   where

@@ -11,12 +11,12 @@ use Rattle.batch_runs.specs.declared.faults.LinesFault.{LinesFault}
 use Rattle.batch_runs.specs.declared.faults.LinesFault.TheVariants as lines
 use Rattle.batch_cli.specs.declared.faults.BatchFault.TheVariants.{Read, Write, Memory, CertificateRead, CertificateMemory, CertificateWrite}
 use Rattle.batch_cli.specs.declared.program.Ending.{Ending}
-use Rattle.batch_cli.specs.declared.program.Ending.TheVariants.{Usage, NoBuffers, Ran, Faulted}
+use Rattle.batch_cli.specs.declared.program.Ending.TheVariants.{Usage, NoMemory, Ran, Faulted}
 use Rattle.batch_cli.specs.Faults.{of_lines}
 use Rattle.batch_runs.specs.Batches.{Rules, ReportsLines, status_of_counts}
 use Rattle.batch_runs.specs.Headline.{WritesTruth, BeginsTruth}
 use Rattle.batch_runs.specs.Setups.{SetupState, plain_setup}
-use Rattle.batch_runs.specs.Solving.{rules_of}
+use Rattle.setup_runs.specs.Solving.{rules_of}
 
 -- 3 by 3, Korf's goal, unit cost
 abbrev pub small_grid : Grid
@@ -28,7 +28,7 @@ default_setup = plain_setup (goal_of small_grid) (unit_rule small_grid)
 -- 0 where each line is optimal or unsolvable, 1 where some line is bounded or refused, 2 for the words, 3 for streams that failed, 4 for want of memory
 abbrev pub status_of : Ending → ℕ
 status_of Usage = 2
-status_of NoBuffers = 4
+status_of NoMemory = 4
 status_of (Ran counts) = status_of_counts counts
 status_of (Faulted Read) = 3
 status_of (Faulted Write) = 3
@@ -43,7 +43,7 @@ line_of text = text ++ 10 ∷ []
 
 abbrev pub message_of : Ending → List ℕ
 message_of Usage = line_of (codes "usage: tilesolve, with lines of an id and the tiles of a 3 by 3 board on standard input")
-message_of NoBuffers = line_of (codes "tilesolve: memory")
+message_of NoMemory = line_of (codes "tilesolve: memory")
 message_of (Ran counts) = []
 message_of (Faulted Read) = line_of (codes "tilesolve: B1")
 message_of (Faulted Write) = line_of (codes "tilesolve: B2")

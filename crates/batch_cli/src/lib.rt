@@ -9,12 +9,14 @@ mod program;
 pub use batch_lines::{
     Entry, EntryFault, INPUT_LIMIT, LINE_LIMIT, Line, LineKind, LineReader, read_entry,
 };
-pub use batch_runs::{LinesFault, Setup, Solver, SpreadKind, Summary, run_batch, run_lines};
-pub use certificate_runs::{CertifyFault, CheckFault, run_cert, run_check};
+pub use batch_runs::{LinesFault, Setup, Solver, SpreadKind, Summary, run_lines};
+pub use certificate_runs::{CertifyFault, CheckFault, run_check};
 pub use faults::BatchFault;
+pub use hda_run::{Free, Gate, Kind};
 pub use outcomes::{Cause, Outcome, SolveFault, Want, Why};
 pub use program::{Ending, run_program};
 pub use replay_runs::{Opener, Run, replay_lines, run_replay};
 pub use reports::{
     NoReport, accepted_report, outcome_report, refused_certificate_report, refused_report,
 };
+pub use setup_runs::run_batch;

@@ -8,18 +8,22 @@ ghost use Rattle.batch_runs.specs.Batches.{HasFailed};
 ghost use Rattle.batch_cli.specs.Programs.{Tells, IsTrue, EndsBy, EndsRun};
 
 use crate::faults::BatchFault;
-use batch_runs::{LinesFault, Setup, Summary, run_batch};
+use batch_runs::{LinesFault, Setup, Summary};
 use board::{Board, Shape, Weights};
 use byte_streams::{Sink, Source};
+use hda_run::Free;
+use setup_runs::run_batch;
 use std::alloc::Global;
+use std::sync::Wait;
+use std::thread::Threads;
 
 /// How the program ends.
 #[derive(Clone, Copy, Debug, PartialEq, Eq)]
 pub enum Ending {
     /// It was given words that it does not know.
     Usage,
-    /// There was no memory for the words or for the streams' buffers.
-    NoBuffers,
+    /// There was no memory for the words, the streams' buffers or the tables.
+    NoMemory,
     /// All lines were answered or refused.
     Ran(Summary),
     /// The run ended early.
@@ -34,7 +38,7 @@ impl Ending {
     {
         match self {
             Ending::Usage => 2,
-            Ending::NoBuffers => 4,
+            Ending::NoMemory => 4,
             Ending::Ran(counts) if counts.bounded == 0 && counts.refused == 0 => 0,
             Ending::Ran(_) => 1,
             Ending::Faulted(BatchFault::Memory(_) | BatchFault::CertificateMemory(_)) => 4,
@@ -51,7 +55,7 @@ impl Ending {
                 "usage: tilesolve, with lines of an id and the tiles of a 3 by 3 board on standard \
                  input\n"
             }
-            Ending::NoBuffers => "tilesolve: memory\n",
+            Ending::NoMemory => "tilesolve: memory\n",
             Ending::Ran(_) => "",
             Ending::Faulted(BatchFault::Read) => "tilesolve: B1\n",
             Ending::Faulted(BatchFault::Write) => "tilesolve: B2\n",
@@ -76,7 +80,8 @@ impl Ending {
 ///
 /// Without words it reports the lines of the source to the sink, for 3 by 3 boards at unit cost
 /// with Korf's goal, and flushes the sink. What is written tells the truth: so says `IsTrue`.
-pub fn run_program<S: Source, K: Sink, E: Sink>(
+pub fn run_program<R: Threads + Wait + Sync, S: Source, K: Sink, E: Sink>(
+    rt: &R,
     alloc: Global,
     words: &[String],
     source: &mut S,
@@ -93,14 +98,15 @@ pub fn run_program<S: Source, K: Sink, E: Sink>(
     if !words.is_empty() {
         return Ending::Usage.tell(errors);
     }
-    match run(alloc, source, sink) {
+    match run(rt, alloc, source, sink) {
         Ok(counts) => Ending::Ran(counts).tell(errors),
         Err(fault) => Ending::Faulted(BatchFault::from(fault)).tell(errors),
     }
 }
 
 // Reports the lines of the source, and flushes the sink. The first fault decides how it ends.
-fn run<S: Source, K: Sink>(
+fn run<R: Threads + Wait + Sync, S: Source, K: Sink>(
+    rt: &R,
     alloc: Global,
     source: &mut S,
     sink: &mut K,
@@ -109,8 +115,8 @@ fn run<S: Source, K: Sink>(
         (change K.state sink.old sink.new) result }
     ensures flushed { K.is_flushed sink.new ⊎ HasFailed (K.state sink.new) }
 {
-    let setup = default_setup();
-    let counts = match run_batch(alloc, source, sink, &setup) {
+    let setup = default_setup(alloc);
+    let counts = match run_batch(rt, alloc, source, sink, &setup, &Free) {
         Ok(counts) => counts,
         Err(fault) => {
             let _ = sink.flush();
@@ -124,9 +130,9 @@ fn run<S: Source, K: Sink>(
 }
 
 // 3 by 3, Korf's goal, unit cost.
-fn default_setup() -> Setup
+fn default_setup(alloc: Global) -> Setup
     ensures { result ≡ default_setup }
 {
     let shape = Shape::new(3, 3).unwrap();
-    Setup::new(Board::goal(shape), Weights::unit(shape))
+    Setup::new(alloc, Board::goal(shape), Weights::unit(shape))
 }

@@ -18,6 +18,8 @@ use byte_streams::{ByteSink, ByteSource};
 use escapes::{push_lines, unescape};
 use std::alloc::Global;
 use std::io::{self, BufRead, BufReader, ErrorKind};
+use std::sync::Wait;
+use std::thread::Threads;
 
 fn main(rt: HostRuntime) -> io::Result<()> {
     let table = BufReader::new(rt.alloc(), rt.stdin())?;
@@ -31,7 +33,7 @@ fn main(rt: HostRuntime) -> io::Result<()> {
 }
 
 // Prints a row, and what the program answers to it.
-fn print_run(rt: &(impl Print + AllocGlobal), row: &str) -> io::Result<()> {
+fn print_run(rt: &(impl Print + AllocGlobal + Threads + Wait + Sync), row: &str) -> io::Result<()> {
     let alloc = rt.alloc();
     let Some((words, input)) = row.split_once('\t') else {
         return Err(ErrorKind::InvalidData.into());
@@ -40,7 +42,7 @@ fn print_run(rt: &(impl Print + AllocGlobal), row: &str) -> io::Result<()> {
         return Err(ErrorKind::InvalidData.into());
     };
     let words = words_of(alloc, words)?;
-    let answer = answer_to(alloc, words.as_slice(), input.as_slice())?;
+    let answer = answer_to(rt, words.as_slice(), input.as_slice())?;
     println!(rt; "{row}\n{answer}")
 }
 
@@ -57,11 +59,16 @@ fn words_of(alloc: Global, text: &str) -> io::Result<Vec<String>> {
 }
 
 // The status of a run and what it writes.
-fn answer_to(alloc: Global, words: &[String], input: &[u8]) -> io::Result<String> {
+fn answer_to(
+    rt: &(impl AllocGlobal + Threads + Wait + Sync),
+    words: &[String],
+    input: &[u8],
+) -> io::Result<String> {
+    let alloc = rt.alloc();
     let mut source = ByteSource::new(input);
     let mut sink = ByteSink::new(Vec::new(alloc));
     let mut errors = ByteSink::new(Vec::new(alloc));
-    let status = run_program(alloc, words, &mut source, &mut sink, &mut errors);
+    let status = run_program(rt, alloc, words, &mut source, &mut sink, &mut errors);
     let mut text = format!(in alloc; "status {status}\n")?;
     push_lines(&mut text, "> ", sink.into_inner().as_slice())?;
     push_lines(&mut text, "! ", errors.into_inner().as_slice())?;

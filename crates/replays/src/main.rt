@@ -17,6 +17,7 @@ use batch_cli::{Setup, run_replay};
 use byte_streams::{ByteSink, ByteSource};
 use setups::setup_of;
 use std::io::{self, ErrorKind, Read};
+use std::thread::Threads;
 use streams::{FlushPrinter, LinePrinter};
 
 fn main(rt: HostRuntime) -> io::Result<()> {
@@ -30,7 +31,10 @@ fn main(rt: HostRuntime) -> io::Result<()> {
 }
 
 // Runs the replay that a paragraph says, and prints it.
-fn print_replay(rt: &(impl Print + AllocGlobal), paragraph: &str) -> io::Result<()> {
+fn print_replay(
+    rt: &(impl Print + AllocGlobal + Threads + Sync),
+    paragraph: &str,
+) -> io::Result<()> {
     let (words, input) = paragraph.split_once('\n').unwrap_or((paragraph, ""));
     let Some(setup) = setup_of(rt.alloc(), words) else {
         return Err(ErrorKind::InvalidData.into());
@@ -40,11 +44,15 @@ fn print_replay(rt: &(impl Print + AllocGlobal), paragraph: &str) -> io::Result<
 }
 
 // Runs a replay of this input, whose lines are in escapes, and prints what happens.
-fn run(rt: &(impl Print + AllocGlobal), setup: &Setup, input: &str) -> io::Result<()> {
+fn run(
+    rt: &(impl Print + AllocGlobal + Threads + Sync),
+    setup: &Setup,
+    input: &str,
+) -> io::Result<()> {
     let alloc = rt.alloc();
     let mut source = ByteSource::new(LinePrinter::new(rt, alloc, input));
     let mut sink = ByteSink::new(FlushPrinter::new(rt, alloc));
-    let answer = run_replay(alloc, &mut source, &mut sink, setup);
+    let answer = run_replay(rt, alloc, &mut source, &mut sink, setup);
     sink.into_inner().print_rest()?;
     match answer {
         Ok(status) => println!(rt; "status {status}\n"),

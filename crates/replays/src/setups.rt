@@ -36,7 +36,7 @@ pub fn setup_of(alloc: Global, text: &str) -> Option<Setup> {
     let limit = limit_of(words.limit)?;
     let spread = spread_of(words.spread)?;
     let workers = words.workers.parse().ok()?;
-    let setup = Setup::new(goal, weights).limit(limit).spread(spread);
+    let setup = Setup::new(alloc, goal, weights).limit(limit).spread(spread);
     if words.groups == "none" {
         return setup.workers(workers).ok();
     }

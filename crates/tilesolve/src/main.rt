@@ -17,7 +17,7 @@ fn read_words(rt: &(impl Env + AllocGlobal)) -> Result<Vec<String>, Ending> {
     };
     match words.skip(1).collect(rt.alloc()) {
         Ok(words) => Ok(words),
-        Err(_) => Err(Ending::NoBuffers),
+        Err(_) => Err(Ending::NoMemory),
     }
 }
 
@@ -32,9 +32,16 @@ fn main(rt: HostRuntime) -> ExitCode {
         BufReader::new(alloc, rt.stdin()),
         BufWriter::new(alloc, rt.stdout()),
     ) else {
-        return ExitCode::from(Ending::NoBuffers.tell(&mut errors));
+        return ExitCode::from(Ending::NoMemory.tell(&mut errors));
     };
     let mut source = ByteSource::new(reader);
     let mut sink = ByteSink::new(writer);
-    ExitCode::from(run_program(alloc, words.as_slice(), &mut source, &mut sink, &mut errors))
+    ExitCode::from(run_program(
+        &rt,
+        alloc,
+        words.as_slice(),
+        &mut source,
+        &mut sink,
+        &mut errors,
+    ))
 }

@@ -5,7 +5,7 @@ use Rattle.batch_runs.specs.declared.batch.Summary.{Summary}
 use Rattle.batch_runs.specs.declared.faults.LinesFault.{LinesFault}
 use Rattle.batch_runs.specs.Batches.{ReportsLines}
 use Rattle.batch_runs.specs.Setups.{SetupState}
-use Rattle.batch_runs.specs.Solving.{rules_of}
+use Rattle.setup_runs.specs.Solving.{rules_of}
 use Rattle.batch_cli.proofs.program.run.Goals as goal
 
 pub returns-in-Err-clause-ended : goal.returns-in-Err-clause-ended
