@@ -1,11 +1,11 @@
 -- What follows of spellings and first faults.
-use Rattle.std.proofs.Common.{◌≡◌, ◌⊎◌, inl, inr, ℕ, List, [], ◌∷◌, ◌++◌, Bool, true, Option, None, Some, Result, Ok, Err, refl, sym, ap, subst, ◌∙◌, append-nil}
+use Rattle.std.proofs.Common.{◌≡◌, ◌≢◌, ◌⊎◌, inl, inr, ℕ, List, [], ◌∷◌, ◌++◌, Bool, true, Option, None, Some, Result, Ok, Err, refl, sym, ap, subst, ◌∙◌, append-nil}
 use Rattle.std.specs.Prelude.{IfSome, ◌↔◌}
 use Rattle.std.proofs.lemmas.Bool.{false≢true}
-use Rattle.std.proofs.lemmas.List.{append_cancel_right}
+use Rattle.std.proofs.lemmas.List.{append_cancel_left, append_cancel_right}
 use Rattle.std.specs.Io.KnownBytes.{Consumes}
 use Rattle.certificate.specs.declared.faults.FormatFault.{FormatFault}
-use Rattle.certificate.specs.declared.faults.FormatFault.TheVariants.{BytesAfterEnd}
+use Rattle.certificate.specs.declared.faults.FormatFault.TheVariants.{OtherMagic, Truncated, OutOfRange, NotRising, BytesAfterEnd}
 use Rattle.certificate.specs.declared.faults.ReadFault.{ReadFault}
 use Rattle.certificate.specs.declared.faults.ReadFault.TheVariants.{Format, Failed, NoMemory}
 use Rattle.certificate.specs.Certificates.{Statement}
@@ -13,10 +13,10 @@ use Rattle.certificate.specs.Spellings.{Spells, spelling}
 use Rattle.certificate.specs.Readings.{Reading, certificate, give, end, next_reading, IsFaultOf, IsFirstFault, HasNoFault}
 use Rattle.byte_streams.specs.Streams.{SourceState, Change}
 use Rattle.byte_streams.specs.Source.{Takes}
-use Rattle.certificate.specs.Sources.{IfFormat, is_failure, FindsAll, ReadsAll, Tells, IsAnswerTo, ReadsCertificate}
+use Rattle.certificate.specs.Sources.{IfFormat, is_failure, FindsAll, ReadsAll, Tells, IsAnswerTo, IsShown, StopsAtFault, ReadsCertificate}
 use Rattle.certificate.specs.Laws.{AreBytes, TellsOfBytes}
 use Rattle.certificate.proofs.ReaderLemmas.{fine, faulty}
-use Rattle.certificate.proofs.FieldLemmas.{if_known}
+use Rattle.certificate.proofs.FieldLemmas.{if_known, not_magic, not_range, not_order, not_after}
 use Rattle.certificate.proofs.CertificateLemmas.{read_again, read_takes}
 
 never : (c : Statement) (l : List ℕ) (fault : FormatFault) (from : List ℕ) → fine c l ≡ faulty Statement fault from → ⊥
@@ -53,6 +53,17 @@ not_both bytes c fault s f = never c [] fault f.0 (sym (spelled_read bytes c s) 
 
 pub one_first_fault : (bytes : List ℕ) (f g : FormatFault) → IsFirstFault bytes f → IsFirstFault bytes g → g ≡ f
 one_first_fault bytes f g p q = same_fault f g p.0 q.0 (sym p.1 ∙ q.1)
+
+pub faultless : (bytes : List ℕ) → AreBytes bytes → HasNoFault certificate bytes ↔ (((c : Statement) × Spells c bytes) ⊎ IsFirstFault bytes Truncated)
+faultless bytes all = (λ none. there none (spelled_or_faulty bytes all), back)
+  where
+    there : HasNoFault certificate bytes → ((c : Statement) × Spells c bytes) ⊎ ((fault : FormatFault) × IsFirstFault bytes fault) → ((c : Statement) × Spells c bytes) ⊎ IsFirstFault bytes Truncated
+    there none (inl spelled) = inl spelled
+    there none (inr (fault, f)) = inr (subst (λ (g : FormatFault). IsFirstFault bytes g) (none fault f) f)
+
+    back : ((c : Statement) × Spells c bytes) ⊎ IsFirstFault bytes Truncated → HasNoFault certificate bytes
+    back (inl (c, s)) = λ fault f. absurd (not_both bytes c fault s f)
+    back (inr cut) = λ fault f. one_first_fault bytes Truncated fault cut f
 
 pub one_certificate : (c d : Statement) (bytes : List ℕ) → Spells c bytes → Spells d bytes → d ≡ c
 one_certificate c d bytes s t = same_value c d [] (sym (spelled_read bytes c s) ∙ spelled_read bytes d t)
@@ -144,3 +155,33 @@ told_of_bytes source (Err Failed) bytes left was is reads =
 told_of_bytes source (Err (NoMemory refused)) bytes left was is reads =
     let p = reads.stops in
     subst (λ (l : List ℕ). HasNoFault certificate l) (same_bytes source.before.left source.after.left bytes left p.seen was is p.taken) p.stops
+
+-- ---- where a fault shows
+
+-- all that were left, where they are cut off
+cut_at_end : (source : Change SourceState) (seen bytes left : List ℕ) → source.before.left ≡ Some (bytes ++ left) → seen ≡ bytes → IsShown (λ l. HasNoFault certificate l) source seen Truncated → left ≡ []
+cut_at_end source seen bytes left was same shown =
+    let all : bytes ++ left ≡ seen = subst (λ (o : Option (List ℕ)). IfSome o (λ input. input ≡ seen)) was (shown.at_end refl) in
+    append_cancel_left bytes left [] (all ∙ same ∙ sym (append-nil bytes))
+
+-- the last byte, where they are not
+shown_last : (source : Change SourceState) (fault : FormatFault) (seen bytes : List ℕ) → fault ≢ Truncated → seen ≡ bytes → IsShown (λ l. HasNoFault certificate l) source seen fault → (fault ≢ Truncated) × ((before : List ℕ) × (byte : ℕ) × (bytes ≡ before ++ byte ∷ []) × HasNoFault certificate before)
+shown_last source fault seen bytes other same shown =
+    let last = shown.at_byte other in
+    (other, (last.0, last.1, sym same ∙ last.2, last.3))
+
+pub fault_shows_last : (source : Change SourceState) (fault : FormatFault) (bytes left : List ℕ) → source.before.left ≡ Some (bytes ++ left) → source.after.left ≡ Some left → ReadsCertificate source (Err (Format fault)) → ((fault ≡ Truncated) × (left ≡ [])) ⊎ ((fault ≢ Truncated) × ((before : List ℕ) × (byte : ℕ) × (bytes ≡ before ++ byte ∷ []) × HasNoFault certificate before))
+fault_shows_last source fault bytes left was is reads = by_fault fault p.stops
+  where
+    p : StopsAtFault source (Format fault)
+    p = reads.stops
+
+    same : p.seen ≡ bytes
+    same = same_bytes source.before.left source.after.left bytes left p.seen was is p.taken
+
+    by_fault : (f : FormatFault) → IsShown (λ l. HasNoFault certificate l) source p.seen f → ((f ≡ Truncated) × (left ≡ [])) ⊎ ((f ≢ Truncated) × ((before : List ℕ) × (byte : ℕ) × (bytes ≡ before ++ byte ∷ []) × HasNoFault certificate before))
+    by_fault Truncated shown = inl (refl, cut_at_end source p.seen bytes left was same shown)
+    by_fault OtherMagic shown = inr (shown_last source OtherMagic p.seen bytes not_magic same shown)
+    by_fault OutOfRange shown = inr (shown_last source OutOfRange p.seen bytes not_range same shown)
+    by_fault NotRising shown = inr (shown_last source NotRising p.seen bytes not_order same shown)
+    by_fault BytesAfterEnd shown = inr (shown_last source BytesAfterEnd p.seen bytes not_after same shown)

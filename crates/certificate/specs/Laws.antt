@@ -1,5 +1,5 @@
 -- The laws of spellings and readings, and of what is read of a source.
-use Rattle.std.specs.Prelude.{ℕ, ◌≡◌, ◌⊎◌, ◌<◌, ◌≤◌, ◌^◌, ◌↔◌, List, [], ◌∷◌, ◌++◌, length, Some, Result, Ok, Err}
+use Rattle.std.specs.Prelude.{ℕ, ◌≡◌, ◌≢◌, ◌⊎◌, ◌<◌, ◌≤◌, ◌^◌, ◌↔◌, List, [], ◌∷◌, ◌++◌, length, Some, Result, Ok, Err}
 use Rattle.std.specs.List.{AllByRecursion}
 use Rattle.certificate.specs.Certificates.{Statement, IsCertificate}
 use Rattle.certificate.specs.Spellings.{Spells, spelling, heading, announcement}
@@ -7,6 +7,7 @@ use Rattle.certificate.specs.Readings.{certificate, IsFaultAt, IsFirstFault, Has
 use Rattle.certificate.specs.Sources.{ReadsCertificate}
 use Rattle.byte_streams.specs.Streams.{SourceState, Change}
 use Rattle.certificate.specs.declared.faults.FormatFault.{FormatFault}
+use Rattle.certificate.specs.declared.faults.FormatFault.TheVariants.{Truncated}
 use Rattle.certificate.specs.declared.faults.ReadFault.{ReadFault}
 use Rattle.certificate.specs.declared.faults.ReadFault.TheVariants.{Format, Failed, NoMemory}
 
@@ -29,6 +30,10 @@ NotBoth = (bytes : List ℕ) (c : Statement) (fault : FormatFault) → Spells c 
 -- bytes have one first fault
 abbrev pub OneFirstFault : Type 0
 OneFirstFault = (bytes : List ℕ) (fault fault' : FormatFault) → IsFirstFault bytes fault → IsFirstFault bytes fault' → fault' ≡ fault
+
+-- nothing is wrong, unless they are cut off, with bytes that spell a certificate or that are cut off, and with no others
+abbrev pub FaultlessIsSpelledOrCutOff : Type 0
+FaultlessIsSpelledOrCutOff = (bytes : List ℕ) → AreBytes bytes → HasNoFault certificate bytes ↔ (((c : Statement) × Spells c bytes) ⊎ IsFirstFault bytes Truncated)
 
 -- one text begins with the other
 abbrev pub Begins : List ℕ → List ℕ → Type 0
@@ -81,3 +86,12 @@ AnswersTellOfBytes =
     → source.after.left ≡ Some left
     → ReadsCertificate source result
     → TellsOfBytes result bytes
+
+-- a fault shows with the last byte that was taken: bytes that are cut off are all that were left, and before the last byte that shows another fault nothing is wrong, unless they are cut off there
+abbrev pub FaultsShowLast : Type 0
+FaultsShowLast =
+    (source : Change SourceState) (fault : FormatFault) (bytes left : List ℕ)
+    → source.before.left ≡ Some (bytes ++ left)
+    → source.after.left ≡ Some left
+    → ReadsCertificate source (Err (Format fault))
+    → ((fault ≡ Truncated) × (left ≡ [])) ⊎ ((fault ≢ Truncated) × ((before : List ℕ) × (byte : ℕ) × (bytes ≡ before ++ byte ∷ []) × HasNoFault certificate before))

@@ -3,13 +3,16 @@
 ghost use Rattle.certificate.specs.Laws.{ReadingIsSpelling, SpelledOrFaulty, NotBoth};
 ghost use Rattle.certificate.specs.Laws.{OneFirstFault, FaultsComeFirst, NoneBeginsAnother};
 ghost use Rattle.certificate.specs.Laws.{OneCertificate, OneSpelling, AnswersTellOfBytes};
+ghost use Rattle.certificate.specs.Laws.{FaultlessIsSpelledOrCutOff, FaultsShowLast};
 
-/// A certificate is read exactly where the bytes spell it. Else they have one first fault.
+/// A certificate is read exactly where the bytes spell it. Else they have one first fault. Nothing is
+/// wrong with bytes that spell one or are cut off, and with no others.
 pub fn reading_is_spelling()
     ensures both_ways { ReadingIsSpelling }
     ensures all { SpelledOrFaulty }
     ensures apart { NotBoth }
     ensures one { OneFirstFault }
+    ensures faultless { FaultlessIsSpelledOrCutOff }
 {}
 
 /// What stands before the first fault is the beginning of some spelling.
@@ -33,4 +36,10 @@ pub fn one_spelling_a_certificate()
 /// refused.
 pub fn answers_tell_of_bytes()
     ensures { AnswersTellOfBytes }
+{}
+
+/// No more is taken than shows the first fault: it shows with the last byte that was taken, or at
+/// the end.
+pub fn faults_show_last()
+    ensures { FaultsShowLast }
 {}

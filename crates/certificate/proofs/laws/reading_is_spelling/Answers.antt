@@ -1,6 +1,6 @@
 use Rattle.std.proofs.Common.{[]}
 use Rattle.certificate.proofs.CertificateLemmas.{read_takes}
-use Rattle.certificate.proofs.LawLemmas.{spelled_read, spelled_or_faulty, not_both}
+use Rattle.certificate.proofs.LawLemmas.{spelled_read, spelled_or_faulty, not_both, faultless}
 use Rattle.certificate.proofs.laws.reading_is_spelling.Goals as goal
 
 pub returns-clause-both_ways : goal.returns-clause-both_ways
@@ -11,3 +11,6 @@ returns-clause-all c = spelled_or_faulty
 
 pub returns-clause-apart : goal.returns-clause-apart
 returns-clause-apart c = not_both
+
+pub returns-clause-faultless : goal.returns-clause-faultless
+returns-clause-faultless c = faultless
