@@ -1,9 +1,9 @@
 //! The tables of a bound are compared with the groups of a certificate, and tested.
 
-ghost use Rattle.std.specs.Prelude.{IsNone, IfSome};
+ghost use Rattle.std.specs.Prelude.{◌≡◌, ◌<◌, ◌↔◌, length, IsTrue, IsNone, IfSome};
 ghost use Rattle.lower_bound.specs.Tables.{IsTables};
 ghost use Rattle.certificate.specs.Certificates.{IsCertificate};
-ghost use Rattle.certificate_check.specs.Refusals.{AreFit, IsFirstUnfit};
+ghost use Rattle.certificate_check.specs.Refusals.{AreFit, IsFitAt, IsFirstUnfit};
 
 use certificate::Certificate;
 use lower_bound::{Bound, is_potential};
@@ -16,23 +16,43 @@ pub(crate) fn find_unfit(certificate: &Certificate, bound: &Bound) -> Option<usi
     ensures none { IsNone result → AreFit certificate.now bound.now }
     ensures tables { IsTables bound.now }
 {
-    if bound.partition().shape() != certificate.shape() {
+    if !is_of_shape(certificate, bound) {
         return Some(0);
     }
     let groups = certificate.groups().groups();
-    let tables = bound.tables();
-    let goal = certificate.goal();
-    let costs = certificate.costs();
     'groups: for place in 0..groups.len() {
-        if place >= tables.len() {
-            return Some(place);
-        }
-        if !is_potential(&tables[place], &groups[place], &goal, &costs) {
+        if !is_fit(certificate, bound, place) {
             return Some(place);
         }
     }
-    if groups.len() < tables.len() {
+    if groups.len() < bound.tables().len() {
         return Some(groups.len());
     }
     None
+}
+
+// Whether the tables are of boards of the certificate's shape.
+fn is_of_shape(certificate: &Certificate, bound: &Bound) -> bool
+    requires { IsCertificate certificate.now }
+    ensures shape { IsTrue result ↔ (certificate.now.groups.grid ≡ bound.now.split.grid) }
+    ensures tables { IsTables bound.now }
+{
+    certificate.groups().shape() == bound.partition().shape()
+}
+
+// Whether the table at the place of a group is one of it, and a potential for the certificate's
+// goal and costs.
+fn is_fit(certificate: &Certificate, bound: &Bound, place: usize) -> bool
+    requires certificate { IsCertificate certificate.now }
+    requires shape { certificate.now.groups.grid ≡ bound.now.split.grid }
+    requires place { place < length certificate.now.groups.groups }
+    ensures { IsTrue result ↔ IsFitAt certificate.now bound.now place }
+{
+    let groups = certificate.groups().groups();
+    let goal = certificate.goal();
+    let costs = certificate.costs();
+    let Some(table) = bound.tables().get(place) else {
+        return false;
+    };
+    is_potential(table, &groups[place], &goal, &costs)
 }

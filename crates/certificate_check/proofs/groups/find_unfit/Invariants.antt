@@ -1,5 +1,5 @@
 use Rattle.std.proofs.Common.{ℕ, ◌<◌}
-use Rattle.certificate_check.proofs.GroupLemmas.{IsFitAt}
+use Rattle.certificate_check.specs.Refusals.{IsFitAt}
 use Rattle.certificate_check.proofs.groups.find_unfit.Given as goal
 
 abbrev pub invariant-groups : goal.invariant-groups
