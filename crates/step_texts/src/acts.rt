@@ -3,13 +3,14 @@
 use crate::scenes::{Act, Row};
 use crate::team::Team;
 use crate::trial::Trial;
-use crate::words::{rest_word, word, word_of};
+use crate::words::{rest_word, word_of};
 use arrayvec::ArrayVec;
 use board::{Board, Move, Shape};
 use message_ledger::{Packet, Purse, Tokens};
 use owners::Spread;
 use quiescence::{Book, book_code};
 use std::alloc::Global;
+use step_lines::answer_word;
 use worker_core::{LaneIn, LaneOut, Queue};
 use world_model::{Item, LANE_LIMIT, PACKET_LIMIT};
 
@@ -90,12 +91,12 @@ fn make_on_book<C: Tokens, S: Spread>(
     act: Act,
 ) -> Option<&'static str> {
     match act {
-        Act::Draw => Some(word(trial.draw(book))),
+        Act::Draw => Some(answer_word(trial.draw(book))),
         Act::Announce => Some(word_of(trial.announce(owners, me, book))),
-        Act::Grant => Some(word(trial.grant(book))),
+        Act::Grant => Some(answer_word(trial.grant(book))),
         Act::Rest => Some(rest_word(trial.rest(me, book))),
-        Act::HaltByLimit => Some(word(trial.halt_by_limit(book))),
-        Act::HaltByStart => Some(word(trial.halt_by_start(book))),
+        Act::HaltByLimit => Some(answer_word(trial.halt_by_limit(book))),
+        Act::HaltByStart => Some(answer_word(trial.halt_by_start(book))),
         _ => None,
     }
 }
@@ -104,7 +105,7 @@ fn make_on_book<C: Tokens, S: Spread>(
 fn make_on_lanes<C: Tokens>(team: &mut Team<C>, act: Act) -> &'static str {
     match act {
         Act::Send(to) => word_of(team.trial.send(to, &mut team.lane_out)),
-        Act::Deliver => word(team.trial.deliver(&mut team.lane_in)),
+        Act::Deliver => answer_word(team.trial.deliver(&mut team.lane_in)),
         Act::OtherSends(rows) => {
             push_rows(team.trial.shape(), rows, &mut team.other, &mut team.lane_in)
         }

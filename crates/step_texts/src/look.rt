@@ -1,4 +1,6 @@
 //! What is seen of a worker, of its lanes and of the book.
+//!
+//! It is one text of pieces, each behind its name.
 
 use crate::team::{Team, WORKERS};
 use board::{Board, Shape};
@@ -6,96 +8,48 @@ use message_ledger::Tokens;
 use quiescence::Book;
 use search_lists::SearchLists;
 use std::alloc::Global;
-use std::io::{self, ErrorKind};
+use std::io::{self, ErrorKind, Print};
 use worker_core::{Queue, Worker};
 use world_model::Item;
+
+// What stands between two pieces.
+const BETWEEN: &str = "; ";
 
 // So many items are listed; of more the number and the last.
 const MOST_LISTED: usize = 4;
 
-/// What is seen, piece by piece, each behind its name.
-pub fn look<C: Tokens>(alloc: Global, team: &Team<C>) -> io::Result<Vec<String>> {
-    let mut pieces = Vec::new(alloc);
-    add_all(alloc, &mut pieces, team)?;
-    Ok(pieces)
+/// What is seen of a team.
+pub fn look<C: Tokens>(alloc: Global, team: &Team<C>) -> io::Result<String> {
+    let mut text = String::new(alloc);
+    push_all(&mut text, team)?;
+    Ok(text)
 }
 
-fn add_all<C: Tokens>(alloc: Global, pieces: &mut Vec<String>, team: &Team<C>) -> io::Result<()> {
+/// Prints each piece that is seen otherwise than before.
+pub fn print_changes(rt: &impl Print, before: &str, after: &str) -> io::Result<()> {
+    'pieces: for (old, new) in before.split(BETWEEN).zip(after.split(BETWEEN)) {
+        if old != new {
+            print!(rt; "{BETWEEN}{new}")?;
+        }
+    }
+    Ok(())
+}
+
+fn push_all<C: Tokens>(text: &mut String, team: &Team<C>) -> io::Result<()> {
     let worker = team.trial.worker();
-    add_boards(alloc, pieces, team.trial.shape(), worker)?;
-    add_amounts(alloc, pieces, worker)?;
-    add_lane(alloc, pieces, "out", &team.lane_out)?;
-    add_lane(alloc, pieces, "in", &team.lane_in)?;
-    add_book(alloc, pieces, &team.book)
-}
-
-// The boards that a worker knows, holds and has to send.
-fn add_boards<C: Tokens>(
-    alloc: Global,
-    pieces: &mut Vec<String>,
-    shape: Shape,
-    worker: &Worker<C>,
-) -> io::Result<()> {
-    if worker.workers() != WORKERS {
-        return Err(ErrorKind::InvalidData.into());
-    }
-    add_known(alloc, pieces, shape, worker.lists())?;
-    add_items(alloc, pieces, "held", worker.held())?;
-    add_items(alloc, pieces, "for 0", worker.unsent(0))?;
-    add_items(alloc, pieces, "for 1", worker.unsent(1))
-}
-
-fn add_amounts<C: Tokens>(
-    alloc: Global,
-    pieces: &mut Vec<String>,
-    worker: &Worker<C>,
-) -> io::Result<()> {
-    add_number(alloc, pieces, "purse", worker.purse())?;
-    add_number(alloc, pieces, "allowance", u64::from(worker.allowance()))?;
-    add_number(alloc, pieces, "expansions", worker.expansions())?;
-    add_cost(alloc, pieces, "best", worker.best().cost())
-}
-
-fn add_book<C: Tokens>(alloc: Global, pieces: &mut Vec<String>, book: &Book<C>) -> io::Result<()> {
-    add_number(alloc, pieces, "credit", book.credit())?;
-    add_cost(alloc, pieces, "incumbent", book.best().cost())?;
-    let text = match book.stop() {
-        Some(stop) => format!(in alloc; "stop {stop:?}")?,
-        None => format!(in alloc; "stop -")?,
-    };
-    pieces.push(text)?;
-    Ok(())
-}
-
-fn add_number(alloc: Global, pieces: &mut Vec<String>, name: &str, number: u64) -> io::Result<()> {
-    let text = format!(in alloc; "{name} {number}")?;
-    pieces.push(text)?;
-    Ok(())
-}
-
-fn add_cost(
-    alloc: Global,
-    pieces: &mut Vec<String>,
-    name: &str,
-    cost: Option<u32>,
-) -> io::Result<()> {
-    if let Some(cost) = cost {
-        return add_number(alloc, pieces, name, u64::from(cost));
-    }
-    let text = format!(in alloc; "{name} -")?;
-    pieces.push(text)?;
-    Ok(())
+    push_known(text, team.trial.shape(), worker.lists())?;
+    push_items(text, "held", worker.held())?;
+    push_unsent(text, worker)?;
+    push_amounts(text, worker)?;
+    push_lane(text, "out", &team.lane_out)?;
+    push_lane(text, "in", &team.lane_in)?;
+    push_book(text, &team.book)
 }
 
 // The known boards in order of arrival: the tiles, the cost, the last move, and a star where the
 // board is closed.
-fn add_known(
-    alloc: Global,
-    pieces: &mut Vec<String>,
-    shape: Shape,
-    lists: &SearchLists,
-) -> io::Result<()> {
-    let mut text = format!(in alloc; "known")?;
+fn push_known(text: &mut String, shape: Shape, lists: &SearchLists) -> io::Result<()> {
+    text.push_str("known")?;
     if lists.len() == 0 {
         text.push_str(" -")?;
     }
@@ -104,37 +58,82 @@ fn add_known(
         let Some(board) = Board::from_key(shape, key) else {
             return Err(ErrorKind::InvalidData.into());
         };
-        push_board(&mut text, &board)?;
+        push_board(text, &board)?;
         write!(text, ":{}{:?}", known.cost, known.via)?;
         if known.expanded {
             text.push('*')?;
         }
     }
-    pieces.push(text)?;
     Ok(())
 }
 
-// Items: of each the tiles, the cost and the last move.
-fn add_items(
-    alloc: Global,
-    pieces: &mut Vec<String>,
-    name: &str,
-    items: &[Item],
-) -> io::Result<()> {
-    let mut text = format!(in alloc; "{name}")?;
+// The items that a worker has to send.
+fn push_unsent<C: Tokens>(text: &mut String, worker: &Worker<C>) -> io::Result<()> {
+    if worker.workers() != WORKERS {
+        return Err(ErrorKind::InvalidData.into());
+    }
+    push_items(text, "for 0", worker.unsent(0))?;
+    push_items(text, "for 1", worker.unsent(1))
+}
+
+fn push_amounts<C: Tokens>(text: &mut String, worker: &Worker<C>) -> io::Result<()> {
+    let (purse, allowance) = (worker.purse(), worker.allowance());
+    let expansions = worker.expansions();
+    write!(
+        text,
+        "; purse {purse}; allowance {allowance}; expansions {expansions}"
+    )?;
+    push_cost(text, "best", worker.best().cost())
+}
+
+fn push_book<C: Tokens>(text: &mut String, book: &Book<C>) -> io::Result<()> {
+    write!(text, "; credit {}", book.credit())?;
+    push_cost(text, "incumbent", book.best().cost())?;
+    match book.stop() {
+        Some(stop) => write!(text, "; stop {stop:?}")?,
+        None => text.push_str("; stop -")?,
+    }
+    Ok(())
+}
+
+fn push_cost(text: &mut String, name: &str, cost: Option<u32>) -> io::Result<()> {
+    match cost {
+        Some(cost) => write!(text, "; {name} {cost}")?,
+        None => write!(text, "; {name} -")?,
+    }
+    Ok(())
+}
+
+// How many packets a lane has, and the items of the last.
+fn push_lane<C: Tokens>(text: &mut String, name: &str, lane: &Queue<C>) -> io::Result<()> {
+    let count = lane.len();
+    write!(text, "; {name} {count}")?;
+    if count == 0 {
+        return Ok(());
+    }
+    text.push(':')?;
+    list_items(text, lane.packet(count - 1))
+}
+
+fn push_items(text: &mut String, name: &str, items: &[Item]) -> io::Result<()> {
+    write!(text, "; {name}")?;
     if items.is_empty() {
         text.push_str(" -")?;
     }
+    list_items(text, items)
+}
+
+// Items: of each the tiles, the cost and the last move.
+fn list_items(text: &mut String, items: &[Item]) -> io::Result<()> {
     let mut first = 0;
     if items.len() > MOST_LISTED {
         first = items.len() - 1;
         write!(text, " {} items, the last", items.len())?;
     }
     'items: for item in &items[first..] {
-        push_board(&mut text, &item.board)?;
+        push_board(text, &item.board)?;
         write!(text, ":{}{:?}", item.cost, item.via)?;
     }
-    pieces.push(text)?;
     Ok(())
 }
 
@@ -142,35 +141,6 @@ fn push_board(text: &mut String, board: &Board) -> io::Result<()> {
     text.push(' ')?;
     for tile in board.tiles() {
         write!(text, "{tile}")?;
-    }
-    Ok(())
-}
-
-// How many packets a lane has, and the items of the last.
-fn add_lane<C: Tokens>(
-    alloc: Global,
-    pieces: &mut Vec<String>,
-    name: &str,
-    lane: &Queue<C>,
-) -> io::Result<()> {
-    let count = lane.len();
-    if count == 0 {
-        return add_number(alloc, pieces, name, 0);
-    }
-    let name = format!(in alloc; "{name} {count}:")?;
-    add_items(alloc, pieces, name.as_str(), lane.packet(count - 1))
-}
-
-/// Adds to a line each piece that is seen otherwise than before.
-pub fn add_changes(line: &mut String, before: &[String], after: &[String]) -> io::Result<()> {
-    'pieces: for i in 0..after.len() {
-        if i < before.len() && before[i].as_str() == after[i].as_str() {
-            continue;
-        }
-        if !line.is_empty() {
-            line.push_str("; ")?;
-        }
-        line.push_str(after[i].as_str())?;
     }
     Ok(())
 }

@@ -8,8 +8,7 @@
 //! has changed.
 #![tactic(auto)]
 
-ghost use Rattle.std.specs.Prelude.{◌≡◌, ◌+◌, ◌^◌, IfSome};
-ghost use Rattle.worker_trials.specs.Jobs.{IsFit};
+ghost use Rattle.std.specs.Prelude.{◌≡◌, ◌+◌, ◌^◌};
 
 mod acts;
 mod look;
@@ -19,17 +18,15 @@ mod trial;
 mod words;
 
 use acts::make;
-use board::{Board, Shape, Weights};
-use look::{add_changes, look};
-use message_ledger::{Capped, Credit, Grants, Shares, Tokens};
+use board::Shape;
+use look::{look, print_changes};
+use message_ledger::{Allowance, Capped, Credit, Grants, Purse, Shares, Tokens};
 use owners::{ByBlank, Spread, Zobrist};
 use scenes::{Division, SCENES, Scene};
-use std::alloc::Global;
 use std::io::{self, ErrorKind, Print};
 use std::marker::Brand;
 use std::sync::ledger::{Blank, Ledger};
 use team::{Team, WORKERS, gather};
-use worker_trials::{Job, bound_of};
 
 fn main(rt: HostRuntime) -> io::Result<()> {
     for scene in &SCENES {
@@ -42,48 +39,29 @@ fn main(rt: HostRuntime) -> io::Result<()> {
 
 // Plays a scene, by the owners that it names.
 fn play(rt: &(impl Print + AllocGlobal), scene: &Scene) -> io::Result<()> {
-    let Ok(shape) = Shape::new(scene.side, scene.side) else {
-        return Err(ErrorKind::InvalidInput.into());
-    };
-    let Some(job) = job_of(rt.alloc(), shape, scene.groups) else {
-        return Err(ErrorKind::OutOfMemory.into());
-    };
     let credit = Blank::new(u64::MAX);
     let grants = Blank::new(WORKERS as u64);
     match scene.division {
         Division::ByBlank => {
-            play_by::<Brand, Brand, ByBlank>(rt, job, &ByBlank, scene, credit, grants)
+            play_by::<Brand, Brand, ByBlank>(rt, &ByBlank, scene, credit, grants)
         }
         Division::ByHash => {
+            let Ok(shape) = Shape::new(scene.side, scene.side) else {
+                return Err(ErrorKind::InvalidInput.into());
+            };
             let owners = Zobrist::new(shape);
-            play_by::<Brand, Brand, Zobrist>(rt, job, &owners, scene, credit, grants)
+            play_by::<Brand, Brand, Zobrist>(rt, &owners, scene, credit, grants)
         }
     }
 }
 
-// The search at unit cost for Korf's goal, led by the tables of these groups.
-fn job_of(alloc: Global, shape: Shape, groups: &[&[u8]]) -> Option<Job>
-    ensures { IfSome result (λ job. IsFit job) }
-{
-    let goal = Board::goal(shape);
-    let weights = Weights::unit(shape);
-    let bound = bound_of(alloc, &goal, &weights, groups)?;
-    Some(Job {
-        goal,
-        weights,
-        bound,
-    })
-}
-
 fn play_by<L: Ledger + Send + Sync, M: Capped + Send + Sync, S: Spread>(
     rt: &(impl Print + AllocGlobal),
-    job: Job,
     owners: &S,
     scene: &Scene,
     credit: Blank,
     grants: Blank,
 ) -> io::Result<()>
-    requires job { IsFit job }
     requires credit_name { credit.name ≡ L.name }
     requires credit_parts { credit.parts ≡ L.parts }
     requires credit_all { credit.parts + 1 ≡ 2 ^ 64 }
@@ -95,7 +73,23 @@ fn play_by<L: Ledger + Send + Sync, M: Capped + Send + Sync, S: Spread>(
     let (credit, purse) = Credit::<Shares<L, M>>::shared(credit);
     let (grants, mut tickets) = Grants::<Shares<L, M>>::shared(grants);
     let allowance = tickets.take::<L>();
-    let Some(mut team) = gather(rt.alloc(), job, scene, credit, purse, grants, allowance) else {
+    play_with(rt, owners, scene, credit, purse, grants, allowance)
+}
+
+fn play_with<C: Tokens, S: Spread>(
+    rt: &(impl Print + AllocGlobal),
+    owners: &S,
+    scene: &Scene,
+    credit: Credit<C>,
+    purse: Purse<C>,
+    grants: Grants<C>,
+    allowance: Allowance<C>,
+) -> io::Result<()>
+    requires limit { C.allows_limit scene.now.limit }
+    requires workers { C.allows_workers WORKERS }
+    requires none { grants ≡ 0 }
+{
+    let Some(mut team) = gather(rt.alloc(), scene, credit, purse, grants, allowance) else {
         return Err(ErrorKind::OutOfMemory.into());
     };
     perform(rt, owners, scene, &mut team)
@@ -110,15 +104,13 @@ fn perform<C: Tokens, S: Spread>(
 ) -> io::Result<()> {
     let alloc = rt.alloc();
     let mut seen = look(alloc, team)?;
-    let mut line = String::new(alloc);
-    add_changes(&mut line, &[], &seen)?;
-    rt.println(line.as_str())?;
+    rt.println(seen.as_str())?;
     'acts: for act in scene.acts {
         let answer = make(alloc, owners, scene.me, team, *act);
+        print!(rt; "{act:?}: {answer}")?;
         let now = look(alloc, team)?;
-        let mut line = format!(in alloc; "{act:?}: {answer}")?;
-        add_changes(&mut line, &seen, &now)?;
-        rt.println(line.as_str())?;
+        print_changes(rt, seen.as_str(), now.as_str())?;
+        rt.println("")?;
         seen = now;
     }
     Ok(())

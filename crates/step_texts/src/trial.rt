@@ -1,8 +1,10 @@
 //! A worker whose steps are tried.
 
+ghost use Rattle.std.specs.Prelude.{IfSome};
 ghost use Rattle.worker_trials.specs.Jobs.{IsFit};
 
-use board::Shape;
+use crate::scenes::Scene;
+use board::{Board, Shape, Weights};
 use memory::OutOfMemory;
 use message_ledger::{Allowance, Purse, Tokens};
 use owners::Spread;
@@ -10,7 +12,7 @@ use quiescence::{Book, Rested};
 use std::alloc::Global;
 use std::marker::Model;
 use worker_core::{Queue, Worker};
-use worker_trials::{Job, expand, hire, meet, settle};
+use worker_trials::{Job, bound_of, expand, hire, meet, settle};
 use world_model::{HaltCause, Item, Refusal};
 
 /// One of two workers, and what it is lent of its task. Contracts see nothing of it: that its lists
@@ -32,11 +34,33 @@ impl<C: Tokens> Model for Trial<C> {
     ghost invariant = { λ t. IsFit t.job × IsLed t.job t.worker.lists };
 }
 
+// The search of a scene: at unit cost for Korf's goal, led by the tables of its groups.
+fn job_of(alloc: Global, scene: &Scene) -> Option<Job>
+    ensures { IfSome result (λ job. IsFit job) }
+{
+    let shape = Shape::new(scene.side, scene.side).ok()?;
+    let goal = Board::goal(shape);
+    let weights = Weights::unit(shape);
+    let bound = bound_of(alloc, &goal, &weights, scene.groups)?;
+    Some(Job {
+        goal,
+        weights,
+        bound,
+    })
+}
+
 impl<C: Tokens> Trial<C> {
-    /// A worker that knows no board; None where there is no memory.
-    pub fn new(alloc: Global, job: Job, purse: Purse<C>, allowance: Allowance<C>) -> Option<Self>
-        requires { IsFit job }
-    {
+    /// The worker of a scene, which knows no board; None where the scene has no boards, or there is
+    /// no memory.
+    pub fn new(
+        alloc: Global,
+        scene: &Scene,
+        purse: Purse<C>,
+        allowance: Allowance<C>,
+    ) -> Option<Self> {
+        let Some(job) = job_of(alloc, scene) else {
+            return None;
+        };
         let Some(worker) = hire(alloc, &job, purse, allowance) else {
             return None;
         };
