@@ -1,0 +1,126 @@
+//! What texts of groups and of goals say.
+
+use board::Shape;
+use option_texts::{default_groups, read_goal, read_groups};
+use pattern_index::Partition;
+use std::alloc::Global;
+use std::test::Fail;
+
+// The groups of a partition as texts have them.
+fn text_of(alloc: Global, partition: &Partition) -> Result<String, Fail> {
+    let mut text = String::new(alloc);
+    for (i, group) in partition.groups().iter().enumerate() {
+        if i > 0 {
+            text.push('/')?;
+        }
+        for (k, tile) in group.tiles().iter().enumerate() {
+            if k > 0 {
+                text.push(',')?;
+            }
+            let number = format!(in alloc; "{tile}")?;
+            text.push_str(number.as_str())?;
+        }
+    }
+    Ok(text)
+}
+
+#[test]
+fn groups_of_each_shape(rt: HostRuntime) -> Result<(), Fail> {
+    let alloc = rt.alloc();
+    let rows = [
+        (2, 2, "1,2/3"),
+        (2, 3, "1,2/3,4/5"),
+        (2, 4, "1,2,3,4/5,6,7"),
+        (2, 5, "1,2,3,4/5,6,7,8/9"),
+        (3, 3, "1,2,3,4/5,6,7,8"),
+        (3, 4, "1,2,3,4,5/6,7,8,9,10/11"),
+        (3, 5, "1,2,3,4,5/6,7,8,9,10/11,12,13,14"),
+        (4, 4, "1,2,3,4,5/6,7,8,9,10/11,12,13,14,15"),
+        (4, 5, "1,2,3,4/5,6,7,8/9,10,11,12/13,14,15,16/17,18,19"),
+        (
+            5,
+            5,
+            "1,2,3,4/5,6,7,8/9,10,11,12/13,14,15,16/17,18,19,20/21,22,23,24",
+        ),
+    ];
+    for (rows, cols, wanted) in rows {
+        for (rows, cols) in [(rows, cols), (cols, rows)] {
+            let groups = default_groups(alloc, Shape::new(rows, cols)?)?;
+            let text = text_of(alloc, &groups)?;
+            assert_eq!(rt; text.as_str(), wanted);
+        }
+    }
+    Ok(())
+}
+
+#[test]
+fn groups_of_texts(rt: HostRuntime) -> Result<(), Fail> {
+    let alloc = rt.alloc();
+    let rows = [
+        (3, "none", ""),
+        (3, "1,2/3", "1,2/3"),
+        (3, "4,2,3", "2,3,4"),
+        (3, "08,0001", "1,8"),
+        (3, "", "E5"),
+        (3, "1//2", "E5"),
+        (3, "1/", "E5"),
+        (3, "/1", "E5"),
+        (3, "1,9", "E6"),
+        (3, "0", "E6"),
+        (3, "1,,2", "E6"),
+        (3, "1, 2", "E6"),
+        (3, "x", "E6"),
+        (3, "-1", "E6"),
+        (3, "+1", "E6"),
+        (3, "99999999999999999999999999", "E6"),
+        (3, "None", "E6"),
+        (3, "none/1", "E6"),
+        (3, "1,1", "E7"),
+        (3, "1,1,9", "E7"),
+        (3, "1,9,1", "E6"),
+        (5, "1,2,3,4,5,6", "E8"),
+        (5, "1,2,3,4,5/0", "E8"),
+        (5, "0/1,2,3,4,5", "E6"),
+        (3, "1,2/2,3", "E9"),
+        (3, "1,2/2,3/9", "E6"),
+        (
+            5,
+            "1/1/1/1/1/1/1/1/1/1/1/1/1/1/1/1/1/1/1/1/1/1/1/1/1",
+            "E10",
+        ),
+    ];
+    for (side, text, wanted) in rows {
+        match read_groups(alloc, Shape::new(side, side)?, text) {
+            Ok(groups) => {
+                let read = text_of(alloc, &groups)?;
+                assert_eq!(rt; read.as_str(), wanted);
+            }
+            Err(fault) => assert_eq!(rt; fault.code(), wanted),
+        }
+    }
+    Ok(())
+}
+
+#[test]
+fn goals_of_texts(rt: HostRuntime) -> Result<(), Fail> {
+    let rows = [
+        ("1,2,3,0", "ok"),
+        ("01,2,3,0", "ok"),
+        ("1,2,3", "E2"),
+        ("", "E2"),
+        ("1,2,3,0,", "E2"),
+        ("1,2,3,4", "E3"),
+        ("1,2,,0", "E3"),
+        ("1,2,2,9", "E4"),
+        ("1,2,x,1", "E3"),
+        ("1,2,+3,0", "E3"),
+    ];
+    for (text, wanted) in rows {
+        let read = match read_goal(Shape::new(2, 2)?, text) {
+            Ok(_) => "ok",
+            Err(fault) => fault.code(),
+        };
+        assert_eq!(rt; read, wanted);
+    }
+    Ok(())
+}
