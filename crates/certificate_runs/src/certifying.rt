@@ -223,6 +223,7 @@ fn certify(
     // The order of the rows, which is by key, is that of their lists of tiles by this law.
     keys_are_in_order();
     let tables = setup.tables();
+    // So no sum of theirs is above that of the tables that a checker builds.
     tell_entries(tables.tables());
     let groups = tables.partition().copy(alloc)?;
     let goal = setup.goal();
