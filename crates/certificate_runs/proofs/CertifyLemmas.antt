@@ -152,15 +152,15 @@ certificate_is order setup b cost plan rows goal there sides start named few ans
 proved_by : (setup : SetupState) (b : Position) (cost : ℕ) (plan : Vec Move Global) (rows : Vec (Position × ℕ) Global) → IsBoard setup.goal → IsTables setup.tables → Guides setup.goal setup.rule setup.tables → All HasSmallEntries setup.tables.lookups → IsBoardOf setup.goal.grid b → Answers (task_of setup b) (Optimal cost plan rows)
     → (tables : Tables) → AreBuiltFor (stated setup b cost plan rows) tables → IsProved (stated setup b cost plan rows) tables
 proved_by setup b cost plan rows goal there guides small start answers tables built =
-    let true_ : AreTrue setup.rule setup.goal tables = record {
+    let are_true : AreTrue setup.rule setup.goal tables = record {
       tables_there = record { partition = subst (λ (s : Split). IsSplit s) (sym built.groups) there.partition; one_each = built.each.one_each ∙ ap (λ (s : Split). s.groups) (sym built.groups) };
       sides = ap (λ (s : Split). s.grid) built.groups ∙ guides.0;
       values = built.each.values;
     } in
     record {
       plan = answers.0;
-      fit = record { groups = built.groups; potentials = true_potentials setup.rule setup.goal tables goal true_ };
-      rows = proved_above setup.rule rows.items (sum_of (parts_of setup.tables)) (sum_of (parts_of tables)) b setup.goal cost start.board start.sides answers.2.boards (λ r board same. sums_below setup.rule setup.goal r setup.tables tables there (sym built.groups) guides.1 small true_ board same) answers.2.proves;
+      fit = record { groups = built.groups; potentials = true_potentials setup.rule setup.goal tables goal are_true };
+      rows = proved_above setup.rule rows.items (sum_of (parts_of setup.tables)) (sum_of (parts_of tables)) b setup.goal cost start.board start.sides answers.2.boards (λ r board same. sums_below setup.rule setup.goal r setup.tables tables there (sym built.groups) guides.1 small are_true board same) answers.2.proves;
     }
 
 -- a certificate that states what such an outcome does answers its task

@@ -32,14 +32,14 @@ module _ (rule : CostRule) (goal b : Position) (board : IsBoard b) (same : goal.
   IsGuide table = IsPotential rule table.selection.tiles goal (value_in table)
 
   -- a table that is built for a group of the board's grid
-  abbrev IsTrue : Lookup → Type 0
-  IsTrue table = IsSelection table.selection × (table.selection.grid ≡ b.grid) × HoldsValues table rule goal
+  abbrev HoldsFor : Lookup → Type 0
+  HoldsFor table = IsSelection table.selection × (table.selection.grid ≡ b.grid) × HoldsValues table rule goal
 
   abbrev said : Lookup → ℕ
   said table = value_in table (view_of table.selection.tiles b)
 
   -- a potential of a group says no more of the board than the group's table
-  value_below : (guide table : Lookup) → guide.selection ≡ table.selection → IsGuide guide → HasSmallEntries guide → IsTrue table → said guide ≤ said table
+  value_below : (guide table : Lookup) → guide.selection ≡ table.selection → IsGuide guide → HasSmallEntries guide → HoldsFor table → said guide ≤ said table
   value_below guide table of_one potential small (group, sides, holds) =
       let tiles = table.selection.tiles in
       let view : IsView b.grid tiles (view_of tiles b) = board_view tiles b board (subst (λ (g : Grid). IsGroup g tiles) sides group.group) in
@@ -57,12 +57,12 @@ module _ (rule : CostRule) (goal b : Position) (board : IsBoard b) (same : goal.
       omega (arith, at, below)
 
   -- nor does the sum of such potentials
-  sum_below : (guides tables : List Lookup) → map (λ (t : Lookup). t.selection) guides ≡ map (λ (t : Lookup). t.selection) tables → AllByRecursion IsGuide guides → AllByRecursion HasSmallEntries guides → AllByRecursion IsTrue tables → sum_of (map part_of guides) b ≤ sum_of (map part_of tables) b
-  sum_below [] tables of_one guide small true_ = omega arith
-  sum_below (g ∷ guides) [] of_one guide small true_ = let count = ap (λ (ss : List Selection). length ss) of_one in absurd (omega (arith, count))
-  sum_below (g ∷ guides) (t ∷ tables) of_one guide small true_ =
-      let first = value_below g t (ap (λ (ss : List Selection). get_or ss 0 nothing) of_one) guide.0 small.0 true_.0 in
-      let rest = sum_below guides tables (ap (λ (ss : List Selection). drop 1 ss) of_one) guide.1 small.1 true_.1 in
+  sum_below : (guides tables : List Lookup) → map (λ (t : Lookup). t.selection) guides ≡ map (λ (t : Lookup). t.selection) tables → AllByRecursion IsGuide guides → AllByRecursion HasSmallEntries guides → AllByRecursion HoldsFor tables → sum_of (map part_of guides) b ≤ sum_of (map part_of tables) b
+  sum_below [] tables of_one guide small hold = omega arith
+  sum_below (g ∷ guides) [] of_one guide small hold = let count = ap (λ (ss : List Selection). length ss) of_one in absurd (omega (arith, count))
+  sum_below (g ∷ guides) (t ∷ tables) of_one guide small hold =
+      let first = value_below g t (ap (λ (ss : List Selection). get_or ss 0 nothing) of_one) guide.0 small.0 hold.0 in
+      let rest = sum_below guides tables (ap (λ (ss : List Selection). drop 1 ss) of_one) guide.1 small.1 hold.1 in
       let before = sum_by-cons (λ (p : Part). p.value (view_of p.tiles b)) (part_of g) (map part_of guides) in
       let after = sum_by-cons (λ (p : Part). p.value (view_of p.tiles b)) (part_of t) (map part_of tables) in
       omega (arith, first, rest, before, after)
