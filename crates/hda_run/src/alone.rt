@@ -33,7 +33,7 @@ use std::alloc::Global;
 use world_model::{HaltCause, Refusal, Step};
 
 // After so many expansions the worker looks whether it knows the goal.
-const EXPANSIONS_BETWEEN_LOOKS: u64 = 16;
+const EXPANSIONS_BETWEEN_LOOKS: u64 = 4;
 
 // Why the worker has no more to do.
 #[derive(Clone, Copy)]
