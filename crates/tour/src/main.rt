@@ -1,6 +1,7 @@
 //! A tour of the library: each step prints what it answers.
 #![tactic(auto)]
 
+mod guided;
 mod patterns;
 mod puzzle;
 mod replays;
@@ -12,5 +13,6 @@ fn main(rt: HostRuntime) -> io::Result<()> {
     puzzle::visit(&rt)?;
     runs::visit(&rt)?;
     patterns::visit(&rt)?;
+    guided::visit(&rt)?;
     replays::visit(&rt)
 }
