@@ -5,7 +5,6 @@
 mod cases;
 mod runs;
 mod solving;
-mod tables;
 
 use cases::{CASES, RUNS};
 use std::io;

@@ -4,7 +4,7 @@ ghost use Rattle.std.specs.Prelude.{◌≡◌, []};
 
 use crate::cases::{RUN_START, Run};
 use board::{Board, Shape, Weights};
-use hda_run::{Job, run_and_finish};
+use hda_run::{Job, WorldFault, run_and_finish};
 use lower_bound::Bound;
 use outcomes::Outcome;
 use owners::ByBlank;
@@ -14,19 +14,26 @@ use std::io::{self, ErrorKind, Print};
 
 /// Prints what `run_and_finish` answers, with the rows.
 pub fn print_answer(rt: &(impl Print + AllocGlobal), run: &Run) -> io::Result<()> {
-    let alloc = rt.alloc();
     let workers = run.workers;
-    let bound = no_tables(alloc);
     println!(rt; "# {}", run.title)?;
     println!(rt; "{RUN_START:?}, workers {workers}")?;
-    let Some(job) = job_of(&bound) else {
-        return Err(ErrorKind::InvalidData.into());
-    };
-    match run_and_finish(alloc, job, workers, ByBlank, run.steps) {
-        Ok(outcome) => print_outcome(rt, &outcome)?,
-        Err(fault) => println!(rt; "run_and_finish: {}", fault.code())?,
-    }
+    print_result(rt, &answer(rt.alloc(), run))?;
     rt.println("")
+}
+
+fn print_result(rt: &impl Print, answer: &Option<Result<Outcome, WorldFault>>) -> io::Result<()> {
+    match answer {
+        Some(Ok(outcome)) => print_outcome(rt, outcome),
+        Some(Err(fault)) => println!(rt; "run_and_finish: {}", fault.code()),
+        None => Err(ErrorKind::InvalidData.into()),
+    }
+}
+
+// What `run_and_finish` answers, or None where there is no job.
+fn answer(alloc: Global, run: &Run) -> Option<Result<Outcome, WorldFault>> {
+    let bound = no_tables(alloc);
+    let job = job_of(&bound)?;
+    Some(run_and_finish(alloc, job, run.workers, ByBlank, run.steps))
 }
 
 // The bound of no group, whose sums are 0.

@@ -4,7 +4,6 @@ ghost use Rattle.std.specs.Prelude.{◌≡◌, IfSome};
 ghost use Rattle.lower_bound.specs.Tables.{ArePotentials};
 
 use crate::cases::{Case, Costs, Division};
-use crate::tables::bound_of;
 use board::{Board, Move, Shape, Weights};
 use hda_run::{Free, Job, end_one, solve_one};
 use lower_bound::Bound;
@@ -12,6 +11,7 @@ use outcomes::{Ending, Outcome};
 use owners::{ByBlank, Zobrist};
 use std::alloc::Global;
 use std::io::{self, ErrorKind, Print};
+use worker_trials::bound_of;
 
 // A job but for its tables.
 #[derive(Clone, Copy)]
@@ -24,16 +24,19 @@ struct Problem {
 
 /// Prints what `solve_one` and `end_one` answer.
 pub fn print_answers(rt: &(impl Print + AllocGlobal), case: &Case) -> io::Result<()> {
-    let alloc = rt.alloc();
     let start = case.start;
     println!(rt; "# {}", case.title)?;
     println!(rt; "{start:?} at {} cost", case.costs.word())?;
-    let Some((outcome, ending)) = answers(alloc, case) else {
+    print_both(rt, case, &answers(rt.alloc(), case))?;
+    rt.println("")
+}
+
+fn print_both(rt: &impl Print, case: &Case, answers: &Option<(Outcome, Ending)>) -> io::Result<()> {
+    let Some((outcome, ending)) = answers else {
         return Err(ErrorKind::OutOfMemory.into());
     };
-    print_outcome(rt, case, &outcome)?;
-    print_ending(rt, case, &ending)?;
-    rt.println("")
+    print_outcome(rt, case, outcome)?;
+    print_ending(rt, case, ending)
 }
 
 // What both answer, or None where the case has no job, or finds no memory.
@@ -107,15 +110,12 @@ fn job_of<'a>(problem: &Problem, bound: &'a Bound) -> Option<Job<'a>>
     .ok()
 }
 
-fn print_outcome(
-    rt: &(impl Print + AllocGlobal),
-    case: &Case,
-    outcome: &Outcome,
-) -> io::Result<()> {
+fn print_outcome(rt: &impl Print, case: &Case, outcome: &Outcome) -> io::Result<()> {
     match outcome {
         Outcome::Optimal { cost, plan, rows } => {
-            let plan = plan_text(rt.alloc(), case, plan)?;
-            println!(rt; "solve_one: cost {cost}, plan {plan}, {} rows", rows.len())
+            print!(rt; "solve_one: cost {cost}, plan ")?;
+            print_plan(rt, case, plan)?;
+            println!(rt; ", {} rows", rows.len())
         }
         Outcome::Unsolvable { why } => println!(rt; "solve_one: unsolvable, {why:?}"),
         Outcome::Bounded { bound, best, cause } => {
@@ -124,11 +124,12 @@ fn print_outcome(
     }
 }
 
-fn print_ending(rt: &(impl Print + AllocGlobal), case: &Case, ending: &Ending) -> io::Result<()> {
+fn print_ending(rt: &impl Print, case: &Case, ending: &Ending) -> io::Result<()> {
     match ending {
         Ending::Optimal { cost, plan } => {
-            let plan = plan_text(rt.alloc(), case, plan)?;
-            println!(rt; "end_one: cost {cost}, plan {plan}")
+            print!(rt; "end_one: cost {cost}, plan ")?;
+            print_plan(rt, case, plan)?;
+            rt.println("")
         }
         Ending::Unsolvable { why } => println!(rt; "end_one: unsolvable, {why:?}"),
         Ending::Bounded { bound, best, cause } => {
@@ -137,11 +138,10 @@ fn print_ending(rt: &(impl Print + AllocGlobal), case: &Case, ending: &Ending) -
     }
 }
 
-// The moves of a plan, or how many there are.
-fn plan_text(alloc: Global, case: &Case, plan: &[Move]) -> io::Result<String> {
+// Prints the moves of a plan, or how many there are.
+fn print_plan(rt: &impl Print, case: &Case, plan: &[Move]) -> io::Result<()> {
     if case.are_moves_told {
-        return Ok(format!(in alloc; "{plan:?}")?);
+        return print!(rt; "{plan:?}");
     }
-    let count = plan.len();
-    Ok(format!(in alloc; "of {count} moves")?)
+    print!(rt; "of {} moves", plan.len())
 }

@@ -1,9 +1,12 @@
 //! The tables by which the search is led.
 
 ghost use Rattle.std.specs.Prelude.{◌≡◌, All, IfSome};
+ghost use Rattle.database_build.specs.Tables.{value_in};
+ghost use Rattle.database_build.specs.Values.{IsPotential};
+ghost use Rattle.lower_bound.specs.Tables.{ArePotentials};
 
 use board::{Board, Shape, Weights};
-use database_build::{Table, build};
+use database_build::{Table, build, is_potential};
 use lower_bound::Bound;
 use pattern_index::{Group, Partition};
 use std::alloc::Global;
@@ -12,16 +15,21 @@ use std::alloc::Global;
 /// memory.
 pub fn bound_of(alloc: Global, goal: &Board, weights: &Weights, lists: &[&[u8]]) -> Option<Bound>
     requires { weights.now.grid ≡ goal.now.grid }
-    ensures { IfSome result (λ bound. bound.split.grid ≡ goal.now.grid) }
+    ensures sides { IfSome result (λ bound. bound.split.grid ≡ goal.now.grid) }
+    ensures potentials { IfSome result (λ bound. ArePotentials weights.now goal.now bound) }
 {
     let shape = goal.shape();
     let groups = groups_of(alloc, shape, lists)?;
     let mut tables = Vec::new(alloc);
     'tables: for tiles in lists {
-        tables.push(table_of(alloc, goal, weights, tiles)?).ok()?;
+        let table = table_of(alloc, goal, weights, tiles)?;
+        tables.push(table).ok()?;
     }
     let partition = Partition::new(shape, groups).ok()?;
-    Bound::new(partition, tables).ok()
+    let Ok(bound) = Bound::new(partition, tables) else {
+        return None;
+    };
+    Some(bound)
 }
 
 // Groups of these tiles.
@@ -39,7 +47,13 @@ fn groups_of(alloc: Global, shape: Shape, lists: &[&[u8]]) -> Option<Vec<Group>>
 // The table of the group of these tiles.
 fn table_of(alloc: Global, goal: &Board, weights: &Weights, tiles: &[u8]) -> Option<Table>
     requires { weights.now.grid ≡ goal.now.grid }
+    ensures { IfSome result
+        (λ table. IsPotential weights.now table.selection.tiles goal.now (value_in table)) }
 {
     let group = Group::new(goal.shape(), tiles).ok()?;
-    build(alloc, &group, goal, weights).ok()
+    let table = build(alloc, &group, goal, weights).ok()?;
+    if !is_potential(&table, &group, goal, weights) {
+        return None;
+    }
+    Some(table)
 }

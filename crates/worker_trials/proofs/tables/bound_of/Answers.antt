@@ -3,7 +3,7 @@ use Rattle.std.proofs.lemmas.List.Elements.{All-append, All-cons, All-nil}
 use Rattle.database_build.specs.Tables.{Lookup, value_in}
 use Rattle.database_build.specs.Values.{IsPotential}
 use Rattle.lower_bound.specs.Tables.{Tables, ArePotentials}
-use Rattle.solved_rows.proofs.tables.bound_of.Goals as goal
+use Rattle.worker_trials.proofs.tables.bound_of.Goals as goal
 
 pub tables-preserved : goal.tables-preserved
 tables-preserved c =
@@ -12,5 +12,5 @@ tables-preserved c =
     let one : P c.in_ok-table.table = c.in_ok-table.ensures in
     subst (λ (tables : List Lookup). All P tables) (sym grown) (All-append P c.tables.tables.items (c.in_ok-table.table ∷ []) c.tables.invariant (All-cons P c.in_ok-table.table [] one (All-nil P)))
 
-pub returns : goal.returns
-returns c = subst (λ (tables : Tables). ArePotentials c.args.weights.now c.args.goal.now tables) (sym c.in-Ok.ensures.value) c.tables.invariant
+pub returns-clause-potentials : goal.returns-clause-potentials
+returns-clause-potentials c = subst (λ (tables : Tables). ArePotentials c.args.weights.now c.args.goal.now tables) (sym c.in-Ok.ensures.value) c.tables.invariant
