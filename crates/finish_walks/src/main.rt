@@ -8,7 +8,6 @@
 #![tactic(auto)]
 
 mod search;
-mod tables;
 
 use board::{Board, Shape, Weights};
 use hda_run::Job;
@@ -17,7 +16,7 @@ use search::searched;
 use std::env;
 use std::io::{self, Print};
 use std::process::ExitCode;
-use tables::bound_of;
+use worker_trials::bound_of;
 
 // From where a walk goes to the goal, on how many rows and columns, and the groups of its tables.
 #[derive(Clone, Copy)]
