@@ -1,6 +1,6 @@
 //! Tests of the crates `pattern_index`, `database_build`, `lower_bound` and `successor_sums`: ranks
 //! and sizes of groups, tables and sums that were worked by hand, sums beside the costs of a
-//! search, and the code of each fault.
+//! breadth-first search, and the code of each fault.
 #![tactic(auto)]
 
 #[cfg(test)]

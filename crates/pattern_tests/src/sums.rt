@@ -1,13 +1,12 @@
-//! Sums of boards, beside the costs that a search finds.
+//! Sums of boards, beside the costs that a breadth-first search finds.
 
 ghost use Rattle.std.specs.Prelude.{◌≡◌, IfOk};
 
-use board::{Board, Shape, Weights, same_class};
+use board::{Board, Shape, Weights};
+use breadth_first::least_costs;
 use database_build::{NO_VALUE, build};
 use lower_bound::{Bound, is_potential};
-use outcomes::Outcome;
 use pattern_index::{Group, Partition};
-use plain_search::solve;
 use std::alloc::Global;
 use std::process::Abort;
 use std::test::Fail;
@@ -95,32 +94,6 @@ fn groups_and_their_tables(rt: HostRuntime) -> Result<(), Fail> {
     Ok(())
 }
 
-// The six digits of a number to the base 6.
-fn digits(number: u32) -> [u8; 6] {
-    let mut left = number;
-    let mut digits = [0; 6];
-    for digit in digits.iter_mut() {
-        *digit = (left % 6) as u8;
-        left /= 6;
-    }
-    digits
-}
-
-// The cost of a least plan, or `NO_VALUE` where the boards are of two classes. A board of the
-// goal's class has a plan.
-fn least_cost(alloc: Global, start: &Board, goal: &Board, weights: &Weights) -> Result<u32, Fail>
-    requires start { start.now.grid ≡ goal.now.grid }
-    requires weights { weights.now.grid ≡ goal.now.grid }
-{
-    if !same_class(start, goal) {
-        return Ok(u32::from(NO_VALUE));
-    }
-    match solve(alloc, start, goal, weights)? {
-        Outcome::Optimal { cost, .. } => Ok(cost),
-        _ => Err("a board of the goal's class is not solved")?,
-    }
-}
-
 // Groups of the tiles of 2 by 3.
 const PARTITIONS: [&[&[u8]]; 3] = [
     &[&[1], &[2], &[3], &[4], &[5]],
@@ -141,15 +114,15 @@ fn compare_with_search(
 {
     let bound = bound_of(rt.alloc(), goal, weights, tiles)?;
     let mut solved = 0u32;
-    for number in 0..46_656u32 {
-        let Ok(start) = Board::from_tiles(goal.shape(), &digits(number)) else {
-            continue;
-        };
-        let sum = bound.of(&start);
-        let cost = least_cost(rt.alloc(), &start, goal, weights)?;
+    for (start, least) in least_costs(rt.alloc(), goal, weights)?.as_slice() {
+        if start.shape() != goal.shape() {
+            return Err("a board of another shape")?;
+        }
+        let sum = bound.of(start);
+        let cost = least.unwrap_or(u32::from(NO_VALUE));
         let is_right = sum == cost || (sum < cost && tiles.len() > 1);
-        assert!(rt; is_right && (sum == 0) == (start == *goal));
-        if cost != u32::from(NO_VALUE) {
+        assert!(rt; is_right && (sum == 0) == (*start == *goal));
+        if least.is_some() {
             solved = solved.saturating_add(1);
         }
     }
