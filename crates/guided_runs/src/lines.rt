@@ -1,0 +1,159 @@
+//! Lines whose reports are known.
+
+ghost use Rattle.std.specs.Prelude.{◌≡◌};
+
+use crate::tables::bound_of;
+use batch_runs::Setup;
+use board::{Board, Shape, Weights};
+use byte_streams::{ByteSink, ByteSource};
+use hda_run::Free;
+use setup_runs::run_batch;
+use std::alloc::Global;
+use std::io::{self, ErrorKind, Print};
+use std::sync::Wait;
+use std::thread::Threads;
+
+/// What moves cost.
+#[derive(Clone, Copy, Debug)]
+pub enum Costs {
+    /// Every move costs 1.
+    Unit,
+    /// To move tile t costs t.
+    Face,
+}
+
+/// A line, and what its batch has in common.
+#[derive(Clone, Copy)]
+pub struct Asked {
+    /// How many rows and columns the board has.
+    side: u8,
+    costs: Costs,
+    groups: &'static [&'static [u8]],
+    limit: u64,
+    line: &'static str,
+}
+
+// The goal itself.
+const SOLVED: Asked = Asked {
+    side: 3,
+    costs: Costs::Unit,
+    groups: &[],
+    limit: 0,
+    line: "g 0 1 2 3 4 5 6 7 8",
+};
+
+// A board of 5 by 5 that has one plan of five moves.
+const LARGE: Asked = Asked {
+    side: 5,
+    costs: Costs::Unit,
+    groups: &[
+        &[1],
+        &[2],
+        &[3],
+        &[4],
+        &[5],
+        &[6],
+        &[7],
+        &[8],
+        &[9],
+        &[10],
+        &[11],
+        &[12],
+        &[13],
+        &[14],
+        &[15],
+        &[16],
+        &[17],
+        &[18],
+        &[19],
+        &[20],
+        &[21],
+        &[22],
+        &[23],
+        &[24],
+    ],
+    limit: u64::MAX,
+    line: "b 1 2 3 4 9 5 6 7 8 0 10 11 12 13 14 15 16 17 18 19 20 21 22 23 24",
+};
+
+// As far from the goal as a board of 3 by 3 can be, and nothing may be expanded. The tiles 1 to 8
+// are 3, 4, 2, 0, 2, 4, 2 and 4 cells away from their own.
+const FAR: Asked = Asked {
+    side: 3,
+    costs: Costs::Unit,
+    groups: &[&[1], &[2], &[3], &[4], &[5], &[6], &[7], &[8]],
+    limit: 0,
+    line: "h 8 0 6 5 4 7 2 3 1",
+};
+
+/// The lines.
+pub static LINES: [Asked; 6] = [
+    SOLVED,
+    LARGE,
+    Asked {
+        costs: Costs::Face,
+        ..LARGE
+    },
+    FAR,
+    Asked {
+        costs: Costs::Face,
+        ..FAR
+    },
+    // Only the board itself may be expanded.
+    Asked {
+        groups: &[],
+        limit: 1,
+        ..FAR
+    },
+];
+
+/// Prints a line, and the report that a batch makes of it.
+pub fn print_report<R: Print + AllocGlobal + Threads + Wait + Sync>(
+    rt: &R,
+    asked: &Asked,
+) -> io::Result<()> {
+    let Asked {
+        costs,
+        groups,
+        limit,
+        line,
+        ..
+    } = asked;
+    println!(rt;
+        "# {line}\n# at {costs:?} cost, {} groups, limit {limit}",
+        groups.len()
+    )?;
+    let Some(setup) = setup_of(rt, rt.alloc(), asked) else {
+        return Err(ErrorKind::InvalidData.into());
+    };
+    let mut source = ByteSource::new(line.as_bytes());
+    let mut sink = ByteSink::new(Vec::new(rt.alloc()));
+    let Ok(_) = run_batch(rt, rt.alloc(), &mut source, &mut sink, &setup, &Free) else {
+        return Err(ErrorKind::InvalidData.into());
+    };
+    let report = sink.into_inner();
+    let Ok(text) = str::from_utf8(report.as_slice()) else {
+        return Err(ErrorKind::InvalidData.into());
+    };
+    rt.println(text)
+}
+
+// The setup of a line's batch, or None where memory was refused.
+fn setup_of<R: Threads + Sync>(rt: &R, alloc: Global, asked: &Asked) -> Option<Setup> {
+    let shape = Shape::new(asked.side, asked.side).ok()?;
+    let goal = Board::goal(shape);
+    let weights = weights_of(asked.costs, shape);
+    let bound = bound_of(rt, alloc, &goal, &weights, asked.groups)?;
+    let setup = Setup::new(alloc, goal, weights).limit(asked.limit);
+    Some(setup.bound(bound))
+}
+
+// What the moves of boards of this shape cost.
+fn weights_of(costs: Costs, shape: Shape) -> Weights
+    ensures { result.grid ≡ shape }
+{
+    match costs {
+        Costs::Unit => Weights::unit(shape),
+        Costs::Face => Weights::face(shape),
+    }
+}

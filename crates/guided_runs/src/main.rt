@@ -1,0 +1,47 @@
+//! Tries searches that tables guide: lines whose reports are known, and each board of 2 by 2 and of
+//! 2 by 3, without tables and with those of each partition of the tiles into at most three groups,
+//! beside a breadth-first search.
+//!
+//! An answer of a board is wrong where its cost is not the least, where a plan is found and there
+//! is none or none is found and there is one, and where the checker refuses its certificate.
+#![tactic(auto)]
+
+mod boards;
+mod lines;
+mod tables;
+
+use board::{Board, Shape, Weights};
+use boards::{Tally, tally_boards};
+use lines::{LINES, print_report};
+use std::io::{self, ErrorKind, Print};
+use std::sync::Wait;
+use std::thread::Threads;
+
+fn main(rt: HostRuntime) -> io::Result<()> {
+    for line in &LINES {
+        print_report(&rt, line)?;
+    }
+    for shape in [Shape::new(2, 2), Shape::new(2, 3)] {
+        let Ok(shape) = shape else {
+            return Err(ErrorKind::InvalidData.into());
+        };
+        print_tally(&rt, "unit", Weights::unit(shape))?;
+        print_tally(&rt, "face", Weights::face(shape))?;
+    }
+    Ok(())
+}
+
+// Prints what is answered of all boards of a shape.
+fn print_tally<R: Print + AllocGlobal + Threads + Wait + Sync>(
+    rt: &R,
+    name: &str,
+    weights: Weights,
+) -> io::Result<()> {
+    let shape = weights.shape();
+    let Some(tally) = tally_boards(rt, rt.alloc(), &Board::goal(shape), &weights) else {
+        return Err(ErrorKind::OutOfMemory.into());
+    };
+    let (rows, cols) = (shape.rows(), shape.cols());
+    println!(rt; "# All boards of {rows} by {cols} at {name} cost")?;
+    println!(rt; "{tally:?}")
+}
