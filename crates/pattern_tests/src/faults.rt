@@ -9,76 +9,105 @@ use pattern_index::{Group, Partition};
 use std::alloc::Global;
 use std::test::Fail;
 
-// What is asked for on 4 by 4: a group of these numbers, a partition of so many groups of tile 1,
-// its bound without any table, and a table of so many values of tile 1; and the code of the first
-// fault.
+// What is asked for: a group of these numbers, a partition of these groups, its bound without any
+// table, and a table of so many values of tile 1; and the code of the first fault.
 struct Asked {
+    side: u8,
     numbers: &'static [u8],
-    groups: usize,
+    groups: &'static [&'static [u8]],
     values: usize,
     code: &'static str,
 }
 
-const ASKED: [Asked; 8] = [
+const ASKED: [Asked; 11] = [
     Asked {
+        side: 4,
         numbers: &[],
-        groups: 0,
+        groups: &[],
         values: 240,
         code: "E5",
     },
     Asked {
+        side: 4,
         numbers: &[1, 16],
-        groups: 0,
+        groups: &[],
         values: 240,
         code: "E6",
     },
     Asked {
+        side: 3,
+        numbers: &[0],
+        groups: &[],
+        values: 72,
+        code: "E6",
+    },
+    Asked {
+        side: 4,
         numbers: &[1, 1],
-        groups: 0,
+        groups: &[],
         values: 240,
         code: "E7",
     },
     Asked {
+        side: 4,
         numbers: &[1, 2, 3, 4, 5, 6, 7],
-        groups: 0,
+        groups: &[],
         values: 240,
         code: "E8",
     },
     Asked {
+        side: 5,
+        numbers: &[1, 2, 3, 4, 5, 6],
+        groups: &[],
+        values: 600,
+        code: "E8",
+    },
+    Asked {
+        side: 4,
         numbers: &[1],
-        groups: 2,
+        groups: &[&[1], &[1]],
         values: 240,
         code: "E9",
     },
     Asked {
+        side: 3,
         numbers: &[1],
-        groups: 25,
+        groups: &[&[1, 2], &[2, 3]],
+        values: 72,
+        code: "E9",
+    },
+    Asked {
+        side: 4,
+        numbers: &[1],
+        groups: &[&[1]; 25],
         values: 240,
         code: "E10",
     },
     // A bound without its table.
     Asked {
+        side: 4,
         numbers: &[1],
-        groups: 1,
+        groups: &[&[1]],
         values: 240,
         code: "E11",
     },
     // A table that lacks a value.
     Asked {
+        side: 4,
         numbers: &[1],
-        groups: 0,
+        groups: &[],
         values: 239,
         code: "E11",
     },
 ];
 
-// Groups of tile 1.
-fn groups_of(alloc: Global, shape: Shape, count: usize) -> Result<Vec<Group>, Fail>
+// The groups of these tiles.
+fn groups_of(alloc: Global, shape: Shape, lists: &[&[u8]]) -> Result<Vec<Group>, Fail>
     ensures { IfOk result (λ groups. All (λ g. g.grid ≡ shape) groups.items) }
 {
     let mut groups = Vec::new(alloc);
-    'groups: for _ in 0..count {
-        groups.push(Group::new(shape, &[1])?)?;
+    'groups: for tiles in lists {
+        groups.push(Group::new(shape, tiles)?)?;
     }
     Ok(groups)
 }
@@ -103,8 +132,8 @@ fn make_all(
 
 #[test]
 fn each_fault_in_the_sum(rt: HostRuntime) -> Result<(), Fail> {
-    let shape = Shape::new(4, 4)?;
     for asked in &ASKED {
+        let shape = Shape::new(asked.side, asked.side)?;
         let groups = groups_of(rt.alloc(), shape, asked.groups)?;
         let mut values = Vec::new(rt.alloc());
         for _ in 0..asked.values {
