@@ -1,9 +1,9 @@
 -- Tiles in rising order make groups that share no tile.
-use Rattle.std.proofs.Common.{◌≡◌, ℕ, zero, suc, ◌+◌, ◌-◌, ◌*◌, ◌^◌, ◌<◌, ◌≤◌, Bool, true, false, cond, leb, List, [], ◌∷◌, ◌++◌, length, map, min, get_or, refl, sym, ap, subst, ◌∙◌, ⊎_elim, arith}
+use Rattle.std.proofs.Common.{◌≡◌, ◌≢◌, ℕ, zero, suc, ◌+◌, ◌-◌, ◌*◌, ◌^◌, ◌<◌, ◌≤◌, Bool, true, false, cond, leb, List, [], ◌∷◌, ◌++◌, length, map, min, get_or, refl, sym, ap, subst, ◌∙◌, ⊎_elim, arith}
 use Rattle.std.specs.Prelude.{All, IsPermutation, Contains}
-use Rattle.std.specs.List.{range_with_len}
+use Rattle.std.specs.List.{concat, range_with_len}
 use Rattle.std.specs.List.Sorted.{IsStrictlyIncreasing}
-use Rattle.std.proofs.lemmas.Bool.{cases_lt}
+use Rattle.std.proofs.lemmas.Bool.{cases_lt, cases_eq}
 use Rattle.std.proofs.lemmas.Bool.Decides.{nat_tests}
 use Rattle.std.specs.Int.{div_ceil}
 use Rattle.std.proofs.lemmas.Grind.{same_number_lists, div_ceil_times}
@@ -13,13 +13,13 @@ use Rattle.std.proofs.lemmas.List.Sorted.{All-permutation, length_permutation}
 use Rattle.std.proofs.lemmas.Nat.{mul-le}
 use Rattle.std.proofs.Math.Nat.{pow-le-pow_right}
 use native.Mathlib.Numerals.{unary_clauses}
-use Rattle.board.specs.Grids.{Grid, cell_count}
+use Rattle.board.specs.Grids.{Grid, IsShape, cell_count}
 use Rattle.pattern_index.specs.Ranks.{ways}
 use Rattle.pattern_index.specs.declared.group.TheConstants.{MAX_SIZE}
 use Rattle.pattern_index.specs.Selections.{Selection, IsTile, IsGroup, size_of}
 use Rattle.pattern_index.specs.Splits.{AreApart}
 use Rattle.pattern_index.proofs.RankLemmas.{ways-suc}
-use Rattle.option_texts.specs.Defaults.{default_size, default_tiles}
+use Rattle.option_texts.specs.Defaults.{default_size, default_tiles, default_groups}
 
 range_suc_more : (a n : ℕ) → range_with_len a (suc n) ≡ range_with_len a n ++ (a + n) ∷ []
 range_suc_more a zero = let same : a ≡ a + 0 = omega arith in ap (λ (k : ℕ). k ∷ []) same
@@ -172,3 +172,27 @@ module _ (groups : List Selection) (cells size count : ℕ) (is : map (λ (g : S
       let second = tile_within j tile (subst (λ (ts : List ℕ). Contains ts tile) (tiles_at j d within) two) in
       let next : suc i * size ≤ j * size = mul-le (suc i) size j size (omega (arith, lt)) (omega arith) in
       omega (arith, first.1, second.0)
+
+-- ---- each tile
+
+abbrev HasEachTile : ℕ → ℕ → Type 0
+HasEachTile rows cols = concat (default_groups (record { rows = rows; cols = cols })) ≡ range_with_len 1 (rows * cols - 1)
+
+-- what holds of each side holds of all that a puzzle may have
+each_side : (P : ℕ → Type 0) → P 2 → P 3 → P 4 → P 5 → (side : ℕ) → 2 ≤ side → side ≤ 5 → P side
+each_side P two three four five side low high =
+    ⊎_elim (λ (e : side ≡ 2). subst P (sym e) two)
+    (λ (n2 : side ≢ 2).
+    ⊎_elim (λ (e : side ≡ 3). subst P (sym e) three)
+    (λ (n3 : side ≢ 3).
+    ⊎_elim (λ (e : side ≡ 4). subst P (sym e) four) (λ (n4 : side ≢ 4). let e : side ≡ 5 = grind (arith, nat_tests) in subst P (sym e) five) (cases_eq side 4))
+    (cases_eq side 3))
+    (cases_eq side 2)
+
+-- each tile stands in the groups, shape by shape
+pub each_tile : (grid : Grid) → IsShape grid → concat (default_groups grid) ≡ range_with_len 1 (cell_count grid - 1)
+each_tile grid sides =
+    each_side (λ rows. HasEachTile rows grid.cols) (of_rows 2 refl refl refl refl) (of_rows 3 refl refl refl refl) (of_rows 4 refl refl refl refl) (of_rows 5 refl refl refl refl) grid.rows sides.rows_low sides.rows_high
+  where
+    of_rows : (rows : ℕ) → HasEachTile rows 2 → HasEachTile rows 3 → HasEachTile rows 4 → HasEachTile rows 5 → HasEachTile rows grid.cols
+    of_rows rows two three four five = each_side (HasEachTile rows) two three four five grid.cols sides.cols_low sides.cols_high

@@ -1,2 +1,3 @@
 mod TextLemmas
 mod DefaultLemmas
+mod LawLemmas

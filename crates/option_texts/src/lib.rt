@@ -5,6 +5,7 @@ mod defaults;
 mod faults;
 mod goals;
 mod groups;
+pub mod laws;
 mod words;
 mod worked;
 
