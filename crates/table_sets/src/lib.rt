@@ -4,5 +4,6 @@
 #![tactic(auto)]
 
 mod building;
+pub mod laws;
 
 pub use building::build_bound;
