@@ -10,17 +10,28 @@
 #![tactic(auto)]
 
 mod search;
-mod tables;
 
 use board::{Board, Shape, Weights};
 use search::{Stop, search};
 use std::env;
 use std::io::{self, Print};
 use std::process::ExitCode;
-use tables::{LARGE_GROUPS, SMALL_GROUPS, bound_of};
+use worker_trials::bound_of;
 
 // A board of which no plan costs less than 57 (Korf 1985, the first of his hundred).
 const START: [u8; 16] = [14, 13, 15, 7, 11, 12, 9, 5, 6, 0, 2, 1, 4, 8, 10, 3];
+
+// Groups whose tables have some 43,000 values each.
+const SMALL_GROUPS: [&[u8]; 5] = [
+    &[1, 2, 3],
+    &[4, 5, 6],
+    &[7, 8, 9],
+    &[10, 11, 12],
+    &[13, 14, 15],
+];
+
+// Groups whose tables have some 5.8 million values each.
+const LARGE_GROUPS: [&[u8]; 3] = [&[1, 2, 3, 4, 5], &[6, 7, 8, 9, 10], &[11, 12, 13, 14, 15]];
 
 // The count of expansions that the words name, and the groups for it; or None where they name none.
 fn read_words(rt: &(impl std::rt::Env + AllocGlobal)) -> Option<(u64, &'static [&'static [u8]])> {
