@@ -45,11 +45,22 @@ fn print_board(
     };
     println!(rt; "{tiles:?}, of least cost {least}")?;
     for lengths in [SHORT, LONG] {
-        let (first, end) = (lengths.start, lengths.end);
-        let Some(tally) = tally_beginnings(rt.alloc(), steps, lengths, start, least) else {
-            return Err(ErrorKind::OutOfMemory.into());
-        };
-        println!(rt; "after {first}..{end} steps: {tally:?}")?;
+        print_tally(rt, steps, lengths, start, least)?;
     }
     Ok(())
+}
+
+// Prints what the beginnings of these lengths answer.
+fn print_tally(
+    rt: &(impl Print + AllocGlobal),
+    steps: &[Step],
+    lengths: Range<usize>,
+    start: Board,
+    least: u32,
+) -> io::Result<()> {
+    let (first, end) = (lengths.start, lengths.end);
+    match tally_beginnings(rt.alloc(), steps, lengths, start, least) {
+        Some(tally) => println!(rt; "after {first}..{end} steps: {tally:?}"),
+        None => Err(ErrorKind::OutOfMemory.into()),
+    }
 }
