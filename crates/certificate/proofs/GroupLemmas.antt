@@ -1,5 +1,5 @@
 -- The text of groups, with the laws of its reader.
-use Rattle.std.proofs.Common.{◌≡◌, ◌≢◌, ◌⊎◌, inl, inr, ⊎_elim, ℕ, zero, suc, ◌+◌, ◌<◌, ◌≤◌, Bool, true, false, cond, eqb, ltb, leb, List, [], ◌∷◌, ◌++◌, length, get_or, Some, None, Err, refl, sym, ap, subst, ◌∙◌, append-nil, append_assoc, length-append, take, replicate, length-take, arith}
+use Rattle.std.proofs.Common.{◌≡◌, ◌⊎◌, inl, inr, ⊎_elim, ℕ, zero, suc, ◌+◌, ◌<◌, ◌≤◌, Bool, true, false, cond, eqb, ltb, leb, List, [], ◌∷◌, ◌++◌, length, get_or, Some, None, Err, refl, sym, ap, subst, ◌∙◌, append-nil, append_assoc, length-append, take, replicate, length-take, arith}
 use Rattle.std.specs.Prelude.{All, AllPairs, Contains, ◌&&◌, not}
 use Rattle.std.specs.Bool.{Decides}
 use Rattle.std.specs.List.{flat_map, list_all, list_any}
@@ -9,21 +9,21 @@ use Rattle.std.proofs.lemmas.Bool.{leb-true, le-leb, false≢true}
 use Rattle.std.proofs.lemmas.Bool.Decides.{Decides-by_and, Decides-by_or, Decides-and, Decides-not, Decides-eqb, Decides-ltb, Decides-like}
 use Rattle.std.proofs.lemmas.List.{get_or-append-add, get_or_append_left, get_or_default}
 use Rattle.std.proofs.lemmas.List.Concat.{flat_map-cons}
-use Rattle.std.proofs.lemmas.List.Elements.{All-nil, All-cons, All-head, All-tail, All-contains, Contains-from_at, at_from_Contains, Decides-contains}
+use Rattle.std.proofs.lemmas.List.Elements.{All-nil, All-cons, All-head, All-tail, All-contains, Decides-contains}
 use Rattle.std.proofs.lemmas.List.Kept.{AllPairs-cons, AllPairs-from_increasing}
 use Rattle.std.proofs.lemmas.List.Quantifiers.{all_pairs_push}
 use Rattle.std.proofs.lemmas.List.Sorted.{Contains-permutation, IsPermutation-sym}
 use Rattle.std.proofs.lemmas.Slice.Eq.{bytes_eq-Decides}
 use Rattle.board.specs.Grids.{Grid, IsShape, cell_count}
 use Rattle.pattern_index.specs.declared.group.TheConstants.{MAX_SIZE}
-use Rattle.pattern_index.specs.Selections.{Selection, IsTile, IsGroup, IsSelection, size_of}
-use Rattle.pattern_index.specs.Splits.{Split, IsSplit, AreApart, ShareNoTile}
+use Rattle.pattern_index.specs.Selections.{Selection, IsTile, IsSelection, size_of}
+use Rattle.pattern_index.specs.Splits.{Split, AreApart, ShareNoTile}
 use Rattle.pattern_index.proofs.GroupLemmas.{groups_small}
 use Rattle.certificate.specs.Certificates.{IsSplitOf}
 use Rattle.certificate.specs.Fields.{IsNextGroup, SpellsByte, SpellsTiles, SpellsGroup, SpellsGroups, SpellsAllGroups}
 use Rattle.certificate.specs.declared.faults.FormatFault.{FormatFault}
 use Rattle.certificate.specs.declared.faults.FormatFault.TheVariants.{OutOfRange}
-use Rattle.certificate.specs.Spellings.{group_text, groups_text}
+use Rattle.certificate.specs.Spellings.{group_text}
 use Rattle.certificate.specs.Readings.{◌>>=◌, give, byte_within, byte_in, are_tiles, rises, shares_none, group_in, tiles, group, groups, all_groups}
 use Rattle.certificate.specs.Laws.{AreBytes}
 use Rattle.certificate.proofs.ReaderLemmas.{Law, Law-iff, Both, Law-seq, Known, Law-give, Law-field, field_from, fine, faulty, one_fails, AreBytes-rest}

@@ -1,12 +1,9 @@
-use Rattle.std.proofs.Common.{◌≡◌, List, [], refl, ap, ◌∙◌, subst, arith}
 use Rattle.byte_streams.specs.Streams.{change}
-use Rattle.pattern_index.specs.Splits.{Split}
 use Rattle.certificate.specs.Fields.{SpellsAllGroups}
 use Rattle.certificate.specs.Readings.{all_groups}
 use Rattle.certificate.proofs.FieldLemmas.{passed}
 use Rattle.certificate.proofs.TextLemmas.{byte_law}
-use Rattle.certificate.proofs.GroupLemmas.{all_groups_found}
-use Rattle.certificate.proofs.SourceLemmas.{first_refuses, then_refuses, found_after}
+use Rattle.certificate.proofs.SourceLemmas.{first_refuses, then_refuses}
 use Rattle.certificate.proofs.groups.read_all_groups.Goals as goal
 
 pub returns-in_err-count : goal.returns-in_err-count

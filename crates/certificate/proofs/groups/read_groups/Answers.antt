@@ -8,7 +8,6 @@ use Rattle.byte_streams.specs.Streams.{change}
 use Rattle.byte_streams.specs.Source.{Takes}
 use Rattle.pattern_index.specs.Selections.{Selection, IsSelection}
 use Rattle.pattern_index.specs.Splits.{AreApart, ShareNoTile}
-use Rattle.certificate.specs.Fields.{IsNextGroup}
 use Rattle.certificate.specs.Sources.{Refuses}
 use Rattle.certificate.specs.Spellings.{group_text}
 use Rattle.certificate.specs.Readings.{group, groups}

@@ -1,4 +1,4 @@
-use Rattle.std.proofs.Common.{◌≡◌, arith, subst, ◌∙◌, true}
+use Rattle.std.proofs.Common.{◌≡◌, arith, subst, ◌∙◌}
 use Rattle.std.specs.Prelude.{ℕ, length}
 use Rattle.std.proofs.lemmas.Bool.{false≢true}
 use Rattle.byte_streams.specs.Streams.{change}

@@ -1,4 +1,4 @@
-use Rattle.std.proofs.Common.{refl, subst, List, ℕ, sym, ◌++◌}
+use Rattle.std.proofs.Common.{refl, subst, List, ℕ, ◌++◌}
 use Rattle.byte_streams.specs.Streams.{change}
 use Rattle.board.specs.Grids.{Grid}
 use Rattle.certificate.specs.Certificates.{statement_of}

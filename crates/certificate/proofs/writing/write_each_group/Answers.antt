@@ -1,4 +1,4 @@
-use Rattle.std.proofs.Common.{◌+◌, ◌∙◌, ◌++◌, ℕ, take, drop, sym, ap}
+use Rattle.std.proofs.Common.{◌+◌, ◌∙◌, ◌++◌, take, drop, sym, ap}
 use Rattle.std.specs.List.{flat_map}
 use Rattle.pattern_index.specs.Selections.{Selection}
 use Rattle.certificate.specs.Spellings.{group_text}

@@ -1,4 +1,4 @@
-use Rattle.std.proofs.Common.{◌≡◌, ◌≤◌, ◌++◌, List, subst, sym, length, ap, ◌∙◌, arith}
+use Rattle.std.proofs.Common.{◌≤◌, ◌++◌, List, subst, sym, length, ap, ◌∙◌}
 use Rattle.board.specs.CostRules.{CostRule}
 use Rattle.pattern_index.specs.Selections.{Selection}
 use Rattle.pattern_index.specs.Splits.{Split}

@@ -1,4 +1,4 @@
-use Rattle.std.proofs.Common.{◌∷◌, [], List, ℕ, length, subst, ap}
+use Rattle.std.proofs.Common.{◌∷◌, [], List, ℕ, length, subst}
 use Rattle.byte_streams.specs.Streams.{change}
 use Rattle.byte_streams.specs.Sink.{WritesAll, FailsWriting, Writes}
 use Rattle.byte_streams.proofs.SinkLemmas.{Writes-after}
