@@ -1,7 +1,9 @@
 -- What the program leaves in an empty output.
 use Rattle.batch_runs.proofs.LawLemmas.{outputs_true}
-use Rattle.batch_cli.specs.Programs.{default_rules}
+use Rattle.setup_runs.specs.Solving.{rules_of}
 use Rattle.batch_cli.specs.Laws.{OutputsTellTheTruth}
 
 pub outputs : OutputsTellTheTruth
-outputs source sink status input known empty well true_run = outputs_true default_rules source sink status input known empty (true_run.1 well)
+outputs source sink status input known empty well (setup, is, begun, written) =
+    let held = outputs_true (rules_of setup) source sink status input known empty (written well) in
+    (setup, is, held.0, held.1, held.2, held.3)

@@ -5,14 +5,16 @@ use Rattle.batch_lines.specs.Lines.{lines_of}
 use Rattle.batch_runs.specs.Meanings.{IsSettled}
 use Rattle.batch_runs.specs.Headline.{TellsTheTruth}
 use Rattle.batch_cli.specs.declared.program.Ending.{Ending}
-use Rattle.batch_cli.specs.Programs.{Tells, message_of, default_rules, IsTrue}
+use Rattle.batch_cli.specs.Programs.{Tells, message_of, IsDefaultSetup, IsTrue}
+use Rattle.batch_runs.specs.Setups.{SetupState}
+use Rattle.setup_runs.specs.Solving.{rules_of}
 
 -- to a stream that has not failed since, the message is written whole
 abbrev pub MessagesAreWhole : Type 0
 MessagesAreWhole =
     (errors : Change SinkState) (ending : Ending) (status : ℕ) (held : List ℕ) → errors.before.contents ≡ Some held → errors.after.has_failed ≡ false → Tells errors ending status → errors.after.contents ≡ Some (held ++ message_of ending)
 
--- where the input is known and the output was empty, what the sink holds after the status 0 or 1 tells the truth of all of the input's lines; and after 0 none of them is bounded or refused
+-- where the input is known and the output was empty, what the sink holds after the status 0 or 1 tells the truth of all of the input's lines, for some default setup; and after 0 none of them is bounded or refused
 abbrev pub OutputsTellTheTruth : Type 0
 OutputsTellTheTruth =
     (source : Change SourceState) (sink : Change SinkState) (status : ℕ) (input : List ℕ)
@@ -20,4 +22,4 @@ OutputsTellTheTruth =
     → sink.before.contents ≡ Some []
     → status < 2
     → IsTrue status source sink
-    → (output : List ℕ) × (sink.after.contents ≡ Some output) × TellsTheTruth default_rules (lines_of input) output × (status ≡ 0 → IsSettled output)
+    → (setup : SetupState) × IsDefaultSetup setup × (output : List ℕ) × (sink.after.contents ≡ Some output) × TellsTheTruth (rules_of setup) (lines_of input) output × (status ≡ 0 → IsSettled output)

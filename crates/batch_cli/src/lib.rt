@@ -10,7 +10,7 @@ pub use batch_lines::{
     Entry, EntryFault, INPUT_LIMIT, LINE_LIMIT, Line, LineKind, LineReader, read_entry,
 };
 pub use batch_runs::{LinesFault, Setup, Solver, SpreadKind, Summary, run_lines};
-pub use certificate_runs::{CertifyFault, CheckFault, run_check};
+pub use certificate_runs::{CertifyFault, CheckFault, Prover, certify_first, run_check};
 pub use faults::BatchFault;
 pub use hda_run::{Free, Gate, Kind};
 pub use outcomes::{Cause, Outcome, SolveFault, Want, Why};
@@ -19,4 +19,4 @@ pub use replay_runs::{Opener, Run, replay_lines, run_replay};
 pub use reports::{
     NoReport, accepted_report, outcome_report, refused_certificate_report, refused_report,
 };
-pub use setup_runs::run_batch;
+pub use setup_runs::{run_batch, run_cert};

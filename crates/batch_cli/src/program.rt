@@ -1,21 +1,25 @@
 //! The program over any streams.
 
-ghost use Rattle.std.specs.Prelude.{◌≡◌, ◌≢◌, ◌⊎◌, []};
+ghost use Rattle.std.specs.Prelude.{◌≡◌, ◌≢◌, ◌⊎◌, [], IfOk};
 ghost use Rattle.byte_streams.specs.Streams.{change};
 ghost use Rattle.batch_cli.specs.declared.program.Ending.{Ending};
-ghost use Rattle.batch_cli.specs.Programs.{default_setup, status_of, message_of};
+ghost use Rattle.batch_cli.specs.Programs.{status_of, message_of};
+ghost use Rattle.batch_cli.specs.Programs.{IsDefaultSetup, Tells, IsTrue, EndsBy, EndsRun};
 ghost use Rattle.batch_runs.specs.Batches.{HasFailed};
-ghost use Rattle.batch_cli.specs.Programs.{Tells, IsTrue, EndsBy, EndsRun};
+ghost use Rattle.setup_runs.specs.Solving.{rules_of};
 
 use crate::faults::BatchFault;
 use batch_runs::{LinesFault, Setup, Summary};
 use board::{Board, Shape, Weights};
 use byte_streams::{Sink, Source};
 use hda_run::Free;
+use memory::OutOfMemory;
+use option_texts::default_groups;
 use setup_runs::run_batch;
 use std::alloc::Global;
 use std::sync::Wait;
 use std::thread::Threads;
+use table_sets::build_bound;
 
 /// How the program ends.
 #[derive(Clone, Copy, Debug, PartialEq, Eq)]
@@ -41,7 +45,11 @@ impl Ending {
             Ending::NoMemory => 4,
             Ending::Ran(counts) if counts.bounded == 0 && counts.refused == 0 => 0,
             Ending::Ran(_) => 1,
-            Ending::Faulted(BatchFault::Memory(_) | BatchFault::CertificateMemory(_)) => 4,
+            Ending::Faulted(
+                BatchFault::Memory(_)
+                | BatchFault::GroupsMemory(_)
+                | BatchFault::CertificateMemory(_),
+            ) => 4,
             Ending::Faulted(_) => 3,
         }
     }
@@ -59,7 +67,9 @@ impl Ending {
             Ending::Ran(_) => "",
             Ending::Faulted(BatchFault::Read) => "tilesolve: B1\n",
             Ending::Faulted(BatchFault::Write) => "tilesolve: B2\n",
-            Ending::Faulted(BatchFault::Memory(_)) => "tilesolve: B3\n",
+            Ending::Faulted(BatchFault::Memory(_) | BatchFault::GroupsMemory(_)) => {
+                "tilesolve: B3\n"
+            }
             Ending::Faulted(BatchFault::CertificateRead) => "tilesolve: F6\n",
             Ending::Faulted(BatchFault::CertificateMemory(_)) => "tilesolve: F7\n",
             Ending::Faulted(BatchFault::CertificateWrite) => "tilesolve: F8\n",
@@ -78,8 +88,10 @@ impl Ending {
 /// Runs the program over any streams, and answers its exit status. The words are those after the
 /// program's name.
 ///
-/// Without words it reports the lines of the source to the sink, for 3 by 3 boards at unit cost
-/// with Korf's goal, and flushes the sink. What is written tells the truth: so says `IsTrue`.
+/// Without words it builds the tables of the groups `1,2,3,4/5,6,7,8`, reports the lines of the
+/// source to the sink, for 3 by 3 boards at unit cost with Korf's goal, and flushes the sink. What
+/// is written tells the truth: so says `IsTrue`. Where there is no memory for the tables, nothing
+/// is read or written.
 pub fn run_program<R: Threads + Wait + Sync, S: Source, K: Sink, E: Sink>(
     rt: &R,
     alloc: Global,
@@ -91,14 +103,19 @@ pub fn run_program<R: Threads + Wait + Sync, S: Source, K: Sink, E: Sink>(
     ensures ended { (ending : Ending) × Tells (change E.state errors.old errors.new) ending result
         × EndsBy words.now (change S.state source.old source.new)
         (change K.state sink.old sink.new) ending }
-    ensures batch { words.now ≡ [] → (K.is_flushed sink.new ⊎ HasFailed (K.state sink.new))
-        × IsTrue result (change S.state source.old source.new) (change K.state sink.old sink.new) }
+    ensures batch { words.now ≡ [] → ((K.is_flushed sink.new ⊎ HasFailed (K.state sink.new))
+        × IsTrue result (change S.state source.old source.new) (change K.state sink.old sink.new))
+        ⊎ (OutOfMemory × (result ≡ 4) × (source.new ≡ source.old) × (sink.new ≡ sink.old)) }
     ensures unused { words.now ≢ [] → (source.new ≡ source.old) × (sink.new ≡ sink.old) }
 {
     if !words.is_empty() {
         return Ending::Usage.tell(errors);
     }
-    match run(rt, alloc, source, sink) {
+    let setup = match default_setup(rt, alloc) {
+        Ok(setup) => setup,
+        Err(_) => return Ending::NoMemory.tell(errors),
+    };
+    match run(rt, alloc, source, sink, &setup) {
         Ok(counts) => Ending::Ran(counts).tell(errors),
         Err(fault) => Ending::Faulted(BatchFault::from(fault)).tell(errors),
     }
@@ -110,13 +127,13 @@ fn run<R: Threads + Wait + Sync, S: Source, K: Sink>(
     alloc: Global,
     source: &mut S,
     sink: &mut K,
+    setup: &Setup,
 ) -> Result<Summary, LinesFault>
-    ensures ended { EndsRun (change S.state source.old source.new)
+    ensures ended { EndsRun (rules_of setup.now) (change S.state source.old source.new)
         (change K.state sink.old sink.new) result }
     ensures flushed { K.is_flushed sink.new ⊎ HasFailed (K.state sink.new) }
 {
-    let setup = default_setup(alloc);
-    let counts = match run_batch(rt, alloc, source, sink, &setup, &Free) {
+    let counts = match run_batch(rt, alloc, source, sink, setup, &Free) {
         Ok(counts) => counts,
         Err(fault) => {
             let _ = sink.flush();
@@ -129,10 +146,14 @@ fn run<R: Threads + Wait + Sync, S: Source, K: Sink>(
     Ok(counts)
 }
 
-// 3 by 3, Korf's goal, unit cost.
-fn default_setup(alloc: Global) -> Setup
-    ensures { result ≡ default_setup }
+// 3 by 3, Korf's goal, unit cost, and the tables of the default groups.
+fn default_setup(rt: &(impl Threads + Sync), alloc: Global) -> Result<Setup, OutOfMemory>
+    ensures { IfOk result IsDefaultSetup }
 {
     let shape = Shape::new(3, 3).unwrap();
-    Setup::new(alloc, Board::goal(shape), Weights::unit(shape))
+    let goal = Board::goal(shape);
+    let weights = Weights::unit(shape);
+    let groups = default_groups(alloc, shape)?;
+    let bound = build_bound(rt, alloc, groups, &goal, &weights)?;
+    Ok(Setup::new(alloc, goal, weights).bound(bound))
 }
