@@ -20,24 +20,38 @@ pub fn visit(rt: &(impl Print + AllocGlobal)) -> io::Result<()> {
 fn look_up(rt: &(impl Print + AllocGlobal), shape: Shape, start: Board) -> io::Result<()>
     requires { start.grid ≡ shape }
 {
-    let goal = Board::goal(shape);
-    let weights = Weights::unit(shape);
     let Ok(group) = Group::new(shape, &[1, 2, 3]) else {
         return rt.println("no group");
     };
-    let view = group.view(&start);
-    println!(rt;
-        "tiles 1, 2 and 3: view {} of {}",
-        group.rank(&view),
-        group.size()
-    )?;
-    let Ok(table) = build(rt.alloc(), &group, &goal, &weights) else {
+    print_view(rt, &group, &start)?;
+    let Ok(table) = build(
+        rt.alloc(),
+        &group,
+        &Board::goal(shape),
+        &Weights::unit(shape),
+    ) else {
         return rt.println("no memory");
     };
-    println!(rt; "they come home at {} or more", table.value(&view))?;
-    let consistent = is_potential(&table, &group, &goal, &weights);
-    println!(rt; "a move lowers that by no more than it costs: {consistent}")?;
+    print_table(rt, &table, &start)?;
     add_up(rt, shape, group, table, start)
+}
+
+fn print_view(rt: &impl Print, group: &Group, start: &Board) -> io::Result<()>
+    requires { start.now.grid ≡ group.now.grid }
+{
+    let rank = group.rank(&group.view(start));
+    println!(rt; "tiles 1, 2 and 3: view {rank} of {}", group.size())
+}
+
+fn print_table(rt: &impl Print, table: &Table, start: &Board) -> io::Result<()>
+    requires { start.now.grid ≡ table.now.selection.grid }
+{
+    let group = table.group();
+    let least = table.value(&group.view(start));
+    println!(rt; "they come home at {least} or more")?;
+    let shape = start.shape();
+    let consistent = is_potential(table, group, &Board::goal(shape), &Weights::unit(shape));
+    println!(rt; "a move lowers that by no more than it costs: {consistent}")
 }
 
 fn add_up(
