@@ -96,7 +96,7 @@ fn build_one_after_the_other(
     Ok(tables)
 }
 
-// The tables, built by as many threads as there are processors or groups.
+// The tables, built by a thread for each processor, or for each group where these are fewer.
 fn build_side_by_side(
     rt: &(impl Threads + Sync),
     alloc: Global,
