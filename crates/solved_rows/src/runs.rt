@@ -17,16 +17,16 @@ pub fn print_answer(rt: &(impl Print + AllocGlobal), run: &Run) -> io::Result<()
     let workers = run.workers;
     println!(rt; "# {}", run.title)?;
     println!(rt; "{RUN_START:?}, workers {workers}")?;
-    print_result(rt, &answer(rt.alloc(), run))?;
-    rt.println("")
+    print_result(rt, &answer(rt.alloc(), run))
 }
 
 fn print_result(rt: &impl Print, answer: &Option<Result<Outcome, WorldFault>>) -> io::Result<()> {
     match answer {
-        Some(Ok(outcome)) => print_outcome(rt, outcome),
-        Some(Err(fault)) => println!(rt; "run_and_finish: {}", fault.code()),
-        None => Err(ErrorKind::InvalidData.into()),
+        Some(Ok(outcome)) => print_outcome(rt, outcome)?,
+        Some(Err(fault)) => println!(rt; "run_and_finish: {}", fault.code())?,
+        None => return Err(ErrorKind::InvalidData.into()),
     }
+    rt.println("")
 }
 
 // What `run_and_finish` answers, or None where there is no job.

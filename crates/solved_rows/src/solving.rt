@@ -27,8 +27,7 @@ pub fn print_answers(rt: &(impl Print + AllocGlobal), case: &Case) -> io::Result
     let start = case.start;
     println!(rt; "# {}", case.title)?;
     println!(rt; "{start:?} at {} cost", case.costs.word())?;
-    print_both(rt, case, &answers(rt.alloc(), case))?;
-    rt.println("")
+    print_both(rt, case, &answers(rt.alloc(), case))
 }
 
 fn print_both(rt: &impl Print, case: &Case, answers: &Option<(Outcome, Ending)>) -> io::Result<()> {
@@ -36,7 +35,8 @@ fn print_both(rt: &impl Print, case: &Case, answers: &Option<(Outcome, Ending)>)
         return Err(ErrorKind::OutOfMemory.into());
     };
     print_outcome(rt, case, outcome)?;
-    print_ending(rt, case, ending)
+    print_ending(rt, case, ending)?;
+    rt.println("")
 }
 
 // What both answer, or None where the case has no job, or finds no memory.
