@@ -1,9 +1,0 @@
-pub mod SoundLemmas
-pub mod CostLemmas
-pub mod ResultLemmas
-pub mod MapLemmas
-pub mod LowestLemmas
-pub mod RowLemmas
-pub mod QueueLemmas
-pub mod RunLemmas
-pub mod FinishLemmas
