@@ -22,29 +22,37 @@ use answer::Answer;
 use certificates::{read_announcement, read_certificate};
 use containers::{reserve_closed, reserve_open};
 use databases::{build_table, copy_partition};
-use runs::{check_certificate, run_two_lines, write_certificate};
-use searches::search;
+use runs::{
+    check_certificate, check_groups, run_one_line, run_two_lines, write_certificate, write_groups,
+};
+use searches::{search, search_with_tables};
 use std::alloc::Global;
 use std::env::FillError;
 use std::io::{Eprint, Print};
 use std::process::ExitCode;
 use std::rt::Env;
+use std::sync::Wait;
+use std::thread::Threads;
 use workers::{expand_board, expand_in_full_table, meet_board, settle_items};
 
 // The names of all calls.
-const CALLS: [&str; 18] = [
+const CALLS: [&str; 22] = [
     "partition",
     "table",
     "unit-2x2",
     "face-2x2",
     "unit-2x3",
     "face-2x3",
+    "with-tables",
     "no-plan",
     "read",
     "cut-off",
     "batch",
+    "batch-line",
     "write",
+    "write-groups",
     "check",
+    "check-groups",
     "open",
     "closed",
     "meet",
@@ -54,7 +62,8 @@ const CALLS: [&str; 18] = [
 ];
 
 // Makes the call of this name, or answers None where there is none.
-fn call(alloc: Global, name: &str) -> Option<Answer> {
+fn call<R: Threads + Wait + AllocGlobal + Sync>(rt: &R, name: &str) -> Option<Answer> {
+    let alloc = rt.alloc();
     match name {
         "partition" => Some(copy_partition(alloc)),
         "table" => Some(build_table(alloc)),
@@ -62,12 +71,16 @@ fn call(alloc: Global, name: &str) -> Option<Answer> {
         "face-2x2" => Some(search(alloc, 2, &[3, 2, 1, 0], true, Some(12))),
         "unit-2x3" => Some(search(alloc, 3, &[2, 3, 5, 0, 1, 4], false, Some(9))),
         "face-2x3" => Some(search(alloc, 3, &[2, 3, 5, 0, 1, 4], true, Some(22))),
+        "with-tables" => Some(search_with_tables(rt)),
         "no-plan" => Some(search(alloc, 2, &[0, 2, 1, 3], false, None)),
         "read" => Some(read_certificate(alloc)),
         "cut-off" => Some(read_announcement(alloc)),
-        "batch" => Some(run_two_lines(alloc)),
-        "write" => Some(write_certificate(alloc)),
-        "check" => Some(check_certificate(alloc)),
+        "batch" => Some(run_two_lines(rt)),
+        "batch-line" => Some(run_one_line(rt)),
+        "write" => Some(write_certificate(rt)),
+        "write-groups" => Some(write_groups(rt)),
+        "check" => Some(check_certificate(rt)),
+        "check-groups" => Some(check_groups(rt)),
         "open" => Some(reserve_open(alloc)),
         "closed" => Some(reserve_closed(alloc)),
         "meet" => Some(meet_board(alloc)),
@@ -101,8 +114,8 @@ fn judge(answer: Answer, is_refused_later: bool) -> Result<&'static str, &'stati
 }
 
 // Makes a call, and prints what it answered. The exit status tells whether that is right.
-fn tell(rt: &(impl Print + Eprint + AllocGlobal), name: &str) -> u8 {
-    let Some(answer) = call(rt.alloc(), name) else {
+fn tell<R: Print + Eprint + AllocGlobal + Threads + Wait + Sync>(rt: &R, name: &str) -> u8 {
+    let Some(answer) = call(rt, name) else {
         let _ = rt.eprintln(
             "usage: refusals [CALL [REQUESTS]], where CALL is one that it names without words",
         );

@@ -1,13 +1,20 @@
 //! Runs over lines and with certificates.
 
+ghost use Rattle.std.specs.Prelude.{IfSome};
 ghost use Rattle.certificate.specs.Certificates.{AreNamedCosts};
 
 use crate::answer::{Answer, refused_if, whole_if};
-use batch_cli::{CertifyFault, CheckFault, LinesFault, Setup, run_batch, run_cert, run_check};
+use crate::searches::bound_of;
+use batch_runs::{LinesFault, Setup};
 use board::{Board, Shape, Weights};
 use byte_streams::{ByteSink, ByteSource};
+use certificate_runs::{CertifyFault, CheckFault, run_check};
+use hda_run::Free;
 use memory::{OutOfMemory, with_capacity};
+use setup_runs::{run_batch, run_cert};
 use std::alloc::Global;
+use std::sync::Wait;
+use std::thread::Threads;
 
 // 1 0 over 2 3, which one move to the left solves.
 const ONE_MOVE: [u8; 45] = [
@@ -18,12 +25,32 @@ const ONE_MOVE: [u8; 45] = [
     1, 0, 2, 3, 0, 0, 0, 0, // the row
 ];
 
+// The same with the groups 1,2 and 3. Their sum is the cost, so no row is due.
+const ONE_MOVE_BY_TABLES: [u8; 42] = [
+    0x54, 0x49, 0x4c, 0x45, 0x43, 0x52, 0x54, 0x31, 2, 2, 0, // the opening
+    2, 2, 1, 2, 1, 3, // the groups
+    1, 0, 2, 3, 0, 1, 2, 3, // start and goal
+    1, 0, 0, 0, 1, 0, 0, 0, 0x4c, // the cost and the plan
+    0, 0, 0, 0, 0, 0, 0, 0, // the count of rows
+];
+
 // Korf's goal of 2 by 2, at unit cost.
-fn plain() -> Setup
+fn plain(alloc: Global) -> Setup
     ensures { AreNamedCosts result.goal.grid result.rule }
 {
     let shape = Shape::new(2, 2).unwrap();
-    Setup::new(Board::goal(shape), Weights::unit(shape))
+    Setup::new(alloc, Board::goal(shape), Weights::unit(shape))
+}
+
+// The same with tables, or None where they find no memory.
+fn guided<R: Threads + Sync>(rt: &R, alloc: Global) -> Option<Setup>
+    ensures { IfSome result (λ setup. AreNamedCosts setup.goal.grid setup.rule) }
+{
+    let shape = Shape::new(2, 2).unwrap();
+    let goal = Board::goal(shape);
+    let weights = Weights::unit(shape);
+    let bound = bound_of(rt, alloc, &goal, &weights)?;
+    Some(Setup::new(alloc, goal, weights).bound(bound))
 }
 
 // A sink with room for all that is written here, so that no write takes memory.
@@ -32,14 +59,15 @@ fn page(alloc: Global) -> Result<ByteSink<Vec<u8>>, OutOfMemory> {
 }
 
 /// Reports two lines that need no search.
-pub fn run_two_lines(alloc: Global) -> Answer {
+pub fn run_two_lines<R: Threads + Wait + AllocGlobal + Sync>(rt: &R) -> Answer {
     let due = b"{\"id\":\"a\",\"status\":\"unsolvable\",\"why\":\"parity\"}\n\
         {\"fault\":\"E2\",\"line\":2,\"status\":\"refused\"}\n";
-    let Ok(mut page) = page(alloc) else {
+    let Ok(mut page) = page(rt.alloc()) else {
         return Answer::Refused;
     };
     let mut source = ByteSource::new("a 0 2 1 3\nb 0\n".as_bytes());
-    let ended = run_batch(alloc, &mut source, &mut page, &plain());
+    let setup = plain(rt.alloc());
+    let ended = run_batch(rt, rt.alloc(), &mut source, &mut page, &setup, &Free);
     let written = page.into_inner();
     match ended {
         Ok(_) => whole_if(written.as_slice() == due.as_slice(), "other reports"),
@@ -50,28 +78,72 @@ pub fn run_two_lines(alloc: Global) -> Answer {
     }
 }
 
-/// Writes the certificate of a line's board. Where memory is refused, a report may stand in its
-/// place, or nothing.
-pub fn write_certificate(alloc: Global) -> Answer {
-    let Ok(mut page) = page(alloc) else {
+/// Reports a line whose board is searched for. Where memory is refused, the report may be of the
+/// want of memory.
+pub fn run_one_line<R: Threads + Wait + AllocGlobal + Sync>(rt: &R) -> Answer {
+    let due = b"{\"cost\":1,\"id\":\"r\",\"plan\":\"L\",\"status\":\"optimal\"}\n";
+    let Some(setup) = guided(rt, rt.alloc()) else {
+        return Answer::Refused;
+    };
+    let Ok(mut page) = page(rt.alloc()) else {
         return Answer::Refused;
     };
     let mut source = ByteSource::new("r 1 0 2 3\n".as_bytes());
-    let ended = run_cert(alloc, &mut source, &mut page, &plain());
+    let ended = run_batch(rt, rt.alloc(), &mut source, &mut page, &setup, &Free);
     let written = page.into_inner();
     match ended {
-        Ok(0) => whole_if(
-            written.as_slice() == ONE_MOVE.as_slice(),
-            "another certificate",
+        Ok(_) if written.as_slice() == due.as_slice() => Answer::Whole,
+        Ok(_) => refused_if(is_for_want_of_memory(&written), "another report"),
+        Err(fault) => refused_if(
+            matches!(fault, LinesFault::Memory(_)) && written.is_empty(),
+            "another fault",
         ),
+    }
+}
+
+/// Writes the certificate of a line's board. Where memory is refused, a report may stand in its
+/// place, or nothing.
+pub fn write_certificate<R: Threads + Wait + AllocGlobal + Sync>(rt: &R) -> Answer {
+    let setup = plain(rt.alloc());
+    certify(rt, &setup, "r 1 0 2 3\n", &ONE_MOVE)
+}
+
+/// The same with groups, whose tables are built before.
+pub fn write_groups<R: Threads + Wait + AllocGlobal + Sync>(rt: &R) -> Answer {
+    match guided(rt, rt.alloc()) {
+        Some(setup) => certify(rt, &setup, "r 1 0 2 3\n", &ONE_MOVE_BY_TABLES),
+        None => Answer::Refused,
+    }
+}
+
+// Writes the certificate of a line's board, whose bytes are known.
+fn certify<R: Threads + Wait + AllocGlobal + Sync>(
+    rt: &R,
+    setup: &Setup,
+    line: &str,
+    due: &[u8],
+) -> Answer
+    requires { AreNamedCosts setup.now.goal.grid setup.now.rule }
+{
+    let Ok(mut page) = page(rt.alloc()) else {
+        return Answer::Refused;
+    };
+    let mut source = ByteSource::new(line.as_bytes());
+    let ended = run_cert(rt, rt.alloc(), &mut source, &mut page, setup, &Free);
+    let written = page.into_inner();
+    match ended {
+        Ok(0) => whole_if(written.as_slice() == due, "another certificate"),
         Ok(status) => refused_if(
             status == 1 && is_for_want_of_memory(&written),
             "another report",
         ),
-        Err(fault) => refused_if(
-            matches!(fault, CertifyFault::Memory(_)) && written.is_empty(),
-            "another fault",
-        ),
+        Err(fault) => {
+            let is_memory = matches!(
+                fault,
+                CertifyFault::Memory(_) | CertifyFault::GroupsMemory(_)
+            );
+            refused_if(is_memory && written.is_empty(), "another fault")
+        }
     }
 }
 
@@ -81,13 +153,22 @@ fn is_for_want_of_memory(report: &[u8]) -> bool {
         || report.ends_with(b"\"cause\":\"memory\",\"id\":\"r\",\"status\":\"bounded\"}\n")
 }
 
-/// Checks a certificate that is to be accepted.
-pub fn check_certificate(alloc: Global) -> Answer {
-    let Ok(mut page) = page(alloc) else {
+/// Checks a certificate that is to be accepted, without groups.
+pub fn check_certificate<R: Threads + AllocGlobal + Sync>(rt: &R) -> Answer {
+    check(rt, &ONE_MOVE)
+}
+
+/// The same with groups, whose tables are built.
+pub fn check_groups<R: Threads + AllocGlobal + Sync>(rt: &R) -> Answer {
+    check(rt, &ONE_MOVE_BY_TABLES)
+}
+
+// Checks a certificate of cost 1 that is to be accepted.
+fn check<R: Threads + AllocGlobal + Sync>(rt: &R, bytes: &[u8]) -> Answer {
+    let Ok(mut page) = page(rt.alloc()) else {
         return Answer::Refused;
     };
-    let mut source = ByteSource::new(ONE_MOVE.as_slice());
-    let ended = run_check(alloc, &mut source, &mut page);
+    let ended = run_check(rt, rt.alloc(), &mut ByteSource::new(bytes), &mut page);
     let written = page.into_inner();
     match ended {
         Ok(status) => whole_if(
