@@ -1,6 +1,7 @@
 //! Lines whose reports are known.
 
-ghost use Rattle.std.specs.Prelude.{◌≡◌};
+ghost use Rattle.std.specs.Prelude.{◌≡◌, IfSome};
+ghost use Rattle.certificate.specs.Certificates.{AreNamedCosts};
 
 use crate::tables::bound_of;
 use batch_runs::Setup;
@@ -30,7 +31,7 @@ pub struct Asked {
     costs: Costs,
     groups: &'static [&'static [u8]],
     limit: u64,
-    line: &'static str,
+    pub line: &'static str,
 }
 
 // The goal itself.
@@ -107,26 +108,46 @@ pub static LINES: [Asked; 6] = [
     },
 ];
 
+/// The lines whose certificates are written.
+pub static CERTIFIED: [Asked; 2] = [
+    // The sums leave the start alone to be proved by a row.
+    Asked {
+        side: 2,
+        groups: &[&[1], &[3]],
+        line: "x 1 3 0 2",
+        ..LARGE
+    },
+    Asked {
+        groups: &[&[1, 2, 3, 4], &[5, 6, 7, 8]],
+        limit: u64::MAX,
+        ..FAR
+    },
+];
+
+impl Asked {
+    /// Prints the line, and what its batch has.
+    pub fn print(&self, rt: &impl Print) -> io::Result<()> {
+        let Asked {
+            costs,
+            groups,
+            limit,
+            line,
+            ..
+        } = self;
+        println!(rt; "# {line}\n# at {costs:?} cost, {} groups, limit {limit}", groups.len())
+    }
+}
+
 /// Prints a line, and the report that a batch makes of it.
 pub fn print_report<R: Print + AllocGlobal + Threads + Wait + Sync>(
     rt: &R,
     asked: &Asked,
 ) -> io::Result<()> {
-    let Asked {
-        costs,
-        groups,
-        limit,
-        line,
-        ..
-    } = asked;
-    println!(rt;
-        "# {line}\n# at {costs:?} cost, {} groups, limit {limit}",
-        groups.len()
-    )?;
+    asked.print(rt)?;
     let Some(setup) = setup_of(rt, rt.alloc(), asked) else {
         return Err(ErrorKind::InvalidData.into());
     };
-    let mut source = ByteSource::new(line.as_bytes());
+    let mut source = ByteSource::new(asked.line.as_bytes());
     let mut sink = ByteSink::new(Vec::new(rt.alloc()));
     let Ok(_) = run_batch(rt, rt.alloc(), &mut source, &mut sink, &setup, &Free) else {
         return Err(ErrorKind::InvalidData.into());
@@ -138,8 +159,10 @@ pub fn print_report<R: Print + AllocGlobal + Threads + Wait + Sync>(
     rt.println(text)
 }
 
-// The setup of a line's batch, or None where memory was refused.
-fn setup_of<R: Threads + Sync>(rt: &R, alloc: Global, asked: &Asked) -> Option<Setup> {
+/// The setup of a line's batch, or None where memory was refused.
+pub fn setup_of<R: Threads + Sync>(rt: &R, alloc: Global, asked: &Asked) -> Option<Setup>
+    ensures { IfSome result (λ setup. AreNamedCosts setup.goal.grid setup.rule) }
+{
     let shape = Shape::new(asked.side, asked.side).ok()?;
     let goal = Board::goal(shape);
     let weights = weights_of(asked.costs, shape);
@@ -150,7 +173,8 @@ fn setup_of<R: Threads + Sync>(rt: &R, alloc: Global, asked: &Asked) -> Option<S
 
 // What the moves of boards of this shape cost.
 fn weights_of(costs: Costs, shape: Shape) -> Weights
-    ensures { result.grid ≡ shape }
+    ensures sides { result.grid ≡ shape }
+    ensures named { AreNamedCosts shape result }
 {
     match costs {
         Costs::Unit => Weights::unit(shape),

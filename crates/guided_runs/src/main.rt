@@ -1,18 +1,20 @@
-//! Tries searches that tables guide: lines whose reports are known, and each board of 2 by 2 and of
-//! 2 by 3, without tables and with those of each partition of the tiles into at most three groups,
-//! beside a breadth-first search.
+//! Tries searches that tables guide: lines whose reports or certificates are known, and each board
+//! of 2 by 2 and of 2 by 3, without tables and with those of each partition of the tiles into at
+//! most three groups, beside a breadth-first search.
 //!
 //! An answer of a board is wrong where its cost is not the least, where a plan is found and there
 //! is none or none is found and there is one, and where the checker refuses its certificate.
 #![tactic(auto)]
 
 mod boards;
+mod certificates;
 mod lines;
 mod tables;
 
 use board::{Board, Shape, Weights};
 use boards::{Tally, tally_boards};
-use lines::{LINES, print_report};
+use certificates::print_certificate;
+use lines::{CERTIFIED, LINES, print_report};
 use std::io::{self, ErrorKind, Print};
 use std::sync::Wait;
 use std::thread::Threads;
@@ -20,6 +22,9 @@ use std::thread::Threads;
 fn main(rt: HostRuntime) -> io::Result<()> {
     for line in &LINES {
         print_report(&rt, line)?;
+    }
+    for line in &CERTIFIED {
+        print_certificate(&rt, line)?;
     }
     for shape in [Shape::new(2, 2), Shape::new(2, 3)] {
         let Ok(shape) = shape else {
