@@ -13,7 +13,7 @@ pub fn print(rt: &impl Print, refused: OutOfMemory) -> io::Result<()> {
         Ending::Ran(counted(1, 1, 1, 0)),
         Ending::Ran(counted(1, 1, 0, 1)),
         Ending::Usage,
-        Ending::NoBuffers,
+        Ending::NoMemory,
         Ending::Faulted(BatchFault::Read),
         Ending::Faulted(BatchFault::Write),
         Ending::Faulted(BatchFault::CertificateRead),
