@@ -1,9 +1,10 @@
 //! Certificates that runs write, changed and checked.
 
-use batch_cli::{Setup, run_cert, run_check};
+use batch_cli::{Free, Setup, run_cert, run_check};
 use board::{Board, Shape, Weights};
 use byte_streams::{ByteSink, ByteSource};
-use std::alloc::Global;
+use std::sync::Wait;
+use std::thread::Threads;
 
 // The goal of 2 by 2 itself: no move, and no row is due.
 pub(crate) const SOLVED: [u8; 36] = [
@@ -20,6 +21,19 @@ pub(crate) const ONE_MOVE: [u8; 45] = [
     1, 0, 0, 0, 1, 0, 0, 0, 0x4c, // the cost and the plan
     1, 0, 0, 0, 0, 0, 0, 0, // the count of rows
     1, 0, 2, 3, 0, 0, 0, 0, // the row
+];
+
+// 1 3 over 0 2, which three moves solve: right, up, left. The boards that cost less prove it.
+pub(crate) const THREE_MOVES: [u8; 79] = [
+    0x54, 0x49, 0x4c, 0x45, 0x43, 0x52, 0x54, 0x31, 2, 2, 0, 0, // the opening
+    1, 3, 0, 2, 0, 1, 2, 3, // start and goal
+    3, 0, 0, 0, 3, 0, 0, 0, b'R', b'U', b'L', // the cost and the plan
+    5, 0, 0, 0, 0, 0, 0, 0, // the count of rows
+    0, 3, 1, 2, 1, 0, 0, 0, // the rows, at 1,
+    1, 0, 2, 3, 2, 0, 0, 0, // at 2,
+    1, 3, 0, 2, 0, 0, 0, 0, // at 0,
+    1, 3, 2, 0, 1, 0, 0, 0, // at 1,
+    3, 0, 1, 2, 2, 0, 0, 0, // and at 2
 ];
 
 // From which byte to which `ONE_MOVE` is replaced, by what, and the code that the result is refused
@@ -65,14 +79,26 @@ const CHANGES: [(usize, usize, &[u8], &str); 13] = [
 ];
 
 // Whether bytes are judged so, with this status.
-fn is_judged(alloc: Global, bytes: &[u8], report: &[u8], status: u8) -> bool {
-    let mut sink = ByteSink::new(Vec::new(alloc));
-    run_check(alloc, &mut ByteSource::new(bytes), &mut sink) == Ok(status)
+fn is_judged<R: Threads + AllocGlobal + Sync>(
+    rt: &R,
+    bytes: &[u8],
+    report: &[u8],
+    status: u8,
+) -> bool {
+    let mut sink = ByteSink::new(Vec::new(rt.alloc()));
+    run_check(rt, rt.alloc(), &mut ByteSource::new(bytes), &mut sink) == Ok(status)
         && sink.into_inner().as_slice() == report
 }
 
 // Whether a changed `ONE_MOVE` is refused by this code.
-fn is_refused(alloc: Global, from: usize, to: usize, by: &[u8], code: &str) -> Option<bool> {
+fn is_refused<R: Threads + AllocGlobal + Sync>(
+    rt: &R,
+    from: usize,
+    to: usize,
+    by: &[u8],
+    code: &str,
+) -> Option<bool> {
+    let alloc = rt.alloc();
     let mut bytes = Vec::new(alloc);
     bytes
         .extend_from_slice(ONE_MOVE.get(..from).unwrap_or(&[]))
@@ -82,29 +108,30 @@ fn is_refused(alloc: Global, from: usize, to: usize, by: &[u8], code: &str) -> O
         .extend_from_slice(ONE_MOVE.get(to..).unwrap_or(&[]))
         .ok()?;
     let report = format!(in alloc; "{{\"fault\":\"{code}\",\"status\":\"refused\"}}\n").ok()?;
-    Some(is_judged(alloc, bytes.as_slice(), report.as_bytes(), 5))
+    Some(is_judged(rt, bytes.as_slice(), report.as_bytes(), 5))
 }
 
 // Whether what the search finds of the hardest board of 3 by 3 is accepted by the checker.
-fn is_hardest_accepted(alloc: Global) -> Option<bool> {
+fn is_hardest_accepted<R: Threads + Wait + AllocGlobal + Sync>(rt: &R) -> Option<bool> {
+    let alloc = rt.alloc();
     let shape = Shape::new(3, 3).ok()?;
-    let setup = Setup::new(Board::goal(shape), Weights::unit(shape));
+    let setup = Setup::new(alloc, Board::goal(shape), Weights::unit(shape));
     let mut source = ByteSource::new("h 8 0 6 5 4 7 2 3 1\n".as_bytes());
     let mut sink = ByteSink::new(Vec::new(alloc));
-    let status = run_cert(alloc, &mut source, &mut sink, &setup).ok()?;
+    let status = run_cert(rt, alloc, &mut source, &mut sink, &setup, &Free).ok()?;
     let certificate = sink.into_inner();
     let report = b"{\"cost\":31,\"status\":\"accepted\"}\n";
-    Some(status == 0 && is_judged(alloc, certificate.as_slice(), report, 0))
+    Some(status == 0 && is_judged(rt, certificate.as_slice(), report, 0))
 }
 
 #[test]
 fn certificates_are_judged(rt: HostRuntime) {
     for (from, to, by, code) in CHANGES {
         assert_eq!(rt;
-            is_refused(rt.alloc(), from, to, by, code),
+            is_refused(&rt, from, to, by, code),
             Some(true),
             "{code}"
         );
     }
-    assert_eq!(rt; is_hardest_accepted(rt.alloc()), Some(true));
+    assert_eq!(rt; is_hardest_accepted(&rt), Some(true));
 }

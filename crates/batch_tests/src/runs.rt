@@ -5,17 +5,20 @@ ghost use Rattle.byte_streams.specs.ByteSink.{sink_has_failed};
 ghost use Rattle.board.specs.CostRules.{unit_rule};
 ghost use Rattle.certificate.specs.Certificates.{AreNamedCosts};
 
-use crate::certificates::{ONE_MOVE, SOLVED};
+use crate::certificates::{ONE_MOVE, SOLVED, THREE_MOVES};
 use batch_cli::{
-    BatchFault, Cause, Ending, LinesFault, Outcome, Setup, Solver, Summary, Why, run_batch,
-    run_cert, run_check, run_lines, run_program,
+    BatchFault, Cause, Free, LinesFault, Setup, Solver, Summary, Why, run_batch, run_cert,
+    run_check, run_lines, run_program,
 };
 use board::{Board, Move, Shape, Weights};
 use byte_streams::{ByteSink, ByteSource};
 use failing_streams::{FailingReader, FailingWriter, NEVER};
 use memory::{OutOfMemory, copy_of, with_capacity};
+use outcomes::Ending;
 use std::alloc::Global;
 use std::io::ErrorKind;
+use std::sync::Wait;
+use std::thread::Threads;
 
 // So large that memory for 2^27 of it is refused: a want of memory can't be made up.
 type TooLarge = [u64; 1 << 18];
@@ -33,22 +36,21 @@ impl Solver for ByBlank {
       allows = λ _ _. Unit {0};
     } };
 
-    fn solve(&self, alloc: Global, start: &Board) -> Result<Outcome, OutOfMemory> {
+    fn solve(&self, alloc: Global, start: &Board) -> Result<Ending, OutOfMemory> {
         match start.blank() {
-            0 => Ok(Outcome::Optimal {
+            0 => Ok(Ending::Optimal {
                 cost: 2,
                 plan: copy_of(alloc, &[Move::L, Move::U])?,
-                rows: Vec::new(alloc),
             }),
-            1 => Ok(Outcome::Unsolvable { why: Why::Parity }),
-            2 => Ok(Outcome::Bounded {
+            1 => Ok(Ending::Unsolvable { why: Why::Parity }),
+            2 => Ok(Ending::Bounded {
                 bound: 21,
                 best: None,
                 cause: Cause::Limit,
             }),
             _ => {
                 with_capacity::<TooLarge>(alloc, 1 << 27)?;
-                Ok(Outcome::Unsolvable {
+                Ok(Ending::Unsolvable {
                     why: Why::Exhausted,
                 })
             }
@@ -87,7 +89,7 @@ struct Case {
     unwritten: &'static str,
 }
 
-fn cases() -> [Case; 11] {
+fn cases() -> [Case; 12] {
     [
         Case {
             run: Run::Lines,
@@ -133,6 +135,14 @@ fn cases() -> [Case; 11] {
             input: b"a 0 1 2 3",
             reads: 10,
             output: &SOLVED,
+            status: 0,
+            unwritten: "tilesolve: F8\n",
+        },
+        Case {
+            run: Run::Certify,
+            input: b"x 1 3 0 2\n",
+            reads: 10,
+            output: &THREE_MOVES,
             status: 0,
             unwritten: "tilesolve: F8\n",
         },
@@ -288,7 +298,14 @@ struct Ended {
 
 // Runs a case over an input, an output and a standard error that fail at the call after so many
 // others.
-fn end(alloc: Global, case: &Case, read: usize, write: usize, tell: usize) -> Ended {
+fn end<R: Threads + Wait + AllocGlobal + Sync>(
+    rt: &R,
+    case: &Case,
+    read: usize,
+    write: usize,
+    tell: usize,
+) -> Ended {
+    let alloc = rt.alloc();
     let mut source = ByteSource::new(FailingReader {
         bytes: case.input,
         reads_before: read,
@@ -296,7 +313,7 @@ fn end(alloc: Global, case: &Case, read: usize, write: usize, tell: usize) -> En
     });
     let mut sink = ByteSink::new(FailingWriter::new(alloc, write, None));
     let mut errors = ByteSink::new(FailingWriter::new(alloc, tell, None));
-    let status = start(alloc, case.run, &mut source, &mut sink, &mut errors);
+    let status = start(rt, case.run, &mut source, &mut sink, &mut errors);
     let writer = sink.into_inner();
     Ended {
         status,
@@ -308,8 +325,8 @@ fn end(alloc: Global, case: &Case, read: usize, write: usize, tell: usize) -> En
 }
 
 // Starts a run, and tells how it ended. The answer is its status.
-fn start(
-    alloc: Global,
+fn start<R: Threads + Wait + AllocGlobal + Sync>(
+    rt: &R,
     run: Run,
     source: &mut ByteSource<FailingReader>,
     sink: &mut ByteSink<FailingWriter>,
@@ -317,27 +334,34 @@ fn start(
 ) -> u8
     requires { sink_has_failed sink.old ≡ false }
 {
+    let alloc = rt.alloc();
     match run {
         Run::Lines => {
             let shape = square();
             let counts = run_lines(alloc, source, sink, shape, &ByBlank { shape });
             tell_counts(counts, errors)
         }
-        Run::Batch => match setup_of_faces() {
-            Some(setup) => tell_counts(run_batch(alloc, source, sink, &setup), errors),
+        Run::Batch => match setup_of_faces(alloc) {
+            Some(setup) => {
+                let counts = run_batch(rt, alloc, source, sink, &setup, &Free);
+                tell_counts(counts, errors)
+            }
             // No run ends so.
             None => 255,
         },
-        Run::Program => run_program(alloc, &[], source, sink, errors),
-        Run::Certify => tell_status(run_cert(alloc, source, sink, &setup_of_square()), errors),
-        Run::Check => tell_status(run_check(alloc, source, sink), errors),
+        Run::Program => run_program(rt, alloc, &[], source, sink, errors),
+        Run::Certify => {
+            let setup = setup_of_square(alloc);
+            tell_status(run_cert(rt, alloc, source, sink, &setup, &Free), errors)
+        }
+        Run::Check => tell_status(run_check(rt, alloc, source, sink), errors),
     }
 }
 
 fn tell_counts(counts: Result<Summary, LinesFault>, errors: &mut ByteSink<FailingWriter>) -> u8 {
     match counts {
-        Ok(counts) => Ending::Ran(counts).tell(errors),
-        Err(fault) => Ending::Faulted(BatchFault::from(fault)).tell(errors),
+        Ok(counts) => batch_cli::Ending::Ran(counts).tell(errors),
+        Err(fault) => batch_cli::Ending::Faulted(BatchFault::from(fault)).tell(errors),
     }
 }
 
@@ -347,7 +371,7 @@ fn tell_status<F: Into<BatchFault>>(
 ) -> u8 {
     match status {
         Ok(status) => status,
-        Err(fault) => Ending::Faulted(fault.into()).tell(errors),
+        Err(fault) => batch_cli::Ending::Faulted(fault.into()).tell(errors),
     }
 }
 
@@ -357,24 +381,31 @@ fn square() -> Shape {
 }
 
 // Korf's goal, at unit cost.
-fn setup_of_square() -> Setup
+fn setup_of_square(alloc: Global) -> Setup
     ensures { AreNamedCosts result.goal.grid result.rule }
 {
     let shape = square();
-    Setup::new(Board::goal(shape), Weights::unit(shape))
+    Setup::new(alloc, Board::goal(shape), Weights::unit(shape))
 }
 
 // A goal of 2 by 3 with the blank in the last cell, at face cost.
-fn setup_of_faces() -> Option<Setup> {
+fn setup_of_faces(alloc: Global) -> Option<Setup> {
     let shape = Shape::new(2, 3).ok()?;
     let goal = Board::from_tiles(shape, &[1, 2, 3, 4, 5, 0]).ok()?;
-    Some(Setup::new(goal, Weights::face(shape)))
+    Some(Setup::new(alloc, goal, Weights::face(shape)))
 }
 
 // Whether a run fails so, and not otherwise where that cannot be told.
-fn fails_so(alloc: Global, case: &Case, read: usize, write: usize, told: &str, due: &[u8]) -> bool {
+fn fails_so<R: Threads + Wait + AllocGlobal + Sync>(
+    rt: &R,
+    case: &Case,
+    read: usize,
+    write: usize,
+    told: &str,
+    due: &[u8],
+) -> bool {
     for tell in [0, 1, NEVER] {
-        let ended = end(alloc, case, read, write, tell);
+        let ended = end(rt, case, read, write, tell);
         if ended.status != 3
             || ended.told.as_slice() != beginning(told.as_bytes(), tell)
             || ended.written.as_slice() != due
@@ -387,8 +418,8 @@ fn fails_so(alloc: Global, case: &Case, read: usize, write: usize, told: &str, d
 
 // Whether a run ends as is due where no call fails, and leaves what stands behind the bytes that it
 // is to read.
-fn succeeds(alloc: Global, case: &Case) -> bool {
-    let ended = end(alloc, case, NEVER, NEVER, NEVER);
+fn succeeds<R: Threads + Wait + AllocGlobal + Sync>(rt: &R, case: &Case) -> bool {
+    let ended = end(rt, case, NEVER, NEVER, NEVER);
     ended.status == case.status
         && ended.told.is_empty()
         && ended.written.as_slice() == case.output
@@ -398,22 +429,25 @@ fn succeeds(alloc: Global, case: &Case) -> bool {
 
 // The read and the write, counted from 0, that first end a run otherwise than is due where they
 // fail.
-fn first_wrong_end(alloc: Global, case: &Case) -> Option<(usize, usize)> {
-    if !succeeds(alloc, case) {
+fn first_wrong_end<R: Threads + Wait + AllocGlobal + Sync>(
+    rt: &R,
+    case: &Case,
+) -> Option<(usize, usize)> {
+    if !succeeds(rt, case) {
         return Some((NEVER, NEVER));
     }
     for read in 0..case.reads {
         let due = case.due_before(read);
         // The first fault decides: the program's flush fails in vain behind it.
         for write in [NEVER, case.calls_for(due)] {
-            if !fails_so(alloc, case, read, write, case.unread(), due) {
+            if !fails_so(rt, case, read, write, case.unread(), due) {
                 return Some((read, write));
             }
         }
     }
     for write in 0..case.calls() {
         if !fails_so(
-            alloc,
+            rt,
             case,
             NEVER,
             write,
@@ -429,7 +463,7 @@ fn first_wrong_end(alloc: Global, case: &Case) -> Option<(usize, usize)> {
 #[test]
 fn each_call_of_a_run_fails_in_turn(rt: HostRuntime) {
     for case in cases() {
-        assert_eq!(rt; first_wrong_end(rt.alloc(), &case), None, "{:?}", case.run);
+        assert_eq!(rt; first_wrong_end(&rt, &case), None, "{:?}", case.run);
     }
 }
 

@@ -105,20 +105,36 @@ fn each_fault_and_refusal(rt: HostRuntime) -> Result<(), Fail> {
     Ok(())
 }
 
-#[test]
-fn each_byte_changed(rt: HostRuntime) -> Result<(), Fail> {
-    let mut accepted: usize = 0;
-    for place in 0..ONE_MOVE.len() {
+// The bytes with this much more at a place, beyond 255 from 0 on.
+fn changed_by(alloc: Global, bytes: &[u8], place: usize, step: u8) -> Result<Vec<u8>, Fail> {
+    let mut text = Vec::from_slice(alloc, bytes)?;
+    if let Some(byte) = text.get_mut(place) {
+        *byte = byte.wrapping_add(step);
+    }
+    Ok(text)
+}
+
+// The changes of one byte, by its place and by what is added there, after which bytes are accepted.
+fn accepted_changes(alloc: Global, bytes: &[u8]) -> Result<Vec<(usize, u8)>, Fail> {
+    let mut accepted = Vec::new(alloc);
+    for place in 0..bytes.len() {
         for step in 1..=255 {
-            let mut bytes = ONE_MOVE;
-            bytes[place] = bytes[place].wrapping_add(step);
-            if answer(rt.alloc(), &bytes)? == Ok(Ok(())) {
-                // Tile 1 moves, so face cost is 1 too.
-                assert_eq!(rt; (place, bytes[place]), (KIND, 1));
-                accepted = accepted.saturating_add(1);
+            let text = changed_by(alloc, bytes, place, step)?;
+            if answer(alloc, text.as_slice())? == Ok(Ok(())) {
+                accepted.push((place, step))?;
             }
         }
     }
-    assert_eq!(rt; accepted, 1);
+    Ok(accepted)
+}
+
+#[test]
+fn each_byte_changed(rt: HostRuntime) -> Result<(), Fail> {
+    // The one move is of tile 1, so its face cost is 1 too. Three moves with groups cost 6.
+    let certificates: [(&[u8], &[(usize, u8)]); 2] =
+        [(&ONE_MOVE, &[(KIND, 1)]), (&WITH_GROUPS, &[])];
+    for (bytes, accepted) in certificates {
+        assert_eq!(rt; accepted_changes(rt.alloc(), bytes)?.as_slice(), accepted);
+    }
     Ok(())
 }
