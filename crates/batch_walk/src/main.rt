@@ -3,6 +3,8 @@
 //!
 //!     batch_walk ROWS COLS    boards of this shape, with Korf's goal and unit costs
 //!
+//! Without words it answers boards of 3 by 3.
+//!
 //! Standard error has a line when the tables are built, and one at the end: how many lines are
 //! optimal, unsolvable, bounded and refused, and how many boards were expanded for them.
 #![tactic(auto)]
@@ -39,7 +41,10 @@ impl Gate for Counter {
 // The shape that the words name, or None where they name none.
 fn read_words(rt: &(impl std::rt::Env + AllocGlobal)) -> Option<Shape> {
     let mut words = env::args(rt).ok()?.skip(1);
-    let rows = words.next()?.parse().ok()?;
+    let Some(rows) = words.next() else {
+        return Shape::new(3, 3).ok();
+    };
+    let rows = rows.parse().ok()?;
     let cols = words.next()?.parse().ok()?;
     Shape::new(rows, cols).ok()
 }
