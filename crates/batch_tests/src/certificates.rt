@@ -127,11 +127,7 @@ fn is_hardest_accepted<R: Threads + Wait + AllocGlobal + Sync>(rt: &R) -> Option
 #[test]
 fn certificates_are_judged(rt: HostRuntime) {
     for (from, to, by, code) in CHANGES {
-        assert_eq!(rt;
-            is_refused(&rt, from, to, by, code),
-            Some(true),
-            "{code}"
-        );
+        assert_eq!(rt; is_refused(&rt, from, to, by, code), Some(true), "{code}");
     }
     assert_eq!(rt; is_hardest_accepted(&rt), Some(true));
 }

@@ -446,14 +446,7 @@ fn first_wrong_end<R: Threads + Wait + AllocGlobal + Sync>(
         }
     }
     for write in 0..case.calls() {
-        if !fails_so(
-            rt,
-            case,
-            NEVER,
-            write,
-            case.unwritten,
-            case.due_at(write),
-        ) {
+        if !fails_so(rt, case, NEVER, write, case.unwritten, case.due_at(write)) {
             return Some((NEVER, write));
         }
     }

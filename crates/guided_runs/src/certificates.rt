@@ -29,7 +29,10 @@ pub fn print_certificate<R: Print + AllocGlobal + Threads + Wait + Sync>(
 }
 
 // The bytes that are written for a line, or None where memory was refused.
-fn certificate_of<R: Threads + Wait + AllocGlobal + Sync>(rt: &R, asked: &Asked) -> Option<Vec<u8>> {
+fn certificate_of<R: Threads + Wait + AllocGlobal + Sync>(
+    rt: &R,
+    asked: &Asked,
+) -> Option<Vec<u8>> {
     let setup = setup_of(rt, rt.alloc(), asked)?;
     let mut source = ByteSource::new(asked.line.as_bytes());
     let mut sink = ByteSink::new(Vec::new(rt.alloc()));

@@ -134,7 +134,10 @@ impl Asked {
             line,
             ..
         } = self;
-        println!(rt; "# {line}\n# at {costs:?} cost, {} groups, limit {limit}", groups.len())
+        println!(rt;
+            "# {line}\n# at {costs:?} cost, {} groups, limit {limit}",
+            groups.len()
+        )
     }
 }
 
