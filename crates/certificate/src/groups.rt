@@ -1,10 +1,8 @@
 //! Groups of tiles are read from a source.
 
-ghost use Rattle.std.specs.Prelude.{◌≡◌, ◌↔◌, ◌≤◌, [], All, false, IsTrue, IsSome, IfSome};
+ghost use Rattle.std.specs.Prelude.{◌≡◌, ◌↔◌, ◌≤◌, [], false, IsSome, IfSome};
 ghost use Rattle.board.specs.Grids.{IsShape};
 ghost use Rattle.byte_streams.specs.Streams.{change};
-ghost use Rattle.pattern_index.specs.Selections.{IsSelection};
-ghost use Rattle.pattern_index.specs.Splits.{AreApart, ShareNoTile};
 ghost use Rattle.certificate.specs.Fields.{IsNextGroup, SpellsTiles, SpellsGroup, SpellsGroups};
 ghost use Rattle.certificate.specs.Fields.{SpellsAllGroups};
 ghost use Rattle.certificate.specs.Readings.{tiles, group, groups, all_groups};
@@ -15,7 +13,7 @@ use crate::fields::{fill, read_byte};
 use board::Shape;
 use byte_streams::Source;
 use memory::reserve;
-use pattern_index::{Group, Partition};
+use pattern_index::{Group, Partition, is_apart};
 use std::alloc::Global;
 
 // The number of groups, and the groups.
@@ -105,29 +103,4 @@ fn next_group(shape: Shape, before: &[Group], tiles: &[u8]) -> Option<Group>
         return None;
     }
     Some(group)
-}
-
-// Whether none of these groups has one of these tiles.
-fn is_apart(groups: &[Group], tiles: &[u8]) -> bool
-    ensures { IsTrue result ↔ All (λ g. ShareNoTile g.tiles tiles.now) groups.now }
-{
-    'groups: for i in 0..groups.len() {
-        let group = groups[i];
-        if !share_no_tile(group.tiles(), tiles) {
-            return false;
-        }
-    }
-    true
-}
-
-// Whether no tile is in both lists.
-fn share_no_tile(xs: &[u8], ys: &[u8]) -> bool
-    ensures { IsTrue result ↔ ShareNoTile xs.now ys.now }
-{
-    'tiles: for i in 0..xs.len() {
-        if ys.contains(&xs[i]) {
-            return false;
-        }
-    }
-    true
 }

@@ -15,5 +15,5 @@ mod worked;
 
 pub use faults::{GroupFault, PartitionFault};
 pub use group::{Group, MAX_SIZE};
-pub use partition::Partition;
+pub use partition::{Partition, is_apart};
 pub use view::{View, cells_of};

@@ -89,8 +89,8 @@ fn are_apart(groups: &[Group]) -> bool
     true
 }
 
-// Whether none of these groups has one of these tiles.
-fn is_apart(groups: &[Group], tiles: &[u8]) -> bool
+/// Whether none of these groups has one of these tiles.
+pub fn is_apart(groups: &[Group], tiles: &[u8]) -> bool
     ensures { IsTrue result ↔ All (λ g. ShareNoTile g.tiles tiles.now) groups.now }
 {
     'groups: for i in 0..groups.len() {
