@@ -131,8 +131,10 @@ fn accepted_changes(alloc: Global, bytes: &[u8]) -> Result<Vec<(usize, u8)>, Fai
 #[test]
 fn each_byte_changed(rt: HostRuntime) -> Result<(), Fail> {
     // The one move is of tile 1, so its face cost is 1 too. Three moves with groups cost 6.
-    let certificates: [(&[u8], &[(usize, u8)]); 2] =
-        [(&ONE_MOVE, &[(KIND, 1)]), (&WITH_GROUPS, &[])];
+    let certificates: [(&[u8], &[(usize, u8)]); 2] = [
+        (&ONE_MOVE, &[(KIND, 1)]),
+        (&WITH_GROUPS, &[]),
+    ];
     for (bytes, accepted) in certificates {
         assert_eq!(rt; accepted_changes(rt.alloc(), bytes)?.as_slice(), accepted);
     }
