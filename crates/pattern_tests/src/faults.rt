@@ -19,6 +19,9 @@ struct Asked {
     code: &'static str,
 }
 
+// One group more than a partition may have.
+const TOO_MANY: [&[u8]; 25] = [&[1]; 25];
+
 const ASKED: [Asked; 11] = [
     Asked {
         side: 4,
@@ -79,7 +82,7 @@ const ASKED: [Asked; 11] = [
     Asked {
         side: 4,
         numbers: &[1],
-        groups: &[&[1]; 25],
+        groups: &TOO_MANY,
         values: 240,
         code: "E10",
     },

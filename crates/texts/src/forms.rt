@@ -1,11 +1,12 @@
 //! Each form of report.
 
 use batch_cli::{
-    Cause, NoReport, Outcome, Want, Why, accepted_report, outcome_report,
-    refused_certificate_report, refused_report,
+    Cause, NoReport, Want, Why, accepted_report, outcome_report, refused_certificate_report,
+    refused_report,
 };
 use board::Move;
 use memory::{OutOfMemory, copy_of};
+use outcomes::Ending;
 use std::alloc::Global;
 use std::io::{self, ErrorKind};
 
@@ -25,20 +26,19 @@ enum Answer {
 }
 
 impl Answer {
-    fn outcome(self, alloc: Global) -> Result<Outcome, OutOfMemory> {
+    fn ending(self, alloc: Global) -> Result<Ending, OutOfMemory> {
         match self {
-            Answer::Optimal(cost, moves) => Ok(Outcome::Optimal {
+            Answer::Optimal(cost, moves) => Ok(Ending::Optimal {
                 cost,
                 plan: copy_of(alloc, moves)?,
-                rows: Vec::new(alloc),
             }),
-            Answer::Unsolvable(why) => Ok(Outcome::Unsolvable { why }),
-            Answer::Bounded(bound, None, cause) => Ok(Outcome::Bounded {
+            Answer::Unsolvable(why) => Ok(Ending::Unsolvable { why }),
+            Answer::Bounded(bound, None, cause) => Ok(Ending::Bounded {
                 bound,
                 best: None,
                 cause,
             }),
-            Answer::Bounded(bound, Some((cost, moves)), cause) => Ok(Outcome::Bounded {
+            Answer::Bounded(bound, Some((cost, moves)), cause) => Ok(Ending::Bounded {
                 bound,
                 best: Some((cost, copy_of(alloc, moves)?)),
                 cause,
@@ -72,10 +72,10 @@ fn print_outcomes(rt: &(impl Print + AllocGlobal), refused: OutOfMemory) -> io::
         ),
         ("a\"b\\/\u{1}\t\né", Answer::Unsolvable(Why::Parity)),
     ] {
-        let Ok(outcome) = answer.outcome(rt.alloc()) else {
+        let Ok(ending) = answer.ending(rt.alloc()) else {
             return Err(ErrorKind::OutOfMemory.into());
         };
-        print_report(rt, outcome_report(rt.alloc(), id, &outcome))?;
+        print_report(rt, outcome_report(rt.alloc(), id, &ending))?;
     }
     Ok(())
 }
