@@ -70,8 +70,7 @@ fn tell(rt: &(impl Eprint + AllocGlobal), counts: Summary, expanded: u64) -> io:
         bounded,
         refused,
     } = counts;
-    eprintln!(
-        rt;
+    eprintln!(rt;
         "optimal {optimal} unsolvable {unsolvable} bounded {bounded} refused {refused} expanded {expanded}"
     )
 }

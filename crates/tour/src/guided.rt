@@ -12,6 +12,7 @@ use std::thread::Threads;
 use table_sets::build_bound;
 
 const LINE: &[u8] = b"e 0 11 1 5 4 2 10 6 12 9 15 3 13 8 7 14\n";
+
 const GROUPS: &str = "1,2,3/4,5,6/7,8,9/10,11,12/13,14,15";
 
 /// The report of a board of 4 by 4, from which no plan of less than 36 moves leads to the goal.
