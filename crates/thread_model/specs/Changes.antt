@@ -1,0 +1,53 @@
+-- What steps make of parts.
+use Rattle.std.specs.Prelude.{◌≡◌, ◌≢◌, ◌⊎◌, ℕ, ◌+◌, ◌-◌, ◌≤◌, List, [], ◌∷◌, ◌++◌, length, Option, slice_get, slice_set, unwrap_or, replicate}
+use Rattle.board.specs.declared.moves.Move.{Move}
+use Rattle.outcomes.specs.Outcomes.{Task}
+use Rattle.world_model.specs.declared.limits.TheConstants.{PACKET_LIMIT}
+use Rattle.world_model.specs.declared.parts.Item.{Item}
+use Rattle.world_model.specs.declared.steps.HaltCause.{HaltCause}
+use Rattle.world_model.specs.declared.steps.Refusal.{Refusal}
+use Rattle.world_model.specs.Turns.{Turn}
+use Rattle.world_model.specs.Workers.{WorkerState, Packet, Lane, Role, packet_for}
+use Rattle.world_model.specs.WorkerSteps.{ExpandStep, SettleStep}
+use Rattle.world_model.specs.BookSteps.{AtBook, DrawStep, AnnounceStep, GrantStep, RestStep, HaltStep}
+use Rattle.world_model.specs.Openings.{idle_worker, first_worker}
+use Rattle.world_model.specs.Shapes.{IsItemFor}
+use Rattle.thread_model.specs.Parts.{PartState}
+
+-- the part with another worker
+abbrev pub with_worker : PartState → WorkerState → PartState
+with_worker part worker = record part { worker = worker }
+
+-- the lanes with a packet more at the end of one
+abbrev pub with_packet : List Lane → ℕ → Packet → List Lane
+with_packet lanes at packet = slice_set lanes at (unwrap_or (slice_get lanes at) [] ++ packet ∷ [])
+
+-- the last item held is foreign, and is dropped
+abbrev pub DropStep : Role → WorkerState → WorkerState → Type 0
+DropStep role worker worker' =
+    (front : List Item) × (last : Item) × (worker.held ≡ front ++ last ∷ []) × (¬ IsItemFor role.task role.owner role.me last) × (worker' ≡ record worker { held = front })
+
+-- the last item held is for this worker
+abbrev pub HoldsOwnLast : Role → WorkerState → Type 0
+HoldsOwnLast role worker = (front : List Item) (last : Item) → worker.held ≡ front ++ last ∷ [] → IsItemFor role.task role.owner role.me last
+
+-- what is unsent for worker `to` was sent, with 1 of the purse
+abbrev pub Sends : ℕ → PartState → PartState → Type 0
+Sends to part part' =
+    (packet_for part.worker to ≢ [])
+    × (2 ≤ part.worker.purse)
+    × (part' ≡ record { worker = record part.worker { unsent = slice_set part.worker.unsent to []; purse = part.worker.purse - 1 }; sent = with_packet part.sent to (packet_for part.worker to); received = part.received })
+
+-- a packet came from worker `from`, its items are held, and the purse has its 1
+abbrev pub Receives : ℕ → PartState → PartState → Type 0
+Receives from part part' =
+    (packet : Packet) × (part.worker.held ≡ []) × (1 ≤ length packet) × (length packet ≤ PACKET_LIMIT)
+    × (part' ≡ record { worker = record part.worker { held = packet; purse = part.worker.purse + 1 }; sent = part.sent; received = with_packet part.received from packet })
+
+-- a step on the book
+abbrev pub IsBookStep : Role → Turn AtBook Refusal → Type 0
+IsBookStep role it = DrawStep it ⊎ AnnounceStep role it ⊎ GrantStep role it ⊎ RestStep role it ⊎ ((cause : HaltCause) × HaltStep cause it)
+
+-- the part of one of n workers, with which a run begins, where this is its worker: nothing was sent, and nothing came
+abbrev pub opening_part : ℕ → WorkerState → PartState
+opening_part n worker = record { worker = worker; sent = replicate n []; received = replicate n [] }

@@ -1,0 +1,47 @@
+-- The parts of a run, joined.
+use Rattle.std.specs.Prelude.{◌≡◌, ℕ, ◌+◌, ◌≤◌, List, ◌++◌, length, map, Option, Some, slice_get}
+use Rattle.board.specs.Positions.{Position}
+use Rattle.outcomes.specs.Outcomes.{Task}
+use Rattle.world_model.specs.declared.limits.TheConstants.{LANE_LIMIT}
+use Rattle.world_model.specs.Books.{BookState}
+use Rattle.world_model.specs.Workers.{WorkerState, Lane, Role}
+use Rattle.world_model.specs.Worlds.{WorldState}
+use Rattle.thread_model.specs.Parts.{PartState, IsRole, Keeps}
+
+-- the workers of parts
+abbrev pub workers_of : List PartState → List WorkerState
+workers_of parts = map (λ part. part.worker) parts
+
+-- the lane at a place among lanes to or from each worker
+abbrev pub IsAt : List (List Lane) → ℕ → ℕ → Lane → Type 0
+IsAt rows at other lane = (row : List Lane) × (slice_get rows at ≡ Some row) × (slice_get row other ≡ Some lane)
+
+-- a task, and who owns which board
+pub record Shared : Type 0 where
+  pub task : Task
+  pub owner : Position → ℕ
+
+-- the role of worker i
+abbrev pub role_in : Shared → ℕ → Role
+role_in shared i = record { task = shared.task; owner = shared.owner; me = i }
+
+-- The parts of n workers, and the lanes from each worker to each. Each part keeps what it keeps by itself; of each lane what came and
+-- what still lies in it is what was sent, in this order.
+pub record AreParts (shared : Shared) (parts : List PartState) (lanes : List (List Lane)) : Type 0 where
+  pub roles : (i : ℕ) (part : PartState) → slice_get parts i ≡ Some part → IsRole (length parts) (role_in shared i)
+  pub some : 1 ≤ length parts
+  pub keep : (i : ℕ) (part : PartState) → slice_get parts i ≡ Some part → Keeps (length parts) (role_in shared i) part
+  pub senders : length lanes ≡ length parts
+  pub receivers : (from : ℕ) (row : List Lane) → slice_get lanes from ≡ Some row → length row ≡ length parts
+  pub few : (from to : ℕ) (lane : Lane) → IsAt lanes from to lane → length lane ≤ LANE_LIMIT
+  pub tied : (from to : ℕ) (sender receiver : PartState) (sent received left : Lane)
+      → slice_get parts from ≡ Some sender
+      → slice_get parts to ≡ Some receiver
+      → slice_get sender.sent to ≡ Some sent
+      → slice_get receiver.received from ≡ Some received
+      → IsAt lanes from to left
+      → received ++ left ≡ sent
+
+-- the world that parts make, with a book and with lanes
+abbrev pub world_with : Shared → List PartState → BookState → List (List Lane) → WorldState
+world_with shared parts book lanes = record { task = shared.task; owner = shared.owner; workers = workers_of parts; book = book; lanes = lanes }

@@ -1,0 +1,97 @@
+-- The laws of parts.
+use Rattle.std.specs.Prelude.{◌≡◌, ◌≢◌, ◌⊎◌, ℕ, ◌+◌, ◌≤◌, ◌<◌, List, length, Contains, All, Option, Some, slice_get}
+use Rattle.board.specs.declared.moves.Move.{Move}
+use Rattle.board.specs.Positions.{Position}
+use Rattle.world_model.specs.declared.steps.Refusal.{Refusal}
+use Rattle.world_model.specs.Turns.{Turn, turn}
+use Rattle.world_model.specs.Costs.{limit_of}
+use Rattle.world_model.specs.Books.{BookState}
+use Rattle.world_model.specs.BookSteps.{AtBook}
+use Rattle.world_model.specs.Workers.{WorkerState, Lane, Role}
+use Rattle.world_model.specs.WorkerSteps.{ExpandStep, SettleStep}
+use Rattle.world_model.specs.Worlds.{WorldState}
+use Rattle.world_model.specs.Openings.{idle_worker, first_worker}
+use Rattle.world_model.specs.Shapes.{IsShaped}
+use Rattle.world_model.specs.Soundness.{IsSound}
+use Rattle.world_model.specs.Credit.{packet_count}
+use Rattle.world_model.specs.Frontiers.{IsInFrontier, IsReached}
+use Rattle.world_model.specs.Quiet.{IsQuiet}
+use Rattle.thread_model.specs.Parts.{PartState, IsRole, Keeps}
+use Rattle.thread_model.specs.Changes.{with_worker, DropStep, HoldsOwnLast, Sends, Receives, IsBookStep, opening_part}
+use Rattle.thread_model.specs.Joined.{Shared, AreParts, world_with}
+
+-- a part whose worker expands a board keeps what it keeps
+abbrev pub ExpandingIsKept : Type 0
+ExpandingIsKept =
+    (n : ℕ) (role : Role) (part : PartState) (answer : Option Refusal) (worker : WorkerState)
+    → IsRole n role
+    → Keeps n role part
+    → ExpandStep role (turn part.worker answer worker)
+    → Keeps n role (with_worker part worker)
+
+-- so does one that settles an item which is its own
+abbrev pub SettlingIsKept : Type 0
+SettlingIsKept =
+    (n : ℕ) (role : Role) (part : PartState) (answer : Option Refusal) (worker : WorkerState)
+    → IsRole n role
+    → Keeps n role part
+    → HoldsOwnLast role part.worker
+    → SettleStep (turn part.worker answer worker)
+    → Keeps n role (with_worker part worker)
+
+-- and one that drops a foreign one
+abbrev pub DroppingIsKept : Type 0
+DroppingIsKept =
+    (n : ℕ) (role : Role) (part : PartState) (worker : WorkerState)
+    → IsRole n role
+    → Keeps n role part
+    → DropStep role part.worker worker
+    → Keeps n role (with_worker part worker)
+
+-- and one that sends a packet to one of the workers
+abbrev pub SendingIsKept : Type 0
+SendingIsKept =
+    (n to : ℕ) (role : Role) (part part' : PartState) → IsRole n role → to < n → Keeps n role part → Sends to part part' → Keeps n role part'
+
+-- and one that takes in a packet from one of them, whatever is in it
+abbrev pub ReceivingIsKept : Type 0
+ReceivingIsKept =
+    (n from : ℕ) (role : Role) (part part' : PartState) → IsRole n role → from < n → Keeps n role part → Receives from part part' → Keeps n role part'
+
+-- and one with a purse that takes a step on the book, whatever the book says
+abbrev pub BookStepsAreKept : Type 0
+BookStepsAreKept =
+    (n : ℕ) (role : Role) (part : PartState) (book book' : BookState) (answer : Option Refusal) (worker : WorkerState)
+    → IsRole n role
+    → Keeps n role part
+    → part.worker.purse ≢ 0
+    → IsBookStep role (turn (record { worker = part.worker; book = book }) answer (record { worker = worker; book = book' }))
+    → Keeps n role (with_worker part worker)
+
+-- a part with which a run begins keeps that: the start's owner knows the start, and the others know nothing
+abbrev pub OpeningsAreKept : Type 0
+OpeningsAreKept =
+    (n : ℕ) (role : Role)
+    → IsRole n role
+    → (role.owner role.task.start ≢ role.me → Keeps n role (opening_part n (idle_worker n)))
+    × ((via : Move) → role.owner role.task.start ≡ role.me → Keeps n role (opening_part n (first_worker n role.task via)))
+
+-- parts that are joined are a shaped and sound world, with any book that has a floor for each
+abbrev pub JoinedPartsAreSound : Type 0
+JoinedPartsAreSound =
+    (shared : Shared) (parts : List PartState) (book : BookState) (lanes : List (List Lane))
+    → AreParts shared parts lanes
+    → length book.floors ≡ length parts
+    → IsShaped (world_with shared parts book lanes) × IsSound (world_with shared parts book lanes)
+
+-- Where all purses are empty and no packet is in a lane, nothing is under way; so where the frontier is not below the limit, and the
+-- best cost is that at which the goal is known, the world is quiet.
+abbrev pub JoinedPartsAreQuiet : Type 0
+JoinedPartsAreQuiet =
+    (shared : Shared) (parts : List PartState) (book : BookState) (lanes : List (List Lane))
+    → AreParts shared parts lanes
+    → All (λ part. part.worker.purse ≡ 0) parts
+    → packet_count (world_with shared parts book lanes) ≡ 0
+    → ((b : Position) (cost : ℕ) → IsInFrontier (world_with shared parts book lanes) b cost → limit_of book.best ≤ cost + shared.task.sum b)
+    → IsReached (world_with shared parts book lanes) book.best
+    → IsQuiet (world_with shared parts book lanes)

@@ -1,0 +1,31 @@
+//! The laws of parts: each is the contract of a function that does nothing.
+
+ghost use Rattle.thread_model.specs.Laws.{ExpandingIsKept, SettlingIsKept, DroppingIsKept};
+ghost use Rattle.thread_model.specs.Laws.{SendingIsKept, ReceivingIsKept, BookStepsAreKept};
+ghost use Rattle.thread_model.specs.Laws.{OpeningsAreKept};
+ghost use Rattle.thread_model.specs.Laws.{JoinedPartsAreSound, JoinedPartsAreQuiet};
+
+/// A part keeps what it keeps when its worker takes a step.
+pub fn steps_are_kept()
+    ensures expand { ExpandingIsKept }
+    ensures settle { SettlingIsKept }
+    ensures drop { DroppingIsKept }
+    ensures send { SendingIsKept }
+    ensures receive { ReceivingIsKept }
+    ensures book { BookStepsAreKept }
+{}
+
+/// So does a part with which a run begins.
+pub fn openings_are_kept()
+    ensures { OpeningsAreKept }
+{}
+
+/// Joined parts are a sound world.
+pub fn joined_parts_are_sound()
+    ensures { JoinedPartsAreSound }
+{}
+
+/// Joined parts are a quiet world where nothing is left to do.
+pub fn joined_parts_are_quiet()
+    ensures { JoinedPartsAreQuiet }
+{}
