@@ -1,0 +1,187 @@
+-- A part whose worker expands a board keeps what it keeps.
+use Rattle.std.proofs.Common.{◌≡◌, ◌≢◌, ◌⊎◌, ℕ, ◌+◌, ◌≤◌, true, false, eqb, List, [], ◌∷◌, refl, sym, ap, ◌∙◌, subst, inl, inr, ⊎_elim, arith, Some, None}
+use Rattle.std.specs.Prelude.{Contains, fold, length}
+use Rattle.std.specs.FinMap as map
+use Rattle.std.proofs.lemmas.Bool.{cases_eq, cases_Bool, cond-true, cond-false, true≢false}
+use Rattle.board.specs.Keys.{key_of}
+use Rattle.board.specs.Moves.{Moves}
+use Rattle.board.specs.Positions.{Position}
+use Rattle.board.specs.declared.costs.TheConstants.{GREATEST_EXPANDED_COST}
+use Rattle.board.specs.declared.moves.Move.{Move}
+use Rattle.world_model.specs.declared.limits.TheConstants.{PACKET_LIMIT}
+use Rattle.world_model.specs.declared.parts.Item.{Item}
+use Rattle.world_model.specs.declared.parts.Known.{Known}
+use Rattle.world_model.specs.Costs.{limit_of}
+use Rattle.world_model.specs.Expansions.{expansion, successor_items, with_closure, with_successor}
+use Rattle.world_model.specs.Shapes.{IsShapedWorker}
+use Rattle.world_model.specs.Turns.{turn}
+use Rattle.world_model.specs.WorkerSteps.{IsOverfull}
+use Rattle.world_model.specs.Workers.{WorkerState, Role, IsTaskBoard, KnowsAs, IsIdle, IsOpen, HasNothingBelow}
+use Rattle.world_model.proofs.ExpandLemmas.{Among, HasSlots, all_known, all_lower, all_there, all_unsent, all_put, all_back, all_held, all_rest}
+use Rattle.world_model.proofs.ExpandOffers.{offered, offers_all, offered_board}
+use Rattle.world_model.proofs.ShapeKept.{expanded_low, shaped_expanded, slots}
+use Rattle.world_model.proofs.StepCases.{IsLeft, Expands, expand_cases}
+use Rattle.world_model.proofs.TableLemmas.{entry, same_key, with_insert}
+use Rattle.thread_model.specs.Parts.{PartState, HasUnsent, KnowsAtMost, IsSeenTo, IsMade, IsRole, Keeps}
+use Rattle.thread_model.specs.Changes.{with_worker}
+use Rattle.thread_model.specs.Laws.{ExpandingIsKept}
+use Rattle.thread_model.proofs.WorkerKept.{Remembers, IsFounded, origin_kept, worker_kept}
+
+-- the worker holds nothing
+abbrev empty_handed : WorkerState → WorkerState
+empty_handed worker = record worker { held = [] }
+
+module _ (role : Role) where
+  -- what is held plays no part in a successor
+  one_empty_handed : (x : WorkerState) (item : Item) → with_successor role (empty_handed x) item ≡ empty_handed (with_successor role x item)
+  one_empty_handed x item =
+      ⊎_elim (λ (e : eqb (role.owner item.board) role.me ≡ true). cond-true _ _ _ e ∙ sym (ap empty_handed (cond-true _ _ _ e)))
+      (λ (e : eqb (role.owner item.board) role.me ≡ false). cond-false _ _ _ e ∙ sym (ap empty_handed (cond-false _ _ _ e)))
+      (cases_Bool (eqb (role.owner item.board) role.me))
+
+  all_empty_handed : (offers : List Item) (x : WorkerState) → fold (with_successor role) (empty_handed x) offers ≡ empty_handed (fold (with_successor role) x offers)
+  all_empty_handed [] x = refl
+  all_empty_handed (first ∷ rest) x = ap (λ (y : WorkerState). fold (with_successor role) y rest) (one_empty_handed x first) ∙ all_empty_handed rest (with_successor role x first)
+
+module _ (n : ℕ) (role : Role) (part : PartState) (is : IsRole n role) (keeps : Keeps n role part) (b : Position) (known : Known) (open_at : IsOpen role.task part.worker b known) where
+  done : WorkerState
+  done = expansion role part.worker b known
+
+  marked : WorkerState
+  marked = with_closure part.worker b known
+
+  offers : List Item
+  offers = successor_items role.task.rule b known.cost
+
+  -- an expansion with nothing held
+  emptied_is : expansion role (empty_handed part.worker) b known ≡ empty_handed done
+  unfolding done
+  emptied_is = all_empty_handed role (successor_items role.task.rule b known.cost) (with_closure part.worker b known)
+
+  emptied_open : IsOpen role.task (empty_handed part.worker) b known
+  emptied_open = record { board = open_at.board; knows = open_at.knows; unexpanded = open_at.unexpanded; no_goal = open_at.no_goal }
+
+  done_shaped : known.cost + role.task.sum b ≤ GREATEST_EXPANDED_COST → ¬ IsOverfull done → IsShapedWorker n role (empty_handed done)
+  done_shaped low room =
+      subst (IsShapedWorker n role) emptied_is
+      (shaped_expanded n role (empty_handed part.worker) keeps.shaped is.task is.owners b known emptied_open low
+      (λ full. room (subst IsOverfull emptied_is full)))
+
+  lists : HasSlots role marked
+  unfolding marked
+  lists = slots n role (empty_handed part.worker) keeps.shaped is.owners
+
+  held_is : done.held ≡ part.worker.held
+  unfolding done offers marked
+  held_is = all_held role offers marked
+
+  marked_lower : (key : ℕ) (old : Known) → map.get part.worker.known key ≡ Some old → (now : Known) × (map.get marked.known key ≡ Some now) × (now.cost ≤ old.cost)
+  unfolding marked
+  marked_lower key old at =
+      ⊎_elim (λ same. (old, same ∙ at, omega arith))
+      (λ new.
+      let e : Some old ≡ Some known = sym at ∙ ap (map.get part.worker.known) new.0 ∙ open_at.knows in
+      let as_known : old ≡ known = cc in
+      (record known { expanded = true }, new.1, omega (arith, ap (λ (k : Known). k.cost) as_known)))
+      (with_insert part.worker.known (key_of b) key (record known { expanded = true }))
+
+  lower : (x : Position) (old : Known) → KnowsAs part.worker x old → KnowsAtMost done x old.cost
+  unfolding done offers marked
+  lower x old knows =
+      let mid = marked_lower (key_of x) old knows in
+      let end = all_lower role offers marked (key_of x) mid.0 mid.1 in
+      (end.0, end.1, omega (arith, mid.2, end.2))
+
+  remembers : Remembers part.worker done
+  unfolding done offers marked
+  remembers = record { lower = lower; unsent = λ to item has. all_unsent role offers marked lists to item has }
+
+  -- each successor is seen to
+  successor_seen_to : (m : Move) (b' : Position) (c : ℕ) → Moves role.task.rule b m b' c → IsSeenTo role (with_worker part done) b' (known.cost + c)
+  unfolding done offers marked
+  successor_seen_to m b' c moves =
+      let offer = offer_of m b' c in
+      let among : Among offers offer = offers_all role.task is.task b open_at.board known.cost m b' c moves in
+      ⊎_elim (λ (mine : role.owner b' ≡ role.me). inl (mine, all_there role offers marked offer among mine))
+      (λ (foreign : role.owner b' ≢ role.me). inr (offer, inl (all_put role offers marked lists offer among foreign), refl, omega arith))
+      (cases_eq (role.owner b') role.me)
+    where
+      offer_of : Move → Position → ℕ → Item
+      offer_of m b' c = record { board = b'; cost = known.cost + c; via = m }
+
+  offer_made : (offer : Item) → Among offers offer → IsMade role done offer.board offer.cost offer.via
+  unfolding offers
+  offer_made offer among =
+      let from = offered role.task is.task b open_at.board known.cost offer among in
+      let before = lower b known open_at.knows in
+      inr (b, from.0, before.0, open_at.board, from.1, before.1, omega (arith, before.2, from.2))
+
+  board_of : (offer : Item) → Among offers offer → IsTaskBoard role.task offer.board
+  unfolding offers
+  board_of offer among = (offered_board role.task is.task b open_at.board known.cost offer among).0
+
+  -- what is known after: what was known, the board itself, or an own offer
+  IsNew : ℕ → Known → Type 0
+  IsNew key now = ((key ≡ key_of b) × (now ≡ record known { expanded = true })) ⊎ ((offer : Item) × Among offers offer × (key ≡ key_of offer.board) × (now ≡ entry offer))
+
+  done_before : (key : ℕ) (now : Known) → map.get done.known key ≡ Some now → (map.get part.worker.known key ≡ Some now) ⊎ IsNew key now
+  unfolding done offers marked IsNew
+  done_before key now at =
+      ⊎_elim
+      (λ same.
+      ⊎_elim (λ same'. inl (sym same' ∙ sym same ∙ at))
+      (λ new. let e : Some now ≡ Some (record known { expanded = true }) = sym at ∙ same ∙ new.1 in inr (inl (new.0, cc)))
+      (with_insert part.worker.known (key_of b) key (record known { expanded = true })))
+      (λ new. let e : Some now ≡ Some (entry new.0) = sym at ∙ new.4 in inr (inr (new.0, new.1, new.3, cc)))
+      (all_known role offers marked key)
+
+  board_founded : IsFounded role (with_worker part done) b (record known { expanded = true })
+  board_founded = record {
+    origin = origin_kept role part done remembers b known.cost known.via (keeps.origins b known open_at.board open_at.knows);
+    closed = λ closed. (open_at.no_goal, successor_seen_to);
+  }
+
+  offer_founded : (offer : Item) → Among offers offer → IsFounded role (with_worker part done) offer.board (entry offer)
+  offer_founded offer among = record { origin = inl (offer_made offer among); closed = λ closed. absurd (true≢false (sym closed)) }
+
+  new_founded : (x : Position) (now : Known) → IsTaskBoard role.task x → IsNew (key_of x) now → IsFounded role (with_worker part done) x now
+  unfolding IsNew
+  new_founded x now board (inl (same, new)) =
+      let here = same_key role.task x b board open_at.board same in
+      subst (λ (y : Position × Known). IsFounded role (with_worker part done) y.0 y.1) (λ t. (sym here t, sym new t)) board_founded
+  new_founded x now board (inr (offer, among, same, new)) =
+      let here = same_key role.task x offer.board board (board_of offer among) same in
+      subst (λ (y : Position × Known). IsFounded role (with_worker part done) y.0 y.1) (λ t. (sym here t, sym new t)) (offer_founded offer among)
+
+  founded : (x : Position) (now : Known) → IsTaskBoard role.task x → KnowsAs done x now → KnowsAs part.worker x now ⊎ IsFounded role (with_worker part done) x now
+  founded x now board knows = ⊎_elim (λ old. inl old) (λ (new : IsNew (key_of x) now). inr (new_founded x now board new)) (done_before (key_of x) now knows)
+
+  items : (to : ℕ) (item : Item) → HasUnsent done to item → HasUnsent part.worker to item ⊎ IsMade role done item.board item.cost item.via
+  unfolding done offers marked
+  items to item has = ⊎_elim (λ old. inl old) (λ new. inr (offer_made item new.0)) (all_back role offers marked lists to item has)
+
+  -- a worker with a board to expand is not at rest
+  not_resting : ¬ HasNothingBelow role.task part.worker (limit_of part.worker.best) → done.purse ≡ 0 → IsIdle role.task done (limit_of done.best) done.best
+  unfolding done offers marked
+  not_resting busy none = absurd (busy (keeps.resting (sym (all_rest role offers marked).0 ∙ none)).no_board)
+
+  expanded_kept : ¬ HasNothingBelow role.task part.worker (limit_of part.worker.best) → known.cost + role.task.sum b ≤ GREATEST_EXPANDED_COST → ¬ IsOverfull (expansion role part.worker b known) → Keeps n role (with_worker part (expansion role part.worker b known))
+  unfolding done
+  expanded_kept busy low room = worker_kept role part done remembers n is keeps (record {
+    shaped = done_shaped low room;
+    few_held = subst (λ (xs : List Item). length xs ≤ PACKET_LIMIT) (sym held_is) keeps.few_held;
+    known = founded;
+    items = items;
+    held = λ item has. subst (λ (xs : List Item). Contains xs item) held_is has;
+    settled = λ item has mine. inr (subst (λ (xs : List Item). Contains xs item) (sym held_is) has);
+    resting = not_resting busy;
+  })
+
+pub expanding_kept : ExpandingIsKept
+expanding_kept n role part answer worker is keeps step =
+    ⊎_elim (λ (out : IsLeft (turn part.worker answer worker)). subst (λ x. Keeps n role (with_worker part x)) (sym out.1.1) keeps)
+    (λ (done : (answer ≡ None) × Expands role part.worker worker).
+    let s = done.1 in
+    subst (λ x. Keeps n role (with_worker part x)) (sym s.is)
+    (expanded_kept n role part is keeps s.board s.known s.next.opens s.busy (expanded_low role.task part.worker s.board s.known s.busy s.next) s.room))
+    (expand_cases role (turn part.worker answer worker) step)

@@ -1,0 +1,3 @@
+pub mod WorkerKept
+pub mod ExpandKept
+pub mod SettleKept
