@@ -1,0 +1,5 @@
+use Rattle.thread_model.proofs.OpeningKept.{openings_kept}
+use Rattle.thread_model.proofs.laws.openings_are_kept.Goals as goal
+
+pub returns : goal.returns
+returns c = openings_kept
