@@ -4,3 +4,6 @@ pub mod SettleKept
 pub mod LaneKept
 pub mod BookStepsKept
 pub mod OpeningKept
+pub mod JoinedShape
+pub mod JoinedSound
+pub mod JoinedQuiet

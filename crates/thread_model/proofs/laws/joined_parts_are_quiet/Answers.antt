@@ -1,0 +1,5 @@
+use Rattle.thread_model.proofs.JoinedQuiet.{joined_parts_quiet}
+use Rattle.thread_model.proofs.laws.joined_parts_are_quiet.Goals as goal
+
+pub returns : goal.returns
+returns c = joined_parts_quiet
