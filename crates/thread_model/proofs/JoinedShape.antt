@@ -1,5 +1,5 @@
 -- Joined parts are a shaped world.
-use Rattle.std.proofs.Common.{◌≡◌, ◌⊎◌, ℕ, zero, suc, ◌<◌, ◌≤◌, ◌++◌, List, [], ◌∷◌, length, map, refl, sym, ap, ◌∙◌, subst, arith, Some}
+use Rattle.std.proofs.Common.{◌≡◌, ◌⊎◌, ℕ, zero, suc, ◌<◌, ◌≤◌, List, [], ◌∷◌, length, map, refl, sym, ap, ◌∙◌, subst, arith, Some}
 use Rattle.std.specs.Prelude.{Contains, slice_get, option_map}
 use Rattle.std.proofs.lemmas.Option.{slice_get_within, slice_get-map}
 use Rattle.std.proofs.lemmas.List.{length-map}
@@ -25,6 +25,7 @@ abbrev pub IsSentTo : List PartState → ℕ → Item → Type 0
 IsSentTo parts to item = (from : ℕ) × (sender : PartState) × (slice_get parts from ≡ Some sender) × WasSent sender to item
 
 module _ (shared : Shared) (parts : List PartState) (lanes : List (List Lane)) (are : AreParts shared parts lanes) where
+  -- the task, the count and the owners are those of a role
   pub first_role : IsRole (length parts) (role_in shared 0)
   first_role = let first = get_below parts 0 (omega (arith, are.some)) in are.roles 0 first.0 first.1
 
@@ -49,6 +50,7 @@ module _ (shared : Shared) (parts : List PartState) (lanes : List (List Lane)) (
 
   -- two parts, and the lane from one to the other
   module _ (from to : ℕ) (sender receiver : PartState) (at : slice_get parts from ≡ Some sender) (at' : slice_get parts to ≡ Some receiver) where
+    -- the lane as its sender has it, as its receiver has it, and what is left in it
     pub sent_lane : (lane : Lane) × (slice_get sender.sent to ≡ Some lane)
     sent_lane = let inside = slice_get_within parts to receiver at' in get_below sender.sent to (omega (arith, inside, (are.keep from sender at).ends.0))
 
@@ -99,6 +101,7 @@ module _ (shared : Shared) (parts : List PartState) (lanes : List (List Lane)) (
   pub sent_for : (from to : ℕ) (sender : PartState) (sent : Lane) (packet : Packet) → slice_get parts from ≡ Some sender → slice_get sender.sent to ≡ Some sent → Contains sent packet → (1 ≤ length packet) × IsPacketFor shared.task shared.owner to packet
   sent_for from to sender sent packet at is has = (are.keep from sender at).sent to sent is packet has
 
+  -- so is each item that was sent to it
   pub sent_item : (to : ℕ) (item : Item) → IsSentTo parts to item → IsItemFor shared.task shared.owner to item
   sent_item to item has = (sent_for has.0 to has.1 has.3.0 has.3.1 has.2 has.3.2 has.3.3).1.items item has.3.4
 

@@ -7,11 +7,12 @@ use Rattle.board.specs.Moves.{Moves}
 use Rattle.world_model.specs.declared.parts.Item.{Item}
 use Rattle.world_model.specs.declared.parts.Known.{Known}
 use Rattle.world_model.specs.Books.{BookState}
+use Rattle.world_model.specs.Shapes.{IsItemFor}
 use Rattle.world_model.specs.Soundness.{HasPredecessor, IsCovered, IsSound}
 use Rattle.world_model.specs.Workers.{IsTaskBoard, KnowsAs, Lane, WorkerState}
 use Rattle.world_model.specs.Worlds.{IsUnderWay, Knows, WorldState}
 use Rattle.world_model.proofs.ShapeLemmas.{known_owned, moved_task_board}
-use Rattle.thread_model.specs.Parts.{HasOrigin, IsMade, IsPassedOn, IsSeenTo, KnowsAtMost, PartState, WasSent}
+use Rattle.thread_model.specs.Parts.{HasCome, HasOrigin, IsMade, IsPassedOn, IsSeenTo, KnowsAtMost, PartState, WasSent}
 use Rattle.thread_model.specs.Joined.{AreParts, Shared, role_in, workers_of, world_with}
 use Rattle.thread_model.specs.Laws.{JoinedPartsAreSound}
 use Rattle.thread_model.proofs.JoinedShape.{IsSentTo, came_from, first_role, joined_shaped, lane_from, left_lane, owner_part, part_of, part_shaped, received_lane, sent_came, sent_item, worker_of}
@@ -57,21 +58,24 @@ module _ (shared : Shared) (parts : List PartState) (book : BookState) (lanes : 
       let sent = lane_from shared parts lanes are has.0 to has.2.lane has.1 (lane.from_lanes, lane.of_sender, lane.of_receiver) has.2.lies in
       sent_reached to item (has.0, sent.0, sent.2, (sent.1, has.1, sent.3, sent.4, has.3))
 
+  -- what came to the one whom it is for is known there or held by it
+  arrived_covered : (i : ℕ) (part : PartState) → slice_get parts i ≡ Some part → (item : Item) → HasCome part item → IsItemFor shared.task shared.owner i item → IsCovered (world_with shared parts book lanes) item.board item.cost
+  arrived_covered i part at item come is_for =
+      ⊎_elim
+      (λ (known : KnowsAtMost part.worker item.board item.cost). covered_in i part at item.board item.cost is_for.0 known)
+      (λ (held : Contains part.worker.held item). inr (i, item, inl (part.worker, worker_of shared parts lanes are i part at, held), refl, omega arith))
+      ((are.keep i part at).arrived item come is_for)
+
   -- what was sent to the board's owner is known there or held by it, or lies in the lane
   sent_covered : (i : ℕ) (part : PartState) → slice_get parts i ≡ Some part → (item : Item) → WasSent part (shared.owner item.board) item → IsCovered (world_with shared parts book lanes) item.board item.cost
   sent_covered i part at item has =
       let to = shared.owner item.board in
       let owner = owner_part shared parts lanes are item.board in
-      ⊎_elim
-      (λ (came : Contains (received_lane shared parts lanes are i to part owner.0 at owner.1).0 has.1).
-      let is_for = sent_item shared parts lanes are to item (i, part, at, has) in
-      ⊎_elim
-      (λ (known : KnowsAtMost owner.0.worker item.board item.cost). covered_in to owner.0 owner.1 item.board item.cost is_for.0 known)
-      (λ (held : Contains owner.0.worker.held item). inr (to, item, inl (owner.0.worker, worker_of shared parts lanes are to owner.0 owner.1, held), refl, omega arith))
-      ((are.keep to owner.0 owner.1).arrived item (i, ((received_lane shared parts lanes are i to part owner.0 at owner.1).0, has.1, (received_lane shared parts lanes are i to part owner.0 at owner.1).1, came, has.4)) is_for))
-      (λ (lies : Contains (left_lane shared parts lanes are i to part owner.0 at owner.1).0 has.1).
+      let received = received_lane shared parts lanes are i to part owner.0 at owner.1 in
       let left = left_lane shared parts lanes are i to part owner.0 at owner.1 in
-      inr (to, item, inr (inr (i, has.1, record { lane = left.0; is = record { from_lanes = left.1.0; of_sender = left.1.1; of_receiver = left.1.2 }; lies = lies }, has.4)), refl, omega arith))
+      ⊎_elim
+      (λ (came : Contains received.0 has.1). arrived_covered to owner.0 owner.1 item (i, (received.0, has.1, received.1, came, has.4)) (sent_item shared parts lanes are to item (i, part, at, has)))
+      (λ (lies : Contains left.0 has.1). inr (to, item, inr (inr (i, has.1, record { lane = left.0; is = record { from_lanes = left.1.0; of_sender = left.1.1; of_receiver = left.1.2 }; lies = lies }, has.4)), refl, omega arith))
       (sent_came shared parts lanes are i to part owner.0 at owner.1 has.0 has.1 has.2 has.3)
 
   -- what is seen to is covered
