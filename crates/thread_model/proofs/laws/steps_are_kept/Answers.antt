@@ -1,0 +1,15 @@
+use Rattle.thread_model.proofs.laws.steps_are_kept.Goals as goal
+use Rattle.thread_model.proofs.ExpandKept.{expanding_kept}
+use Rattle.thread_model.proofs.SettleKept.{settling_kept, dropping_kept}
+use Rattle.thread_model.proofs.LaneKept.{sending_kept, receiving_kept}
+use Rattle.thread_model.proofs.BookStepsKept.{book_steps_kept}
+
+pub returns : goal.returns
+returns c = record {
+  expand = expanding_kept;
+  settle = settling_kept;
+  drop = dropping_kept;
+  send = sending_kept;
+  receive = receiving_kept;
+  book = book_steps_kept;
+}
