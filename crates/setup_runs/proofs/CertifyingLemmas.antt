@@ -18,8 +18,7 @@ use Rattle.outcomes.specs.Laws.{RowsCanBeLeft}
 use Rattle.hda_run.specs.Alone.{IsByOne, EndsByOne}
 use Rattle.hda_run.specs.Problems.{Problem}
 use Rattle.world_ends.proofs.LawLemmas.{rows_alone}
-use Rattle.batch_runs.specs.Setups.{SetupState, hash_by, task_of}
-use Rattle.batch_runs.specs.declared.setup.SpreadKind.{SpreadKind}
+use Rattle.batch_runs.specs.Setups.{SetupState, task_of}
 use Rattle.setup_runs.specs.Solving.{problem_of, IsNeverCut, MayAnswer}
 use Rattle.setup_runs.proofs.SolvingLemmas.{allowed}
 
@@ -63,14 +62,11 @@ parity_back (outcome.Unsolvable why) e = ap outcome_of e
 parity_back (outcome.Bounded bound best cause) e = absurd (cc)
 
 module _ (setup : SetupState) (start : Position) where
-  abbrev IsProof : (Position → ℕ) → Outcome → Type 0
-  IsProof hash o = IsByOne {S = SpreadKind} (λ kind. hash) (problem_of setup start) setup.spread o
-
-  pub proof_allowed : (hash : Position → ℕ) → hash ≡ hash_by setup.spread → RowsCanBeLeft → (result : Result Outcome OutOfMemory) → (result ≡ Ok (outcome.Unsolvable Parity)) ↔ (¬ SameClass start setup.goal) → (SameClass start setup.goal → IfOk result (IsProof hash)) → IfOk result (Answers (task_of setup start)) → IfOk result IsKeptOutcome → IfOk result (λ o. MayAnswer setup start (Some (without_rows o)))
-  proof_allowed hash spread rows (Err refused) parity run answers kept = tt
-  proof_allowed hash spread rows (Ok o) parity run answers kept =
-      allowed setup start hash spread (Ok (without_rows o))
+  pub proof_allowed : {S : Type 0} (hash_of : S → Position → ℕ) (owners : S) → RowsCanBeLeft → (result : Result Outcome OutOfMemory) → (result ≡ Ok (outcome.Unsolvable Parity)) ↔ (¬ SameClass start setup.goal) → (SameClass start setup.goal → IfOk result (IsByOne hash_of (problem_of setup start) owners)) → IfOk result (Answers (task_of setup start)) → IfOk result IsKeptOutcome → IfOk result (λ o. MayAnswer setup start (Some (without_rows o)))
+  proof_allowed hash_of owners rows (Err refused) parity run answers kept = tt
+  proof_allowed hash_of owners rows (Ok o) parity run answers kept =
+      allowed setup start hash_of owners (Ok (without_rows o))
       ((λ e. parity.0 (parity_back o e)), (λ other. ap ending_of (parity.1 other)))
-      (λ same. ends_by_one (λ kind. hash) (problem_of setup start) setup.spread o (run same))
+      (λ same. ends_by_one hash_of (problem_of setup start) owners o (run same))
       (rows (task_of setup start) o answers)
       (ending_kept o kept)

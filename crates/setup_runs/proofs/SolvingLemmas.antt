@@ -1,6 +1,7 @@
 -- What one worker answers may be answered.
-use Rattle.std.proofs.Common.{ℕ, ◌≡◌, ◌+◌, ◌%◌, ◌==◌, ◌⊎◌, ◌↔◌, Bool, true, false, Some, Result, Ok, Err, IfOk, refl, ap, subst, inl, inr}
+use Rattle.std.proofs.Common.{ℕ, ◌≡◌, ◌+◌, ◌%◌, ◌==◌, ◌⊎◌, ◌↔◌, Bool, true, false, Some, Result, Ok, Err, IfOk, refl, ap, sym, ◌∙◌, subst, inl, inr}
 use Rattle.std.specs.Bool.{Decides}
+use Rattle.std.proofs.Math.Nat.{mod-one}
 use Rattle.std.proofs.lemmas.Bool.Decides.{Decides-eqb, not_from_Decides}
 use Rattle.board.specs.Positions.{Position, blank_of}
 use Rattle.board.specs.Classes.{SameClass, inversions, taxicab}
@@ -9,9 +10,11 @@ use Rattle.outcomes.specs.declared.outcome.Ending.{Ending}
 use Rattle.outcomes.specs.declared.outcome.Ending.TheVariants.{Unsolvable}
 use Rattle.outcomes.specs.declared.outcome.Why.TheVariants.{Parity}
 use Rattle.outcomes.specs.Endings.{EndAnswers}
-use Rattle.hda_run.specs.Alone.{EndsByOne}
+use Rattle.hda_run.specs.Alone.{EndsByOne, IsRunAlone}
+use Rattle.hda_run.specs.Problems.{task_in}
+use Rattle.world_model.specs.Worlds.{WorldState}
+use Rattle.world_ends.specs.Endings.{EndsIn}
 use Rattle.batch_runs.specs.Setups.{SetupState, hash_by, task_of}
-use Rattle.batch_runs.specs.declared.setup.SpreadKind.{SpreadKind}
 use Rattle.batch_runs.specs.Batches.{IsTruthful}
 use Rattle.setup_runs.specs.Solving.{problem_of, rules_of, IsNeverCut, MayAnswer}
 
@@ -31,17 +34,32 @@ abbrev value_or : Ending → Result Ending OutOfMemory → Ending
 value_or other (Ok ending) = ending
 value_or other (Err refused) = other
 
+-- the owner of a board among one worker
+abbrev owner_by : (Position → ℕ) → Position → ℕ
+owner_by hash b = hash b % 1
+
+-- one worker owns all boards, whatever they are spread by
+pub lone_owner : (hash other : Position → ℕ) → owner_by hash ≡ owner_by other
+lone_owner hash other = λ t b. (mod-one (hash b) ∙ sym (mod-one (other b))) t
+
 module _ (setup : SetupState) (start : Position) where
   -- the run of one worker whose boards are owned by this hash
-  abbrev Ends : (Position → ℕ) → Ending → Type 0
-  Ends hash ending = EndsByOne {S = SpreadKind} (λ kind. hash) (problem_of setup start) setup.spread ending
+  abbrev Ends : {S : Type 0} → (S → Position → ℕ) → S → Ending → Type 0
+  Ends hash_of owners ending = EndsByOne hash_of (problem_of setup start) owners ending
 
-  pub allowed : (hash : Position → ℕ) → hash ≡ hash_by setup.spread → (result : Result Ending OutOfMemory) → (result ≡ Ok (Unsolvable Parity)) ↔ (¬ SameClass start setup.goal) → (SameClass start setup.goal → IfOk result (Ends hash)) → IfOk result (EndAnswers (task_of setup start)) → IfOk result IsNeverCut → IfOk result (λ ending. MayAnswer setup start (Some ending))
-  allowed hash spread (Err refused) parity run answers kept = tt
-  allowed hash spread (Ok ending) parity run answers kept = (answers, of_class (one_class start setup.goal))
+  -- a run of one worker that owns each board by this
+  abbrev EndsOwned : (Position → ℕ) → Ending → Type 0
+  EndsOwned owner ending = (w : WorldState) × IsRunAlone (record { task = task_in (problem_of setup start); limit = setup.limit; count = 1; owner = owner }) w × EndsIn w ending
+
+  pub spread_any : {S T : Type 0} (hash_of : S → Position → ℕ) (owners : S) (other_of : T → Position → ℕ) (others : T) (ending : Ending) → Ends hash_of owners ending → Ends other_of others ending
+  spread_any hash_of owners other_of others ending run = subst (λ (owner : Position → ℕ). EndsOwned owner ending) (lone_owner (hash_of owners) (other_of others)) run
+
+  pub allowed : {S : Type 0} (hash_of : S → Position → ℕ) (owners : S) → (result : Result Ending OutOfMemory) → (result ≡ Ok (Unsolvable Parity)) ↔ (¬ SameClass start setup.goal) → (SameClass start setup.goal → IfOk result (Ends hash_of owners)) → IfOk result (EndAnswers (task_of setup start)) → IfOk result IsNeverCut → IfOk result (λ ending. MayAnswer setup start (Some ending))
+  allowed hash_of owners (Err refused) parity run answers kept = tt
+  allowed hash_of owners (Ok ending) parity run answers kept = (answers, of_class (one_class start setup.goal))
     where
       of_class : SameClass start setup.goal ⊎ (¬ SameClass start setup.goal) → (SameClass start setup.goal × (EndsByOne hash_by (problem_of setup start) setup.spread ending × IsNeverCut ending)) ⊎ ((¬ SameClass start setup.goal) × (ending ≡ Unsolvable Parity))
-      of_class (inl same) = inl (same, (subst (λ (h : Position → ℕ). Ends h ending) spread (run same), kept))
+      of_class (inl same) = inl (same, (spread_any hash_of owners hash_by setup.spread ending (run same), kept))
       of_class (inr other) = inr (other, ap (value_or ending) (parity.1 other))
 
 -- what a setup allows is true

@@ -7,7 +7,7 @@ ghost use Rattle.certificate_runs.specs.Headline.{IsTrueAnswer};
 ghost use Rattle.setup_runs.specs.Solving.{rules_of};
 
 use crate::solving::{Guided, job_for};
-use batch_runs::{Setup, SpreadKind};
+use batch_runs::Setup;
 use board::Board;
 use byte_streams::{Sink, Source};
 use certificate_runs::{CertifyFault, Prover, certify_first};
@@ -15,7 +15,7 @@ use hda_run::{Gate, solve_one};
 use memory::OutOfMemory;
 use outcomes::Outcome;
 use outcomes::laws::rows_can_be_left;
-use owners::{ByBlank, Zobrist};
+use owners::ByBlank;
 use std::alloc::Global;
 use std::sync::Wait;
 use std::thread::Threads;
@@ -28,12 +28,8 @@ impl<'a, G: Gate> Prover for Guided<'a, G> {
     fn prove(&self, alloc: Global, start: &Board) -> Result<Outcome, OutOfMemory> {
         // By this law what answers a task does so without rows too.
         rows_can_be_left();
-        let setup = self.setup;
-        let job = job_for(setup, start);
-        match setup.spread_kind() {
-            SpreadKind::Zobrist => solve_one(alloc, job, Zobrist::new(setup.shape()), self.gate),
-            SpreadKind::Blank => solve_one(alloc, job, ByBlank, self.gate),
-        }
+        // One worker owns all boards, whatever they are spread by.
+        solve_one(alloc, job_for(self.setup, start), ByBlank, self.gate)
     }
 }
 

@@ -3,12 +3,12 @@
 ghost use Rattle.std.specs.Prelude.{◌≡◌};
 ghost use Rattle.setup_runs.specs.Solving.{problem_of};
 
-use batch_runs::{Setup, Solver, SpreadKind};
+use batch_runs::{Setup, Solver};
 use board::Board;
 use hda_run::{Gate, Job, end_one};
 use memory::OutOfMemory;
 use outcomes::Ending;
-use owners::{ByBlank, Zobrist};
+use owners::ByBlank;
 use std::alloc::Global;
 
 /// What solves the boards of a setup, by one worker in the calling thread.
@@ -24,12 +24,8 @@ impl<'a, G: Gate> Solver for Guided<'a, G> {
     ghost rules = { λ guided. rules_of guided.setup.now };
 
     fn solve(&self, alloc: Global, start: &Board) -> Result<Ending, OutOfMemory> {
-        let setup = self.setup;
-        let job = job_for(setup, start);
-        match setup.spread_kind() {
-            SpreadKind::Zobrist => end_one(alloc, job, Zobrist::new(setup.shape()), self.gate),
-            SpreadKind::Blank => end_one(alloc, job, ByBlank, self.gate),
-        }
+        // One worker owns all boards, whatever they are spread by.
+        end_one(alloc, job_for(self.setup, start), ByBlank, self.gate)
     }
 }
 
