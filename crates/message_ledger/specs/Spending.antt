@@ -1,4 +1,4 @@
--- What contracts see of an allowance.
+-- What contracts see of an allowance, and of tickets that come back.
 use Rattle.std.specs.Prelude.{ℕ, ◌-◌}
 
 -- how many expansions were granted, and how many of these are left
@@ -9,3 +9,8 @@ pub record Spending : Type 0 where
 -- how many were made
 abbrev pub spent : Spending → ℕ
 spent it = it.granted - it.left
+
+-- how many tickets came back, and how many expansions were granted by them
+pub record Gathering : Type 0 where
+  pub tickets : ℕ
+  pub amount : ℕ

@@ -162,3 +162,50 @@ impl<M: Capped> Tickets<M> {
         }
     }
 }
+
+impl<M: Ledger> Tickets<M> {
+    /// Where each was taken: none came back yet.
+    pub fn gather(self) -> Gathered<M>
+        requires { self ≡ 0 }
+        ensures { result ≡ record { tickets = 0; amount = 0 } }
+    {
+        let Tickets { share } = self;
+        Gathered { share }
+    }
+}
+
+/// The tickets that came back. Contracts see how many, and what was granted by them.
+#[derive(Drop)]
+pub struct Gathered<M: Ledger> {
+    share: Share<M>,
+}
+
+impl<M: Ledger> Model for Gathered<M> {
+    ghost use Rattle.message_ledger.specs.Spending.{Gathering};
+
+    ghost Value = { Gathering };
+
+    ghost view = { λ g. record { tickets = g.share.parts; amount = g.share.amount } };
+}
+
+impl<M: Capped> Gathered<M> {
+    /// Takes in the ticket of an allowance.
+    pub fn add<L: Ledger>(&mut self, allowance: Allowance<Shares<L, M>>)
+        ensures tickets { self.new.tickets ≡ self.old.tickets + 1 }
+        ensures amount { self.new.amount ≡ self.old.amount + allowance.granted }
+    {
+        let Allowance { ticket, .. } = allowance;
+        shares::merge_ticket(&mut self.share, ticket);
+    }
+
+    /// Changes nothing, and tells that by these tickets no more was granted than to all workers,
+    /// and just as much where all tickets came back.
+    pub fn audit<L: Ledger>(&mut self, grants: &mut Grants<Shares<L, M>>)
+        ensures tickets { self.new ≡ self.old }
+        ensures grants { grants.new ≡ grants.old }
+        ensures bound { self.old.amount ≤ grants.old }
+        ensures whole { self.old.tickets ≡ M.parts → self.old.amount ≡ grants.old }
+    {
+        shares::audit_total(&mut grants.total, &mut self.share);
+    }
+}

@@ -11,7 +11,7 @@ mod packet;
 mod plain;
 mod shares;
 
-pub use allowance::{Allowance, Grants, Tickets};
+pub use allowance::{Allowance, Gathered, Grants, Tickets};
 pub use counting::{Counting, Tokens};
 pub use credit::{Credit, Purse};
 pub use packet::Packet;

@@ -1,6 +1,6 @@
 //! Counting by parts of ledgers, for threads.
 
-ghost use Rattle.std.specs.Prelude.{ℕ, ◌≡◌, ◌+◌, ◌^◌, ◌<◌};
+ghost use Rattle.std.specs.Prelude.{ℕ, ◌≡◌, ◌+◌, ◌^◌, ◌<◌, ◌≤◌};
 
 use crate::counting::{Counting, Tokens};
 use std::marker::{Brand, Model, PhantomData};
@@ -250,4 +250,24 @@ pub(crate) fn split_ticket<M: Ledger>(share: &mut Share<M>) -> LedgerTicket<M>
     LedgerTicket {
         share: share.split_off(1, 0),
     }
+}
+
+// Puts a ticket to the parts of a share.
+pub(crate) fn merge_ticket<M: Ledger>(share: &mut Share<M>, ticket: LedgerTicket<M>)
+    ensures parts { share.new.parts ≡ share.old.parts + 1 }
+    ensures amount { share.new.amount ≡ share.old.amount + ticket }
+{
+    let LedgerTicket { share: other } = ticket;
+    share.merge(other);
+}
+
+// Changes nothing, and tells how the amount of a share stands to the total.
+pub(crate) fn audit_total<M: Ledger>(total: &mut LedgerTotal<M>, share: &mut Share<M>)
+    ensures total { total.new ≡ total.old }
+    ensures parts { share.new.parts ≡ share.old.parts }
+    ensures amount { share.new.amount ≡ share.old.amount }
+    ensures bound { share.old.amount ≤ total.old }
+    ensures whole { share.old.parts ≡ M.parts → share.old.amount ≡ total.old }
+{
+    total.book.audit(share);
 }
