@@ -11,7 +11,7 @@ ghost use Rattle.quiescence.specs.Answers.{account, rested};
 
 use arrayvec::ArrayVec;
 use incumbent::Best;
-use message_ledger::{Allowance, Counting, Credit, Grants, Purse};
+use message_ledger::{Allowance, Counting, Credit, Grants, Packet, Purse};
 use std::marker::Model;
 use world_model::{BookFault, CREDIT_DRAWN, GREATEST_GRANT, HaltCause, Stop, WORKER_LIMIT};
 
@@ -241,6 +241,34 @@ impl<C: Counting> Book<C> {
             HaltCause::Start => self.stop = Some(Stop::Start),
         }
         Ok(())
+    }
+
+    /// Changes nothing, and tells that a purse of the credit is within it.
+    pub fn audit(&mut self, purse: &mut Purse<C>)
+        requires counted { C.counts self.old.credit purse.old }
+        ensures bound { purse.old ≤ self.old.credit }
+        ensures purse { purse.new ≡ purse.old }
+        ensures book { self.new ≡ self.old }
+    {
+        self.credit.audit(purse);
+    }
+
+    /// Changes nothing, and tells that a packet whose share is of the credit is within it.
+    pub fn audit_packet(&mut self, packet: &mut Packet<C>)
+        requires counted { C.counts self.old.credit 1 }
+        ensures bound { 1 ≤ self.old.credit }
+        ensures packet { packet.new ≡ packet.old }
+        ensures book { self.new ≡ self.old }
+    {
+        self.credit.audit_packet(packet);
+    }
+
+    /// What was granted to all workers.
+    pub fn into_grants(self) -> Grants<C>
+        ensures { result ≡ self.granted }
+    {
+        let Book { grants, .. } = self;
+        grants
     }
 }
 
