@@ -1,10 +1,10 @@
 //! The two steps on a lane.
 
-ghost use Rattle.std.specs.Prelude.{◌≡◌, ◌<◌, length};
+ghost use Rattle.std.specs.Prelude.{◌≡◌, ◌<◌, length, OnOk, OnErr};
 ghost use Rattle.world_model.specs.Turns.{turn, refusal_in};
 ghost use Rattle.world_model.specs.Workers.{Lane};
 ghost use Rattle.world_model.specs.WorkerSteps.{SendStep, DeliverStep};
-ghost use Rattle.worker_core.specs.Lanes.{IsAtSender, IsAtReceiver};
+ghost use Rattle.worker_core.specs.Lanes.{IsAtSender, IsAtReceiver, HasSent, HasReceived};
 ghost use Rattle.worker_core.specs.Workers.{state_of, at_lane};
 
 use crate::lanes::{LaneIn, LaneOut};
@@ -23,6 +23,10 @@ impl<C: Counting> Worker<C> {
             (L.is_same lane.old lane.new) before after
             → SendStep to (turn (at_lane (state_of self.old) before) (refusal_in result)
             (at_lane (state_of self.new) after)) }
+        ensures sent { OnOk result (HasSent (λ packet. L.takes lane.old packet lane.new) to
+            (state_of self.old) (state_of self.new)) }
+        ensures refused { OnErr result ((L.is_same lane.old lane.new)
+            × (state_of self.new ≡ state_of self.old)) }
         ensures lists { self.new.lists ≡ self.old.lists }
     {
         if self.unsent[to].is_empty() {
@@ -49,6 +53,10 @@ impl<C: Counting> Worker<C> {
             (L.is_same lane.old lane.new) before after
             → DeliverStep (turn (at_lane (state_of self.old) before) (refusal_in result)
             (at_lane (state_of self.new) after)) }
+        ensures given { OnOk result (HasReceived (λ packet. L.gives lane.old packet lane.new)
+            (state_of self.old) (state_of self.new)) }
+        ensures refused { OnErr result ((L.is_same lane.old lane.new)
+            × (state_of self.new ≡ state_of self.old)) }
         ensures lists { self.new.lists ≡ self.old.lists }
         ensures unsent { self.new.unsent ≡ self.old.unsent }
     {

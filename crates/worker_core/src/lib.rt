@@ -3,7 +3,9 @@
 #![tactic(auto)]
 
 mod book_steps;
+mod closing;
 mod expanding;
+mod holding;
 mod lane_steps;
 mod lanes;
 pub mod laws;
