@@ -1,0 +1,3 @@
+pub mod EndLemmas
+pub mod RowLemmas
+pub mod GridLemmas

@@ -1,0 +1,44 @@
+use Rattle.std.proofs.Common.{rules, arith, ◌≡◌, ◌++◌, ◌∷◌, [], ap, ◌∙◌, length}
+use Rattle.std.proofs.lemmas.List.{map-append, length-map}
+use Rattle.rings.specs.Rings.{SendingEnd, ReceivingEnd, out_rings, sent_lanes, received_lanes, rings_of_outs, rings_of_ins, sent_rows, received_rows}
+use Rattle.rings.proofs.RowLemmas.{nil_row, all_nil_rows, as_wide}
+use Rattle.rings.proofs.GridLemmas.{length_end, grid_more}
+use Rattle.rings.proofs.rows.open_rings.Goals as goal
+
+pub rows-preserved : goal.rows-preserved
+rows-preserved g c =
+    let inv = c.rows.invariant in
+    let outs = c.rows.outs.items in
+    let row = c.in_ok-row.row in
+    let ends = c.in_ok-row.ensures in
+    let n = c.args.n in
+    let len : length outs ≡ c.rows.from = search rules in
+    let wide : length row.items ≡ n = search rules in
+    let e : c.push.new.items.items ≡ outs ++ row ∷ [] = search rules in
+    let more = ap length e ∙ length_end outs row in (
+      omega (arith, more, len, c.push.new.items.ok.0),
+      search rules,
+      rw (e, map-append (λ row. out_rings row.items) outs (row ∷ [])) (grid_more n c.rows.from (rings_of_outs outs) (rings_of_ins c.rows.ins.items) (rings_of_ins c.open_row.new.ins.items) (out_rings row.items) inv.2
+          (length-map outs (λ row. out_rings row.items) ∙ len) (length-map row.items (λ out. out.ring) ∙ wide) (λ j d low. ends.rings j d (omega (arith, low, inv.1)))),
+      rw (e, map-append (λ row. sent_lanes row.items) outs (row ∷ [])) (nil_row (sent_rows outs) (sent_lanes row.items) inv.3 ends.sent),
+      ends.received inv.4,
+    )
+
+pub returns-clause-sent : goal.returns-clause-sent
+returns-clause-sent g c =
+    let inv = c.rows.invariant in
+    let outs = c.rows.outs.items in
+    let n = c.args.n in
+    let len : length outs ≡ n = omega (arith, inv.0, c.rows.outs.ok.0) in
+    all_nil_rows (sent_rows outs) n n (length-map outs (λ row. sent_lanes row.items) ∙ len)
+    (λ i low. as_wide (λ row. row.items) (λ (out : SendingEnd). out.sent) (λ (out : SendingEnd). out.ring) outs i ∙ inv.2.rows_out i (omega (arith, low))) inv.3
+
+pub returns-clause-received : goal.returns-clause-received
+returns-clause-received g c =
+    let inv = c.rows.invariant in
+    let ins = c.rows.ins.items in
+    let n = c.args.n in
+    let all : c.rows.from ≡ n = omega arith in
+    let len : length ins ≡ n = omega (arith, inv.1, c.rows.ins.ok.0) in
+    all_nil_rows (received_rows ins) n n (length-map ins (λ row. received_lanes row.items) ∙ len)
+    (λ j low. as_wide (λ row. row.items) (λ (into : ReceivingEnd). into.received) (λ (into : ReceivingEnd). into.ring) ins j ∙ (inv.2.rows_in j low ∙ all)) inv.4

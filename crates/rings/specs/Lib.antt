@@ -1,0 +1,2 @@
+-- The rings of a run.
+pub mod Rings

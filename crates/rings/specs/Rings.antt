@@ -1,0 +1,91 @@
+-- The two ends of a ring, and those of all rings of a run.
+use Rattle.std.specs.Prelude.{◌≡◌, ℕ, ◌<◌, List, [], ◌∷◌, ◌++◌, Vec, map, length, slice_get, slice_index_or}
+use denote.RawPtr.{Ptr}
+use Rattle.std.specs.declared.alloc.Global.{Global}
+use Rattle.rtrb.specs.Shared.{Names}
+use Rattle.rtrb.specs.Ring.{sent, received, known_items}
+use Rattle.rtrb.specs.declared.producer.Producer.{Producer}
+use Rattle.rtrb.specs.declared.consumer.Consumer.{Consumer}
+use Rattle.world_model.specs.Workers.{Packet, Lane}
+
+-- what tells one ring from another: its memory
+abbrev pub Ring : Type 0
+Ring = Ptr × Ptr × Names × Global
+
+-- the end at which packets go in: of which ring it is, and the packets that were sent by it, the first first
+pub record SendingEnd : Type 0 where
+  pub ring : Ring
+  pub sent : Lane
+
+-- the end at which packets come out: of which ring it is, the packets that were received by it, the first first, and those after them
+-- that it has seen in the ring and not taken
+pub record ReceivingEnd : Type 0 where
+  pub ring : Ring
+  pub received : Lane
+  pub left : Lane
+
+module _ {P : Type 0} where
+  abbrev pub sending_end : Producer Packet Global P → SendingEnd
+  sending_end p = record { ring = (p.end.words, p.end.slots, p.end.names, p.end.heap); sent = sent p }
+
+  abbrev pub receiving_end : Consumer Packet Global P → ReceivingEnd
+  receiving_end c = record { ring = (c.end.words, c.end.slots, c.end.names, c.end.heap); received = received c; left = known_items c }
+
+-- one packet more was sent
+abbrev pub TakesIn : SendingEnd → Packet → SendingEnd → Type 0
+TakesIn before packet after = after ≡ record before { sent = before.sent ++ packet ∷ [] }
+
+-- one packet more was received; more may have been seen in the ring
+abbrev pub GivesOut : ReceivingEnd → Packet → ReceivingEnd → Type 0
+GivesOut before packet after = (after.ring ≡ before.ring) × (after.received ≡ before.received ++ packet ∷ [])
+
+-- nothing was received; more may have been seen in the ring
+abbrev pub Looks : ReceivingEnd → ReceivingEnd → Type 0
+Looks before after = (after.ring ≡ before.ring) × (after.received ≡ before.received)
+
+-- the rings of these ends
+abbrev pub out_rings : List SendingEnd → List Ring
+out_rings outs = map (λ out. out.ring) outs
+
+abbrev pub in_rings : List ReceivingEnd → List Ring
+in_rings ins = map (λ into. into.ring) ins
+
+-- what was sent by each
+abbrev pub sent_lanes : List SendingEnd → List Lane
+sent_lanes outs = map (λ out. out.sent) outs
+
+-- what was received by each
+abbrev pub received_lanes : List ReceivingEnd → List Lane
+received_lanes ins = map (λ into. into.received) ins
+
+-- what each has seen and not taken
+abbrev pub left_lanes : List ReceivingEnd → List Lane
+left_lanes ins = map (λ into. into.left) ins
+
+-- the same of the ends that each worker has
+abbrev pub rings_of_outs : List (Vec SendingEnd Global) → List (List Ring)
+rings_of_outs outs = map (λ row. out_rings row.items) outs
+
+abbrev pub rings_of_ins : List (Vec ReceivingEnd Global) → List (List Ring)
+rings_of_ins ins = map (λ row. in_rings row.items) ins
+
+abbrev pub sent_rows : List (Vec SendingEnd Global) → List (List Lane)
+sent_rows outs = map (λ row. sent_lanes row.items) outs
+
+abbrev pub received_rows : List (Vec ReceivingEnd Global) → List (List Lane)
+received_rows ins = map (λ row. received_lanes row.items) ins
+
+abbrev pub left_rows : List (Vec ReceivingEnd Global) → List (List Lane)
+left_rows ins = map (λ row. left_lanes row.items) ins
+
+-- the lane at this row and this place in it
+abbrev pub lane_at : List (List Lane) → ℕ → ℕ → Lane
+lane_at rows i j = slice_index_or (slice_index_or rows i []) j []
+
+-- n workers have the two ends of n rings from each to each: the j-th way out of worker i is the i-th way in of worker j
+pub record ArePaired (n : ℕ) (outs ins : List (List Ring)) : Type 0 where
+  pub outs_len : length outs ≡ n
+  pub ins_len : length ins ≡ n
+  pub rows_out : (i : ℕ) → i < n → length (slice_index_or outs i []) ≡ n
+  pub rows_in : (j : ℕ) → j < n → length (slice_index_or ins j []) ≡ n
+  pub pairs : (i j : ℕ) → i < n → j < n → slice_get (slice_index_or outs i []) j ≡ slice_get (slice_index_or ins j []) i

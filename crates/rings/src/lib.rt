@@ -1,0 +1,11 @@
+//! The rings by which threads send one another packets: their two ends as lanes, the rings of a run,
+//! and what is known of a ring once both ends are in one thread.
+#![tactic(auto)]
+
+mod ends;
+mod rows;
+mod ties;
+
+pub use ends::{Receiver, Sender};
+pub use rows::{Rings, open_rings, take_row};
+pub use ties::tie;
