@@ -1,16 +1,15 @@
 //! The two ends of a ring, by which packets go from one thread to another.
 
 ghost use Rattle.std.specs.Prelude.{◌≡◌, ◌<◌, ◌≤◌, ◌∷◌, ◌++◌, [], ⊤, length};
-ghost use Rattle.std.specs.Prelude.{IfOk, IfErr, IfSome, IfNone, OnOk, OnErr};
+ghost use Rattle.std.specs.Prelude.{IfErr, IfSome, IfNone, OnOk, OnErr};
 ghost use Rattle.world_model.specs.declared.limits.TheConstants.{LANE_LIMIT};
-ghost use Rattle.rings.specs.Rings.{Ring, TakesIn, GivesOut, Looks};
+ghost use Rattle.rings.specs.Rings.{TakesIn, GivesOut, Looks};
 
 use message_ledger::{Counting, Packet};
 use rtrb::{Consumer, Producer, PushError, RingBuffer};
 use std::alloc::Global;
 use std::marker::Model;
 use worker_core::{LaneIn, LaneOut};
-use world_model::LANE_LIMIT;
 
 /// The end of a ring at which packets go in. Contracts see which ring it is of, and what was sent
 /// by it.

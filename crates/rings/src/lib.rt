@@ -1,5 +1,5 @@
-//! The rings by which threads send one another packets: their two ends as lanes, the rings of a run,
-//! and what is known of a ring once both ends are in one thread.
+//! The rings by which threads send one another packets: their two ends as lanes, all rings of a run,
+//! and what is known of a ring once both of its ends are in one thread.
 #![tactic(auto)]
 
 mod ends;

@@ -12,7 +12,7 @@ use message_ledger::Counting;
 use std::alloc::Global;
 use world_model::LANE_LIMIT;
 
-/// Both ends of all rings of a run: `outs[i][j]` and `ins[j][i]` are those of the ring from worker i
+/// The ends of all rings of a run: `outs[i][j]` and `ins[j][i]` are those of the ring from worker i
 /// to worker j.
 #[derive(Drop)]
 pub struct Rings<C: Counting> {
