@@ -19,14 +19,14 @@ use Rattle.thread_model.specs.Parts.{AreFor, HasCome, HasOrigin, HasUnsent, IsAm
 
 -- lanes with a packet more at the end of one
 module _ (lanes : List Lane) (at : ℕ) (inside : at < length lanes) (packet : Packet) where
-  before : (lane : Lane) × (slice_get lanes at ≡ Some lane)
+  pub before : (lane : Lane) × (slice_get lanes at ≡ Some lane)
   before = get_below lanes at inside
 
-  longer : slice_get (with_packet lanes at packet) at ≡ Some (before.0 ++ packet ∷ [])
+  pub longer : slice_get (with_packet lanes at packet) at ≡ Some (before.0 ++ packet ∷ [])
   longer = get_set_same lanes at (unwrap_or (slice_get lanes at) [] ++ packet ∷ []) before.0 before.1 ∙ ap (λ (o : Option Lane). Some (unwrap_or o [] ++ packet ∷ [])) before.1
 
   -- a lane is the longer one, or was there before
-  lane_cases : (i : ℕ) (lane : Lane) → slice_get (with_packet lanes at packet) i ≡ Some lane → ((i ≡ at) × (lane ≡ before.0 ++ packet ∷ [])) ⊎ (slice_get lanes i ≡ Some lane)
+  pub lane_cases : (i : ℕ) (lane : Lane) → slice_get (with_packet lanes at packet) i ≡ Some lane → ((i ≡ at) × (lane ≡ before.0 ++ packet ∷ [])) ⊎ (slice_get lanes i ≡ Some lane)
   lane_cases i lane there =
       ⊎_elim
       (λ (e : i ≡ at). let same : Some lane ≡ Some (before.0 ++ packet ∷ []) = sym there ∙ ap (slice_get (with_packet lanes at packet)) e ∙ longer in inl (e, cc))

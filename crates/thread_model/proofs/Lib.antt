@@ -4,6 +4,9 @@ pub mod SettleKept
 pub mod LaneKept
 pub mod BookStepsKept
 pub mod OpeningKept
+pub mod OpeningParts
 pub mod JoinedShape
 pub mod JoinedSound
 pub mod JoinedQuiet
+pub mod StepParts
+pub mod RunParts

@@ -1,12 +1,15 @@
 -- The parts of a run, joined.
 use Rattle.std.specs.Prelude.{◌≡◌, ℕ, ◌+◌, ◌≤◌, List, ◌++◌, length, map, Option, Some, slice_get}
+use Rattle.board.specs.declared.moves.Move.{Move}
 use Rattle.board.specs.Positions.{Position}
 use Rattle.outcomes.specs.Outcomes.{Task}
 use Rattle.world_model.specs.declared.limits.TheConstants.{LANE_LIMIT}
 use Rattle.world_model.specs.Books.{BookState}
 use Rattle.world_model.specs.Workers.{WorkerState, Lane, Role}
 use Rattle.world_model.specs.Worlds.{WorldState}
+use Rattle.world_model.specs.Openings.{Job, opening}
 use Rattle.thread_model.specs.Parts.{PartState, IsRole, Keeps}
+use Rattle.thread_model.specs.Changes.{opening_part}
 
 -- the workers of parts
 abbrev pub workers_of : List PartState → List WorkerState
@@ -45,3 +48,15 @@ pub record AreParts (shared : Shared) (parts : List PartState) (lanes : List (Li
 -- the world that parts make, with a book and with lanes
 abbrev pub world_with : Shared → List PartState → BookState → List (List Lane) → WorldState
 world_with shared parts book lanes = record { task = shared.task; owner = shared.owner; workers = workers_of parts; book = book; lanes = lanes }
+
+-- the task of a world, and its owners
+abbrev pub shared_by : WorldState → Shared
+shared_by w = record { task = w.task; owner = w.owner }
+
+-- the world is that of these parts, joined
+abbrev pub IsOfParts : WorldState → List PartState → Type 0
+IsOfParts w parts = (w.workers ≡ workers_of parts) × AreParts (shared_by w) parts w.lanes
+
+-- the parts with which the run of a job begins
+abbrev pub opening_parts : Job → Move → List PartState
+opening_parts job via = map (opening_part job.count) (opening job via).workers

@@ -3,6 +3,7 @@ use Rattle.std.specs.Prelude.{◌≡◌, ◌≢◌, ◌⊎◌, ℕ, ◌+◌, ◌
 use Rattle.board.specs.declared.moves.Move.{Move}
 use Rattle.board.specs.Positions.{Position}
 use Rattle.world_model.specs.declared.steps.Refusal.{Refusal}
+use Rattle.world_model.specs.declared.steps.Step.{Step}
 use Rattle.world_model.specs.Turns.{Turn, turn}
 use Rattle.world_model.specs.Costs.{limit_of}
 use Rattle.world_model.specs.Books.{BookState}
@@ -10,7 +11,8 @@ use Rattle.world_model.specs.BookSteps.{AtBook}
 use Rattle.world_model.specs.Workers.{WorkerState, Lane, Role}
 use Rattle.world_model.specs.WorkerSteps.{ExpandStep, SettleStep}
 use Rattle.world_model.specs.Worlds.{WorldState}
-use Rattle.world_model.specs.Openings.{idle_worker, first_worker}
+use Rattle.world_model.specs.Steps.{IsRun}
+use Rattle.world_model.specs.Openings.{Job, IsJob, idle_worker, first_worker, opening}
 use Rattle.world_model.specs.Shapes.{IsShaped}
 use Rattle.world_model.specs.Soundness.{IsSound}
 use Rattle.world_model.specs.Credit.{packet_count}
@@ -18,7 +20,7 @@ use Rattle.world_model.specs.Frontiers.{IsInFrontier, IsReached}
 use Rattle.world_model.specs.Quiet.{IsQuiet}
 use Rattle.thread_model.specs.Parts.{PartState, IsRole, Keeps}
 use Rattle.thread_model.specs.Changes.{with_worker, DropStep, HoldsOwnLast, Sends, Receives, IsBookStep, opening_part}
-use Rattle.thread_model.specs.Joined.{Shared, AreParts, world_with}
+use Rattle.thread_model.specs.Joined.{Shared, role_in, AreParts, world_with, IsOfParts, opening_parts}
 
 -- a part whose worker expands a board keeps what it keeps
 abbrev pub ExpandingIsKept : Type 0
@@ -95,3 +97,23 @@ JoinedPartsAreQuiet =
     → ((b : Position) (cost : ℕ) → IsInFrontier (world_with shared parts book lanes) b cost → limit_of book.best ≤ cost + shared.task.sum b)
     → IsReached (world_with shared parts book lanes) book.best
     → IsQuiet (world_with shared parts book lanes)
+
+-- where parts are joined, no item that a worker holds is foreign: what comes is dropped nowhere
+abbrev pub NothingHeldIsForeign : Type 0
+NothingHeldIsForeign =
+    (shared : Shared) (parts : List PartState) (lanes : List (List Lane)) (i : ℕ) (part : PartState)
+    → AreParts shared parts lanes
+    → slice_get parts i ≡ Some part
+    → HoldsOwnLast (role_in shared i) part.worker
+
+-- the world in which a job's run begins is that of its opening parts
+abbrev pub OpeningsAreOfParts : Type 0
+OpeningsAreOfParts = (job : Job) (via : Move) → IsJob job → IsOfParts (opening job via) (opening_parts job via)
+
+-- And each world that a run reaches is that of some parts: what parts keep, and what ties them, is nothing that a run could break.
+abbrev pub RunsAreOfParts : Type 0
+RunsAreOfParts =
+    (job : Job) (via : Move) (made : List (Step × Option Refusal)) (w : WorldState)
+    → IsJob job
+    → IsRun (opening job via) made w
+    → (parts : List PartState) × IsOfParts w parts

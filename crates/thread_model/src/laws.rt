@@ -4,6 +4,8 @@ ghost use Rattle.thread_model.specs.Laws.{ExpandingIsKept, SettlingIsKept, Dropp
 ghost use Rattle.thread_model.specs.Laws.{SendingIsKept, ReceivingIsKept, BookStepsAreKept};
 ghost use Rattle.thread_model.specs.Laws.{OpeningsAreKept};
 ghost use Rattle.thread_model.specs.Laws.{JoinedPartsAreSound, JoinedPartsAreQuiet};
+ghost use Rattle.thread_model.specs.Laws.{NothingHeldIsForeign};
+ghost use Rattle.thread_model.specs.Laws.{OpeningsAreOfParts, RunsAreOfParts};
 
 /// A part keeps what it keeps when its worker takes a step.
 pub fn steps_are_kept()
@@ -28,4 +30,15 @@ pub fn joined_parts_are_sound()
 /// Joined parts are a quiet world where nothing is left to do.
 pub fn joined_parts_are_quiet()
     ensures { JoinedPartsAreQuiet }
+{}
+
+/// Joined parts hold nothing that is foreign.
+pub fn nothing_held_is_foreign()
+    ensures { NothingHeldIsForeign }
+{}
+
+/// Each world of a run is that of parts which are joined.
+pub fn runs_are_of_parts()
+    ensures opening { OpeningsAreOfParts }
+    ensures run { RunsAreOfParts }
 {}
