@@ -6,7 +6,8 @@ use Rattle.world_model.specs.declared.limits.TheConstants.{PACKET_LIMIT}
 use Rattle.world_model.specs.declared.parts.Item.{Item}
 use Rattle.world_model.specs.declared.steps.HaltCause.{HaltCause}
 use Rattle.world_model.specs.declared.steps.Refusal.{Refusal}
-use Rattle.world_model.specs.Turns.{Turn}
+use Rattle.world_model.specs.Turns.{Turn, turn}
+use Rattle.world_model.specs.Books.{BookState}
 use Rattle.world_model.specs.Workers.{WorkerState, Packet, Lane, Role, packet_for}
 use Rattle.world_model.specs.WorkerSteps.{ExpandStep, SettleStep}
 use Rattle.world_model.specs.BookSteps.{AtBook, DrawStep, AnnounceStep, GrantStep, RestStep, HaltStep}
@@ -47,6 +48,24 @@ Receives from part part' =
 -- a step on the book
 abbrev pub IsBookStep : Role → Turn AtBook Refusal → Type 0
 IsBookStep role it = DrawStep it ⊎ AnnounceStep role it ⊎ GrantStep role it ⊎ RestStep role it ⊎ ((cause : HaltCause) × HaltStep cause it)
+
+-- the worker takes a step by itself
+abbrev pub StepsAlone : Role → PartState → PartState → Type 0
+StepsAlone role part part' =
+    (answer : Option Refusal) × (worker : WorkerState)
+    × (ExpandStep role (turn part.worker answer worker) ⊎ SettleStep (turn part.worker answer worker))
+    × (part' ≡ with_worker part worker)
+
+-- the worker takes a step on the book
+abbrev pub StepsAtBook : Role → PartState → PartState → Type 0
+StepsAtBook role part part' =
+    (answer : Option Refusal) × (worker : WorkerState) × (book book' : BookState)
+    × IsBookStep role (turn (record { worker = part.worker; book = book }) answer (record { worker = worker; book = book' }))
+    × (part' ≡ with_worker part worker)
+
+-- one of these steps, or a packet is sent, or one comes
+abbrev pub IsPartStep : Role → PartState → PartState → Type 0
+IsPartStep role part part' = StepsAlone role part part' ⊎ StepsAtBook role part part' ⊎ ((to : ℕ) × Sends to part part') ⊎ ((from : ℕ) × Receives from part part')
 
 -- the part of one of n workers, with which a run begins, where this is its worker: nothing was sent, and nothing came
 abbrev pub opening_part : ℕ → WorkerState → PartState

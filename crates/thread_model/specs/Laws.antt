@@ -1,5 +1,5 @@
 -- The laws of parts.
-use Rattle.std.specs.Prelude.{◌≡◌, ◌≢◌, ◌⊎◌, ℕ, ◌+◌, ◌≤◌, ◌<◌, List, length, Contains, All, Option, Some, slice_get}
+use Rattle.std.specs.Prelude.{◌≡◌, ◌≢◌, ◌⊎◌, ℕ, ◌+◌, ◌≤◌, ◌<◌, List, length, Contains, All, Option, Some, slice_get, slice_set}
 use Rattle.board.specs.declared.moves.Move.{Move}
 use Rattle.board.specs.Positions.{Position}
 use Rattle.world_model.specs.declared.steps.Refusal.{Refusal}
@@ -10,16 +10,16 @@ use Rattle.world_model.specs.Books.{BookState}
 use Rattle.world_model.specs.BookSteps.{AtBook}
 use Rattle.world_model.specs.Workers.{WorkerState, Lane, Role}
 use Rattle.world_model.specs.WorkerSteps.{ExpandStep, SettleStep}
-use Rattle.world_model.specs.Worlds.{WorldState}
-use Rattle.world_model.specs.Steps.{IsRun}
+use Rattle.world_model.specs.Worlds.{WorldState, role_of}
+use Rattle.world_model.specs.Steps.{Next, IsRun}
 use Rattle.world_model.specs.Openings.{Job, IsJob, idle_worker, first_worker, opening}
 use Rattle.world_model.specs.Shapes.{IsShaped}
 use Rattle.world_model.specs.Soundness.{IsSound}
-use Rattle.world_model.specs.Credit.{packet_count}
+use Rattle.world_model.specs.Credit.{IsCredited, packet_count}
 use Rattle.world_model.specs.Frontiers.{IsInFrontier, IsReached}
 use Rattle.world_model.specs.Quiet.{IsQuiet}
 use Rattle.thread_model.specs.Parts.{PartState, IsRole, Keeps}
-use Rattle.thread_model.specs.Changes.{with_worker, DropStep, HoldsOwnLast, Sends, Receives, IsBookStep, opening_part}
+use Rattle.thread_model.specs.Changes.{with_worker, DropStep, HoldsOwnLast, Sends, Receives, IsBookStep, IsPartStep, opening_part}
 use Rattle.thread_model.specs.Joined.{Shared, role_in, AreParts, world_with, IsOfParts, opening_parts}
 
 -- a part whose worker expands a board keeps what it keeps
@@ -110,7 +110,18 @@ NothingHeldIsForeign =
 abbrev pub OpeningsAreOfParts : Type 0
 OpeningsAreOfParts = (job : Job) (via : Move) → IsJob job → IsOfParts (opening job via) (opening_parts job via)
 
--- And each world that a run reaches is that of some parts: what parts keep, and what ties them, is nothing that a run could break.
+-- What a step of a world changes is one part, which takes a step of its own, and the parts stay joined.
+abbrev pub StepsAreOfParts : Type 0
+StepsAreOfParts =
+    (step : Step) (it : Turn WorldState Refusal) (parts : List PartState)
+    → Next step it
+    → IsShaped it.before
+    → IsCredited it.before
+    → IsOfParts it.before parts
+    → (it.after ≡ it.before)
+      ⊎ ((i : ℕ) × (part part' : PartState) × (slice_get parts i ≡ Some part) × IsPartStep (role_of it.before i) part part' × IsOfParts it.after (slice_set parts i part'))
+
+-- So each world that a run reaches is that of some parts: what parts keep, and what ties them, is nothing that a run could break.
 abbrev pub RunsAreOfParts : Type 0
 RunsAreOfParts =
     (job : Job) (via : Move) (made : List (Step × Option Refusal)) (w : WorldState)

@@ -5,7 +5,7 @@ ghost use Rattle.thread_model.specs.Laws.{SendingIsKept, ReceivingIsKept, BookSt
 ghost use Rattle.thread_model.specs.Laws.{OpeningsAreKept};
 ghost use Rattle.thread_model.specs.Laws.{JoinedPartsAreSound, JoinedPartsAreQuiet};
 ghost use Rattle.thread_model.specs.Laws.{NothingHeldIsForeign};
-ghost use Rattle.thread_model.specs.Laws.{OpeningsAreOfParts, RunsAreOfParts};
+ghost use Rattle.thread_model.specs.Laws.{OpeningsAreOfParts, StepsAreOfParts, RunsAreOfParts};
 
 /// A part keeps what it keeps when its worker takes a step.
 pub fn steps_are_kept()
@@ -40,5 +40,6 @@ pub fn nothing_held_is_foreign()
 /// Each world of a run is that of parts which are joined.
 pub fn runs_are_of_parts()
     ensures opening { OpeningsAreOfParts }
+    ensures step { StepsAreOfParts }
     ensures run { RunsAreOfParts }
 {}
