@@ -94,4 +94,4 @@ module _ (job : Job) (via : Move) (is : IsJob job) where
   }
 
 pub openings_of_parts : OpeningsAreOfParts
-openings_of_parts job via is = (workers_back job.count (opening job via).workers, opening_are job via is)
+openings_of_parts job via is = (opening_are job via is, ap (λ (xs : List WorkerState). record (opening job via) { workers = xs }) (workers_back job.count (opening job via).workers))

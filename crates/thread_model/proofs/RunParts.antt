@@ -125,7 +125,7 @@ module _ (w : WorldState) (parts : List PartState) (of : IsOfParts w parts) wher
   StaysJoined w' i = (part part' : PartState) × (slice_get parts i ≡ Some part) × IsPartStep (role_of w i) part part' × IsOfParts w' (slice_set parts i part')
 
   part_at : (i : ℕ) (worker : WorkerState) → IsWorker w i worker → (part : PartState) × (slice_get parts i ≡ Some part) × (part.worker ≡ worker)
-  part_at i worker at = part_of (shared_by w) parts w.lanes of.1 i worker (ap (λ (xs : List WorkerState). slice_get xs i) (sym of.0) ∙ at)
+  part_at i worker at = part_of (shared_by w) parts w.lanes of.0 i worker (ap (λ (x : WorldState). slice_get x.workers i) (sym of.1) ∙ at)
 
   -- worker i takes a step by itself
   own_step : (i : ℕ) (Change : WorkerState → WorkerState → Type 0) (w' : WorldState)
@@ -157,7 +157,7 @@ module _ (w : WorldState) (parts : List PartState) (of : IsOfParts w parts) wher
       let same = same_worker (role_of w i) (turn (record { worker = part.worker; book = w.book }) answer at) taken in
       let is_shaped = subst IsShaped is shaped in
       let rests = idle_alone (changed w i at.worker at.book w.lanes) is_shaped (subst IsCredited is credited) i at.worker (worker_there w i worker here at.worker at.book w.lanes) in
-      let keeps = same_kept n (role_of w i) part at.worker (of.1.roles i part p.1) (of.1.keep i part p.1) same rests in
+      let keeps = same_kept n (role_of w i) part at.worker (of.0.roles i part p.1) (of.0.keep i part p.1) same rests in
       let joined = changed_of_parts w parts of i part p.1 new at.book w.lanes is_shaped keeps (tied_without_lane w parts of i part p.1 new refl refl) in
       inr (part, new, p.1, inr (inl (answer, at.worker, w.book, at.book, taken, refl)), subst (λ (x : WorldState). IsOfParts x (slice_set parts i new)) (sym is) joined)
 
@@ -171,9 +171,9 @@ module _ (w : WorldState) (parts : List PartState) (of : IsOfParts w parts) wher
       let packet = packet_for part.worker j in
       let new = sender_after w parts of i part p.1 j step.lane step.at_lane packet worker in
       let is : w' ≡ changed w i worker w.book (with_lane w.lanes i j (step.lane ++ packet ∷ [])) = step.is ∙ ap (λ (x : AtLane). changed w i x.worker w.book (with_lane w.lanes i j x.lane)) sends.is in
-      let below = ends_of (shared_by w) parts w.lanes of.1 i j step.lane (step.at_lane.from_lanes, step.at_lane.of_sender, step.at_lane.of_receiver) in
+      let below = ends_of (shared_by w) parts w.lanes of.0 i j step.lane (step.at_lane.from_lanes, step.at_lane.of_sender, step.at_lane.of_receiver) in
       let taken : Sends j part new = (sends.some, at_least_two part.worker.purse sends.rich, refl) in
-      let keeps = sending_kept n j (role_of w i) part new (of.1.roles i part p.1) below.1 (of.1.keep i part p.1) taken in
+      let keeps = sending_kept n j (role_of w i) part new (of.0.roles i part p.1) below.1 (of.0.keep i part p.1) taken in
       let joined = changed_of_parts w parts of i part p.1 new w.book _ (subst IsShaped is shaped) keeps (tied_sent w parts of i part p.1 j step.lane step.at_lane packet worker) in
       (part, new, p.1, inr (inr (inl (j, taken))), subst (λ (x : WorldState). IsOfParts x (slice_set parts i new)) (sym is) joined)
     where
@@ -190,10 +190,10 @@ module _ (w : WorldState) (parts : List PartState) (of : IsOfParts w parts) wher
       let lane = subst (λ (xs : Lane). IsLane w j i xs) takes.first step.at_lane in
       let new = receiver_after w parts of i part p.1 j takes.packet takes.rest lane worker in
       let is : w' ≡ changed w i worker w.book (with_lane w.lanes j i takes.rest) = step.is ∙ ap (λ (x : AtLane). changed w i x.worker w.book (with_lane w.lanes j i x.lane)) takes.is in
-      let below = ends_of (shared_by w) parts w.lanes of.1 j i step.lane (step.at_lane.from_lanes, step.at_lane.of_sender, step.at_lane.of_receiver) in
+      let below = ends_of (shared_by w) parts w.lanes of.0 j i step.lane (step.at_lane.from_lanes, step.at_lane.of_sender, step.at_lane.of_receiver) in
       let fits = (before.lanes j i (takes.packet ∷ takes.rest) lane).packets takes.packet (head_in takes.packet takes.rest) in
       let taken : Receives j part new = (takes.packet, is_empty part.worker.held takes.free, fits.0, fits.1.few, refl) in
-      let keeps = receiving_kept n j (role_of w i) part new (of.1.roles i part p.1) below.0 (of.1.keep i part p.1) taken in
+      let keeps = receiving_kept n j (role_of w i) part new (of.0.roles i part p.1) below.0 (of.0.keep i part p.1) taken in
       let joined = changed_of_parts w parts of i part p.1 new w.book _ (subst IsShaped is shaped) keeps (tied_taken w parts of i part p.1 j takes.packet takes.rest lane worker) in
       (part, new, p.1, inr (inr (inr (j, taken))), subst (λ (x : WorldState). IsOfParts x (slice_set parts i new)) (sym is) joined)
 
@@ -204,7 +204,7 @@ module _ (w : WorldState) (parts : List PartState) (of : IsOfParts w parts) wher
       kept : (part : PartState) (new : WorkerState) → slice_get parts i ≡ Some part → Expands (role_of w i) part.worker new → Keeps n (role_of w i) (with_worker part new) × StepsAlone (role_of w i) part (with_worker part new)
       kept part new at change =
           let taken = expand_step (role_of w i) part.worker new change in
-          (expanding_kept n (role_of w i) part None new (of.1.roles i part at) (of.1.keep i part at) taken, (None, new, inl taken, refl))
+          (expanding_kept n (role_of w i) part None new (of.0.roles i part at) (of.0.keep i part at) taken, (None, new, inl taken, refl))
 
   settles : (i : ℕ) (w' : WorldState) → IsShaped w' → OwnChange i Settles w w' → StaysJoined w' i
   settles i w' shaped step = own_step i Settles w' kept shaped step
@@ -212,7 +212,7 @@ module _ (w : WorldState) (parts : List PartState) (of : IsOfParts w parts) wher
       kept : (part : PartState) (new : WorkerState) → slice_get parts i ≡ Some part → Settles part.worker new → Keeps n (role_of w i) (with_worker part new) × StepsAlone (role_of w i) part (with_worker part new)
       kept part new at change =
           let taken = settle_step part.worker new change in
-          (settling_kept n (role_of w i) part None new (of.1.roles i part at) (of.1.keep i part at) (nothing_foreign (shared_by w) parts w.lanes i part of.1 at) taken, (None, new, inr taken, refl))
+          (settling_kept n (role_of w i) part None new (of.0.roles i part at) (of.0.keep i part at) (nothing_foreign (shared_by w) parts w.lanes i part of.0 at) taken, (None, new, inr taken, refl))
 
   -- a refused step leaves the world, and an accepted one moves a part
   by_cases : (step : Step) (answer : Option Refusal) (w' : WorldState) (i : ℕ) → (Accepts step w w' → StaysJoined w' i) → Next step (turn w answer w') → (w' ≡ w) ⊎ StaysJoined w' i

@@ -45,7 +45,7 @@ module _ (w : WorldState) (parts : List PartState) (of : IsOfParts w parts) (i :
   count_after = length-set parts i new
 
   workers_after : slice_set w.workers i new.worker ≡ workers_of after
-  workers_after = ap (λ (xs : List WorkerState). slice_set xs i new.worker) of.0 ∙ sym (map-set (λ (x : PartState). x.worker) parts i new)
+  workers_after = ap (λ (x : WorldState). slice_set x.workers i new.worker) of.1 ∙ sym (map-set (λ (x : PartState). x.worker) parts i new)
 
   -- a part is the new one, or was there before
   pub part_after : (j : ℕ) (p : PartState) → slice_get after j ≡ Some p → ((j ≡ i) × (p ≡ new)) ⊎ ((j ≢ i) × (slice_get parts j ≡ Some p))
@@ -59,26 +59,26 @@ module _ (w : WorldState) (parts : List PartState) (of : IsOfParts w parts) (i :
   role_after j p there =
       let inside = slice_get_within after j p there in
       let before = get_below parts j (omega (arith, inside, count_after)) in
-      subst (λ k. IsRole k (role_of w j)) (sym count_after) (of.1.roles j before.0 before.1)
+      subst (λ k. IsRole k (role_of w j)) (sym count_after) (of.0.roles j before.0 before.1)
 
   keeps_after : Keeps (length parts) (role_of w i) new → (j : ℕ) (p : PartState) → slice_get after j ≡ Some p → Keeps (length after) (role_of w j) p
   keeps_after keeps j p there =
       ⊎_elim
       (λ (h : (j ≡ i) × (p ≡ new)). subst (λ (x : ℕ × ℕ × PartState). Keeps x.0 (role_of w x.1) x.2) (λ t. (sym count_after t, sym h.0 t, sym h.1 t)) keeps)
-      (λ (h : (j ≢ i) × (slice_get parts j ≡ Some p)). subst (λ k. Keeps k (role_of w j) p) (sym count_after) (of.1.keep j p h.1))
+      (λ (h : (j ≢ i) × (slice_get parts j ≡ Some p)). subst (λ k. Keeps k (role_of w j) p) (sym count_after) (of.0.keep j p h.1))
       (part_after j p there)
 
   -- so the world is of the new parts, where it is shaped, and they are tied
   pub changed_of_parts : (book : BookState) (lanes : List (List Lane)) → IsShaped (changed w i new.worker book lanes) → Keeps (length parts) (role_of w i) new → AreTied after lanes → IsOfParts (changed w i new.worker book lanes) after
-  changed_of_parts book lanes shaped keeps tied = (workers_after, record {
+  changed_of_parts book lanes shaped keeps tied = (record {
     roles = role_after;
-    some = subst (λ k. 1 ≤ k) (sym count_after) of.1.some;
+    some = subst (λ k. 1 ≤ k) (sym count_after) of.0.some;
     keep = keeps_after keeps;
     senders = shaped.senders ∙ count;
     receivers = λ from row there. shaped.receivers from row there ∙ count;
     few = λ from to lane there. (shaped.lanes from to lane (record { from_lanes = there.0; of_sender = there.1; of_receiver = there.2 })).few;
     tied = tied;
-  })
+  }, ap (λ (xs : List WorkerState). record w { workers = xs; book = book; lanes = lanes }) workers_after)
     where
       count : length (slice_set w.workers i new.worker) ≡ length after
       count = ap length workers_after ∙ length-map after (λ (x : PartState). x.worker)
@@ -106,7 +106,7 @@ module _ (w : WorldState) (parts : List PartState) (of : IsOfParts w parts) (i :
   tied_without_lane same same' from to sender receiver sent received left is is' out came lies =
       let s = sent_before same from sender is in
       let r = received_before same' to receiver is' in
-      of.1.tied from to s.0 r.0 sent received left s.1 r.1 (ap (λ (xs : List Lane). slice_get xs to) (sym s.2) ∙ out) (ap (λ (xs : List Lane). slice_get xs from) (sym r.2) ∙ came) lies
+      of.0.tied from to s.0 r.0 sent received left s.1 r.1 (ap (λ (xs : List Lane). slice_get xs to) (sym s.2) ∙ out) (ap (λ (xs : List Lane). slice_get xs from) (sym r.2) ∙ came) lies
 
 -- what lies in a lane after a step, as that of a world
 lane_of : (w : WorldState) (i : ℕ) (worker : WorkerState) (lanes : List (List Lane)) (from to : ℕ) (lane : Lane) → IsAt lanes from to lane → IsLane (changed w i worker w.book lanes) from to lane
@@ -124,7 +124,7 @@ module _ (w : WorldState) (parts : List PartState) (of : IsOfParts w parts) (i :
   sent_lanes = with_lane w.lanes i end (lane ++ packet ∷ [])
 
   out_inside : end < length part.sent
-  out_inside = let ends = ends_of (shared_by w) parts w.lanes of.1 i end lane (there.from_lanes, there.of_sender, there.of_receiver) in omega (arith, ends.1, (of.1.keep i part at).ends.0)
+  out_inside = let ends = ends_of (shared_by w) parts w.lanes of.0 i end lane (there.from_lanes, there.of_sender, there.of_receiver) in omega (arith, ends.1, (of.0.keep i part at).ends.0)
 
   longer_lane : (left : Lane) → IsAt sent_lanes i end left → lane ++ packet ∷ [] ≡ left
   longer_lane left lies =
@@ -145,7 +145,7 @@ module _ (w : WorldState) (parts : List PartState) (of : IsOfParts w parts) (i :
   tied_sent_here p q sent received left is is' out came lies =
       let old = before part.sent end out_inside packet in
       let r = received_before w parts of i part at sender_after refl end q is' in
-      let tied = of.1.tied i end part r.0 old.0 received lane at r.1 old.1 (ap (λ (xs : List Lane). slice_get xs i) (sym r.2) ∙ came) (there.from_lanes, there.of_sender, there.of_receiver) in
+      let tied = of.0.tied i end part r.0 old.0 received lane at r.1 old.1 (ap (λ (xs : List Lane). slice_get xs i) (sym r.2) ∙ came) (there.from_lanes, there.of_sender, there.of_receiver) in
       ap (λ (xs : Lane). received ++ xs) (sym (longer_lane left lies)) ∙ sym (append_assoc received lane (packet ∷ [])) ∙ ap (λ (xs : Lane). xs ++ packet ∷ []) tied ∙ longer_sent p sent is out
 
   -- and the others
@@ -171,7 +171,7 @@ module _ (w : WorldState) (parts : List PartState) (of : IsOfParts w parts) (i :
   tied_sent_other from to p q sent received left other is is' out came lies =
       let s = sent_other from to p sent other is out in
       let r = received_before w parts of i part at sender_after refl to q is' in
-      of.1.tied from to s.0 r.0 sent received left s.1 r.1 s.2 (ap (λ (xs : List Lane). slice_get xs from) (sym r.2) ∙ came) (lane_other from to left other lies)
+      of.0.tied from to s.0 r.0 sent received left s.1 r.1 s.2 (ap (λ (xs : List Lane). slice_get xs from) (sym r.2) ∙ came) (lane_other from to left other lies)
 
   pub tied_sent : AreTied sent_parts sent_lanes
   tied_sent from to p q sent received left is is' out came lies =
@@ -200,7 +200,7 @@ module _ (w : WorldState) (parts : List PartState) (of : IsOfParts w parts) (i :
   taken_lanes = with_lane w.lanes end i rest
 
   in_inside : end < length part.received
-  in_inside = let ends = ends_of (shared_by w) parts w.lanes of.1 end i (packet ∷ rest) (there.from_lanes, there.of_sender, there.of_receiver) in omega (arith, ends.0, (of.1.keep i part at).ends.1)
+  in_inside = let ends = ends_of (shared_by w) parts w.lanes of.0 end i (packet ∷ rest) (there.from_lanes, there.of_sender, there.of_receiver) in omega (arith, ends.0, (of.0.keep i part at).ends.1)
 
   shorter_lane : (left : Lane) → IsAt taken_lanes end i left → rest ≡ left
   shorter_lane left lies =
@@ -221,7 +221,7 @@ module _ (w : WorldState) (parts : List PartState) (of : IsOfParts w parts) (i :
   tied_taken_here p q sent received left is is' out came lies =
       let old = before part.received end in_inside packet in
       let s = sent_before w parts of i part at receiver_after refl end p is in
-      let tied = of.1.tied end i s.0 part sent old.0 (packet ∷ rest) s.1 at (ap (λ (xs : List Lane). slice_get xs i) (sym s.2) ∙ out) old.1 (there.from_lanes, there.of_sender, there.of_receiver) in
+      let tied = of.0.tied end i s.0 part sent old.0 (packet ∷ rest) s.1 at (ap (λ (xs : List Lane). slice_get xs i) (sym s.2) ∙ out) old.1 (there.from_lanes, there.of_sender, there.of_receiver) in
       (λ t. sym (longer_received q received is' came) t ++ sym (shorter_lane left lies) t) ∙ append_assoc old.0 (packet ∷ []) rest ∙ tied
 
   -- and the others
@@ -247,7 +247,7 @@ module _ (w : WorldState) (parts : List PartState) (of : IsOfParts w parts) (i :
   tied_taken_other from to p q sent received left other is is' out came lies =
       let s = sent_before w parts of i part at receiver_after refl from p is in
       let r = received_other from to q received other is' came in
-      of.1.tied from to s.0 r.0 sent received left s.1 r.1 (ap (λ (xs : List Lane). slice_get xs to) (sym s.2) ∙ out) r.2 (lane_not_taken from to left other lies)
+      of.0.tied from to s.0 r.0 sent received left s.1 r.1 (ap (λ (xs : List Lane). slice_get xs to) (sym s.2) ∙ out) r.2 (lane_not_taken from to left other lies)
 
   pub tied_taken : AreTied taken_parts taken_lanes
   tied_taken from to p q sent received left is is' out came lies =

@@ -53,9 +53,9 @@ world_with shared parts book lanes = record { task = shared.task; owner = shared
 abbrev pub shared_by : WorldState → Shared
 shared_by w = record { task = w.task; owner = w.owner }
 
--- the world is that of these parts, joined
+-- the world is the one that these parts make, with its own book and lanes
 abbrev pub IsOfParts : WorldState → List PartState → Type 0
-IsOfParts w parts = (w.workers ≡ workers_of parts) × AreParts (shared_by w) parts w.lanes
+IsOfParts w parts = AreParts (shared_by w) parts w.lanes × (w ≡ world_with (shared_by w) parts w.book w.lanes)
 
 -- the parts with which the run of a job begins
 abbrev pub opening_parts : Job → Move → List PartState
