@@ -1,11 +1,10 @@
 -- Each world that a run reaches is that of parts which are joined.
-use Rattle.std.proofs.Common.{◌≡◌, ◌≢◌, ◌⊎◌, ℕ, ◌+◌, ◌-◌, ◌<◌, ◌≤◌, List, [], ◌∷◌, ◌++◌, length, map, refl, sym, ap, ◌∙◌, subst, inl, inr, ⊎_elim, arith, Option, Some, None}
+use Rattle.std.proofs.Common.{◌≡◌, ◌⊎◌, ℕ, ◌+◌, ◌-◌, ◌<◌, ◌≤◌, List, [], ◌∷◌, ◌++◌, length, refl, sym, ap, ◌∙◌, subst, inl, inr, ⊎_elim, arith, Option, Some, None}
 use Rattle.std.specs.Prelude.{Contains, slice_get, slice_set}
 use Rattle.std.specs.FinMap as finite
 use Rattle.std.proofs.lemmas.Bool.{cases_lt}
 use Rattle.std.proofs.lemmas.List.Elements.{Contains-push}
 use Rattle.board.specs.Keys.{key_of}
-use Rattle.board.specs.declared.moves.Move.{Move}
 use Rattle.world_model.specs.declared.limits.TheConstants.{PACKET_LIMIT}
 use Rattle.world_model.specs.declared.parts.Item.{Item}
 use Rattle.world_model.specs.declared.steps.HaltCause.{HaltCause}
@@ -17,9 +16,9 @@ use Rattle.world_model.specs.BookSteps.{AnnounceStep, AtBook, DrawStep, GrantSte
 use Rattle.world_model.specs.Costs.{IsNotBelow, limit_of}
 use Rattle.world_model.specs.Credit.{IsCredited}
 use Rattle.world_model.specs.Knowledge.{Knowledge}
-use Rattle.world_model.specs.Openings.{IsJob, Job, opening}
+use Rattle.world_model.specs.Openings.{opening}
 use Rattle.world_model.specs.Shapes.{IsShaped}
-use Rattle.world_model.specs.Steps.{ByWorker, IsRun, Next, OnBook, from_to, with_lane}
+use Rattle.world_model.specs.Steps.{IsRun, Next, OnBook, from_to, with_lane}
 use Rattle.world_model.specs.Turns.{Turn, turn}
 use Rattle.world_model.specs.WorkerSteps.{AtLane, ExpandStep, SettleStep}
 use Rattle.world_model.specs.Workers.{IsIdle, Lane, Packet, Role, WorkerState, packet_for}
@@ -30,12 +29,12 @@ use Rattle.world_model.proofs.ListLemmas.{head_in, is_empty, none_in_empty}
 use Rattle.world_model.proofs.RunLemmas.{openings_sound}
 use Rattle.world_model.proofs.ShapeKept.{shaped_same}
 use Rattle.world_model.proofs.ShapeLemmas.{known_owned}
-use Rattle.world_model.proofs.StepCases.{Accepts, Announces, BookChange, Cases, Delivers, Draws, Expands, Grants, Halts, LaneChange, OwnChange, Rests, Sends as SendsOnLane, Settles, next_cases}
+use Rattle.world_model.proofs.StepCases.{Accepts, Cases, Delivers, Expands, LaneChange, OwnChange, Sends as SendsOnLane, Settles, next_cases}
 use Rattle.world_model.proofs.StepsCredited.{steps_credited}
 use Rattle.world_model.proofs.StepsShaped.{steps_shaped}
 use Rattle.thread_model.specs.Parts.{IsRole, Keeps, PartState}
 use Rattle.thread_model.specs.Changes.{IsBookStep, IsPartStep, Receives, Sends, StepsAlone, with_worker}
-use Rattle.thread_model.specs.Joined.{AreParts, IsOfParts, Shared, opening_parts, role_in, shared_by, workers_of}
+use Rattle.thread_model.specs.Joined.{IsOfParts, opening_parts, shared_by}
 use Rattle.thread_model.specs.Laws.{NothingHeldIsForeign, RunsAreOfParts, StepsAreOfParts}
 use Rattle.thread_model.proofs.ExpandKept.{expanding_kept}
 use Rattle.thread_model.proofs.JoinedShape.{ends_of, part_of, part_shaped}

@@ -1,5 +1,5 @@
 -- A step of a world that is of joined parts leads to one that is.
-use Rattle.std.proofs.Common.{◌≡◌, ◌≢◌, ◌⊎◌, ℕ, ◌+◌, ◌-◌, ◌<◌, ◌≤◌, List, [], ◌∷◌, ◌++◌, length, refl, sym, ap, ◌∙◌, subst, inl, inr, ⊎_elim, arith, Some}
+use Rattle.std.proofs.Common.{◌≡◌, ◌≢◌, ◌⊎◌, ℕ, ◌<◌, ◌≤◌, List, [], ◌∷◌, ◌++◌, length, refl, sym, ap, ◌∙◌, subst, inl, inr, ⊎_elim, arith, Some}
 use Rattle.std.specs.Prelude.{slice_get, slice_set}
 use Rattle.std.proofs.lemmas.Bool.{cases_eq}
 use Rattle.std.proofs.lemmas.List.{append_assoc, length-map, length-set, map-set}
@@ -13,7 +13,7 @@ use Rattle.world_model.proofs.ChangeLemmas.{changed, lane_after, lane_there}
 use Rattle.world_model.proofs.ListLemmas.{at_set, get_below, get_set_other}
 use Rattle.thread_model.specs.Parts.{IsRole, Keeps, PartState}
 use Rattle.thread_model.specs.Changes.{with_packet}
-use Rattle.thread_model.specs.Joined.{AreParts, IsAt, IsOfParts, role_in, shared_by, workers_of}
+use Rattle.thread_model.specs.Joined.{IsAt, IsOfParts, shared_by, workers_of}
 use Rattle.thread_model.proofs.JoinedShape.{ends_of}
 use Rattle.thread_model.proofs.LaneKept.{before, lane_cases, longer}
 
@@ -70,15 +70,18 @@ module _ (w : WorldState) (parts : List PartState) (of : IsOfParts w parts) (i :
 
   -- so the world is of the new parts, where it is shaped, and they are tied
   pub changed_of_parts : (book : BookState) (lanes : List (List Lane)) → IsShaped (changed w i new.worker book lanes) → Keeps (length parts) (role_of w i) new → AreTied after lanes → IsOfParts (changed w i new.worker book lanes) after
-  changed_of_parts book lanes shaped keeps tied = (record {
-    roles = role_after;
-    some = subst (λ k. 1 ≤ k) (sym count_after) of.0.some;
-    keep = keeps_after keeps;
-    senders = shaped.senders ∙ count;
-    receivers = λ from row there. shaped.receivers from row there ∙ count;
-    few = λ from to lane there. (shaped.lanes from to lane (record { from_lanes = there.0; of_sender = there.1; of_receiver = there.2 })).few;
-    tied = tied;
-  }, ap (λ (xs : List WorkerState). record w { workers = xs; book = book; lanes = lanes }) workers_after)
+  changed_of_parts book lanes shaped keeps tied = (
+    record {
+      roles = role_after;
+      some = subst (λ k. 1 ≤ k) (sym count_after) of.0.some;
+      keep = keeps_after keeps;
+      senders = shaped.senders ∙ count;
+      receivers = λ from row there. shaped.receivers from row there ∙ count;
+      few = λ from to lane there. (shaped.lanes from to lane (record { from_lanes = there.0; of_sender = there.1; of_receiver = there.2 })).few;
+      tied = tied;
+    },
+    ap (λ (xs : List WorkerState). record w { workers = xs; book = book; lanes = lanes }) workers_after,
+  )
     where
       count : length (slice_set w.workers i new.worker) ≡ length after
       count = ap length workers_after ∙ length-map after (λ (x : PartState). x.worker)

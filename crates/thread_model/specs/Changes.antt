@@ -1,7 +1,5 @@
 -- What steps make of parts.
 use Rattle.std.specs.Prelude.{◌≡◌, ◌≢◌, ◌⊎◌, ℕ, ◌+◌, ◌-◌, ◌≤◌, List, [], ◌∷◌, ◌++◌, length, Option, slice_get, slice_set, unwrap_or, replicate}
-use Rattle.board.specs.declared.moves.Move.{Move}
-use Rattle.outcomes.specs.Outcomes.{Task}
 use Rattle.world_model.specs.declared.limits.TheConstants.{PACKET_LIMIT}
 use Rattle.world_model.specs.declared.parts.Item.{Item}
 use Rattle.world_model.specs.declared.steps.HaltCause.{HaltCause}
@@ -11,7 +9,6 @@ use Rattle.world_model.specs.Books.{BookState}
 use Rattle.world_model.specs.Workers.{WorkerState, Packet, Lane, Role, packet_for}
 use Rattle.world_model.specs.WorkerSteps.{ExpandStep, SettleStep}
 use Rattle.world_model.specs.BookSteps.{AtBook, DrawStep, AnnounceStep, GrantStep, RestStep, HaltStep}
-use Rattle.world_model.specs.Openings.{idle_worker, first_worker}
 use Rattle.world_model.specs.Shapes.{IsItemFor}
 use Rattle.thread_model.specs.Parts.{PartState}
 
@@ -32,20 +29,20 @@ DropStep role worker worker' =
 abbrev pub HoldsOwnLast : Role → WorkerState → Type 0
 HoldsOwnLast role worker = (front : List Item) (last : Item) → worker.held ≡ front ++ last ∷ [] → IsItemFor role.task role.owner role.me last
 
--- what is unsent for worker `to` was sent, with 1 of the purse
+-- what is unsent for worker `to` goes to it as one packet, with 1 of the purse, in which 1 is left at least
 abbrev pub Sends : ℕ → PartState → PartState → Type 0
 Sends to part part' =
     (packet_for part.worker to ≢ [])
     × (2 ≤ part.worker.purse)
     × (part' ≡ record { worker = record part.worker { unsent = slice_set part.worker.unsent to []; purse = part.worker.purse - 1 }; sent = with_packet part.sent to (packet_for part.worker to); received = part.received })
 
--- a packet came from worker `from`, its items are held, and the purse has its 1
+-- a packet comes from worker `from`, where nothing was held: its items are held, and the purse gets its 1
 abbrev pub Receives : ℕ → PartState → PartState → Type 0
 Receives from part part' =
     (packet : Packet) × (part.worker.held ≡ []) × (1 ≤ length packet) × (length packet ≤ PACKET_LIMIT)
     × (part' ≡ record { worker = record part.worker { held = packet; purse = part.worker.purse + 1 }; sent = part.sent; received = with_packet part.received from packet })
 
--- a step on the book
+-- one of the five steps on the book
 abbrev pub IsBookStep : Role → Turn AtBook Refusal → Type 0
 IsBookStep role it = DrawStep it ⊎ AnnounceStep role it ⊎ GrantStep role it ⊎ RestStep role it ⊎ ((cause : HaltCause) × HaltStep cause it)
 
@@ -63,10 +60,10 @@ StepsAtBook role part part' =
     × IsBookStep role (turn (record { worker = part.worker; book = book }) answer (record { worker = worker; book = book' }))
     × (part' ≡ with_worker part worker)
 
--- one of these steps, or a packet is sent, or one comes
+-- the worker takes a step by itself or on the book, or a packet goes to a worker or comes from one
 abbrev pub IsPartStep : Role → PartState → PartState → Type 0
 IsPartStep role part part' = StepsAlone role part part' ⊎ StepsAtBook role part part' ⊎ ((to : ℕ) × Sends to part part') ⊎ ((from : ℕ) × Receives from part part')
 
--- the part of one of n workers, with which a run begins, where this is its worker: nothing was sent, and nothing came
+-- the part of one of n workers as a run begins: nothing was sent, and nothing came
 abbrev pub opening_part : ℕ → WorkerState → PartState
 opening_part n worker = record { worker = worker; sent = replicate n []; received = replicate n [] }

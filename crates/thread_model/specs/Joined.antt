@@ -1,5 +1,5 @@
 -- The parts of a run, joined.
-use Rattle.std.specs.Prelude.{◌≡◌, ℕ, ◌+◌, ◌≤◌, List, ◌++◌, length, map, Option, Some, slice_get}
+use Rattle.std.specs.Prelude.{◌≡◌, ℕ, ◌≤◌, List, ◌++◌, length, map, Some, slice_get}
 use Rattle.board.specs.declared.moves.Move.{Move}
 use Rattle.board.specs.Positions.{Position}
 use Rattle.outcomes.specs.Outcomes.{Task}
@@ -15,9 +15,9 @@ use Rattle.thread_model.specs.Changes.{opening_part}
 abbrev pub workers_of : List PartState → List WorkerState
 workers_of parts = map (λ part. part.worker) parts
 
--- the lane at a place among lanes to or from each worker
+-- of the lanes from each worker to each, the one from this worker to that is this
 abbrev pub IsAt : List (List Lane) → ℕ → ℕ → Lane → Type 0
-IsAt rows at other lane = (row : List Lane) × (slice_get rows at ≡ Some row) × (slice_get row other ≡ Some lane)
+IsAt lanes from to lane = (row : List Lane) × (slice_get lanes from ≡ Some row) × (slice_get row to ≡ Some lane)
 
 -- a task, and who owns which board
 pub record Shared : Type 0 where
@@ -28,8 +28,8 @@ pub record Shared : Type 0 where
 abbrev pub role_in : Shared → ℕ → Role
 role_in shared i = record { task = shared.task; owner = shared.owner; me = i }
 
--- The parts of n workers, and the lanes from each worker to each. Each part keeps what it keeps by itself; of each lane what came and
--- what still lies in it is what was sent, in this order.
+-- The parts of all workers, one for each, and the lanes from each worker to each. Each part keeps what it keeps by itself; no lane has
+-- too many packets; and what came by a lane, with what still lies in it behind that, is what was sent by it.
 pub record AreParts (shared : Shared) (parts : List PartState) (lanes : List (List Lane)) : Type 0 where
   pub roles : (i : ℕ) (part : PartState) → slice_get parts i ≡ Some part → IsRole (length parts) (role_in shared i)
   pub some : 1 ≤ length parts

@@ -1,5 +1,5 @@
 -- The laws of parts.
-use Rattle.std.specs.Prelude.{◌≡◌, ◌≢◌, ◌⊎◌, ℕ, ◌+◌, ◌≤◌, ◌<◌, List, length, Contains, All, Option, Some, slice_get, slice_set}
+use Rattle.std.specs.Prelude.{◌≡◌, ◌≢◌, ◌⊎◌, ℕ, ◌+◌, ◌≤◌, ◌<◌, List, length, All, Option, Some, slice_get, slice_set}
 use Rattle.board.specs.declared.moves.Move.{Move}
 use Rattle.board.specs.Positions.{Position}
 use Rattle.world_model.specs.declared.steps.Refusal.{Refusal}
@@ -7,7 +7,6 @@ use Rattle.world_model.specs.declared.steps.Step.{Step}
 use Rattle.world_model.specs.Turns.{Turn, turn}
 use Rattle.world_model.specs.Costs.{limit_of}
 use Rattle.world_model.specs.Books.{BookState}
-use Rattle.world_model.specs.BookSteps.{AtBook}
 use Rattle.world_model.specs.Workers.{WorkerState, Lane, Role}
 use Rattle.world_model.specs.WorkerSteps.{ExpandStep, SettleStep}
 use Rattle.world_model.specs.Worlds.{WorldState, role_of}
@@ -119,7 +118,7 @@ StepsAreOfParts =
     → IsCredited it.before
     → IsOfParts it.before parts
     → (it.after ≡ it.before)
-      ⊎ ((i : ℕ) × (part part' : PartState) × (slice_get parts i ≡ Some part) × IsPartStep (role_of it.before i) part part' × IsOfParts it.after (slice_set parts i part'))
+    ⊎ ((i : ℕ) × (part part' : PartState) × (slice_get parts i ≡ Some part) × IsPartStep (role_of it.before i) part part' × IsOfParts it.after (slice_set parts i part'))
 
 -- So each world that a run reaches is that of some parts: what parts keep, and what ties them, is nothing that a run could break.
 abbrev pub RunsAreOfParts : Type 0

@@ -10,13 +10,13 @@ use Rattle.world_model.specs.Costs.{limit_of}
 use Rattle.world_model.specs.Workers.{WorkerState, Packet, Lane, Role, IsTaskBoard, KnowsAs, IsIdle}
 use Rattle.world_model.specs.Shapes.{IsTask, IsItemFor, IsPacketFor, IsShapedWorker}
 
--- A part of a run: a worker, for each worker the packets that it was sent, and for each worker those that came from it, the first first.
+-- A part of a run: a worker, the packets that were sent to each worker, and those that came from each, the earliest first.
 pub record PartState : Type 0 where
   pub worker : WorkerState
   pub sent : List Lane
   pub received : List Lane
 
--- an item of a packet in the lane at this place
+-- the item is in a packet of the lane at this place
 abbrev pub IsAmong : List Lane → ℕ → Item → Type 0
 IsAmong lanes at item = (lane : Lane) × (packet : Packet) × (slice_get lanes at ≡ Some lane) × Contains lane packet × Contains packet item
 
@@ -54,7 +54,7 @@ KnowsBefore role worker b cost via =
 abbrev pub IsMade : Role → WorkerState → Position → ℕ → Move → Type 0
 IsMade role worker b cost via = ((b ≡ role.task.start) × (cost ≡ 0)) ⊎ KnowsBefore role worker b cost via
 
--- and so, or it came
+-- the board at this cost is made so, or it came as an item
 abbrev pub HasOrigin : Role → PartState → Position → ℕ → Move → Type 0
 HasOrigin role part b cost via =
     IsMade role part.worker b cost via ⊎ ((item : Item) × HasCome part item × (item.board ≡ b) × (item.cost ≡ cost) × (item.via ≡ via))
@@ -66,12 +66,15 @@ pub record IsRole (n : ℕ) (role : Role) : Type 0 where
   pub me : role.me < n
   pub owners : (b : Position) → role.owner b < n
 
--- the packets at this place are none of them empty, none too long, and all for worker `to`
+-- no packet of the lane is empty or too long, and all their items are for worker `to`
 abbrev pub AreFor : Role → ℕ → Lane → Type 0
 AreFor role to lane = (packet : Packet) → Contains lane packet → (1 ≤ length packet) × IsPacketFor role.task role.owner to packet
 
--- What one of n parts keeps by itself, whatever the others do. Of what comes to it nothing is assumed: an item that is not for its
--- worker is foreign.
+-- What one of n parts keeps by itself, whatever the others do. All that its worker knows is its own, and what it sends is for those to
+-- whom it goes. The start's owner knows the start at 0, and each successor of a closed board is seen to. Each board that is known has its
+-- origin, and each item that goes out is made here. What is held came, and what came for this worker is known, or held still. The goal is
+-- not closed. A worker with an empty purse has nothing to do. Of what comes nothing is assumed: an item that is not for the worker is
+-- foreign.
 pub record Keeps (n : ℕ) (role : Role) (part : PartState) : Type 0 where
   pub shaped : IsShapedWorker n role (record part.worker { held = [] })
   pub few_held : length part.worker.held ≤ PACKET_LIMIT
