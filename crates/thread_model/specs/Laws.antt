@@ -97,7 +97,7 @@ JoinedPartsAreQuiet =
     → IsReached (world_with shared parts book lanes) book.best
     → IsQuiet (world_with shared parts book lanes)
 
--- where parts are joined, no item that a worker holds is foreign: what comes is dropped nowhere
+-- where parts are joined, the last item that a worker holds is its own, so nothing is dropped there
 abbrev pub NothingHeldIsForeign : Type 0
 NothingHeldIsForeign =
     (shared : Shared) (parts : List PartState) (lanes : List (List Lane)) (i : ℕ) (part : PartState)
