@@ -118,6 +118,13 @@ impl Closed {
         )
     }
 
+    /// For how many new keys there are places.
+    pub fn room(&self) -> usize
+        ensures { result ≡ self.now.room }
+    {
+        self.room
+    }
+
     /// Makes places for this many new keys. After a refusal the table is as it was.
     pub fn reserve(&mut self, alloc: Global, count: usize) -> Result<(), OutOfMemory>
         ensures ok { OnOk result (self.new ≡ record self.old { room = max self.old.room count }) }

@@ -21,6 +21,9 @@ use std::alloc::Global;
 use std::marker::Model;
 use world_model::Known;
 
+// For how many boards places are made at once, where there is memory.
+const ROOM_AT_ONCE: usize = 64;
+
 /// A board that was met at a cost by a last move.
 #[derive(Clone, Copy, Debug)]
 pub struct Met {
@@ -96,15 +99,14 @@ impl SearchLists {
         self.closed.at(place)
     }
 
-    /// Makes places for this many boards that are not known yet. After a refusal nothing has
-    /// changed.
+    /// Makes places for this many boards that are not known yet, and for some more where there is
+    /// memory. After a refusal nothing has changed.
     pub fn reserve_boards(&mut self, alloc: Global, count: usize) -> Result<(), OutOfMemory>
         ensures ok { OnOk result (count ≤ self.new.closed.room) }
         ensures err { OnErr result (self.new ≡ self.old) }
         ensures same { HasMoreRoom self.old self.new }
     {
-        self.closed.reserve(alloc, count)?;
-        Ok(())
+        make_room(&mut self.closed, alloc, count)
     }
 
     /// Makes places for this many entries at an f. Whether it succeeds or not, what is known and
@@ -194,6 +196,24 @@ impl SearchLists {
     {
         self.closed.read_ahead(keys);
     }
+}
+
+// Makes places for this many new keys: for more of them at once, and else for just these.
+fn make_room(closed: &mut Closed, alloc: Global, count: usize) -> Result<(), OutOfMemory>
+    ensures ok { OnOk result (count ≤ closed.new.room) }
+    ensures err { OnErr result (closed.new ≡ closed.old) }
+    ensures keys { closed.new.keys ≡ closed.old.keys }
+    ensures known { closed.new.known ≡ closed.old.known }
+    ensures room { closed.old.room ≤ closed.new.room }
+{
+    if count <= closed.room() {
+        return Ok(());
+    }
+    if let Ok(()) = closed.reserve(alloc, count.max(ROOM_AT_ONCE)) {
+        return Ok(());
+    }
+    closed.reserve(alloc, count)?;
+    Ok(())
 }
 
 // Relaxes a board, and lets it wait where its cost is news, unless it is the goal.

@@ -1,9 +1,5 @@
-use Rattle.std.proofs.Common.{◌<◌, length, sym, subst}
-use Rattle.closed_table.specs.Tables.{Table}
+use Rattle.std.proofs.Common.{ℕ, ◌<◌, List, length, sym, subst}
 use Rattle.search_lists.proofs.lists.SearchLists.reserve_boards.Goals as goal
 
 pub invariant_of-self : goal.invariant_of-self
-invariant_of-self c = λ f place cost has. subst (λ (t : Table). place < length t.keys) (sym c.in_err-reserve.ensures.err) (c.self.invariant f place cost has)
-
-pub invariant_of-self-2 : goal.invariant_of-self-2
-invariant_of-self-2 c = λ f place cost has. subst (λ (t : Table). place < length t.keys) (sym c.in_ok-reserve.ensures.ok) (c.self.invariant f place cost has)
+invariant_of-self c = λ f place cost has. subst (λ (keys : List ℕ). place < length keys) (sym c.make_room.ensures.keys) (c.self.invariant f place cost has)
