@@ -1,6 +1,6 @@
 //! Successors of a board, as they go to their owners.
 
-ghost use Rattle.std.specs.Prelude.{ℕ, ◌≡◌, ◌≢◌, ◌<◌, ◌≤◌, ◌%◌, List, IfSome, option_map};
+ghost use Rattle.std.specs.Prelude.{ℕ, ◌≡◌, ◌≢◌, ◌<◌, ◌≤◌, ◌%◌, List, IfSome, None, option_map};
 ghost use Rattle.board.specs.declared.costs.TheConstants.{GREATEST_EXPANDED_COST};
 ghost use Rattle.lower_bound.specs.declared.bound.TheConstants.{GREATEST_SUM};
 ghost use Rattle.board.specs.CostRules.{CostRule};
@@ -9,7 +9,7 @@ ghost use Rattle.board.specs.Moves.{blank_exchange, successor};
 ghost use Rattle.board.specs.Positions.{Position};
 ghost use Rattle.lower_bound.specs.Bounds.{Part, sum_of};
 ghost use Rattle.lower_bound.specs.Tables.{parts_of};
-ghost use Rattle.successor_sums.specs.Unpacked.{told_of};
+ghost use Rattle.successor_sums.specs.Unpacked.{told_of, but};
 ghost use Rattle.owners.specs.Slides.{IsSlide};
 ghost use Rattle.offers.specs.Offers.{item_by, IsOffered, AreOffered, OfEach, IsWithin};
 
@@ -32,7 +32,8 @@ pub struct Offer {
     pub owner: usize,
 }
 
-/// What the four moves from a board offer; None where the blank would leave the board.
+/// What the four moves from a board offer; None where the blank would leave the board, and of a
+/// move that is left out.
 #[derive(Clone, Copy, Debug)]
 pub struct Offers {
     pub up: Option<Offer>,
@@ -50,7 +51,8 @@ struct Hashed {
     workers: usize,
 }
 
-/// What the moves from a board offer that costs this much, to so many workers.
+/// What the moves from a board offer that costs this much, to so many workers; but for one move
+/// that is left out, if any is.
 pub fn offers_of<S: Spread>(
     unpacked: &UnpackedBoard,
     cost: u32,
@@ -58,16 +60,18 @@ pub fn offers_of<S: Spread>(
     bound: &Bound,
     owners: &S,
     workers: usize,
+    left_out: Option<Move>,
 ) -> Offers
     requires rule { weights.now.grid ≡ unpacked.now.grid }
     requires bound { bound.now.split.grid ≡ unpacked.now.grid }
     requires low { cost ≤ GREATEST_EXPANDED_COST }
     requires some { 0 < workers }
     ensures offered { AreOffered (sum_of (parts_of bound.now))
-        (λ b. S.hash_of owners.now b % workers) (item_by weights.now unpacked.now cost) result }
+        (λ b. S.hash_of owners.now b % workers)
+        (but left_out (item_by weights.now unpacked.now cost)) result }
     ensures within { OfEach (IsWithin unpacked.now.grid cost workers) result }
 {
-    let [up, left, right, down] = unpacked.successors(weights, bound);
+    let [up, left, right, down] = unpacked.successors_but(left_out, weights, bound);
     let board = unpacked.board();
     let hashed = Hashed {
         hash: hash_for(board, owners, workers),
@@ -110,6 +114,7 @@ fn offer_by<S: Spread>(
     requires some { 0 < hashed.workers }
     requires hash { hashed.workers ≢ 1 → hashed.hash ≡ S.hash_of owners.now board.now }
     ensures within { IfSome result (IsWithin board.now.grid cost hashed.workers) }
+    ensures none { told ≡ None → result ≡ None }
     ensures offered { (rule : CostRule) (parts : List Part)
         → told ≡ option_map (told_of parts board.now) (successor rule board.now direction)
         → IsOffered (sum_of parts) (λ b. S.hash_of owners.now b % hashed.workers)

@@ -270,7 +270,7 @@ first_least guide lists next order first =
     let same : Some adds.0 ≡ Some next.key = sym adds.1 ∙ first.place in
     let key : adds.0 ≡ next.key = cc in
     record {
-      opens = (first.known.0, record { knows = first.known.1; unexpanded = first.known.2; no_goal = λ is. adds.2 (key ∙ is) }, first.known.3);
+      opens = (first.known.0, record { knows = first.known.1; unexpanded = first.known.2; no_goal = λ is. adds.2 (key ∙ is) }, first.known.3, first.known.4);
       adds = adds.3 ∙ ap (λ (k : ℕ). next.cost + guide.sum k) key;
       least = none_below guide lists next.f order first.waits.least;
     }

@@ -35,16 +35,16 @@ NoneBelow guide closed n = (key : ℕ) (known : Known) → IsOpen guide closed k
 abbrev pub IsFloor : Guide → Table → Option ℕ → Type 0
 IsFloor guide closed floor = IsLeastWith (λ f. (key : ℕ) × (known : Known) × IsOpen guide closed key known × (known.cost + guide.sum key ≡ f)) floor
 
--- the board stands at this place, is not expanded and known at this cost, and is what waits next
+-- the board stands at this place, is not expanded and known at this cost by this last move, and is what waits next
 pub record IsFirst (lists : Lists) (next : Next) : Type 0 where
   pub place : slice_get lists.closed.keys next.place ≡ Some next.key
-  pub known : (known : Known) × (map.get lists.closed.known next.key ≡ Some known) × (known.expanded ≡ false) × (known.cost ≡ next.cost)
+  pub known : (known : Known) × (map.get lists.closed.known next.key ≡ Some known) × (known.expanded ≡ false) × (known.cost ≡ next.cost) × (known.via ≡ next.via)
   pub waits : IsNext next.f (next.place, next.cost) lists.waiting
   pub within : next.f + 1 < 2 ^ 32
 
--- the board is open, and one of least cost plus sum
+-- the board is open at this cost by this last move, and one of least cost plus sum
 pub record IsLeastOpen (guide : Guide) (closed : Table) (next : Next) : Type 0 where
-  pub opens : (known : Known) × IsOpen guide closed next.key known × (known.cost ≡ next.cost)
+  pub opens : (known : Known) × IsOpen guide closed next.key known × (known.cost ≡ next.cost) × (known.via ≡ next.via)
   pub adds : next.f ≡ next.cost + guide.sum next.key
   pub least : NoneBelow guide closed next.f
 

@@ -41,6 +41,8 @@ pub struct Next {
     pub place: u32,
     pub key: u128,
     pub cost: u32,
+    /// The last move to it.
+    pub via: Move,
     /// The cost plus the board's sum.
     pub f: u32,
 }
@@ -268,6 +270,7 @@ fn next_open(closed: &Closed, waiting: &mut Open<u32>, below: u32) -> Option<Nex
                 place: first.place,
                 key,
                 cost: first.cost,
+                via: known.via,
                 f: first.f,
             });
         }

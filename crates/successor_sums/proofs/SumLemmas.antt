@@ -1,7 +1,8 @@
 -- The sum of a board, by the cell of each number.
-use Rattle.std.proofs.Common.{◌≡◌, ℕ, ◌<◌, List, [], ◌∷◌, Option, None, Some, map, length, get_or, take, drop, refl, sym, ap, ◌∙◌, subst, arith}
+use Rattle.std.proofs.Common.{true, false, ⊎_elim, ◌≡◌, ℕ, ◌<◌, List, [], ◌∷◌, Option, None, Some, map, length, get_or, take, drop, refl, sym, ap, ◌∙◌, subst, arith}
 use Rattle.std.specs.Prelude.{All, slice_index, sum_by, option_map, IfSome, MatchOption}
 use Rattle.std.specs.List.{AllByRecursion}
+use Rattle.std.proofs.lemmas.Bool.{cases_Bool, cond-true, cond-false}
 use Rattle.std.proofs.lemmas.List.Elements.{All-weaker, recursion_from_All}
 use Rattle.std.proofs.lemmas.List.Sums.{sum_by-cons}
 use Rattle.board.specs.declared.moves.Move.{Move}
@@ -21,7 +22,7 @@ use Rattle.lower_bound.specs.Bounds.{sum_of}
 use Rattle.lower_bound.specs.Tables.{Tables, IsTables, parts_of}
 use Rattle.lower_bound.proofs.TableLemmas.{of_tables, table_grids, tables_sum}
 use Rattle.successor_sums.specs.Ranks.{sum_at}
-use Rattle.successor_sums.specs.Unpacked.{told_of, AreCellsOf, IsReached, told_by}
+use Rattle.successor_sums.specs.Unpacked.{told_of, is_left_out, but, AreCellsOf, IsReached, told_by}
 use Rattle.successor_sums.specs.declared.unpacked.Reached.{Reached}
 
 -- the values at the ranks of views are those of the views
@@ -87,7 +88,15 @@ told_is rule tables b m ranks (Some r) is =
     (λ i. Some (record { key = is.key i; tile = tile i; cell = cell i; cost = is.cost i; sum = sum_is tables (blank_exchange b is.to) ranks is.ranks i }))
     ∙ ap (λ (o : Option ℕ). option_map (told_of (parts_of tables) b) (option_map (successor_at rule b) o)) (sym is.found)
 
+-- and what the definition tells but for one move that is left out
+pub told_but : (left_out : Option Move) (rule : CostRule) (tables : Tables) (b : Position) (m : Move) (ranks : List ℕ) (reached : Option Reached) → (is_left_out left_out m ≡ true → reached ≡ None) → (is_left_out left_out m ≡ false → MatchOption reached (neighbour b.grid m (blank_of b) ≡ None) (IsReached rule tables.lookups b m ranks)) → option_map (told_by tables.lookups ranks) reached ≡ but left_out (λ k. option_map (told_of (parts_of tables) b) (successor rule b k)) m
+told_but left_out rule tables b m ranks reached out kept =
+    ⊎_elim
+    (λ (yes_out : is_left_out left_out m ≡ true). ap (option_map (told_by tables.lookups ranks)) (out yes_out) ∙ sym (cond-true _ _ _ yes_out))
+    (λ (stays : is_left_out left_out m ≡ false). told_is rule tables b m ranks reached (kept stays) ∙ sym (cond-false _ _ _ stays))
+    (cases_Bool (is_left_out left_out m))
+
 -- its key is that of a board
-pub told_key : (rule : CostRule) (lookups : List Lookup) (b : Position) (m : Move) (ranks : List ℕ) (reached : Option Reached) → MatchOption reached (neighbour b.grid m (blank_of b) ≡ None) (IsReached rule lookups b m ranks) → IfSome (option_map (told_by lookups ranks) reached) (λ s. (x : Position) × HasKey b.grid s.key x)
+pub told_key : (rule : CostRule) (lookups : List Lookup) (b : Position) (m : Move) (ranks : List ℕ) (reached : Option Reached) → IfSome reached (IsReached rule lookups b m ranks) → IfSome (option_map (told_by lookups ranks) reached) (λ s. (x : Position) × HasKey b.grid s.key x)
 told_key rule lookups b m ranks None none = tt
 told_key rule lookups b m ranks (Some r) is = (blank_exchange b is.to, record { board = is.board; sides = refl; packed = sym is.key })

@@ -1,6 +1,7 @@
 -- Boards with the cell of each number beside the numbers, and what is told of their successors.
-use Rattle.std.specs.Prelude.{ℕ, ◌≡◌, ◌≤◌, ◌<◌, List, length, map, take, slice_index, Option, Some, option_map}
+use Rattle.std.specs.Prelude.{Bool, false, if◌then◌else◌, None, ℕ, ◌≡◌, ◌≤◌, ◌<◌, List, length, map, take, slice_index, Option, Some, option_map}
 use Rattle.board.specs.declared.moves.Move.{Move}
+use Rattle.board.specs.Equality.{move_eq}
 use Rattle.board.specs.Grids.{cell_count}
 use Rattle.board.specs.Positions.{Position, IsBoard, cell_of, blank_of}
 use Rattle.board.specs.CostRules.{CostRule, weight_of}
@@ -24,6 +25,19 @@ told_of parts b moved = record { key = key_of moved.0; tile = slice_index b.tile
 -- what is told of the successors of a board, by the four moves in the order in which they are tried
 abbrev pub successors_of : CostRule → List Part → Position → List (Option Successor)
 successors_of rule parts b = map (λ m. option_map (told_of parts b) (successor rule b m)) all_moves
+
+-- whether a move is the one that is left out, if any is
+abbrev pub is_left_out : Option Move → Move → Bool
+is_left_out None m = false
+is_left_out (Some back) m = move_eq back m
+
+-- what each move makes, and nothing of the one that is left out
+abbrev pub but : {A : Type 0} → Option Move → (Move → Option A) → Move → Option A
+but left_out made m = if is_left_out left_out m then None else made m
+
+-- the same of the successors of a board, but for the one by the move that is left out
+abbrev pub successors_but : Option Move → CostRule → List Part → Position → List (Option Successor)
+successors_but left_out rule parts b = map (but left_out (λ m. option_map (told_of parts b) (successor rule b m))) all_moves
 
 -- ---- what lies in memory
 

@@ -1,7 +1,7 @@
 //! A board taken apart, and what its successors are told by.
 
 ghost use Rattle.std.specs.Prelude.{ℕ, ◌≡◌, ◌*◌, ◌^◌, ◌<◌, ◌≤◌, length, All, IfSome, None};
-ghost use Rattle.std.specs.Prelude.{MatchOption, option_map};
+ghost use Rattle.std.specs.Prelude.{MatchOption, option_map, true, false, Some};
 ghost use Rattle.board.specs.Grids.{cell_count};
 ghost use Rattle.board.specs.Positions.{Position, IsBoard, blank_of};
 ghost use Rattle.board.specs.CostRules.{CostRule};
@@ -11,7 +11,8 @@ ghost use Rattle.board.specs.Plans.{NothingBelow};
 ghost use Rattle.lower_bound.specs.Bounds.{sum_of};
 ghost use Rattle.lower_bound.specs.Tables.{ArePotentials, parts_of};
 ghost use Rattle.successor_sums.specs.Ranks.{AreRanks};
-ghost use Rattle.successor_sums.specs.Unpacked.{successors_of, IsReached, told_by};
+ghost use Rattle.successor_sums.specs.Unpacked.{successors_of, is_left_out, successors_but};
+ghost use Rattle.successor_sums.specs.Unpacked.{IsReached, told_by};
 
 use crate::ranks::{MOST_TABLES, sum_ranks, write_ranks};
 use board::{Board, Move, Shape, Weights};
@@ -125,9 +126,6 @@ impl UnpackedBoard {
 
     /// What is told of its successors, by the four moves in the order of `Move::ALL`: None where
     /// the blank would leave the board.
-    ///
-    /// All ranks are made before the first value is read, so that the reads, each of which may miss
-    /// the cache, go on side by side.
     pub fn successors(&self, weights: &Weights, bound: &Bound) -> [Option<Successor>; 4]
         requires rule { weights.now.grid ≡ self.now.grid }
         requires bound { bound.now.split.grid ≡ self.now.grid }
@@ -142,14 +140,41 @@ impl UnpackedBoard {
             (λ told. IfSome told (λ s. (1 ≤ s.cost) × (s.cost ≤ 255))) result }
         ensures sums { All (λ told. IfSome told (λ s. s.sum ≤ GREATEST_SUM)) result }
     {
+        self.successors_but(None, weights, bound)
+    }
+
+    /// The same, but for one move that is left out, if any is: of that nothing is told.
+    ///
+    /// All ranks are made before the first value is read, so that the reads, each of which may miss
+    /// the cache, go on side by side.
+    pub fn successors_but(
+        &self,
+        left_out: Option<Move>,
+        weights: &Weights,
+        bound: &Bound,
+    ) -> [Option<Successor>; 4]
+        requires rule { weights.now.grid ≡ self.now.grid }
+        requires bound { bound.now.split.grid ≡ self.now.grid }
+        ensures value { result
+            ≡ successors_but left_out weights.now (parts_of bound.now) self.now }
+        ensures keys { All
+            (λ told. IfSome told (λ s. (b : Position) × HasKey self.now.grid s.key b)) result }
+        ensures tiles { All
+            (λ told. IfSome told (λ s. (0 < s.tile) × (s.tile < cell_count self.now.grid)))
+            result }
+        ensures cells { All (λ told. IfSome told (λ s. s.cell < cell_count self.now.grid)) result }
+        ensures costs { All
+            (λ told. IfSome told (λ s. (1 ≤ s.cost) × (s.cost ≤ 255))) result }
+        ensures sums { All (λ told. IfSome told (λ s. s.sum ≤ GREATEST_SUM)) result }
+    {
         let mut up_ranks = [0; MOST_TABLES];
-        let up = self.reach(Move::U, weights, bound, &mut up_ranks);
+        let up = self.reach_but(left_out, Move::U, weights, bound, &mut up_ranks);
         let mut left_ranks = [0; MOST_TABLES];
-        let left = self.reach(Move::L, weights, bound, &mut left_ranks);
+        let left = self.reach_but(left_out, Move::L, weights, bound, &mut left_ranks);
         let mut right_ranks = [0; MOST_TABLES];
-        let right = self.reach(Move::R, weights, bound, &mut right_ranks);
+        let right = self.reach_but(left_out, Move::R, weights, bound, &mut right_ranks);
         let mut down_ranks = [0; MOST_TABLES];
-        let down = self.reach(Move::D, weights, bound, &mut down_ranks);
+        let down = self.reach_but(left_out, Move::D, weights, bound, &mut down_ranks);
         let tables = bound.tables();
         [
             look_up(tables, &up, &up_ranks),
@@ -157,6 +182,30 @@ impl UnpackedBoard {
             look_up(tables, &right, &right_ranks),
             look_up(tables, &down, &down_ranks),
         ]
+    }
+
+    // What is kept of the successor by a move, unless the move is left out.
+    fn reach_but(
+        &self,
+        left_out: Option<Move>,
+        direction: Move,
+        weights: &Weights,
+        bound: &Bound,
+        ranks: &mut [u32; MOST_TABLES],
+    ) -> Option<Reached>
+        requires rule { weights.now.grid ≡ self.now.grid }
+        requires bound { bound.now.split.grid ≡ self.now.grid }
+        ensures out { is_left_out left_out direction ≡ true → result ≡ None }
+        ensures kept { is_left_out left_out direction ≡ false → MatchOption result
+            (neighbour self.now.grid direction (blank_of self.now) ≡ None)
+            (IsReached weights.now bound.now.lookups self.now direction ranks.new) }
+        ensures reached { IfSome result
+            (IsReached weights.now bound.now.lookups self.now direction ranks.new) }
+    {
+        if leaves_out(left_out, direction) {
+            return None;
+        }
+        self.reach(direction, weights, bound, ranks)
     }
 
     // What is kept of the successor by a move until its sum is known, and writes its ranks. Its key
@@ -191,6 +240,16 @@ impl UnpackedBoard {
             cost,
         })
     }
+}
+
+// Whether a move is the one that is left out.
+fn leaves_out(left_out: Option<Move>, direction: Move) -> bool
+    ensures { result ≡ is_left_out left_out direction }
+{
+    let Some(back) = left_out else {
+        return false;
+    };
+    back == direction
 }
 
 // The successor, by the values that stand at its ranks.

@@ -18,7 +18,7 @@ returns-then-is_current-clause-first c =
     let within = c.entries.invariant.known first.f first.place first.cost (is_there first.f (first.place, first.cost) c.entries.waiting c.in-Some.ensures.1) in
     record {
       place = slice_get-get_or c.args.closed.now.keys first.place 0 within ∙ ap Some (sym c.at-key.ensures.key);
-      known = (c.at-key.result.1, c.at-key.ensures.known, current.0, current.1);
+      known = (c.at-key.result.1, c.at-key.ensures.known, current.0, current.1, refl);
       waits = c.in-Some.ensures.1;
       within = omega (arith, c.in-Some.ensures.0, c.ranges.below.fits);
     }
