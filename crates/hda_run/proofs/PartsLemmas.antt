@@ -1,11 +1,14 @@
 -- What the parts of a world are, and what the world is after one of them has changed.
-use Rattle.std.proofs.Common.{◌≡◌, ℕ, zero, suc, ◌+◌, ◌%◌, ◌<◌, ◌≤◌, List, [], ◌∷◌, length, map, get_or, set, refl, sym, ap, ◌∙◌, subst, inr, arith, Option, Some}
+use Rattle.std.proofs.Common.{◌≡◌, ℕ, zero, suc, ⊎_elim, ◌+◌, ◌%◌, ◌<◌, ◌≤◌, List, [], ◌∷◌, length, map, get_or, set, refl, sym, ap, ◌∙◌, subst, inr, arith, Option, Some}
 use Rattle.std.specs.Prelude.{slice_get, All, Vec}
+use Rattle.std.specs.FinMap as fin
 use Rattle.std.specs.Vec.{with_item, vec_len}
 use Rattle.std.specs.declared.alloc.Global.{Global}
 use Rattle.std.proofs.lemmas.List.{map-set, length-map, length-set}
 use Rattle.std.proofs.lemmas.List.Elements.{All-set}
 use Rattle.board.specs.CostRules.{CostRule}
+use Rattle.board.specs.Keys.{key_of}
+use Rattle.board.specs.Moves.{Moves}
 use Rattle.board.specs.Positions.{Position}
 use Rattle.lower_bound.specs.Tables.{Tables}
 use Rattle.message_ledger.specs.declared.plain.Plain.{Plain}
@@ -14,18 +17,20 @@ use Rattle.search_lists.specs.Lists.{Lists}
 use Rattle.search_lists.specs.Orders.{Guide}
 use Rattle.worker_core.specs.declared.worker.Worker.{Worker}
 use Rattle.worker_core.specs.Expanding.{role_by}
-use Rattle.worker_core.specs.Roles.{IsGuided, AreAtHome, guide_of, task_of}
+use Rattle.worker_core.specs.Roles.{IsGuided, AreAtHome, WereReached, guide_of, task_of}
 use Rattle.worker_core.specs.Workers.{state_of, packets_of, with_book}
 use Rattle.world_model.specs.declared.limits.TheConstants.{PACKET_LIMIT}
 use Rattle.world_model.specs.declared.steps.Refusal.{Refusal}
 use Rattle.world_model.specs.Books.{BookState}
 use Rattle.world_model.specs.BookSteps.{AtBook}
 use Rattle.world_model.specs.Credit.{IsCredited}
+use Rattle.world_model.specs.declared.parts.Known.{Known}
 use Rattle.world_model.specs.Shapes.{IsShaped}
+use Rattle.world_model.specs.Soundness.{IsSound}
 use Rattle.world_model.specs.Steps.{ByWorker, OnBook, with_worker}
 use Rattle.world_model.specs.Turns.{Turn, turn}
 use Rattle.world_model.specs.Workers.{WorkerState, Packet}
-use Rattle.world_model.specs.Worlds.{IsWorker, role_of}
+use Rattle.world_model.specs.Worlds.{IsWorker, Knows, role_of}
 use Rattle.world_model.proofs.ListLemmas.{part_le}
 use Rattle.world_model.proofs.StepsCredited.{funds}
 use Rattle.hda_run.specs.declared.parts.Parts.{Parts}
@@ -42,6 +47,10 @@ inside v n i is lt = omega (arith, is, lt, v.ok.0)
 
 pub outside : {X : Type 0} (v : Vec X Global) (n i : ℕ) → n ≡ vec_len v → n ≤ i → length v.items ≤ i
 outside v n i is le = omega (arith, is, le, v.ok.0)
+
+-- the only one there is
+pub alone_within : {X : Type 0} (v : Vec X Global) (i : ℕ) → length v.items ≡ 1 → i < 1 → i < length v.items
+alone_within v i one lt = omega (arith, one, lt)
 
 -- what was read at a place, seen otherwise
 pub seen_at : {X Y : Type 0} (f : X → Y) (xs : List X) (i : ℕ) (x : X) → i < length xs → x ≡ get_or xs i x → slice_get (map f xs) i ≡ Some (f x)
@@ -140,6 +149,29 @@ module _ {S : Type 0} (hash_of : S → Position → ℕ) (parts : Parts S) (me :
 
   pub floor_there : IsShaped (world_of hash_of parts) → me < length parts.book.floors
   floor_there shaped = let n = shaped.floors ∙ state_count hash_of parts in omega (arith, n, within)
+
+  -- where it is the only worker, it knows the board before each that it knows at a cost above 0
+  pub were_reached : IsShaped (world_of hash_of parts) → IsSound (world_of hash_of parts) → length parts.workers.items ≡ 1 → (rule : CostRule) → rule ≡ parts.job.rule → WereReached rule worker.lists.closed
+  were_reached shaped sound alone rule rule_is b known board sides knows later =
+      let here : Knows (world_of hash_of parts) me b known = record { worker = state_of worker; is = is_worker; board = (board, sides ∙ ap (λ (r : CostRule). r.grid) rule_is ∙ shaped.task.costs); knows = knows } in
+      ⊎_elim
+      (λ start. let none = start.1 in absurd (omega (arith, none, later)))
+      (λ some.
+      let before = some.0 in
+      let owned = shaped.owners before in
+      let count = state_count hash_of parts in
+      let same : (world_of hash_of parts).owner before ≡ me = omega (arith, owned, count, alone, within) in
+      let is : Some some.4.worker ≡ Some (state_of worker) = sym some.4.is ∙ ap (λ (k : ℕ). slice_get (world_of hash_of parts).workers k) same ∙ is_worker in
+      let it : some.4.worker ≡ state_of worker = cc in (
+        before,
+        some.1,
+        some.2,
+        some.4.board.0,
+        subst (λ (r : CostRule). Moves r before known.via b some.1) (sym rule_is) some.3,
+        ap (λ (w : WorkerState). fin.get w.known (key_of before)) (sym it) ∙ some.4.knows,
+        some.5,
+      ))
+      (sound.reached me b known here)
 
   -- ---- the role of the worker
 

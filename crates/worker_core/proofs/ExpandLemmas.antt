@@ -1,8 +1,9 @@
 -- What an expansion makes of a worker, by the offers of four moves.
-use Rattle.std.proofs.Common.{true, ◌≡◌, ℕ, ◌+◌, ◌-◌, ◌<◌, ◌≤◌, List, [], ◌∷◌, length, Option, Some, None, refl, sym, ap, ◌∙◌, subst, arith}
+use Rattle.std.proofs.Common.{false, ⊎_elim, true, ◌≡◌, ℕ, ◌+◌, ◌-◌, ◌<◌, ◌≤◌, List, [], ◌∷◌, length, Option, Some, None, refl, sym, ap, ◌∙◌, subst, arith}
 use Rattle.std.specs.Prelude.{IfSome, option_map, fold, filter_map}
 use Rattle.std.specs.List.{cons_option}
 use Rattle.std.specs.FinMap as map
+use Rattle.std.proofs.lemmas.Bool.{cases_Bool, cond-true, cond-false}
 use Rattle.board.specs.declared.costs.TheConstants.{GREATEST_EXPANDED_COST}
 use Rattle.board.specs.declared.moves.Move.{Move}
 use Rattle.board.specs.declared.moves.Move.TheVariants.{U, L, R, D}
@@ -24,6 +25,7 @@ use Rattle.outcomes.specs.Outcomes.{Task}
 use Rattle.search_lists.specs.declared.lists.Next.{Next}
 use Rattle.search_lists.specs.Lists.{Lists}
 use Rattle.search_lists.specs.Orders.{Guide, IsLeastOpen, NoneBelow}
+use Rattle.successor_sums.specs.Unpacked.{is_left_out, but}
 use Rattle.world_model.specs.declared.parts.Item.{Item}
 use Rattle.world_model.specs.declared.parts.Known.{Known}
 use Rattle.world_model.specs.Expansions.{with_successor, with_closure, expansion}
@@ -59,6 +61,18 @@ item_board rule b cost m grid board sides = there (successor rule b m) refl
     there (Some next) is =
         let moves : Moves rule b m next.0 next.1 = (successor_moves rule b m next.0 next.1 board).0 is in
         (moved_board rule b board m next.0 next.1 moves, ap (λ (p : Position). p.grid) moves.after ∙ sides)
+
+-- what is made of each move has this, where what is made of all moves has
+pub each_but : {A : Type 0} (P : A → Type 0) (left_out : Option Move) (made : Move → Option A) (m : Move) → IfSome (made m) P → IfSome (but left_out made m) P
+each_but P left_out made m is =
+    ⊎_elim
+    (λ (out : is_left_out left_out m ≡ true). subst (λ x. IfSome x P) (sym (cond-true _ None (made m) out)) tt)
+    (λ (stays : is_left_out left_out m ≡ false). subst (λ x. IfSome x P) (sym (cond-false _ _ _ stays)) is)
+    (cases_Bool (is_left_out left_out m))
+
+-- a successor of a board is a board with its sides, and what is left out is none
+pub item_board_but : (rule : CostRule) (b : Position) (cost : ℕ) (left_out : Option Move) (m : Move) (grid : Grid) → IsBoard b → b.grid ≡ grid → IfSome (but left_out (item_by rule b cost) m) (λ item. IsBoard item.board × (item.board.grid ≡ grid))
+item_board_but rule b cost left_out m grid board sides = each_but (λ item. IsBoard item.board × (item.board.grid ≡ grid)) left_out (item_by rule b cost) m (item_board rule b cost m grid board sides)
 
 -- ---- a board is closed first
 
@@ -112,16 +126,16 @@ module _ (task : Task) (guide : Guide) (owner : Position → ℕ) (b : Position)
       let high = within.low in
       (omega (arith, sums, adds, paid), omega (arith, low, high))
 
-  pub all_add : (offers : Offers) → AreOffered task.sum owner (item_by task.rule b cost) offers → OfEach (IsWithin grid cost n) offers → OfEach (AddsUpBy guide) offers
-  all_add offers offered within = (
-    one_adds (item_by task.rule b cost U) offers.up (boards U) offered.up within.0,
-    one_adds (item_by task.rule b cost L) offers.left (boards L) offered.left within.1,
-    one_adds (item_by task.rule b cost R) offers.right (boards R) offered.right within.2,
-    one_adds (item_by task.rule b cost D) offers.down (boards D) offered.down within.3,
+  pub all_add : (left_out : Option Move) (offers : Offers) → AreOffered task.sum owner (but left_out (item_by task.rule b cost)) offers → OfEach (IsWithin grid cost n) offers → OfEach (AddsUpBy guide) offers
+  all_add left_out offers offered within = (
+    one_adds (but left_out (item_by task.rule b cost) U) offers.up (boards U) offered.up within.0,
+    one_adds (but left_out (item_by task.rule b cost) L) offers.left (boards L) offered.left within.1,
+    one_adds (but left_out (item_by task.rule b cost) R) offers.right (boards R) offered.right within.2,
+    one_adds (but left_out (item_by task.rule b cost) D) offers.down (boards D) offered.down within.3,
   )
     where
-      boards : (m : Move) → IfSome (item_by task.rule b cost m) (λ i. IsBoard i.board × (i.board.grid ≡ task.goal.grid))
-      boards m = item_board task.rule b cost m task.goal.grid board.0 board.1
+      boards : (m : Move) → IfSome (but left_out (item_by task.rule b cost) m) (λ i. IsBoard i.board × (i.board.grid ≡ task.goal.grid))
+      boards m = item_board_but task.rule b cost left_out m task.goal.grid board.0 board.1
 
 -- the start of a task is no matter for its guide
 pub restarted : (start start' goal : Position) (rule : CostRule) (tables : Tables) (guide : Guide) (lists : Lists) → IsGuided (task_of start goal rule tables) guide lists → IsGuided (task_of start' goal rule tables) guide lists

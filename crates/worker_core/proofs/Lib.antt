@@ -4,5 +4,6 @@ mod GuideLemmas
 mod SettleLemmas
 mod TakeLemmas
 mod ExpandLemmas
+mod BackLemmas
 mod RoomLemmas
 mod ChosenLemmas

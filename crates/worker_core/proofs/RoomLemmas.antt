@@ -20,8 +20,9 @@ use Rattle.world_model.specs.Knowledge.{relaxation}
 use Rattle.world_model.specs.Expansions.{with_closure, expansion}
 use Rattle.world_model.specs.Workers.{WorkerState, Packet, Role}
 use Rattle.world_model.specs.WorkerSteps.{IsOverfull}
-use Rattle.worker_core.specs.Expanding.{IsReady, stock, taken}
-use Rattle.worker_core.proofs.ExpandLemmas.{in_four}
+use Rattle.successor_sums.specs.Unpacked.{but}
+use Rattle.worker_core.specs.Expanding.{IsReady, stock, taken, IsNoNews}
+use Rattle.worker_core.proofs.BackLemmas.{in_four_but}
 use Rattle.worker_core.proofs.TakeLemmas.{if_some, put_there, put_elsewhere}
 
 -- ---- one item
@@ -92,9 +93,9 @@ few_left me grid lists unsent ready to =
 
 -- ---- an expansion
 
-module _ (role : Role) (worker : WorkerState) (b : Position) (known : Known) (sum : Position → ℕ) (offers : Offers) (offered : AreOffered sum role.owner (item_by role.task.rule b known.cost) offers) (grid : Grid) (n : ℕ) (within : OfEach (IsWithin grid known.cost n) offers) (lists : length worker.unsent ≡ n) where
+module _ (role : Role) (worker : WorkerState) (b : Position) (known : Known) (left_out : Option Move) (no_news : IsNoNews role worker b known left_out) (sum : Position → ℕ) (offers : Offers) (offered : AreOffered sum role.owner (but left_out (item_by role.task.rule b known.cost)) offers) (grid : Grid) (n : ℕ) (within : OfEach (IsWithin grid known.cost n) offers) (lists : length worker.unsent ≡ n) where
   abbrev items : Move → Option Item
-  items = item_by role.task.rule b known.cost
+  items = but left_out (item_by role.task.rule b known.cost)
 
   abbrev expanded : WorkerState
   expanded = taken role (taken role (taken role (taken role (with_closure worker b known) (items U)) (items L)) (items R)) (items D)
@@ -119,7 +120,7 @@ module _ (role : Role) (worker : WorkerState) (b : Position) (known : Known) (su
   overfull none =
       subst
       IsOverfull
-      (sym (in_four role worker b known))
+      (sym (in_four_but role worker b known left_out no_news))
       (⊎_elim
       (λ some. any_at expanded.unsent some.0 some.1 some.2)
       (λ (all : (to : ℕ) → to < length expanded.unsent → length (get_or expanded.unsent to []) ≤ PACKET_LIMIT).
@@ -129,7 +130,7 @@ module _ (role : Role) (worker : WorkerState) (b : Position) (known : Known) (su
   -- with room none does
   pub none_overfull : HasRoom role.me worker.unsent offers → ¬ IsOverfull (expansion role worker b known)
   none_overfull room full =
-      let some = at_any expanded.unsent (subst IsOverfull (in_four role worker b known) full) in
+      let some = at_any expanded.unsent (subst IsOverfull (in_four_but role worker b known left_out no_news) full) in
       let m = lengths.0 in
       let lt = some.1 in
       let e = lengths.1 some.0 in

@@ -1,7 +1,9 @@
 -- How a worker takes what the moves from a board offer, one after the other.
 use Rattle.std.specs.Prelude.{⊤, ℕ, ◌≡◌, ◌+◌, ◌%◌, ◌<◌, ◌≤◌, List, [], ◌∷◌, length, slice_index_or, Option, Some, None, IfSome}
+use Rattle.board.specs.declared.moves.Move.{Move}
 use Rattle.board.specs.Grids.{Grid}
 use Rattle.board.specs.Keys.{HasKey}
+use Rattle.board.specs.Moves.{successor}
 use Rattle.board.specs.Positions.{Position}
 use Rattle.open_buckets.specs.declared.open.TheConstants.{GREATEST_F}
 use Rattle.open_buckets.specs.OpenLists.{places_at}
@@ -13,8 +15,9 @@ use Rattle.search_lists.specs.Lists.{Lists}
 use Rattle.search_lists.specs.Orders.{Guide}
 use Rattle.world_model.specs.declared.limits.TheConstants.{PACKET_LIMIT}
 use Rattle.world_model.specs.declared.parts.Item.{Item}
+use Rattle.world_model.specs.declared.parts.Known.{Known}
 use Rattle.world_model.specs.Expansions.{with_successor}
-use Rattle.world_model.specs.Workers.{WorkerState, Packet, Role}
+use Rattle.world_model.specs.Workers.{WorkerState, Packet, Role, KnowsAs}
 
 -- the worker with one successor more, where there is one
 abbrev pub taken : Role → WorkerState → Option Item → WorkerState
@@ -24,6 +27,12 @@ taken role worker (Some item) = with_successor role worker item
 -- what the four moves offer, in their order
 abbrev pub in_turn : Offers → List (Option Offer)
 in_turn offers = offers.up ∷ offers.left ∷ offers.right ∷ offers.down ∷ []
+
+-- What a move that is left out leads to is no news: a board that the worker owns, and knows at no more than it would be met at.
+abbrev pub IsNoNews : Role → WorkerState → Position → Known → Option Move → Type 0
+IsNoNews role worker b known None = ⊤
+IsNoNews role worker b known (Some back) =
+    (before : Position) × (c : ℕ) × (first : Known) × (successor role.task.rule b back ≡ Some (before, c)) × (role.owner before ≡ role.me) × KnowsAs worker before first × (first.cost ≤ known.cost + c)
 
 -- how many items of what some moves offer go from worker `me` to another, `to`
 abbrev pub all_go : ℕ → ℕ → List (Option Offer) → ℕ

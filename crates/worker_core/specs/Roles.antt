@@ -1,11 +1,12 @@
 -- What a worker is lent of the task that it shares, and how its lists stand to it.
-use Rattle.std.specs.Prelude.{ℕ, ◌≡◌, ◌≤◌, Some, List, length, Contains}
+use Rattle.std.specs.Prelude.{ℕ, ◌≡◌, ◌<◌, ◌≤◌, ◌+◌, Some, List, length, Contains}
 use Rattle.std.specs.FinMap as map
 use Rattle.board.specs.declared.costs.TheConstants.{GREATEST_COST}
 use Rattle.board.specs.CostRules.{CostRule}
 use Rattle.board.specs.Digits.{digits_of}
 use Rattle.board.specs.Grids.{cell_count}
 use Rattle.board.specs.Keys.{key_of}
+use Rattle.board.specs.Moves.{Moves}
 use Rattle.board.specs.Positions.{Position, IsBoard}
 use Rattle.outcomes.specs.Outcomes.{Task}
 use Rattle.lower_bound.specs.Bounds.{sum_of}
@@ -44,6 +45,13 @@ TasksHaveGuides = (task : Task) → IsBoard task.goal → IsGuideOf task (guide_
 -- each known key is that of a board of the task
 abbrev pub AreTaskBoards : Task → Table → Type 0
 AreTaskBoards task closed = (key : ℕ) (known : Known) → map.get closed.known key ≡ Some known → (b : Position) × IsTaskBoard task b × (key_of b ≡ key)
+
+-- Each board of the rule's sides that is known at a cost above 0 was reached from a known one: the board before its last move, which
+-- is cheaper by the move's cost at least.
+abbrev pub WereReached : CostRule → Table → Type 0
+WereReached rule closed =
+    (b : Position) (known : Known) → IsBoard b → b.grid ≡ rule.grid → map.get closed.known (key_of b) ≡ Some known → 0 < known.cost
+    → (before : Position) × (c : ℕ) × (first : Known) × IsBoard before × Moves rule before known.via b c × (map.get closed.known (key_of before) ≡ Some first) × (first.cost + c ≤ known.cost)
 
 -- by this guide the lists are in order, and what they know is boards of the task
 pub record IsGuided (task : Task) (guide : Guide) (lists : Lists) : Type 0 where

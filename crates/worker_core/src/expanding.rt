@@ -1,8 +1,10 @@
 //! The step that expands a board.
 
 ghost use Rattle.std.specs.Prelude.{ℕ, ◌≡◌, ◌<◌, ◌≤◌, ◌+◌, [], length, slice_index_or, IfSome, OnOk};
+ghost use Rattle.std.specs.Prelude.{Option, IsTrue};
 ghost use Rattle.std.specs.FinMap as map;
 ghost use Rattle.board.specs.Keys.{key_of};
+ghost use Rattle.board.specs.Neighbours.{opposite};
 ghost use Rattle.board.specs.Positions.{Position, IsBoard};
 ghost use Rattle.closed_table.specs.Tables.{table_closure};
 ghost use Rattle.open_buckets.specs.OpenLists.{places_at};
@@ -10,6 +12,7 @@ ghost use Rattle.open_buckets.specs.declared.open.TheConstants.{GREATEST_F};
 ghost use Rattle.offers.specs.Offers.{item_by, AreOffered, OfEach};
 ghost use Rattle.outcomes.specs.Outcomes.{Task};
 ghost use Rattle.search_lists.specs.Lists.{HasMoreRoom};
+ghost use Rattle.successor_sums.specs.Unpacked.{but};
 ghost use Rattle.search_lists.specs.Orders.{Guide, IsInOrder, IsFirst};
 ghost use Rattle.world_model.specs.declared.limits.TheConstants.{PACKET_LIMIT};
 ghost use Rattle.world_model.specs.declared.parts.Known.{Known};
@@ -18,11 +21,12 @@ ghost use Rattle.world_model.specs.Turns.{turn, refusal_in};
 ghost use Rattle.world_model.specs.Workers.{Role, KnowsAs};
 ghost use Rattle.world_model.specs.WorkerSteps.{ExpandStep};
 ghost use Rattle.worker_core.specs.Expanding.{IsReady, stock, AddsUpBy, in_turn, role_by};
-ghost use Rattle.worker_core.specs.Roles.{IsGuided, task_of};
+ghost use Rattle.worker_core.specs.Expanding.{IsNoNews};
+ghost use Rattle.worker_core.specs.Roles.{IsGuided, WereReached, task_of};
 ghost use Rattle.worker_core.specs.Workers.{state_of, packets_of};
 
 use crate::worker::Worker;
-use board::{Board, Weights};
+use board::{Board, Move, Weights};
 use lower_bound::Bound;
 use memory::OutOfMemory;
 use message_ledger::{Allowance, Counting};
@@ -68,6 +72,76 @@ impl<C: Counting> Worker<C> {
         ensures workers { length self.new.unsent.items ≡ length self.old.unsent.items }
         ensures granted { self.new.allowance.granted ≡ self.old.allowance.granted }
     {
+        self.expand_one(alloc, me, goal, weights, bound, owners, false)
+    }
+
+    /// Expands a board as `expand` does, where there is no other worker. The move back, to the board
+    /// before the last move, is left out: that board is known, and cheaper.
+    pub fn expand_alone<S: Spread>(
+        &mut self,
+        alloc: Global,
+        me: usize,
+        goal: &Board,
+        weights: &Weights,
+        bound: &Bound,
+        owners: &S,
+    ) -> Result<(), Refusal>
+        requires rule { weights.now.grid ≡ goal.now.grid }
+        requires sides { bound.now.split.grid ≡ goal.now.grid }
+        requires there { me < length self.old.unsent.items }
+        requires alone { length self.old.unsent.items ≡ 1 }
+        requires reached { WereReached weights.now self.old.lists.closed }
+        requires few { (to : ℕ)
+            → length (slice_index_or (packets_of self.old.unsent.items) to []) ≤ PACKET_LIMIT }
+        requires guided { (start : Position) × (guide : Guide)
+            × IsGuided (task_of start goal.now weights.now bound.now) guide self.old.lists }
+        ensures step { (start : Position)
+            → ExpandStep (role_by (task_of start goal.now weights.now bound.now)
+            (S.hash_of owners.now) (length self.old.unsent.items) me)
+            (turn (state_of self.old) (refusal_in result) (state_of self.new)) }
+        ensures order { (start : Position) (guide : Guide)
+            → IsGuided (task_of start goal.now weights.now bound.now) guide self.old.lists
+            → IsGuided (task_of start goal.now weights.now bound.now) guide self.new.lists }
+        ensures few { (to : ℕ)
+            → length (slice_index_or (packets_of self.new.unsent.items) to []) ≤ PACKET_LIMIT }
+        ensures workers { length self.new.unsent.items ≡ length self.old.unsent.items }
+        ensures granted { self.new.allowance.granted ≡ self.old.allowance.granted }
+    {
+        self.expand_one(alloc, me, goal, weights, bound, owners, true)
+    }
+
+    // Expands a board, and leaves the move back out where this is the only worker.
+    fn expand_one<S: Spread>(
+        &mut self,
+        alloc: Global,
+        me: usize,
+        goal: &Board,
+        weights: &Weights,
+        bound: &Bound,
+        owners: &S,
+        alone: bool,
+    ) -> Result<(), Refusal>
+        requires rule { weights.now.grid ≡ goal.now.grid }
+        requires sides { bound.now.split.grid ≡ goal.now.grid }
+        requires there { me < length self.old.unsent.items }
+        requires alone { IsTrue alone → length self.old.unsent.items ≡ 1 }
+        requires reached { IsTrue alone → WereReached weights.now self.old.lists.closed }
+        requires few { (to : ℕ)
+            → length (slice_index_or (packets_of self.old.unsent.items) to []) ≤ PACKET_LIMIT }
+        requires guided { (start : Position) × (guide : Guide)
+            × IsGuided (task_of start goal.now weights.now bound.now) guide self.old.lists }
+        ensures step { (start : Position)
+            → ExpandStep (role_by (task_of start goal.now weights.now bound.now)
+            (S.hash_of owners.now) (length self.old.unsent.items) me)
+            (turn (state_of self.old) (refusal_in result) (state_of self.new)) }
+        ensures order { (start : Position) (guide : Guide)
+            → IsGuided (task_of start goal.now weights.now bound.now) guide self.old.lists
+            → IsGuided (task_of start goal.now weights.now bound.now) guide self.new.lists }
+        ensures few { (to : ℕ)
+            → length (slice_index_or (packets_of self.new.unsent.items) to []) ≤ PACKET_LIMIT }
+        ensures workers { length self.new.unsent.items ≡ length self.old.unsent.items }
+        ensures granted { self.new.allowance.granted ≡ self.old.allowance.granted }
+    {
         let Some(next) = self.lists.next(self.best.limit()) else {
             return Err(Refusal::NothingBelowLimit);
         };
@@ -82,6 +156,7 @@ impl<C: Counting> Worker<C> {
             bound,
             owners,
             self.unsent.len(),
+            move_left_out(next, alone),
         );
         if !has_room(&self.unsent, me, &offers) {
             return Err(Refusal::NoRoom);
@@ -102,9 +177,10 @@ impl<C: Counting> Worker<C> {
         requires ready { IsReady me goal.now.grid (stock self.old.lists
             (packets_of self.old.unsent.items)) (in_turn offers) }
         ensures state { (role : Role) (sum : Position → ℕ) (b : Position) (known : Known)
-            → role.me ≡ me → IsBoard b → b.grid ≡ goal.now.grid → key_of b ≡ next.key
-            → KnowsAs (state_of self.old) b known
-            → AreOffered sum role.owner (item_by role.task.rule b known.cost) offers
+            (left_out : Option Move) → role.me ≡ me → IsBoard b → b.grid ≡ goal.now.grid
+            → key_of b ≡ next.key → KnowsAs (state_of self.old) b known
+            → IsNoNews role (state_of self.old) b known left_out
+            → AreOffered sum role.owner (but left_out (item_by role.task.rule b known.cost)) offers
             → state_of self.new ≡ expansion role (state_of self.old) b known }
         ensures guided { (task : Task) (guide : Guide) → task.goal ≡ goal.now
             → OfEach (AddsUpBy guide) offers
@@ -122,6 +198,22 @@ impl<C: Counting> Worker<C> {
         self.take(me, shape, goal_key, offers.right);
         self.take(me, shape, goal_key, offers.down);
     }
+}
+
+// The move from a board that is left out: the one back, where that is asked for and the board is
+// not the start.
+fn move_left_out(next: Next, alone: bool) -> Option<Move>
+    ensures alone { IfSome result (λ back. IsTrue alone) }
+    ensures later { IfSome result (λ back. 0 < next.cost) }
+    ensures back { IfSome result (λ back. back ≡ opposite next.via) }
+{
+    if !alone {
+        return None;
+    }
+    if next.cost == 0 {
+        return None;
+    }
+    Some(next.via.undo())
 }
 
 // Closes the board that is next, which takes 1 of the allowance.

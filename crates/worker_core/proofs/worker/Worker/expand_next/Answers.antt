@@ -5,10 +5,12 @@ use Rattle.board.specs.Grids.{Grid}
 use Rattle.board.specs.Keys.{key_of}
 use Rattle.board.specs.Positions.{Position}
 use Rattle.offers.specs.Offers.{item_by}
+use Rattle.successor_sums.specs.Unpacked.{but}
 use Rattle.world_model.specs.Workers.{WorkerState}
 use Rattle.worker_core.specs.Expanding.{IsReady, stock, taken}
 use Rattle.worker_core.specs.Workers.{state_of, packets_of}
-use Rattle.worker_core.proofs.ExpandLemmas.{in_four, item_board, ready_closed, one_spent}
+use Rattle.worker_core.proofs.BackLemmas.{in_four_but}
+use Rattle.worker_core.proofs.ExpandLemmas.{item_board_but, ready_closed, one_spent}
 use Rattle.worker_core.proofs.RoomLemmas.{few_left}
 use Rattle.worker_core.proofs.TakeLemmas.{guided_closed}
 use Rattle.worker_core.proofs.worker.Worker.expand_next.Goals as goal
@@ -70,11 +72,11 @@ take-requires-4-after_bounds g c κs within =
 
 -- src/expanding.rt:91:5
 pub returns-clause-state : goal.returns-clause-state
-returns-clause-state g c = λ role sum b known me board sides packed at offered.
+returns-clause-state g c = λ role sum b known left_out me board sides packed at no_news offered.
     let worker = state_of c.args.self.now in
     let old = c.args.self.now.allowance in
-    let item = item_by role.task.rule b known.cost in
-    let boards = λ (m : Move). item_board role.task.rule b known.cost m c.shape-shape.result board (sides ∙ sym c.shape-shape.ensures.value) in
+    let item = but left_out (item_by role.task.rule b known.cost) in
+    let boards = λ (m : Move). item_board_but role.task.rule b known.cost left_out m c.shape-shape.result board (sides ∙ sym c.shape-shape.ensures.value) in
     let closed = one_spent worker b known old.granted old.left c.close_next.new.allowance.left c.close_next.new.lists c.args.self.now.lists c.args.next.key refl refl refl c.close_next.ensures.left c.requires.granted packed at c.close_next.ensures.closed in
     let made = c.close_next.new.lists.closed.known in
     let left = c.close_next.new.allowance.left in
@@ -83,7 +85,7 @@ returns-clause-state g c = λ role sum b known me board sides packed at offered.
     let s2 = c.take-2.ensures.state role sum (item L) me offered.left (boards L) ∙ ap (λ (w : WorkerState). taken role w (item L)) s1 in
     let s3 = c.take-3.ensures.state role sum (item R) me offered.right (boards R) ∙ ap (λ (w : WorkerState). taken role w (item R)) s2 in
     let s4 = c.take-4.ensures.state role sum (item D) me offered.down (boards D) ∙ ap (λ (w : WorkerState). taken role w (item D)) s3 in
-    s4 ∙ sym (in_four role worker b known)
+    s4 ∙ sym (in_four_but role worker b known left_out no_news)
 
 -- src/expanding.rt:91:5
 pub returns-clause-guided : goal.returns-clause-guided
