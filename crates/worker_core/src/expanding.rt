@@ -37,6 +37,9 @@ use std::alloc::Global;
 use successor_sums::UnpackedBoard;
 use world_model::Refusal;
 
+// What is known of fewer boards lies in the processor's caches: to read ahead gains nothing there.
+const BOARDS_IN_CACHE: usize = 1 << 12;
+
 // The most moves from a board.
 const MOVES: usize = 4;
 
@@ -278,6 +281,9 @@ fn make_places_at(
 fn read_ahead(lists: &mut SearchLists, me: usize, offers: &Offers)
     ensures { lists.new ≡ lists.old }
 {
+    if lists.len() < BOARDS_IN_CACHE {
+        return;
+    }
     let keys = [
         own_key(&offers.up, me),
         own_key(&offers.left, me),
