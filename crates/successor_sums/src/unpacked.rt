@@ -21,15 +21,16 @@ use lower_bound::{Bound, GREATEST_SUM};
 use pattern_index::cells_of;
 use std::marker::Model;
 
-/// What is told of a successor, the board that a move leads to.
+/// What is told of a successor, the board that a move leads to. The order of the fields leaves few
+/// bytes unused between them, which are copied too.
 #[derive(Clone, Copy, Debug)]
 pub struct Successor {
     /// Its key.
     pub key: u128,
-    /// The tile that is moved, to where the blank was.
-    pub tile: u8,
     /// The cell that the tile leaves, and to which the blank goes.
     pub cell: usize,
+    /// The tile that is moved, to where the blank was.
+    pub tile: u8,
     /// What the move costs.
     pub cost: u32,
     /// Its sum.
@@ -40,8 +41,8 @@ pub struct Successor {
 #[derive(Clone, Copy, Debug)]
 struct Reached {
     key: u128,
-    tile: u8,
     cell: usize,
+    tile: u8,
     cost: u32,
 }
 
