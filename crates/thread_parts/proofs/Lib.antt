@@ -1,0 +1,5 @@
+-- Lemmas on parts.
+pub mod PartLemmas
+pub mod StepLemmas
+pub mod EndLemmas
+pub mod OpeningLemmas

@@ -1,0 +1,45 @@
+-- What contracts see of a part.
+use Rattle.std.specs.Prelude.{ℕ, ◌≡◌, List, map}
+use Rattle.board.specs.Positions.{Position}
+use Rattle.rings.specs.Rings.{Ring}
+use Rattle.thread_model.specs.Parts.{PartState, IsRole, Keeps}
+use Rattle.world_model.specs.Workers.{Role}
+use Rattle.worker_core.specs.Expanding.{role_by}
+use Rattle.worker_core.specs.Roles.{IsGuided, guide_of}
+use Rattle.worker_core.specs.Workers.{state_of}
+use Rattle.hda_run.specs.Problems.{Problem, task_in}
+use Rattle.thread_parts.specs.declared.part.Part.{Part}
+
+-- What the steps of a part leave as it is: what is to be solved, how boards are owned, which worker it is, and which rings it has the
+-- ends of.
+pub record Face (S : Type 0) : Type 0 where
+  pub job : Problem
+  pub owners : S
+  pub me : ℕ
+  pub outs : List Ring
+  pub ins : List Ring
+
+abbrev pub face : {S : Type 0} → Problem → S → ℕ → List Ring → List Ring → Face S
+face job owners me outs ins = record { job = job; owners = owners; me = me; outs = outs; ins = ins }
+
+module _ {S C D E K G : Type 0} where
+  abbrev pub face_of : Part S C D E K G → Face S
+  face_of part = face part.job.now part.owners.now part.me (map (λ out. out.ring) part.outs.items) (map (λ into. into.ring) part.ins.items)
+
+  -- the second part has the face of the first
+  abbrev pub IsKept : Part S C D E K G → Part S C D E K G → Type 0
+  IsKept part part' = face_of part' ≡ face_of part
+
+  -- a part, as the laws of parts have it
+  abbrev pub part_state : Part S C D E K G → PartState
+  part_state part = record { worker = state_of part.worker; sent = map (λ out. out.sent) part.outs.items; received = map (λ into. into.received) part.ins.items }
+
+  -- the role of its worker among n, where boards are owned by a hash, modulo n
+  abbrev pub role_of : (S → Position → ℕ) → ℕ → Part S C D E K G → Role
+  role_of hash_of n part = role_by (task_in part.job.now) (hash_of part.owners.now) n part.me
+
+  -- What a part of n keeps, whatever the others do. Its worker's lists are guided to the goal.
+  pub record Holds (hash_of : S → Position → ℕ) (n : ℕ) (part : Part S C D E K G) : Type 0 where
+    pub role : IsRole n (role_of hash_of n part)
+    pub keeps : Keeps n (role_of hash_of n part) (part_state part)
+    pub guided : IsGuided (task_in part.job.now) (guide_of (task_in part.job.now)) part.worker.lists

@@ -1,0 +1,90 @@
+//! The two steps that a worker takes by itself.
+
+ghost use Rattle.std.specs.Prelude.{◌≡◌, ◌<◌, ◌%◌, IsTrue, IsFalse};
+ghost use Rattle.thread_model.specs.Changes.{with_worker};
+ghost use Rattle.world_model.specs.Shapes.{IsItemFor};
+ghost use Rattle.world_model.specs.Turns.{turn, refusal_in};
+ghost use Rattle.world_model.specs.WorkerSteps.{ExpandStep};
+ghost use Rattle.hda_run.specs.Problems.{task_in};
+ghost use Rattle.worker_core.specs.Workers.{state_of};
+ghost use Rattle.thread_parts.specs.Parts.{part_state, role_of, Holds, IsKept};
+ghost use Rattle.thread_parts.specs.Steps.{TakeInStep};
+
+use crate::part::Part;
+use board::GREATEST_COST;
+use hda_run::Job;
+use message_ledger::Tokens;
+use owners::Spread;
+use std::alloc::Global;
+use thread_model::laws::steps_are_kept;
+use world_model::{Item, Refusal};
+
+impl<'a, S: Spread, C: Tokens> Part<'a, S, C> {
+    /// Expands a board of least cost plus sum. Refusals: S1 no board may be expanded below the
+    /// limit, S2 no allowance is left, S3 a packet has no room, S8 memory was refused.
+    pub fn expand(&mut self, alloc: Global) -> Result<(), Refusal>
+        requires { Holds S.hash_of C.workers self.old }
+        ensures step { ExpandStep (role_of S.hash_of C.workers self.old)
+            (turn (state_of self.old.worker) (refusal_in result) (state_of self.new.worker)) }
+        ensures rest { part_state self.new
+            ≡ with_worker (part_state self.old) (state_of self.new.worker) }
+        ensures holds { Holds S.hash_of C.workers self.new }
+        ensures kept { IsKept self.old self.new }
+    {
+        steps_are_kept();
+        let job = self.job;
+        let me = self.me;
+        let owners = self.owners;
+        self.worker.expand(
+            alloc,
+            me,
+            job.goal(),
+            job.weights(),
+            job.bound(),
+            owners,
+        )
+    }
+
+    /// Takes the last held item out: drops it where it is foreign, and else relaxes its board.
+    /// Refusals: S13 nothing is held, S8 memory was refused.
+    pub fn settle(&mut self, alloc: Global) -> Result<(), Refusal>
+        requires { Holds S.hash_of C.workers self.old }
+        ensures step { TakeInStep (role_of S.hash_of C.workers self.old)
+            (turn (state_of self.old.worker) (refusal_in result) (state_of self.new.worker)) }
+        ensures rest { part_state self.new
+            ≡ with_worker (part_state self.old) (state_of self.new.worker) }
+        ensures holds { Holds S.hash_of C.workers self.new }
+        ensures kept { IsKept self.old self.new }
+    {
+        steps_are_kept();
+        let Some(item) = self.worker.take_held() else {
+            return Err(Refusal::NothingThere);
+        };
+        let job = self.job;
+        if !is_for(job, self.owners, self.outs.len(), self.me, &item) {
+            return Ok(());
+        }
+        if let Err(refused) = self.worker.meet(alloc, job.goal(), job.bound(), &item) {
+            self.worker.hold(item);
+            return Err(Refusal::Memory(refused));
+        }
+        Ok(())
+    }
+}
+
+// Whether an item is for worker `me` of so many; else it is foreign.
+fn is_for<S: Spread>(job: &Job, owners: &S, workers: usize, me: usize, item: &Item) -> bool
+    requires { 0 < workers }
+    ensures yes { IsTrue result → IsItemFor (task_in job.now)
+        (λ b. S.hash_of owners.now b % workers) me item.now }
+    ensures no { IsFalse result → ¬ IsItemFor (task_in job.now)
+        (λ b. S.hash_of owners.now b % workers) me item.now }
+{
+    if item.board.shape() != job.goal().shape() {
+        return false;
+    }
+    if item.cost > GREATEST_COST {
+        return false;
+    }
+    owners.owner(&item.board, workers) == me
+}
