@@ -1,5 +1,5 @@
 -- What a worker knows of a lane by the end that it is lent, and what a call at the end makes of the worker.
-use Rattle.std.specs.Prelude.{◌≡◌, ◌≢◌, ℕ, ◌+◌, ◌-◌, ◌≤◌, [], ◌∷◌, ◌++◌, length, slice_set}
+use Rattle.std.specs.Prelude.{◌≡◌, ◌≢◌, ℕ, ◌+◌, ◌-◌, ◌^◌, ◌≤◌, [], ◌∷◌, ◌++◌, length, slice_set}
 use Rattle.world_model.specs.declared.limits.TheConstants.{PACKET_LIMIT, LANE_LIMIT}
 use Rattle.world_model.specs.Workers.{WorkerState, Packet, Lane, packet_for}
 
@@ -24,11 +24,12 @@ pub record HasSent (takes : Packet → Type 0) (to : ℕ) (before after : Worker
   pub taken : takes (packet_for before to)
   pub worker : after ≡ record before { unsent = slice_set before.unsent to []; purse = before.purse - 1 }
 
--- A packet came: the end gave it, its items are held, and the purse has its 1.
+-- A packet came: the end gave it, its items are held, and the purse, which was not too great, has its 1.
 pub record HasReceived (gives : Packet → Type 0) (before after : WorkerState) : Type 0 where
   pub packet : Packet
   pub given : gives packet
   pub none_held : before.held ≡ []
+  pub room : before.purse + 1 ≢ 2 ^ 64
   pub some : 1 ≤ length packet
   pub few : length packet ≤ PACKET_LIMIT
   pub worker : after ≡ record before { held = packet; purse = before.purse + 1 }

@@ -13,7 +13,8 @@ impl<C: Counting> Worker<C> {
     pub fn take_held(&mut self) -> Option<Item>
         ensures some { IfSome result (λ item.
             (state_of self.old).held ≡ (state_of self.new).held ++ item ∷ []) }
-        ensures none { IfNone result ((state_of self.old).held ≡ []) }
+        ensures none { IfNone result (((state_of self.old).held ≡ [])
+            × ((state_of self.new).held ≡ [])) }
         ensures rest { state_of self.new
             ≡ record (state_of self.old) { held = (state_of self.new).held } }
         ensures lists { self.new.lists ≡ self.old.lists }
