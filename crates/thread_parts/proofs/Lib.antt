@@ -3,3 +3,4 @@ pub mod PartLemmas
 pub mod StepLemmas
 pub mod EndLemmas
 pub mod OpeningLemmas
+pub mod RingLemmas

@@ -10,6 +10,7 @@ use Rattle.board.specs.Keys.{key_of}
 use Rattle.board.specs.Positions.{Position}
 use Rattle.message_ledger.specs.Spending.{Spending, spent}
 use Rattle.outcomes.specs.Outcomes.{Task}
+use Rattle.rings.specs.Rings.{sent_lanes, received_lanes}
 use Rattle.thread_model.specs.Changes.{with_worker, opening_part}
 use Rattle.thread_model.specs.Laws.{OpeningsAreKept}
 use Rattle.thread_model.specs.Parts.{PartState, IsRole, Keeps}
@@ -101,8 +102,8 @@ begins hash_of owners task n me purse allowance part law is sent received some f
 
 -- and so the part holds
 pub opens : {S C D E K G : Type 0} (hash_of : S → Position → ℕ) (part : Part S C D E K G) (n workers purse : ℕ) (allowance : Spending) → n ≡ workers → OpeningsAreKept → IsTask (task_in part.job.now) → n ≤ WORKER_LIMIT → part.me < n
-    → map (λ out. out.sent) part.outs.items ≡ replicate n []
-    → map (λ into. into.received) part.ins.items ≡ replicate n []
+    → sent_lanes part.outs.items ≡ replicate n []
+    → received_lanes part.ins.items ≡ replicate n []
     → (hash_of part.owners.now part.job.now.start % n ≡ part.me → 0 < purse)
     → (hash_of part.owners.now part.job.now.start % n ≡ part.me → (via : Move) × (state_of part.worker ≡ with_means purse allowance (first_worker n (task_in part.job.now) via)))
     → (hash_of part.owners.now part.job.now.start % n ≢ part.me → state_of part.worker ≡ with_means purse allowance (idle_worker n))

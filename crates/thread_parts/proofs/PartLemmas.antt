@@ -9,14 +9,14 @@ use Rattle.outcomes.specs.Outcomes.{Task}
 use Rattle.search_lists.specs.Lists.{Lists}
 use Rattle.search_lists.specs.Orders.{Guide}
 use Rattle.thread_model.specs.Changes.{with_worker}
-use Rattle.thread_model.specs.Parts.{Keeps}
+use Rattle.thread_model.specs.Parts.{IsRole, Keeps}
 use Rattle.world_model.specs.declared.limits.TheConstants.{PACKET_LIMIT}
-use Rattle.world_model.specs.Workers.{Packet}
+use Rattle.world_model.specs.Workers.{Packet, Role}
 use Rattle.worker_core.specs.declared.worker.Worker.{Worker}
 use Rattle.worker_core.specs.Expanding.{role_by}
 use Rattle.worker_core.specs.Roles.{IsGuided, guide_of, task_of}
 use Rattle.worker_core.specs.Workers.{state_of, packets_of}
-use Rattle.hda_run.specs.Problems.{task_in}
+use Rattle.hda_run.specs.Problems.{Problem, task_in}
 use Rattle.thread_parts.specs.declared.part.Part.{Part}
 use Rattle.thread_parts.specs.Parts.{Holds, part_state, role_of}
 
@@ -66,3 +66,11 @@ module _ {S C D E K G : Type 0} (hash_of : S → Position → ℕ) (n : ℕ) (pa
   -- lists that are the same are guided too
   pub same_guided : (worker : Worker C D E K G) → worker.lists ≡ part.worker.lists → IsGuided (task_in part.job.now) (guide_of (task_in part.job.now)) worker.lists
   same_guided worker same = subst (λ (lists : Lists). IsGuided (task_in part.job.now) (guide_of (task_in part.job.now)) lists) (sym same) holds.guided
+
+  -- a part with another worker and other ends, which keeps what it should, holds, where the worker's lists are the same
+  pub holds_after : (part' : Part S C D E K G) → role_of hash_of n part' ≡ role_of hash_of n part → part'.job.now ≡ part.job.now → Keeps n (role_of hash_of n part) (part_state part') → part'.worker.lists ≡ part.worker.lists → Holds hash_of n part'
+  holds_after part' same job keeps lists = record {
+    role = subst (IsRole n) (sym same) holds.role;
+    keeps = subst (λ (role : Role). Keeps n role (part_state part')) (sym same) keeps;
+    guided = subst (λ (x : Problem × Lists). IsGuided (task_in x.0) (guide_of (task_in x.0)) x.1) (λ t. (sym job t, sym lists t)) holds.guided;
+  }

@@ -1,8 +1,11 @@
 -- The steps of a part, as its laws have them.
-use Rattle.std.proofs.Common.{◌≡◌, ◌≢◌, ℕ, suc, ◌+◌, ◌<◌, ◌≤◌, List, [], ◌∷◌, ◌++◌, length, refl, sym, ap, ◌∙◌, subst, inl, inr, arith, Some, None}
+use Rattle.std.proofs.Common.{◌≡◌, ◌≢◌, ℕ, suc, ◌+◌, ◌%◌, ◌<◌, ◌≤◌, List, [], ◌∷◌, ◌++◌, length, refl, sym, ap, ◌∙◌, subst, inl, inr, arith, Some, None}
 use Rattle.memory.specs.declared.OutOfMemory.{OutOfMemory}
+use Rattle.board.specs.Positions.{Position}
+use Rattle.hda_run.specs.Problems.{task_in}
+use Rattle.thread_parts.specs.declared.part.Part.{Part}
 use Rattle.thread_model.specs.Changes.{DropStep, HoldsOwnLast}
-use Rattle.thread_parts.specs.Steps.{TakeInStep, WithPurse, IsBarred}
+use Rattle.thread_parts.specs.Steps.{SettleOrDrop, WithPurse, IsBarred}
 use Rattle.world_model.specs.declared.limits.TheConstants.{PACKET_LIMIT}
 use Rattle.world_model.specs.declared.parts.Item.{Item}
 use Rattle.world_model.specs.declared.steps.Refusal.{Refusal}
@@ -80,3 +83,27 @@ barred_draw worker book refusal (inr empty) = inr (empty.0, inl (empty.1, (ap So
 pub barred_rest : (role : Role) (worker : WorkerState) (book : BookState) (refusal : Refusal) → IsBarred worker book refusal → RestStep role (turn (with_book worker book) (Some refusal) (with_book worker book))
 barred_rest role worker book refusal (inl stopped) = inl (stopped.0, (ap Some stopped.1, refl))
 barred_rest role worker book refusal (inr empty) = inr (empty.0, inl (empty.1, (ap Some empty.2, refl)))
+
+-- ---- the last held item of a part, and the item that is not for it
+
+module _ {S C D E K G : Type 0} (hash_of : S → Position → ℕ) (n count : ℕ) (part : Part S C D E K G) (same : count ≡ n) (item : Item) where
+  -- whom the item is for, told by the number of ends
+  abbrev IsOwn : ℕ → Type 0
+  IsOwn k = IsItemFor (task_in part.job.now) (λ b. hash_of part.owners.now b % k) part.me item
+
+  pub is_own : IsOwn count → IsOwn n
+  is_own own = subst IsOwn same own
+
+  pub is_foreign : ¬ IsOwn count → ¬ IsOwn n
+  is_foreign foreign own = foreign (subst IsOwn (sym same) own)
+
+-- what was taken out, and put back where no memory was
+pub put_back : (old taken left new : WorkerState) (item : Item) → old.held ≡ taken.held ++ item ∷ [] → taken ≡ record old { held = taken.held } → left ≡ taken → new ≡ record left { held = left.held ++ item ∷ [] } → new ≡ old
+put_back old taken left new item whole rest same put =
+    put
+    ∙ (λ t. record (same t) { held = (same t).held ++ item ∷ [] })
+    ∙ (λ t. record (rest t) { held = sym whole t })
+
+-- what was taken out, and relaxed
+pub relaxed : (old taken new : WorkerState) (item : Item) → taken ≡ record old { held = taken.held } → new ≡ record taken { known = relaxation taken.known item } → new ≡ record old { held = taken.held; known = relaxation old.known item }
+relaxed old taken new item rest met = met ∙ (λ t. record (rest t) { known = relaxation (rest t).known item })

@@ -1,7 +1,7 @@
 -- What contracts see of a part.
-use Rattle.std.specs.Prelude.{ℕ, ◌≡◌, List, map}
+use Rattle.std.specs.Prelude.{ℕ, ◌≡◌, List}
 use Rattle.board.specs.Positions.{Position}
-use Rattle.rings.specs.Rings.{Ring}
+use Rattle.rings.specs.Rings.{Ring, out_rings, in_rings, sent_lanes, received_lanes}
 use Rattle.thread_model.specs.Parts.{PartState, IsRole, Keeps}
 use Rattle.world_model.specs.Workers.{Role}
 use Rattle.worker_core.specs.Expanding.{role_by}
@@ -24,7 +24,7 @@ face job owners me outs ins = record { job = job; owners = owners; me = me; outs
 
 module _ {S C D E K G : Type 0} where
   abbrev pub face_of : Part S C D E K G → Face S
-  face_of part = face part.job.now part.owners.now part.me (map (λ out. out.ring) part.outs.items) (map (λ into. into.ring) part.ins.items)
+  face_of part = face part.job.now part.owners.now part.me (out_rings part.outs.items) (in_rings part.ins.items)
 
   -- the second part has the face of the first
   abbrev pub IsKept : Part S C D E K G → Part S C D E K G → Type 0
@@ -32,7 +32,7 @@ module _ {S C D E K G : Type 0} where
 
   -- a part, as the laws of parts have it
   abbrev pub part_state : Part S C D E K G → PartState
-  part_state part = record { worker = state_of part.worker; sent = map (λ out. out.sent) part.outs.items; received = map (λ into. into.received) part.ins.items }
+  part_state part = record { worker = state_of part.worker; sent = sent_lanes part.outs.items; received = received_lanes part.ins.items }
 
   -- the role of its worker among n, where boards are owned by a hash, modulo n
   abbrev pub role_of : (S → Position → ℕ) → ℕ → Part S C D E K G → Role

@@ -1,17 +1,33 @@
 -- The steps that a part takes otherwise than a worker of a world does.
-use Rattle.std.specs.Prelude.{◌≡◌, ◌≢◌, ◌⊎◌, None}
-use Rattle.thread_model.specs.Changes.{DropStep, HoldsOwnLast}
+use Rattle.std.specs.Prelude.{◌≡◌, ◌≢◌, ◌⊎◌, ℕ, ◌+◌, ◌^◌, ◌<◌, [], None}
+use Rattle.thread_model.specs.Changes.{DropStep, HoldsOwnLast, Sends, Receives}
+use Rattle.thread_model.specs.Parts.{PartState}
 use Rattle.world_model.specs.declared.steps.Refusal.{Refusal}
-use Rattle.world_model.specs.declared.steps.Refusal.TheVariants.{Stopped, PurseEmpty}
-use Rattle.world_model.specs.Turns.{Turn, Unless}
-use Rattle.world_model.specs.Workers.{WorkerState, Role}
+use Rattle.world_model.specs.declared.steps.Refusal.TheVariants.{NothingThere, PurseTooSmall, RingFull, StillHolding, PurseFull, RingEmpty, Stopped, PurseEmpty}
+use Rattle.world_model.specs.Turns.{Turn, IsRefused, Unless}
+use Rattle.world_model.specs.Workers.{WorkerState, Role, packet_for}
 use Rattle.world_model.specs.WorkerSteps.{SettleStep}
 use Rattle.world_model.specs.BookSteps.{AtBook}
 use Rattle.world_model.specs.Books.{BookState}
 
 -- the last item held is taken out: a foreign one is dropped, and else its board is relaxed
-abbrev pub TakeInStep : Role → Turn WorkerState Refusal → Type 0
-TakeInStep role it = (HoldsOwnLast role it.before × SettleStep it) ⊎ ((it.answer ≡ None) × DropStep role it.before it.after)
+abbrev pub SettleOrDrop : Role → Turn WorkerState Refusal → Type 0
+SettleOrDrop role it = (HoldsOwnLast role it.before × SettleStep it) ⊎ ((it.answer ≡ None) × DropStep role it.before it.after)
+
+-- what is unsent for worker `to` goes into the ring as one packet, with 1 of the purse; whether the ring was full is not seen by the part
+abbrev pub SendByRing : ℕ → Turn PartState Refusal → Type 0
+SendByRing to it =
+    Unless it (packet_for it.before.worker to ≡ []) NothingThere (
+    Unless it (it.before.worker.purse < 2) PurseTooSmall (
+    IsRefused it RingFull ⊎ ((it.answer ≡ None) × Sends to it.before it.after)))
+
+-- the first packet comes out of the ring from worker `from`, its items are held, and the purse gets its 1; nor is it seen whether the ring
+-- was empty
+abbrev pub DeliverByRing : ℕ → Turn PartState Refusal → Type 0
+DeliverByRing from it =
+    Unless it (it.before.worker.held ≢ []) StillHolding (
+    Unless it (it.before.worker.purse + 1 ≡ 2 ^ 64) PurseFull (
+    IsRefused it RingEmpty ⊎ ((it.answer ≡ None) × Receives from it.before it.after)))
 
 -- the step on the book, where the run goes on and the purse is not empty
 abbrev pub WithPurse : (Turn AtBook Refusal → Type 0) → Turn AtBook Refusal → Type 0

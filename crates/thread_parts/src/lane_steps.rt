@@ -1,8 +1,9 @@
 //! The two steps on rings.
 
-ghost use Rattle.std.specs.Prelude.{◌≡◌, ◌<◌, OnOk, OnErr};
-ghost use Rattle.thread_model.specs.Changes.{Sends, Receives};
+ghost use Rattle.std.specs.Prelude.{◌<◌};
+ghost use Rattle.world_model.specs.Turns.{turn, refusal_in};
 ghost use Rattle.thread_parts.specs.Parts.{part_state, Holds, IsKept};
+ghost use Rattle.thread_parts.specs.Steps.{SendByRing, DeliverByRing};
 
 use crate::part::Part;
 use message_ledger::Tokens;
@@ -16,8 +17,8 @@ impl<'a, S: Spread, C: Tokens> Part<'a, S, C> {
     pub fn send(&mut self, to: usize) -> Result<(), Refusal>
         requires holds { Holds S.hash_of C.workers self.old }
         requires there { to < C.workers }
-        ensures sent { OnOk result (Sends to (part_state self.old) (part_state self.new)) }
-        ensures refused { OnErr result (part_state self.new ≡ part_state self.old) }
+        ensures step { SendByRing to (turn (part_state self.old) (refusal_in result)
+            (part_state self.new)) }
         ensures holds { Holds S.hash_of C.workers self.new }
         ensures kept { IsKept self.old self.new }
     {
@@ -32,9 +33,8 @@ impl<'a, S: Spread, C: Tokens> Part<'a, S, C> {
     pub fn deliver(&mut self, from: usize) -> Result<(), Refusal>
         requires holds { Holds S.hash_of C.workers self.old }
         requires there { from < C.workers }
-        ensures received { OnOk result
-            (Receives from (part_state self.old) (part_state self.new)) }
-        ensures refused { OnErr result (part_state self.new ≡ part_state self.old) }
+        ensures step { DeliverByRing from (turn (part_state self.old) (refusal_in result)
+            (part_state self.new)) }
         ensures holds { Holds S.hash_of C.workers self.new }
         ensures kept { IsKept self.old self.new }
     {

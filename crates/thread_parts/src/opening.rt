@@ -1,9 +1,10 @@
 //! The part with which a run begins.
 
-ghost use Rattle.std.specs.Prelude.{◌≡◌, ◌≢◌, ◌<◌, ◌≤◌, ◌%◌, [], IfOk, length, map, replicate};
+ghost use Rattle.std.specs.Prelude.{◌≡◌, ◌≢◌, ◌<◌, ◌≤◌, ◌%◌, [], IfOk, replicate};
 ghost use Rattle.board.specs.declared.moves.Move.{Move};
 ghost use Rattle.worker_core.specs.Roles.{IsGuided, guide_of};
 ghost use Rattle.world_model.specs.declared.limits.TheConstants.{WORKER_LIMIT};
+ghost use Rattle.rings.specs.Rings.{out_rings, in_rings, sent_lanes, received_lanes};
 ghost use Rattle.hda_run.specs.Problems.{task_in};
 ghost use Rattle.worker_core.specs.Workers.{state_of};
 ghost use Rattle.thread_parts.specs.Openings.{with_means};
@@ -41,10 +42,10 @@ pub fn open_part<'a, S: Spread, C: Tokens>(
     requires few { workers ≤ WORKER_LIMIT }
     requires there { me < workers }
     requires purse { S.hash_of owners.now job.now.start % workers ≡ me → 0 < purse }
-    requires sent { map (λ out. out.sent) outs.items ≡ replicate workers [] }
-    requires received { map (λ into. into.received) ins.items ≡ replicate workers [] }
-    ensures { IfOk result (λ part. part ≡ face job.now owners.now me
-        (map (λ out. out.ring) outs.items) (map (λ into. into.ring) ins.items)) }
+    requires sent { sent_lanes outs.items ≡ replicate workers [] }
+    requires received { received_lanes ins.items ≡ replicate workers [] }
+    ensures { IfOk result (λ part. part ≡ face job.now owners.now me (out_rings outs.items)
+        (in_rings ins.items)) }
 {
     openings_are_kept();
     let _ = job.goal();

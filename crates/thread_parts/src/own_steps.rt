@@ -8,7 +8,7 @@ ghost use Rattle.world_model.specs.WorkerSteps.{ExpandStep};
 ghost use Rattle.hda_run.specs.Problems.{task_in};
 ghost use Rattle.worker_core.specs.Workers.{state_of};
 ghost use Rattle.thread_parts.specs.Parts.{part_state, role_of, Holds, IsKept};
-ghost use Rattle.thread_parts.specs.Steps.{TakeInStep};
+ghost use Rattle.thread_parts.specs.Steps.{SettleOrDrop};
 
 use crate::part::Part;
 use board::GREATEST_COST;
@@ -49,7 +49,7 @@ impl<'a, S: Spread, C: Tokens> Part<'a, S, C> {
     /// Refusals: S13 nothing is held, S8 memory was refused.
     pub fn settle(&mut self, alloc: Global) -> Result<(), Refusal>
         requires { Holds S.hash_of C.workers self.old }
-        ensures step { TakeInStep (role_of S.hash_of C.workers self.old)
+        ensures step { SettleOrDrop (role_of S.hash_of C.workers self.old)
             (turn (state_of self.old.worker) (refusal_in result) (state_of self.new.worker)) }
         ensures rest { part_state self.new
             ≡ with_worker (part_state self.old) (state_of self.new.worker) }

@@ -1,0 +1,48 @@
+use Rattle.std.proofs.Common.{◌⊎◌, ◌<◌, ◌≡◌, [], length, inl, inr, refl, sym, ap, subst, arith}
+use Rattle.std.proofs.lemmas.Result.{on_ok_weaker, on_err_weaker}
+use Rattle.rings.specs.Rings.{ReceivingEnd}
+use Rattle.thread_model.specs.Parts.{Keeps}
+use Rattle.thread_parts.specs.Parts.{part_state, role_of}
+use Rattle.thread_parts.proofs.EndLemmas.{answered, receives, none_received, in_kept, with_in}
+use Rattle.thread_parts.proofs.RingLemmas.{at_empty, deliver_by_ring}
+use Rattle.thread_parts.proofs.PartLemmas.{in_count, holds_after}
+use Rattle.thread_parts.proofs.part.Part.deliver.Goals as goal
+
+pub returns-clause-step : goal.returns-clause-step
+returns-clause-step g c =
+    let old = c.args.self.now in
+    let from = c.args.from in
+    let worker = c.deliver.new.self in
+    let end = c.index_mut-lane.result.now in
+    let end' = c.deliver.new.lane in
+    let here = c.index_mut-lane.ensures.value in
+    let count = in_count g.S.Spread.hash_of g.C.Tokens.workers old c.requires.holds in
+    let there : from < length old.ins.items = omega (arith, count, c.requires.there) in
+    deliver_by_ring from (part_state old) (part_state (with_in old from worker end end' here)) c.deliver.result
+    (on_ok_weaker c.deliver.result (λ has. (has.room, receives old from worker end end' here there has)) c.deliver.ensures.given)
+    (on_err_weaker c.deliver.result (λ same. (none_received old from worker end end' here same.0 same.1, c.deliver.ensures.step [] [] (at_empty end end' same.0))) c.deliver.ensures.refused)
+
+pub returns-clause-holds : goal.returns-clause-holds
+returns-clause-holds g c =
+    let old = c.args.self.now in
+    let n = g.C.Tokens.workers in
+    let hash = g.S.Spread.hash_of in
+    let from = c.args.from in
+    let worker = c.deliver.new.self in
+    let lane = c.index_mut-lane.result.now in
+    let here = c.index_mut-lane.ensures.value in
+    let count = in_count hash n old c.requires.holds in
+    let there : from < length old.ins.items = omega (arith, count, c.requires.there) in
+    let new = with_in old from worker lane c.deliver.new.lane here in
+    holds_after hash n old c.requires.holds new refl refl (elim (answered c.deliver.result c.deliver.ensures.given c.deliver.ensures.refused) [
+      inl has ↦ c.steps_are_kept.ensures.receive n from (role_of hash n old) (part_state old) (part_state new) c.requires.holds.role c.requires.there c.requires.holds.keeps (receives old from worker lane c.deliver.new.lane here there has)
+      | inr same ↦ subst (Keeps n (role_of hash n old)) (sym (none_received old from worker lane c.deliver.new.lane here same.0 same.1)) c.requires.holds.keeps
+    ]) c.deliver.ensures.lists
+
+pub returns-clause-kept : goal.returns-clause-kept
+returns-clause-kept g c =
+    let ring : c.deliver.new.lane.ring ≡ c.index_mut-lane.result.now.ring = elim (answered c.deliver.result c.deliver.ensures.given c.deliver.ensures.refused) [
+      inl has ↦ has.given.0
+      | inr same ↦ same.0.0
+    ] in
+    in_kept c.args.self.now c.args.from c.deliver.new.self c.index_mut-lane.result.now c.deliver.new.lane c.index_mut-lane.ensures.value ring

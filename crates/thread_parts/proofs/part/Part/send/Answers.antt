@@ -1,0 +1,48 @@
+use Rattle.std.proofs.Common.{◌⊎◌, ◌<◌, ◌≡◌, length, inl, inr, refl, sym, ap, subst, arith}
+use Rattle.std.proofs.lemmas.Result.{on_ok_weaker, on_err_weaker}
+use Rattle.rings.specs.Rings.{SendingEnd}
+use Rattle.thread_model.specs.Parts.{Keeps}
+use Rattle.thread_parts.specs.Parts.{part_state, role_of}
+use Rattle.thread_parts.proofs.EndLemmas.{answered, sends, none_sent, out_kept, with_out}
+use Rattle.thread_parts.proofs.RingLemmas.{full_lane, at_full, send_by_ring}
+use Rattle.thread_parts.proofs.PartLemmas.{out_count, holds_after}
+use Rattle.thread_parts.proofs.part.Part.send.Goals as goal
+
+pub returns-clause-step : goal.returns-clause-step
+returns-clause-step g c =
+    let old = c.args.self.now in
+    let to = c.args.to in
+    let worker = c.send.new.self in
+    let end = c.index_mut-lane.result.now in
+    let end' = c.send.new.lane in
+    let here = c.index_mut-lane.ensures.value in
+    let count = out_count g.S.Spread.hash_of g.C.Tokens.workers old c.requires.holds in
+    let there : to < length old.outs.items = omega (arith, count, c.requires.there) in
+    send_by_ring to (part_state old) (part_state (with_out old to worker end end' here)) c.send.result
+    (on_ok_weaker c.send.result (λ has. sends old to worker end end' here there has) c.send.ensures.sent)
+    (on_err_weaker c.send.result (λ same. (none_sent old to worker end end' here same.0 same.1, c.send.ensures.step full_lane full_lane (at_full end end' same.0))) c.send.ensures.refused)
+
+pub returns-clause-holds : goal.returns-clause-holds
+returns-clause-holds g c =
+    let old = c.args.self.now in
+    let n = g.C.Tokens.workers in
+    let hash = g.S.Spread.hash_of in
+    let to = c.args.to in
+    let worker = c.send.new.self in
+    let lane = c.index_mut-lane.result.now in
+    let here = c.index_mut-lane.ensures.value in
+    let count = out_count hash n old c.requires.holds in
+    let there : to < length old.outs.items = omega (arith, count, c.requires.there) in
+    let new = with_out old to worker lane c.send.new.lane here in
+    holds_after hash n old c.requires.holds new refl refl (elim (answered c.send.result c.send.ensures.sent c.send.ensures.refused) [
+      inl has ↦ c.steps_are_kept.ensures.send n to (role_of hash n old) (part_state old) (part_state new) c.requires.holds.role c.requires.there c.requires.holds.keeps (sends old to worker lane c.send.new.lane here there has)
+      | inr same ↦ subst (Keeps n (role_of hash n old)) (sym (none_sent old to worker lane c.send.new.lane here same.0 same.1)) c.requires.holds.keeps
+    ]) c.send.ensures.lists
+
+pub returns-clause-kept : goal.returns-clause-kept
+returns-clause-kept g c =
+    let ring : c.send.new.lane.ring ≡ c.index_mut-lane.result.now.ring = elim (answered c.send.result c.send.ensures.sent c.send.ensures.refused) [
+      inl has ↦ ap (λ (e : SendingEnd). e.ring) has.taken
+      | inr same ↦ ap (λ (e : SendingEnd). e.ring) same.0
+    ] in
+    out_kept c.args.self.now c.args.to c.send.new.self c.index_mut-lane.result.now c.send.new.lane c.index_mut-lane.ensures.value ring
