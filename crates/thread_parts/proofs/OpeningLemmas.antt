@@ -1,5 +1,5 @@
 -- A part with which a run begins.
-use Rattle.std.proofs.Common.{◌≡◌, ◌≢◌, ℕ, ◌<◌, ◌≤◌, ◌%◌, [], length, map, replicate, false, Option, refl, sym, ap, ◌∙◌, subst, inl, inr, arith}
+use Rattle.std.proofs.Common.{◌≡◌, ◌≢◌, ℕ, ◌<◌, ◌≤◌, ◌%◌, [], replicate, false, Option, refl, sym, ap, ◌∙◌, subst, inl, inr, arith}
 use Rattle.std.specs.Prelude.{if◌then◌else◌}
 use Rattle.std.specs.FinMap as map
 use Rattle.std.specs.Ordering.{nat_cmp}
@@ -8,7 +8,7 @@ use Rattle.std.proofs.lemmas.Bool.Decides.{eqb_tells}
 use Rattle.board.specs.declared.moves.Move.{Move}
 use Rattle.board.specs.Keys.{key_of}
 use Rattle.board.specs.Positions.{Position}
-use Rattle.message_ledger.specs.Spending.{Spending, spent}
+use Rattle.message_ledger.specs.Spending.{Spending}
 use Rattle.outcomes.specs.Outcomes.{Task}
 use Rattle.rings.specs.Rings.{sent_lanes, received_lanes}
 use Rattle.thread_model.specs.Changes.{with_worker, opening_part}
@@ -64,13 +64,13 @@ kept_with_means n role part purse allowance still keeps = record {
   arrived = keeps.arrived;
   goal_kept = keeps.goal_kept;
   resting = λ none. (
-    let idle = keeps.resting (still none) in
-    record {
-      holds_nothing = idle.holds_nothing;
-      sends_nothing = idle.sends_nothing;
-      no_board = λ b known is. idle.no_board b known (record { board = is.board; knows = is.knows; unexpanded = is.unexpanded; no_goal = is.no_goal });
-      no_better_goal = idle.no_better_goal;
-    });
+      let idle = keeps.resting (still none) in
+      record {
+        holds_nothing = idle.holds_nothing;
+        sends_nothing = idle.sends_nothing;
+        no_board = λ b known is. idle.no_board b known (record { board = is.board; knows = is.knows; unexpanded = is.unexpanded; no_goal = is.no_goal });
+        no_better_goal = idle.no_better_goal;
+      });
 }
 
 -- one of some workers has a role, where the task is one
@@ -87,18 +87,18 @@ pub begins : {S : Type 0} (hash_of : S → Position → ℕ) (owners : S) (task 
     → (hash_of owners task.start % n ≢ me → part.worker ≡ with_means purse allowance (idle_worker n))
     → Keeps n (role_by task (hash_of owners) n me) part
 begins hash_of owners task n me purse allowance part law is sent received some first idle = elim (eqb_tells (hash_of owners task.start % n) me) [
-    inl own ↦ (
+  | inl own ↦ (
       let via = (first own.1).0 in
       let opened = opening_part n (first_worker n task via) in
       let role = role_by task (hash_of owners) n me in
       let same : with_worker opened (with_means purse allowance opened.worker) ≡ part = λ t. record { worker = sym (first own.1).1 t; sent = sym sent t; received = sym received t } in
       subst (Keeps n role) same (kept_with_means n role opened purse allowance (λ none. let rich = some own.1 in absurd (omega (arith, rich, none))) ((law n role is).1 via own.1)))
-    | inr foreign ↦ (
+  | inr foreign ↦ (
       let opened = opening_part n (idle_worker n) in
       let role = role_by task (hash_of owners) n me in
       let same : with_worker opened (with_means purse allowance opened.worker) ≡ part = λ t. record { worker = sym (idle foreign.1) t; sent = sym sent t; received = sym received t } in
       subst (Keeps n role) same (kept_with_means n role opened purse allowance (λ none. refl) ((law n role is).0 foreign.1)))
-  ]
+]
 
 -- and so the part holds
 pub opens : {S C D E K G : Type 0} (hash_of : S → Position → ℕ) (part : Part S C D E K G) (n workers purse : ℕ) (allowance : Spending) → n ≡ workers → OpeningsAreKept → IsTask (task_in part.job.now) → n ≤ WORKER_LIMIT → part.me < n

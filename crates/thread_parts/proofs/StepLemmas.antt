@@ -5,7 +5,7 @@ use Rattle.board.specs.Positions.{Position}
 use Rattle.hda_run.specs.Problems.{task_in}
 use Rattle.thread_parts.specs.declared.part.Part.{Part}
 use Rattle.thread_model.specs.Changes.{DropStep, HoldsOwnLast}
-use Rattle.thread_parts.specs.Steps.{SettleOrDrop, WithPurse, IsBarred}
+use Rattle.thread_parts.specs.Steps.{WithPurse, IsBarred}
 use Rattle.world_model.specs.declared.limits.TheConstants.{PACKET_LIMIT}
 use Rattle.world_model.specs.declared.parts.Item.{Item}
 use Rattle.world_model.specs.declared.steps.Refusal.{Refusal}

@@ -1,9 +1,6 @@
 -- The workers with which a run begins.
 use Rattle.std.specs.Prelude.{ℕ}
-use Rattle.board.specs.declared.moves.Move.{Move}
 use Rattle.message_ledger.specs.Spending.{Spending, spent}
-use Rattle.outcomes.specs.Outcomes.{Task}
-use Rattle.world_model.specs.Openings.{idle_worker, first_worker}
 use Rattle.world_model.specs.Workers.{WorkerState}
 
 -- the worker with this purse and allowance

@@ -84,7 +84,8 @@ fn open_worker<S: Spread, C: Counting>(
     tasks_have_guides();
     let goal = job.goal();
     let mut worker = Worker::new(alloc, workers, purse, allowance)?;
-    if owners.owner(job.start(), workers) != me {
+    let owner = owners.owner(job.start(), workers);
+    if owner != me {
         return Ok(worker);
     }
     let item = Item {

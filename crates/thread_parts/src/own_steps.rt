@@ -35,14 +35,8 @@ impl<'a, S: Spread, C: Tokens> Part<'a, S, C> {
         let job = self.job;
         let me = self.me;
         let owners = self.owners;
-        self.worker.expand(
-            alloc,
-            me,
-            job.goal(),
-            job.weights(),
-            job.bound(),
-            owners,
-        )
+        self.worker
+            .expand(alloc, me, job.goal(), job.weights(), job.bound(), owners)
     }
 
     /// Takes the last held item out: drops it where it is foreign, and else relaxes its board.

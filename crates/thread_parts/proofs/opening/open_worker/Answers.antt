@@ -1,6 +1,5 @@
-use Rattle.std.proofs.Common.{◌≡◌, ◌%◌, ◌∙◌, refl, sym, ap}
+use Rattle.std.proofs.Common.{◌≡◌, refl}
 use Rattle.board.specs.declared.moves.Move.TheVariants.{U}
-use Rattle.board.specs.Positions.{Position}
 use Rattle.worker_core.specs.Roles.{guide_of, task_of}
 use Rattle.worker_core.specs.Workers.{state_of}
 use Rattle.hda_run.specs.Problems.{task_in}

@@ -1,6 +1,5 @@
-use Rattle.std.proofs.Common.{◌⊎◌, ◌<◌, ◌≡◌, [], length, inl, inr, refl, sym, ap, subst, arith}
+use Rattle.std.proofs.Common.{◌<◌, ◌≡◌, [], length, inl, inr, refl, sym, subst, arith}
 use Rattle.std.proofs.lemmas.Result.{on_ok_weaker, on_err_weaker}
-use Rattle.rings.specs.Rings.{ReceivingEnd}
 use Rattle.thread_model.specs.Parts.{Keeps}
 use Rattle.thread_parts.specs.Parts.{part_state, role_of}
 use Rattle.thread_parts.proofs.EndLemmas.{answered, receives, none_received, in_kept, with_in}
@@ -35,14 +34,14 @@ returns-clause-holds g c =
     let there : from < length old.ins.items = omega (arith, count, c.requires.there) in
     let new = with_in old from worker lane c.deliver.new.lane here in
     holds_after hash n old c.requires.holds new refl refl (elim (answered c.deliver.result c.deliver.ensures.given c.deliver.ensures.refused) [
-      inl has ↦ c.steps_are_kept.ensures.receive n from (role_of hash n old) (part_state old) (part_state new) c.requires.holds.role c.requires.there c.requires.holds.keeps (receives old from worker lane c.deliver.new.lane here there has)
+      | inl has ↦ c.steps_are_kept.ensures.receive n from (role_of hash n old) (part_state old) (part_state new) c.requires.holds.role c.requires.there c.requires.holds.keeps (receives old from worker lane c.deliver.new.lane here there has)
       | inr same ↦ subst (Keeps n (role_of hash n old)) (sym (none_received old from worker lane c.deliver.new.lane here same.0 same.1)) c.requires.holds.keeps
     ]) c.deliver.ensures.lists
 
 pub returns-clause-kept : goal.returns-clause-kept
 returns-clause-kept g c =
     let ring : c.deliver.new.lane.ring ≡ c.index_mut-lane.result.now.ring = elim (answered c.deliver.result c.deliver.ensures.given c.deliver.ensures.refused) [
-      inl has ↦ has.given.0
+      | inl has ↦ has.given.0
       | inr same ↦ same.0.0
     ] in
     in_kept c.args.self.now c.args.from c.deliver.new.self c.index_mut-lane.result.now c.deliver.new.lane c.index_mut-lane.ensures.value ring

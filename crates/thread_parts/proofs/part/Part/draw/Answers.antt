@@ -1,9 +1,6 @@
-use Rattle.std.proofs.Common.{inl, inr, sym, subst}
-use Rattle.search_lists.specs.Lists.{Lists}
-use Rattle.worker_core.specs.Roles.{IsGuided, guide_of}
+use Rattle.std.proofs.Common.{inl}
 use Rattle.worker_core.specs.Workers.{state_of}
 use Rattle.world_model.specs.Turns.{refusal_in}
-use Rattle.hda_run.specs.Problems.{task_in}
 use Rattle.thread_parts.specs.Parts.{part_state, role_of}
 use Rattle.thread_parts.proofs.PartLemmas.{holds_with, same_guided}
 use Rattle.thread_parts.proofs.StepLemmas.{barred_draw}

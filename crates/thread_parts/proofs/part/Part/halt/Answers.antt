@@ -1,4 +1,4 @@
-use Rattle.std.proofs.Common.{inl, inr}
+use Rattle.std.proofs.Common.{inr}
 use Rattle.worker_core.specs.Workers.{state_of}
 use Rattle.world_model.specs.Turns.{refusal_in}
 use Rattle.thread_parts.specs.Parts.{part_state, role_of}

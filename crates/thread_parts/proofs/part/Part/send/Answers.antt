@@ -1,4 +1,4 @@
-use Rattle.std.proofs.Common.{◌⊎◌, ◌<◌, ◌≡◌, length, inl, inr, refl, sym, ap, subst, arith}
+use Rattle.std.proofs.Common.{◌<◌, ◌≡◌, length, inl, inr, refl, sym, ap, subst, arith}
 use Rattle.std.proofs.lemmas.Result.{on_ok_weaker, on_err_weaker}
 use Rattle.rings.specs.Rings.{SendingEnd}
 use Rattle.thread_model.specs.Parts.{Keeps}
@@ -35,14 +35,14 @@ returns-clause-holds g c =
     let there : to < length old.outs.items = omega (arith, count, c.requires.there) in
     let new = with_out old to worker lane c.send.new.lane here in
     holds_after hash n old c.requires.holds new refl refl (elim (answered c.send.result c.send.ensures.sent c.send.ensures.refused) [
-      inl has ↦ c.steps_are_kept.ensures.send n to (role_of hash n old) (part_state old) (part_state new) c.requires.holds.role c.requires.there c.requires.holds.keeps (sends old to worker lane c.send.new.lane here there has)
+      | inl has ↦ c.steps_are_kept.ensures.send n to (role_of hash n old) (part_state old) (part_state new) c.requires.holds.role c.requires.there c.requires.holds.keeps (sends old to worker lane c.send.new.lane here there has)
       | inr same ↦ subst (Keeps n (role_of hash n old)) (sym (none_sent old to worker lane c.send.new.lane here same.0 same.1)) c.requires.holds.keeps
     ]) c.send.ensures.lists
 
 pub returns-clause-kept : goal.returns-clause-kept
 returns-clause-kept g c =
     let ring : c.send.new.lane.ring ≡ c.index_mut-lane.result.now.ring = elim (answered c.send.result c.send.ensures.sent c.send.ensures.refused) [
-      inl has ↦ ap (λ (e : SendingEnd). e.ring) has.taken
+      | inl has ↦ ap (λ (e : SendingEnd). e.ring) has.taken
       | inr same ↦ ap (λ (e : SendingEnd). e.ring) same.0
     ] in
     out_kept c.args.self.now c.args.to c.send.new.self c.index_mut-lane.result.now c.send.new.lane c.index_mut-lane.ensures.value ring

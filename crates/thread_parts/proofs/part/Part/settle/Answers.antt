@@ -2,11 +2,8 @@ use Rattle.std.proofs.Common.{◌≡◌, inl, inr, refl, sym, subst, arith, rule
 use Rattle.hda_run.specs.Problems.{task_in}
 use Rattle.thread_parts.specs.Parts.{part_state, role_of}
 use Rattle.thread_parts.proofs.PartLemmas.{out_count, guided_for, holds_with, same_guided}
-use Rattle.thread_parts.proofs.StepLemmas.{drops, own_last, settles, settles_not, none_settles, place_left, is_own, is_foreign, put_back, relaxed}
-use Rattle.world_model.specs.declared.limits.TheConstants.{PACKET_LIMIT}
+use Rattle.thread_parts.proofs.StepLemmas.{drops, own_last, settles, settles_not, is_own, is_foreign, put_back, relaxed}
 use Rattle.world_model.specs.declared.steps.Refusal.TheVariants.{Memory}
-use Rattle.world_model.specs.Knowledge.{relaxation}
-use Rattle.world_model.specs.Workers.{WorkerState}
 use Rattle.search_lists.specs.Lists.{Lists}
 use Rattle.worker_core.specs.Roles.{IsGuided, guide_of, task_of}
 use Rattle.worker_core.specs.Workers.{state_of}
