@@ -24,7 +24,7 @@ use Rattle.hda_run.specs.Alone.{AreLast, IsRunAlone}
 use Rattle.hda_run.proofs.RunLemmas.{Made}
 
 -- the run has stopped, and not because a thread could not be started
-has_stopped : (last : List Made) (stop : Option Stop) → AreLast last stop → (stop ≢ None) × (stop ≢ Some stops.Start)
+pub has_stopped : (last : List Made) (stop : Option Stop) → AreLast last stop → (stop ≢ None) × (stop ≢ Some stops.Start)
 has_stopped last None ends = absurd ends
 has_stopped last (Some stops.Quiet) ends = ((λ e. absurd (cc)), (λ e. absurd (cc)))
 has_stopped last (Some stops.Limit) ends = ((λ e. absurd (cc)), (λ e. absurd (cc)))

@@ -8,3 +8,4 @@ mod AloneLemmas
 mod AloneEnds
 mod TruthLemmas
 mod AloneOutcomes
+mod LawLemmas

@@ -7,3 +7,4 @@ pub mod Kinds
 pub mod Headline
 pub mod Alone
 pub mod Rounds
+pub mod Laws

@@ -10,6 +10,7 @@ mod gates;
 mod headline;
 mod job;
 mod lane_steps;
+pub mod laws;
 mod opening;
 mod own_steps;
 mod parts;

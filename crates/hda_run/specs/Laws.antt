@@ -1,0 +1,105 @@
+-- The laws of the definitions. Each is the contract of a function that does nothing.
+use Rattle.std.specs.Prelude.{ℕ, ◌≡◌, ◌≢◌, ◌≤◌, List, [], ◌∷◌, Contains, Vec, Option, Some, None}
+use Rattle.std.specs.declared.alloc.Global.{Global}
+use Rattle.memory.specs.declared.OutOfMemory.{OutOfMemory}
+use Rattle.board.specs.declared.moves.Move.{Move}
+use Rattle.board.specs.Positions.{Position}
+use Rattle.board.specs.Rows.{Proves}
+use Rattle.outcomes.specs.declared.outcome.Cause.{Cause}
+use Rattle.outcomes.specs.declared.outcome.Cause.TheVariants.{Limit as ForLimit}
+use Rattle.outcomes.specs.declared.outcome.Outcome.{Outcome}
+use Rattle.outcomes.specs.declared.outcome.Outcome.TheVariants.{Optimal, Unsolvable, Bounded}
+use Rattle.outcomes.specs.declared.outcome.Want.{Want}
+use Rattle.outcomes.specs.declared.outcome.Want.TheVariants.{Refused}
+use Rattle.outcomes.specs.declared.outcome.Why.{Why}
+use Rattle.world_model.specs.declared.steps.HaltCause.{HaltCause}
+use Rattle.world_model.specs.declared.steps.Refusal.{Refusal}
+use Rattle.world_model.specs.declared.steps.Refusal.TheVariants as refusals
+use Rattle.world_model.specs.declared.steps.Step.{Step}
+use Rattle.world_model.specs.declared.steps.Step.TheVariants.{Expand, Grant, Halt}
+use Rattle.world_model.specs.declared.steps.Stop.TheVariants as stops
+use Rattle.world_model.specs.Credit.{expansion_count}
+use Rattle.world_model.specs.Openings.{Job, opening}
+use Rattle.world_model.specs.Outcomes.{IsGiven}
+use Rattle.world_model.specs.Steps.{IsRun, Next}
+use Rattle.world_model.specs.Turns.{turn}
+use Rattle.world_model.specs.Worlds.{WorldState}
+use Rattle.hda_run.specs.Alone.{IsRunAlone}
+use Rattle.hda_run.specs.Headline.{IsOfSteps, TellsTruth}
+use Rattle.hda_run.specs.Problems.{Problem, task_in}
+
+-- ---- one worker alone
+
+-- a run by one worker has stopped, and not because a thread could not be started
+abbrev pub RunsAloneStop : Type 0
+RunsAloneStop = (job : Job) (w : WorldState) → IsRunAlone job w → (w.book.stop ≢ None) × (w.book.stop ≢ Some stops.Start)
+
+-- where it is quiet, steps of which none is a halt lead to it from the opening world
+abbrev pub QuietRunsHaveNoHalt : Type 0
+QuietRunsHaveNoHalt =
+    (job : Job) (w : WorldState)
+    → IsRunAlone job w
+    → w.book.stop ≡ Some stops.Quiet
+    → (via : Move) × (made : List (Step × Option Refusal)) × IsRun (opening job via) made w
+    × ((i : ℕ) (cause : HaltCause) (answer : Option Refusal) → ¬ Contains made (Halt i cause, answer))
+
+-- steps lead from the opening world to this one, and this one of them was refused so
+abbrev pub WasRefused : Job → WorldState → Step → Refusal → Type 0
+WasRefused job w step refusal =
+    (via : Move) × (made : List (Step × Option Refusal)) × IsRun (opening job via) made w × Contains made (step, Some refusal)
+
+-- it is halted for the limit only where a grant was refused, and for memory only where an expansion was refused it
+abbrev pub HaltsAreDue : Type 0
+HaltsAreDue =
+    (job : Job) (w : WorldState)
+    → IsRunAlone job w
+    → (w.book.stop ≡ Some stops.Limit → WasRefused job w (Grant 0) refusals.NoAllowance)
+    × ((want : Want) → w.book.stop ≡ Some (stops.Memory want) → (refused : OutOfMemory) × (want ≡ Refused refused) × WasRefused job w (Expand 0) (refusals.Memory refused))
+
+-- at most the limit was expanded, and just the limit where a bound is for it
+abbrev pub BoundsSpendTheLimit : Type 0
+BoundsSpendTheLimit =
+    (job : Job) (w : WorldState)
+    → IsRunAlone job w
+    → (expansion_count w ≤ job.limit)
+    × ((bound : ℕ) (best : Option (ℕ × Vec Move Global)) → IsGiven w (Bounded bound best ForLimit) → expansion_count w ≡ job.limit)
+
+-- ---- what a reader may believe
+
+-- optimal outcomes of one problem that tell the truth have one cost
+abbrev pub OptimalTruthsAgree : Type 0
+OptimalTruthsAgree =
+    (p : Problem) (c d : ℕ) (plan plan' : Vec Move Global) (rows rows' : Vec (Position × ℕ) Global)
+    → TellsTruth p (Optimal c plan rows)
+    → TellsTruth p (Optimal d plan' rows')
+    → c ≡ d
+
+-- and no bound that tells it is above that cost
+abbrev pub BoundTruthsAreBelow : Type 0
+BoundTruthsAreBelow =
+    (p : Problem) (c bound : ℕ) (plan : Vec Move Global) (rows : Vec (Position × ℕ) Global) (best : Option (ℕ × Vec Move Global)) (cause : Cause)
+    → TellsTruth p (Optimal c plan rows)
+    → TellsTruth p (Bounded bound best cause)
+    → bound ≤ c
+
+-- where it is true that there is no plan, no outcome that tells the truth has one
+abbrev pub UnsolvableTruthsHaveNoPlan : Type 0
+UnsolvableTruthsHaveNoPlan =
+    (p : Problem) (why : Why)
+    → TellsTruth p (Unsolvable why)
+    → ((cost : ℕ) (plan : Vec Move Global) (rows : Vec (Position × ℕ) Global) → ¬ TellsTruth p (Optimal cost plan rows))
+    × ((bound cost : ℕ) (plan : Vec Move Global) (cause : Cause) → ¬ TellsTruth p (Bounded bound (Some (cost, plan)) cause))
+
+-- the rows of an optimal outcome prove its cost with the sums of the problem's tables
+abbrev pub TrueRowsProve : Type 0
+TrueRowsProve =
+    (p : Problem) (cost : ℕ) (plan : Vec Move Global) (rows : Vec (Position × ℕ) Global)
+    → TellsTruth p (Optimal cost plan rows)
+    → Proves p.rule rows.items (task_in p).sum p.start p.goal cost
+
+-- the outcome of one step is given by a world to which just that step leads, with some answer, from the opening one
+abbrev pub OutcomesAreOfTheirSteps : Type 0
+OutcomesAreOfTheirSteps =
+    (job : Job) (step : Step) (outcome : Outcome)
+    → IsOfSteps job (step ∷ []) outcome
+    → (via : Move) × (answer : Option Refusal) × (w : WorldState) × Next step (turn (opening job via) answer w) × IsGiven w outcome

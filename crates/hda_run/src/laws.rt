@@ -1,0 +1,28 @@
+//! The laws of the definitions: each is the contract of a function that does nothing.
+
+ghost use Rattle.hda_run.specs.Laws.{RunsAloneStop, QuietRunsHaveNoHalt};
+ghost use Rattle.hda_run.specs.Laws.{HaltsAreDue, BoundsSpendTheLimit};
+ghost use Rattle.hda_run.specs.Laws.{OptimalTruthsAgree, BoundTruthsAreBelow};
+ghost use Rattle.hda_run.specs.Laws.{UnsolvableTruthsHaveNoPlan, TrueRowsProve};
+ghost use Rattle.hda_run.specs.Laws.{OutcomesAreOfTheirSteps};
+
+/// A run by one worker has stopped, and for a cause that it met.
+pub fn runs_alone_stop()
+    ensures stop { RunsAloneStop }
+    ensures quiet { QuietRunsHaveNoHalt }
+    ensures due { HaltsAreDue }
+    ensures spent { BoundsSpendTheLimit }
+{}
+
+/// Outcomes of one problem that tell the truth agree, and their rows prove what they say.
+pub fn truths_agree()
+    ensures optimal { OptimalTruthsAgree }
+    ensures bounded { BoundTruthsAreBelow }
+    ensures unsolvable { UnsolvableTruthsHaveNoPlan }
+    ensures rows { TrueRowsProve }
+{}
+
+/// The outcome of one step is given by a world to which just that step leads.
+pub fn outcomes_are_of_their_steps()
+    ensures { OutcomesAreOfTheirSteps }
+{}
