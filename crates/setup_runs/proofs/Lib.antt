@@ -1,2 +1,3 @@
 pub mod SolvingLemmas
 pub mod CertifyingLemmas
+pub mod LawLemmas

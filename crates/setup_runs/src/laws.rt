@@ -1,6 +1,7 @@
 //! The laws of the definitions: each is the contract of a function that does nothing.
 
 ghost use Rattle.setup_runs.specs.Laws.{ParityWantsNoMemory, ParityIsAnswered};
+ghost use Rattle.setup_runs.specs.Laws.{BoundsAreNeverCut, LimitsAreTheSetups};
 
 /// A board of the other class is refused for no want of memory.
 pub fn parity_wants_no_memory()
@@ -10,4 +11,10 @@ pub fn parity_wants_no_memory()
 /// A board of the other class is answered by its parity alone.
 pub fn parity_is_answered()
     ensures { ParityIsAnswered }
+{}
+
+/// A bound is answered for no run that was cut, and for the limit after just as many expansions.
+pub fn bounds_are_due()
+    ensures kept { BoundsAreNeverCut }
+    ensures limit { LimitsAreTheSetups }
 {}
