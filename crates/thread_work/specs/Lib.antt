@@ -1,0 +1,2 @@
+-- The threads of a run.
+pub mod Promises

@@ -1,0 +1,141 @@
+//! What a worker does until the run has stopped.
+
+ghost use Rattle.std.specs.Prelude.{◌≡◌};
+ghost use Rattle.thread_parts.specs.Parts.{Holds, IsKept};
+
+use crate::signs::Signs;
+use crate::site::Site;
+use hda_run::{Gate, Kind};
+use message_ledger::Tokens;
+use owners::Spread;
+use quiescence::Book;
+use std::alloc::Global;
+use std::sync::{Mutex, Wait};
+use thread_parts::{Part, Sealed};
+use world_model::Refusal;
+
+// The most expansions between two looks at the rings.
+const EXPANSIONS_IN_A_ROUND: u32 = 64;
+
+// After so many expansions the worker looks whether it knows the goal.
+const EXPANSIONS_BETWEEN_LOOKS: u32 = 16;
+
+/// Works with a part until the book has stopped, and gives it back with the face that it had.
+pub fn work<'a, S: Spread, C: Tokens, R: Wait, G: Gate>(
+    rt: &R,
+    alloc: Global,
+    gate: &G,
+    signs: &Signs,
+    sealed: Sealed<'a, S, C>,
+    book: &Mutex<Book<C>>,
+) -> Sealed<'a, S, C>
+    ensures { result ≡ sealed.entry }
+{
+    let site = Site {
+        rt,
+        alloc,
+        gate,
+        signs,
+        book,
+    };
+    let mut part = sealed.open();
+    let mut turns = 0u32;
+    'rounds: for _ in rt.forever() {
+        if site.is_over() {
+            return Sealed::new(part);
+        }
+        if site.round(&mut part) {
+            turns = 0;
+            continue;
+        }
+        signs.wait(rt, part.me, turns);
+        turns = turns.saturating_add(1);
+    }
+    unreachable!()
+}
+
+impl<'a, R: Wait, G: Gate, C: Tokens> Site<'a, R, G, C> {
+    // Whether the book has stopped. The lock is taken only where it is marked that it has.
+    fn is_over(&self) -> bool {
+        if !self.signs.say_stopped() {
+            return false;
+        }
+        self.book.lock(self.rt).stop().is_some()
+    }
+
+    // One round: receive, expand, and rest where there was nothing to do. Answers whether something
+    // was done. A worker that rests looks at its rings alone, and takes no lock.
+    fn round<S: Spread>(&self, part: &mut Part<'_, S, C>) -> bool
+        requires { Holds S.hash_of C.workers part.old }
+        ensures holds { Holds S.hash_of C.workers part.new }
+        ensures kept { IsKept part.old part.new }
+    {
+        let received = self.receive(part);
+        if part.worker.purse() == 0 {
+            return received;
+        }
+        if self.expand_some(part) {
+            return true;
+        }
+        if received {
+            return true;
+        }
+        self.tell_news(part);
+        self.rest(part)
+    }
+
+    // Expands boards, as many as a round has at most. Answers whether something was done.
+    fn expand_some<S: Spread>(&self, part: &mut Part<'_, S, C>) -> bool
+        requires { Holds S.hash_of C.workers part.old }
+        ensures holds { Holds S.hash_of C.workers part.new }
+        ensures kept { IsKept part.old part.new }
+    {
+        let mut some = false;
+        'boards: for count in 0..EXPANSIONS_IN_A_ROUND {
+            if let Err(refusal) = part.expand(self.alloc) {
+                return self.help(part, refusal) || some;
+            }
+            self.gate.pass(part.me, Kind::Expand);
+            some = true;
+            if count % EXPANSIONS_BETWEEN_LOOKS == 0 {
+                self.tell_news(part);
+            }
+        }
+        some
+    }
+
+    // Does what has to be done before the next board can be expanded. Answers whether something was
+    // done.
+    fn help<S: Spread>(&self, part: &mut Part<'_, S, C>, refusal: Refusal) -> bool
+        requires { Holds S.hash_of C.workers part.old }
+        ensures holds { Holds S.hash_of C.workers part.new }
+        ensures kept { IsKept part.old part.new }
+    {
+        match refusal {
+            Refusal::NothingBelowLimit => self.send_all(part),
+            Refusal::NoAllowance => self.get_allowance(part),
+            Refusal::NoRoom => self.send_full(part),
+            Refusal::Memory(refused) => {
+                self.halt_for_memory(part, refused);
+                true
+            }
+            _ => false,
+        }
+    }
+
+    // Gets allowance. Where the book knows a better cost than this worker, and nothing is below it,
+    // what is unsent goes out, as where nothing is below the worker's own limit. Answers whether
+    // something was done.
+    fn get_allowance<S: Spread>(&self, part: &mut Part<'_, S, C>) -> bool
+        requires { Holds S.hash_of C.workers part.old }
+        ensures holds { Holds S.hash_of C.workers part.new }
+        ensures kept { IsKept part.old part.new }
+    {
+        match self.ask(part) {
+            Err(Refusal::NothingBelowLimit) => self.send_all(part),
+            Err(Refusal::NoAllowance) => true,
+            Err(_) => false,
+            Ok(()) => true,
+        }
+    }
+}
