@@ -96,12 +96,22 @@ impl<'a, R: Wait, G: Gate, C: Tokens> Site<'a, R, G, C> {
                 return self.help(part, refusal) || some;
             }
             self.gate.pass(part.me, Kind::Expand);
+            self.tell_news_at_times(part, count);
             some = true;
-            if count % EXPANSIONS_BETWEEN_LOOKS == 0 {
-                self.tell_news(part);
-            }
         }
         some
+    }
+
+    // Announces the goal's cost, if there is news of it and the time has come to look.
+    fn tell_news_at_times<S: Spread>(&self, part: &mut Part<'_, S, C>, count: u32)
+        requires { Holds S.hash_of C.workers part.old }
+        ensures holds { Holds S.hash_of C.workers part.new }
+        ensures kept { IsKept part.old part.new }
+    {
+        if count % EXPANSIONS_BETWEEN_LOOKS != 0 {
+            return;
+        }
+        self.tell_news(part);
     }
 
     // Does what has to be done before the next board can be expanded. Answers whether something was
