@@ -89,11 +89,7 @@ impl<'a, R: Wait, G: Gate, C: Tokens> Site<'a, R, G, C> {
     }
 
     /// Halts the run because memory was refused.
-    pub(crate) fn halt_for_memory<S: Spread>(
-        &self,
-        part: &mut Part<'_, S, C>,
-        refused: OutOfMemory,
-    )
+    pub(crate) fn halt_for_memory<S: Spread>(&self, part: &mut Part<'_, S, C>, refused: OutOfMemory)
         requires { Holds S.hash_of C.workers part.old }
         ensures holds { Holds S.hash_of C.workers part.new }
         ensures kept { IsKept part.old part.new }

@@ -1,11 +1,10 @@
 //! Signs by which workers spare one another the lock, and wake one another.
 
-use std::array;
 use std::hint::spin_loop;
 use std::sync::Wait;
 use std::sync::atomic::{AtomicU64, Ordering};
-use std::thread;
 use std::time::Duration;
+use std::{array, thread};
 use world_model::WORKER_LIMIT;
 
 // What the word of a worker says that sleeps, or is about to.

@@ -74,8 +74,8 @@ fn room_for<T>(alloc: Global, count: usize) -> Option<Vec<T>>
 }
 
 // Starts a thread for each part, the last first, then joins them, the first first, and puts the
-// parts that came back behind those that are joined. Answers whether all threads were started. Where
-// one could not be, the book is halted, and those end that were.
+// parts that came back behind those that are joined. Answers whether all threads were started.
+// Where one could not be, the book is halted, and those end that were.
 fn run_parts<
     's,
     'a: 's,
