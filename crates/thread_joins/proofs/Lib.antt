@@ -1,0 +1,8 @@
+pub mod RowLemmas
+pub mod PartLemmas
+pub mod TakenLemmas
+pub mod WorldLemmas
+pub mod LaneLemmas
+pub mod LookLemmas
+pub mod CountLemmas
+pub mod OutcomeLemmas

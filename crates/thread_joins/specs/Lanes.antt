@@ -1,0 +1,37 @@
+-- What is left in the rings of a run, as the lanes of a world.
+use Rattle.std.specs.Prelude.{ℕ, ◌≡◌, ◌≤◌, ◌++◌, List, [], Vec, length, map, Some, slice_get, slice_index_or}
+use Rattle.std.specs.List.{range_with_len}
+use Rattle.std.specs.declared.alloc.Global.{Global}
+use Rattle.board.specs.Positions.{Position}
+use Rattle.rings.specs.Rings.{ReceivingEnd}
+use Rattle.world_model.specs.declared.limits.TheConstants.{LANE_LIMIT}
+use Rattle.world_model.specs.Workers.{Lane}
+use Rattle.hda_run.specs.Lanes.{IsOfOne, IsInLane}
+
+-- what was received by a ring and what is left in it is what was sent, and not too many packets are left
+abbrev pub IsTied : Lane → Lane → Lane → Type 0
+IsTied sent received left = (received ++ left ≡ sent) × (length left ≤ LANE_LIMIT)
+
+-- the lanes from one worker to each, of rows that have for each worker the lanes to it
+abbrev pub lanes_from : ℕ → List (List Lane) → List Lane
+lanes_from from rows = map (λ row. slice_index_or row from []) rows
+
+-- for each of n workers the lanes from it
+abbrev pub by_sender : ℕ → List (List Lane) → List (List Lane)
+by_sender n rows = map (λ from. lanes_from from rows) (range_with_len 0 n)
+
+-- each row has n ends
+abbrev pub AreOfWidth : ℕ → List (Vec ReceivingEnd Global) → Type 0
+AreOfWidth n ins = (to : ℕ) (row : Vec ReceivingEnd Global) → slice_get ins to ≡ Some row → length row.items ≡ n
+
+-- the cost plus sum of an item in a packet that this end has seen and not taken
+abbrev pub IsLeft : (Position → ℕ) → ReceivingEnd → ℕ → Type 0
+IsLeft sum end f = IsInLane sum end.left f
+
+-- that of one of these ends
+abbrev pub IsLeftInRow : (Position → ℕ) → List ReceivingEnd → ℕ → Type 0
+IsLeftInRow sum row f = IsOfOne (IsLeft sum) row f
+
+-- that of one of the ends of all workers
+abbrev pub IsLeftInRows : (Position → ℕ) → List (Vec ReceivingEnd Global) → ℕ → Type 0
+IsLeftInRows sum rows f = IsOfOne (λ row. IsLeftInRow sum row.items) rows f

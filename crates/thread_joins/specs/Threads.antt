@@ -1,0 +1,36 @@
+-- Runs by threads.
+use Rattle.std.specs.Prelude.{ℕ, ◌≡◌, ◌≢◌, ◌+◌, ◌*◌, ◌≤◌, length, Some}
+use Rattle.board.specs.Positions.{Position}
+use Rattle.outcomes.specs.declared.outcome.Outcome.{Outcome}
+use Rattle.outcomes.specs.declared.outcome.Want.TheVariants.{Stated}
+use Rattle.world_model.specs.declared.limits.TheConstants.{GREATEST_GRANT}
+use Rattle.world_model.specs.declared.steps.Stop.TheVariants.{Quiet, Limit, Memory}
+use Rattle.world_model.specs.Credit.{expansion_count}
+use Rattle.world_model.specs.Openings.{Job}
+use Rattle.world_model.specs.Outcomes.{IsGiven}
+use Rattle.world_model.specs.Quiet.{IsKept}
+use Rattle.world_model.specs.Shapes.{IsShaped}
+use Rattle.world_model.specs.Soundness.{IsSound}
+use Rattle.world_model.specs.Worlds.{WorldState}
+use Rattle.hda_run.specs.Problems.{Problem}
+use Rattle.hda_run.specs.Worlds.{job_of}
+use Rattle.thread_joins.specs.Worlds.{AreAtRest}
+
+-- The world of a job's workers, when all were joined. It is shaped and sound. Where it is quiet, all is at rest. At most the limit was
+-- expanded; where it was halted for the limit, all of that is granted, and spent but for one grant for each worker. No list of steps
+-- stopped it.
+pub record IsJoined (job : Job) (w : WorldState) : Type 0 where
+  pub task : w.task ≡ job.task
+  pub owners : (b : Position) → w.owner b ≡ job.owner b
+  pub count : length w.workers ≡ job.count
+  pub limit : w.book.limit ≡ job.limit
+  pub shaped : IsShaped w
+  pub sound : IsSound w
+  pub at_quiet : w.book.stop ≡ Some Quiet → AreAtRest w
+  pub within_limit : expansion_count w ≤ job.limit
+  pub at_limit : w.book.stop ≡ Some Limit → (w.book.granted ≡ job.limit) × (job.limit ≤ expansion_count w + GREATEST_GRANT * job.count)
+  pub no_list : w.book.stop ≢ Some (Memory Stated)
+
+-- The outcome is that of n threads: their joined workers make a world that is kept, and it gives the outcome.
+abbrev pub IsByThreads : {S : Type 0} → (S → Position → ℕ) → Problem → S → ℕ → Outcome → Type 0
+IsByThreads hash_of p owners n outcome = (w : WorldState) × IsJoined (job_of hash_of p owners n) w × IsKept w × IsGiven w outcome

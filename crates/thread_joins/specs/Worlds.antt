@@ -1,0 +1,59 @@
+-- The world of joined workers, and of what is left in their rings.
+use Rattle.std.specs.Prelude.{ℕ, ◌≡◌, ◌%◌, ◌≤◌, List, [], ◌∷◌, length, All, Some, slice_get}
+use Rattle.board.specs.Positions.{Position}
+use Rattle.rings.specs.Rings.{ArePaired, rings_of_outs, rings_of_ins, sent_rows, received_rows, left_rows}
+use Rattle.world_model.specs.declared.steps.Stop.TheVariants.{Quiet}
+use Rattle.world_model.specs.Books.{BookState}
+use Rattle.world_model.specs.Credit.{packet_count}
+use Rattle.world_model.specs.Quiet.{IsAtRest}
+use Rattle.world_model.specs.Workers.{WorkerState, Lane}
+use Rattle.world_model.specs.Worlds.{WorldState, IsWorker}
+use Rattle.thread_model.specs.Parts.{PartState, IsRole, Keeps}
+use Rattle.thread_model.specs.Joined.{Shared, role_in}
+use Rattle.worker_core.specs.Roles.{guide_of}
+use Rattle.world_ends.specs.Parts.{HasParts, AreGuided, states_of}
+use Rattle.hda_run.specs.Problems.{Problem, task_in}
+use Rattle.thread_joins.specs.declared.apart.Joined.{Joined}
+use Rattle.thread_joins.specs.Lanes.{AreOfWidth, by_sender}
+
+-- what n workers share: the task, and who owns which board, by a hash, modulo n
+abbrev pub shared_by : {S : Type 0} → (S → Position → ℕ) → Problem → S → ℕ → Shared
+shared_by hash_of p owners n = record { task = task_in p; owner = λ b. hash_of owners b % n }
+
+-- workers, with what each sent and received
+abbrev pub parts_with : List WorkerState → List (List Lane) → List (List Lane) → List PartState
+parts_with [] sent received = []
+parts_with (worker ∷ workers) [] received = []
+parts_with (worker ∷ workers) (out ∷ sent) [] = []
+parts_with (worker ∷ workers) (out ∷ sent) (into ∷ received) = record { worker = worker; sent = out; received = into } ∷ parts_with workers sent received
+
+-- no packet is in a lane, and each worker is at rest
+pub record AreAtRest (w : WorldState) : Type 0 where
+  pub lanes : packet_count w ≡ 0
+  pub workers : (i : ℕ) (worker : WorkerState) → IsWorker w i worker → IsAtRest worker
+
+module _ {C D E K G : Type 0} where
+  -- the parts that were taken apart
+  abbrev pub parts_in : Joined C D E K G → List PartState
+  parts_in joined = parts_with (states_of joined.workers.items) (sent_rows joined.outs.items) (received_rows joined.ins.items)
+
+  -- The workers of n parts that were taken apart, and the ends of their rings. Each worker keeps, with what it sent and received, what a
+  -- part keeps.
+  pub record AreApart {S : Type 0} (hash_of : S → Position → ℕ) (p : Problem) (owners : S) (n : ℕ) (joined : Joined C D E K G) : Type 0 where
+    pub workers : length joined.workers.items ≡ n
+    pub outs : length joined.outs.items ≡ n
+    pub ins : length joined.ins.items ≡ n
+    pub roles : (i : ℕ) (part : PartState) → slice_get (parts_in joined) i ≡ Some part → IsRole n (role_in (shared_by hash_of p owners n) i)
+    pub keep : (i : ℕ) (part : PartState) → slice_get (parts_in joined) i ≡ Some part → Keeps n (role_in (shared_by hash_of p owners n) i) part
+    pub guided : AreGuided (task_in p) (guide_of (task_in p)) joined.workers.items
+    pub paired : ArePaired n (rings_of_outs joined.outs.items) (rings_of_ins joined.ins.items)
+
+  -- The world is that of n joined workers, with this book and with what is left in their rings. Where the book is quiet, all is at rest.
+  pub record IsWorldOf {S : Type 0} (hash_of : S → Position → ℕ) (p : Problem) (owners : S) (n : ℕ) (book : BookState) (joined : Joined C D E K G) (w : WorldState) : Type 0 where
+    pub count : length joined.workers.items ≡ n
+    pub parts : HasParts (task_in p) (hash_of owners) (states_of joined.workers.items) w
+    pub guided : AreGuided (task_in p) (guide_of (task_in p)) joined.workers.items
+    pub book_is : w.book ≡ book
+    pub widths : AreOfWidth n joined.ins.items
+    pub lanes : w.lanes ≡ by_sender n (left_rows joined.ins.items)
+    pub at_quiet : book.stop ≡ Some Quiet → AreAtRest w

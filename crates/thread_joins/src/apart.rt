@@ -1,0 +1,49 @@
+//! Parts that are taken apart.
+
+ghost use Rattle.std.specs.Prelude.{IfOk};
+ghost use Rattle.hda_run.specs.Problems.{Problem};
+ghost use Rattle.thread_joins.specs.Joints.{IsJoint};
+ghost use Rattle.thread_joins.specs.Worlds.{AreApart};
+
+use memory::OutOfMemory;
+use message_ledger::{Counting, Tokens};
+use owners::Spread;
+use rings::{Receiver, Sender};
+use std::alloc::Global;
+use thread_parts::{Part, Sealed};
+use worker_core::Worker;
+
+/// The workers of joined parts, and for each the ends of its rings to and from each worker.
+#[derive(Drop)]
+pub(crate) struct Joined<C: Counting> {
+    pub(crate) workers: Vec<Worker<C>>,
+    pub(crate) outs: Vec<Vec<Sender<C>>>,
+    pub(crate) ins: Vec<Vec<Receiver<C>>>,
+}
+
+/// Takes parts apart, so that both ends of a ring can be looked at.
+pub(crate) fn take_apart<S: Spread, C: Tokens>(
+    alloc: Global,
+    sealed: Vec<Sealed<'_, S, C>>,
+) -> Result<Joined<C>, OutOfMemory>
+    requires few { vec_len sealed ≤ WORKER_LIMIT }
+    ensures { (p : Problem) (owners : S) → IsJoint p owners C.workers sealed.items
+        → IfOk result (AreApart S.hash_of p owners C.workers) }
+{
+    let count = sealed.len();
+    let mut workers = memory::with_capacity(alloc, count)?;
+    let mut outs = memory::with_capacity(alloc, count)?;
+    let mut ins = memory::with_capacity(alloc, count)?;
+    'parts: for one in sealed {
+        let Part {
+            worker,
+            outs: to_each,
+            ins: from_each,
+            ..
+        } = one.open();
+        workers.push_reserved(worker);
+        outs.push_reserved(to_each);
+        ins.push_reserved(from_each);
+    }
+    Ok(Joined { workers, outs, ins })
+}
