@@ -48,6 +48,12 @@ module _ {S C D E K G : Type 0} where
     guided = λ p owners joint d k low. absurd (omega (arith, low));
   }
 
+  -- the same, of equal lists
+  pub taken_same : (hash_of : S → Position → ℕ) (n : ℕ) (faces next next' : List (Face S)) (workers workers' : List (Worker C D E K G)) (outs outs' : List (Vec SendingEnd Global)) (ins ins' : List (Vec ReceivingEnd Global))
+      → next ≡ next' → workers ≡ workers' → outs ≡ outs' → ins ≡ ins' → AreTaken hash_of n faces next workers outs ins → AreTaken hash_of n faces next' workers' outs' ins'
+  taken_same hash_of n faces next next' workers workers' outs outs' ins ins' a b c d taken =
+      subst (λ (x : List (Face S) × List (Worker C D E K G) × List (Vec SendingEnd Global) × List (Vec ReceivingEnd Global)). AreTaken hash_of n faces x.0 x.1 x.2 x.3) (λ t. (a t, b t, c t, d t)) taken
+
   module _ (hash_of : S → Position → ℕ) (n : ℕ) (faces next : List (Face S)) (workers : List (Worker C D E K G)) (outs : List (Vec SendingEnd Global)) (ins : List (Vec ReceivingEnd Global))
       (one : Face S) (taken : AreTaken hash_of n faces (one ∷ next) workers outs ins) (it : Part S C D E K G) (holds : Holds hash_of n it) (is : face_of it ≡ one) where
     outs_count : length outs ≡ length taken.done

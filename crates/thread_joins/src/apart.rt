@@ -1,6 +1,7 @@
 //! Parts that are taken apart.
 
-ghost use Rattle.std.specs.Prelude.{IfOk};
+ghost use Rattle.std.specs.Prelude.{◌≤◌, IfOk, vec_len};
+ghost use Rattle.world_model.specs.declared.limits.TheConstants.{WORKER_LIMIT};
 ghost use Rattle.hda_run.specs.Problems.{Problem};
 ghost use Rattle.thread_joins.specs.Joints.{IsJoint};
 ghost use Rattle.thread_joins.specs.Worlds.{AreApart};
@@ -27,7 +28,7 @@ pub(crate) fn take_apart<S: Spread, C: Tokens>(
     sealed: Vec<Sealed<'_, S, C>>,
 ) -> Result<Joined<C>, OutOfMemory>
     requires few { vec_len sealed ≤ WORKER_LIMIT }
-    ensures { (p : Problem) (owners : S) → IsJoint p owners C.workers sealed.items
+    ensures { (p : Problem) (owners : S) → IsJoint p owners C.workers sealed.entry.items
         → IfOk result (AreApart S.hash_of p owners C.workers) }
 {
     let count = sealed.len();

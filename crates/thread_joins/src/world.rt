@@ -32,7 +32,7 @@ pub(crate) fn join_world<S: Spread, C: Tokens>(
     requires few { C.workers ≤ WORKER_LIMIT }
     requires joint { (p : Problem) × (owners : S) × IsJoint p owners C.workers sealed.items }
     ensures world { IfOk result (λ joined. (p : Problem) (owners : S)
-        → IsJoint p owners C.workers sealed.items
+        → IsJoint p owners C.workers sealed.entry.items
         → (w : WorldState) × IsWorldOf S.hash_of p owners C.workers book.old joined w) }
     ensures book { book.new ≡ book.old }
 {
