@@ -3,7 +3,8 @@ use Rattle.std.proofs.Common.{◌≡◌, ◌⊎◌, ℕ, zero, suc, ◌+◌, ◌
 use Rattle.std.specs.Prelude.{Contains, slice_get, slice_index_or, option_map}
 use Rattle.std.specs.List.{range_with_len}
 use Rattle.std.proofs.lemmas.Bool.{cases_lt}
-use Rattle.std.proofs.lemmas.List.{length-map}
+use Rattle.std.proofs.lemmas.List.{length-map, append_assoc}
+use Rattle.std.proofs.lemmas.List.Elements.{Contains-append_right}
 use Rattle.std.proofs.lemmas.List.FromFn.{length-range_with_len, length-map-range_with_len, get_or-range_with_len}
 use Rattle.std.proofs.lemmas.Option.{slice_get-map, slice_get_within, slice_get-get_or, get_or_from_slice_get}
 use Rattle.std.specs.declared.alloc.Global.{Global}
@@ -15,11 +16,11 @@ use Rattle.world_model.specs.declared.parts.Item.{Item}
 use Rattle.world_model.specs.Shapes.{IsShaped}
 use Rattle.world_model.specs.Workers.{Packet, Lane}
 use Rattle.world_model.specs.Worlds.{WorldState, IsLane, LiesIn, HasInLaneTo}
-use Rattle.world_model.proofs.ListLemmas.{get_below, at_in, place_of}
+use Rattle.world_model.proofs.ListLemmas.{get_below, at_in, place_of, head_in}
 use Rattle.world_ends.specs.Lowest.{IsLeastBeside, IsLowestInLanes, IsOfItem, AreItemsOn}
 use Rattle.world_ends.proofs.LeastLemmas.{beside_none, beside_both, beside_same, beside_nothing, least_same}
 use Rattle.hda_run.specs.Lanes.{IsOfOne}
-use Rattle.hda_run.proofs.LowestLemmas.{map_at, mapped_at}
+use Rattle.thread_joins.proofs.PartLemmas.{map_at, mapped_at}
 use Rattle.thread_joins.specs.Lanes.{lanes_from, by_sender, AreOfWidth, IsLeft, IsLeftInRow, IsLeftInRows}
 
 -- ---- the least of one after the other
@@ -43,9 +44,32 @@ one_least {A} IsOf done here x y z before more =
         inr (subst (λ (a : A). IsOf a n) (search both) p.3)) (cases_lt p.0 (length done)))
     x z (beside_both (IsOfOne IsOf done) (IsOf here) x y z before more)
 
--- where nothing comes next, all are done
-pub all_done : {A : Type 0} (done next all : List A) → next ≡ [] → done ++ next ≡ all → done ≡ all
-all_done {A} done next all none h = sym (append-nil done) ∙ (ap (λ (r : List A). done ++ r) (sym none) ∙ h)
+-- the least beside those that are done, where these come next
+pub record IsLeastSoFar {A : Type 0} (IsOf : A → ℕ → Type 0) (all next : List A) (x y : Option ℕ) : Type 0 where
+  pub done : List A
+  pub is : done ++ next ≡ all
+  pub least : IsLeastBeside (IsOfOne IsOf done) x y
+
+module _ {A : Type 0} (IsOf : A → ℕ → Type 0) (all : List A) (x : Option ℕ) where
+  pub so_far_none : (next : List A) → next ≡ all → IsLeastSoFar IsOf all next x x
+  so_far_none next is = record { done = []; is = is; least = none_least IsOf x }
+
+  pub so_far_more : (here : A) (before next : List A) (y z : Option ℕ) → before ≡ here ∷ next → IsLeastSoFar IsOf all before x y → IsLeastBeside (IsOf here) y z → IsLeastSoFar IsOf all next x z
+  so_far_more here before next y z first so more = record {
+    done = so.done ++ here ∷ [];
+    is = append_assoc so.done (here ∷ []) next ∙ (ap (λ (r : List A). so.done ++ r) (sym first) ∙ so.is);
+    least = one_least IsOf so.done here x y z so.least more;
+  }
+
+  pub so_far_all : (next : List A) (y : Option ℕ) → next ≡ [] → IsLeastSoFar IsOf all next x y → IsLeastBeside (IsOfOne IsOf all) x y
+  so_far_all next y none so =
+      let e : so.done ≡ all = sym (append-nil so.done) ∙ (ap (λ (r : List A). so.done ++ r) (sym none) ∙ so.is) in
+      subst (λ (xs : List A). IsLeastBeside (IsOfOne IsOf xs) x y) e so.least
+
+  -- what comes next is one of all
+  pub so_far_next : (here : A) (before next : List A) (y : Option ℕ) → before ≡ here ∷ next → IsLeastSoFar IsOf all before x y → Contains all here
+  so_far_next here before next y first so =
+      subst (λ (xs : List A). Contains xs here) (ap (λ (r : List A). so.done ++ r) (sym first) ∙ so.is) (Contains-append_right so.done (here ∷ next) here (head_in here next))
 
 -- ---- lanes by their senders
 
@@ -53,10 +77,14 @@ number_at : (n i k : ℕ) → slice_get (range_with_len 0 n) i ≡ Some k → (i
 number_at n i k at =
     let low = slice_get_within (range_with_len 0 n) i k at in
     let lt : i < n = omega (arith, low, length-range_with_len 0 n) in
-    (lt, sym (get_or_from_slice_get (range_with_len 0 n) i k 0 at) ∙ get_or-range_with_len 0 n i 0 lt)
+    let e = get_or_from_slice_get (range_with_len 0 n) i k 0 at in
+    let e' = get_or-range_with_len 0 n i 0 lt in
+    (lt, omega (arith, e, e'))
 
 at_number : (n i : ℕ) → i < n → slice_get (range_with_len 0 n) i ≡ Some i
-at_number n i lt = slice_get-get_or (range_with_len 0 n) i 0 (omega (arith, lt, length-range_with_len 0 n)) ∙ ap (λ (k : ℕ). Some k) (get_or-range_with_len 0 n i 0 lt)
+at_number n i lt =
+    let e : get_or (range_with_len 0 n) i 0 ≡ i = let e' = get_or-range_with_len 0 n i 0 lt in omega (arith, e') in
+    slice_get-get_or (range_with_len 0 n) i 0 (omega (arith, lt, length-range_with_len 0 n)) ∙ ap (λ (k : ℕ). Some k) e
 
 pub sender_at : (n from : ℕ) (rows : List (List Lane)) → from < n → slice_get (by_sender n rows) from ≡ Some (lanes_from from rows)
 sender_at n from rows lt = map_at (λ (k : ℕ). lanes_from k rows) (range_with_len 0 n) from from (at_number n from lt)

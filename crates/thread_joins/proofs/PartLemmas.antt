@@ -1,6 +1,7 @@
 -- Workers, with what each sent and received: the parts that were taken apart.
 use Rattle.std.proofs.Common.{◌≡◌, ℕ, zero, suc, ◌+◌, List, [], ◌∷◌, ◌++◌, length, Some, ap, ◌∙◌, subst, refl, arith}
-use Rattle.std.specs.Prelude.{slice_get}
+use Rattle.std.specs.Prelude.{map, option_map, slice_get}
+use Rattle.std.proofs.lemmas.Option.{slice_get-map}
 use Rattle.world_model.specs.Workers.{WorkerState, Lane}
 use Rattle.thread_model.specs.Parts.{PartState}
 use Rattle.thread_model.specs.Joined.{workers_of}
@@ -58,3 +59,12 @@ nothing (x ∷ xs) h = absurd (omega arith)
 pub next_at : {X : Type 0} (done : List X) (x : X) (rest : List X) → slice_get (done ++ x ∷ rest) (length done) ≡ Some x
 next_at [] x rest = refl
 next_at (y ∷ done) x rest = next_at done x rest
+
+-- what a mapped list has at a place, it has of what stands there
+pub map_at : {X Y : Type 0} (f : X → Y) (xs : List X) (i : ℕ) (x : X) → slice_get xs i ≡ Some x → slice_get (map f xs) i ≡ Some (f x)
+map_at f xs i x at = slice_get-map f xs i ∙ ap (option_map f) at
+
+pub mapped_at : {X Y : Type 0} (f : X → Y) (xs : List X) (i : ℕ) (y : Y) → slice_get (map f xs) i ≡ Some y → (x : X) × (slice_get xs i ≡ Some x) × (f x ≡ y)
+mapped_at f [] i y at = absurd (cc at)
+mapped_at f (x ∷ xs) zero y at = (x, refl, some_is (f x) y at)
+mapped_at f (x ∷ xs) (suc i) y at = mapped_at f xs i y at

@@ -22,12 +22,11 @@ use Rattle.worker_core.specs.Roles.{guide_of}
 use Rattle.worker_core.specs.Workers.{state_of}
 use Rattle.world_ends.specs.Parts.{AreGuided, states_of}
 use Rattle.hda_run.specs.Problems.{Problem, task_in}
-use Rattle.hda_run.proofs.LowestLemmas.{map_at}
 use Rattle.thread_joins.specs.declared.apart.Joined.{Joined}
 use Rattle.thread_joins.specs.Lanes.{IsTied, AreOfWidth, by_sender, lanes_from}
 use Rattle.thread_joins.specs.Worlds.{AreApart, AreAtRest, IsWorldOf, parts_in, parts_with, shared_by}
 use Rattle.thread_joins.proofs.LaneLemmas.{lane_from, receiver_count, sender_count, sender_from}
-use Rattle.thread_joins.proofs.PartLemmas.{part_at, part_count, part_workers}
+use Rattle.thread_joins.proofs.PartLemmas.{map_at, part_at, part_count, part_workers}
 
 none_summed : {X : Type 0} (f : X → ℕ) (xs : List X) → ((i : ℕ) (x : X) → slice_get xs i ≡ Some x → f x ≡ 0) → sum_by f xs ≡ 0
 none_summed f [] each = refl

@@ -64,7 +64,7 @@ fn lowest_left<C: Counting>(
 {
     let mut receiver = receiver;
     let mut least = lowest;
-    'packets: for _ in 0..receiver.left() {
+    'packets: for taken in 0..receiver.left() {
         let packet = receiver.pop_left();
         least = lowest_of(bound, packet.items(), least);
     }
