@@ -10,7 +10,7 @@ use Rattle.thread_joins.specs.Worlds.{parts_with}
 abbrev pub part : WorkerState → List Lane → List Lane → PartState
 part worker sent received = record { worker = worker; sent = sent; received = received }
 
-some_is : {X : Type 0} (a b : X) → Some a ≡ Some b → a ≡ b
+pub some_is : {X : Type 0} (a b : X) → Some a ≡ Some b → a ≡ b
 some_is a b h = cc
 
 -- what a part is made of

@@ -3,6 +3,7 @@ use Rattle.std.proofs.Common.{◌≡◌, ℕ, zero, suc, ◌+◌, ◌<◌, ◌�
 use Rattle.std.specs.Prelude.{All, slice_get, slice_index_or, sum_by, ◌%◌}
 use Rattle.std.proofs.lemmas.List.{length-map}
 use Rattle.std.proofs.lemmas.List.Elements.{All-get_or}
+use Rattle.std.proofs.lemmas.List.Sums.{sum_by-cons}
 use Rattle.std.proofs.lemmas.Option.{slice_get_within, get_or_from_slice_get}
 use Rattle.std.specs.declared.alloc.Global.{Global}
 use Rattle.board.specs.Positions.{Position}
@@ -30,7 +31,10 @@ use Rattle.thread_joins.proofs.PartLemmas.{map_at, part_at, part_count, part_wor
 
 none_summed : {X : Type 0} (f : X → ℕ) (xs : List X) → ((i : ℕ) (x : X) → slice_get xs i ≡ Some x → f x ≡ 0) → sum_by f xs ≡ 0
 none_summed f [] each = refl
-none_summed f (x ∷ xs) each = let first = each 0 x refl in let rest = none_summed f xs (λ i y at. each (suc i) y at) in omega (arith, first, rest)
+none_summed f (x ∷ xs) each =
+    let first : f x ≡ 0 = each 0 x refl in
+    let rest : sum_by f xs ≡ 0 = none_summed f xs (λ i y at. each (suc i) y at) in
+    omega (arith, sum_by-cons f x xs, first, rest)
 
 -- Parts were taken apart, and then both ends of each ring were looked at, by which what was sent and received did not change, nor the
 -- states of the workers.
