@@ -136,13 +136,12 @@ fn are_high<C: Counting>(workers: &mut [Worker<C>], limit: u32) -> bool
     ensures guided { (task : Task) (guide : Guide) → AreGuided task guide workers.old
         → AreGuided task guide workers.new }
 {
-    let mut high = true;
     'workers: for i in 0..workers.len() {
         if !is_high(&mut workers[i], limit) {
-            high = false;
+            return false;
         }
     }
-    high
+    true
 }
 
 // Whether a worker has none.
