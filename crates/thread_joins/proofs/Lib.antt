@@ -4,5 +4,4 @@ pub mod TakenLemmas
 pub mod WorldLemmas
 pub mod LaneLemmas
 pub mod LookLemmas
-pub mod CountLemmas
 pub mod OutcomeLemmas

@@ -156,7 +156,7 @@ module _ {S C D E K G : Type 0} (hash_of : S → Position → ℕ) (p : Problem)
           (λ from row at. none_summed (λ (lane : Lane). length lane) row
             (λ to lane at'. let here = lane_is from to lane (row, at, at') in ap (λ (l : Lane). length l) (here.2 ∙ none quiet from to here.0 here.1)))
 
-      pub joined_world : JoinedPartsAreSound → IsWorldOf hash_of p owners n book new world
+      pub joined_world : JoinedPartsAreSound → IsWorldOf hash_of p owners n book new.workers.items new.ins.items world
       joined_world law =
           let both = law shared parts book lanes are (floors ∙ sym count) in
           record {

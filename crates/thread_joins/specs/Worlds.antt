@@ -1,7 +1,8 @@
 -- The world of joined workers, and of what is left in their rings.
-use Rattle.std.specs.Prelude.{ℕ, ◌≡◌, ◌%◌, ◌≤◌, List, [], ◌∷◌, length, All, Some, slice_get}
+use Rattle.std.specs.Prelude.{ℕ, ◌≡◌, ◌%◌, List, [], ◌∷◌, Vec, length, Some, slice_get}
+use Rattle.std.specs.declared.alloc.Global.{Global}
 use Rattle.board.specs.Positions.{Position}
-use Rattle.rings.specs.Rings.{ArePaired, rings_of_outs, rings_of_ins, sent_rows, received_rows, left_rows}
+use Rattle.rings.specs.Rings.{ReceivingEnd, ArePaired, rings_of_outs, rings_of_ins, sent_rows, received_rows, left_rows}
 use Rattle.world_model.specs.declared.steps.Stop.TheVariants.{Quiet}
 use Rattle.world_model.specs.Books.{BookState}
 use Rattle.world_model.specs.Credit.{packet_count}
@@ -10,6 +11,7 @@ use Rattle.world_model.specs.Workers.{WorkerState, Lane}
 use Rattle.world_model.specs.Worlds.{WorldState, IsWorker}
 use Rattle.thread_model.specs.Parts.{PartState, IsRole, Keeps}
 use Rattle.thread_model.specs.Joined.{Shared, role_in}
+use Rattle.worker_core.specs.declared.worker.Worker.{Worker}
 use Rattle.worker_core.specs.Roles.{guide_of}
 use Rattle.world_ends.specs.Parts.{HasParts, AreGuided, states_of}
 use Rattle.hda_run.specs.Problems.{Problem, task_in}
@@ -48,12 +50,13 @@ module _ {C D E K G : Type 0} where
     pub guided : AreGuided (task_in p) (guide_of (task_in p)) joined.workers.items
     pub paired : ArePaired n (rings_of_outs joined.outs.items) (rings_of_ins joined.ins.items)
 
-  -- The world is that of n joined workers, with this book and with what is left in their rings. Where the book is quiet, all is at rest.
-  pub record IsWorldOf {S : Type 0} (hash_of : S → Position → ℕ) (p : Problem) (owners : S) (n : ℕ) (book : BookState) (joined : Joined C D E K G) (w : WorldState) : Type 0 where
-    pub count : length joined.workers.items ≡ n
-    pub parts : HasParts (task_in p) (hash_of owners) (states_of joined.workers.items) w
-    pub guided : AreGuided (task_in p) (guide_of (task_in p)) joined.workers.items
+  -- The world is that of n workers of joined threads, with this book and with what is left in their rings. Where the book is quiet, all is
+  -- at rest.
+  pub record IsWorldOf {S : Type 0} (hash_of : S → Position → ℕ) (p : Problem) (owners : S) (n : ℕ) (book : BookState) (workers : List (Worker C D E K G)) (ins : List (Vec ReceivingEnd Global)) (w : WorldState) : Type 0 where
+    pub count : length workers ≡ n
+    pub parts : HasParts (task_in p) (hash_of owners) (states_of workers) w
+    pub guided : AreGuided (task_in p) (guide_of (task_in p)) workers
     pub book_is : w.book ≡ book
-    pub widths : AreOfWidth n joined.ins.items
-    pub lanes : w.lanes ≡ by_sender n (left_rows joined.ins.items)
+    pub widths : AreOfWidth n ins
+    pub lanes : w.lanes ≡ by_sender n (left_rows ins)
     pub at_quiet : book.stop ≡ Some Quiet → AreAtRest w

@@ -1,18 +1,15 @@
 //! The outcome of a run by threads.
 
-ghost use Rattle.std.specs.Prelude.{◌≡◌, ◌≤◌, ◌<◌, IfSome, Vec};
-ghost use Rattle.std.specs.declared.alloc.Global.{Global};
-ghost use Rattle.rings.specs.Rings.{left_rows};
-ghost use Rattle.world_model.specs.declared.limits.TheConstants.{WORKER_LIMIT};
+ghost use Rattle.std.specs.Prelude.{◌≡◌, IfSome};
+ghost use Rattle.world_model.specs.Books.{BookState};
 ghost use Rattle.world_model.specs.Outcomes.{IsGiven};
+ghost use Rattle.world_model.specs.Quiet.{IsKept};
 ghost use Rattle.world_model.specs.Worlds.{WorldState};
-ghost use Rattle.worker_core.specs.Roles.{guide_of};
-ghost use Rattle.world_ends.specs.Parts.{states_of, AreGuided, HasParts};
-ghost use Rattle.hda_run.specs.Problems.{task_in};
+ghost use Rattle.world_ends.specs.Parts.{states_of};
 ghost use Rattle.hda_run.specs.Worlds.{IsWorkerCount};
 ghost use Rattle.thread_joins.specs.Joints.{IsJoint};
-ghost use Rattle.thread_joins.specs.Lanes.{AreOfWidth, by_sender};
 ghost use Rattle.thread_joins.specs.Threads.{IsByThreads};
+ghost use Rattle.thread_joins.specs.Worlds.{IsWorldOf};
 
 use crate::apart::Joined;
 use crate::counting::count_expanded;
@@ -20,7 +17,7 @@ use crate::looks::is_kept;
 use crate::lowest::lowest_in_rows;
 use crate::world::join_world;
 use hda_run::Job;
-use message_ledger::{Capped, Counting, Shares, Tickets};
+use message_ledger::{Capped, Shares, Tickets, Tokens};
 use outcomes::Outcome;
 use owners::Spread;
 use quiescence::Book;
@@ -57,16 +54,39 @@ pub fn outcome_of_joined<S: Spread, L: Ledger + Send + Sync, M: Capped + Send + 
     let Joined {
         mut workers, ins, ..
     } = joined;
-    if !is_kept(job, owners, &book, &mut workers) {
-        return None;
-    }
-    let outcome = outcome_with(alloc, job, owners, book.stop(), &mut workers, ins);
+    let outcome = outcome_if_kept(alloc, job, owners, &book, &mut workers, ins);
+    let _ = book.stop();
     count_expanded::<L, M>(tickets, book.into_grants(), workers);
-    Some(outcome)
+    outcome
 }
 
-// The outcome that workers and what is left in their rings give.
-fn outcome_with<C: Counting, S: Spread>(
+// The outcome that workers and what is left in their rings give, where their world is kept.
+fn outcome_if_kept<C: Tokens, S: Spread>(
+    alloc: Global,
+    job: &Job<'_>,
+    owners: &S,
+    book: &Book<C>,
+    workers: &mut [Worker<C>],
+    ins: Vec<Vec<Receiver<C>>>,
+) -> Option<Outcome>
+    requires count { IsWorkerCount C.workers }
+    requires limit { job.now.limit ≡ C.limit }
+    requires world { (w : WorldState) × IsWorldOf S.hash_of job.now owners.now C.workers book.now
+        workers.old ins.items w }
+    ensures given { IfSome result (λ outcome. (w : WorldState)
+        → IsWorldOf S.hash_of job.now owners.now C.workers book.now workers.old ins.items w
+        → IsKept w × IsGiven w outcome) }
+    ensures same { states_of workers.new ≡ states_of workers.old }
+{
+    if !is_kept(job, owners, book, workers) {
+        return None;
+    }
+    let stop = book.stop();
+    Some(outcome_with(alloc, job, owners, stop, workers, ins))
+}
+
+// The same, whether it is kept or not.
+fn outcome_with<C: Tokens, S: Spread>(
     alloc: Global,
     job: &Job<'_>,
     owners: &S,
@@ -74,15 +94,11 @@ fn outcome_with<C: Counting, S: Spread>(
     workers: &mut [Worker<C>],
     ins: Vec<Vec<Receiver<C>>>,
 ) -> Outcome
-    requires guided { AreGuided (task_in job.now) (guide_of (task_in job.now)) workers.old }
-    requires widths { AreOfWidth (length workers.old) ins.items }
-    requires world { (w : WorldState)
-        × HasParts (task_in job.now) (S.hash_of owners.now) (states_of workers.old) w
-        × (w.lanes ≡ by_sender (length workers.old) (left_rows ins.items)) }
-    ensures given { (w : WorldState)
-        → HasParts (task_in job.now) (S.hash_of owners.now) (states_of workers.old) w
-        → w.lanes ≡ by_sender (length workers.old) (left_rows ins.items)
-        → w.book.stop ≡ stop → IsGiven w result }
+    requires { (book : BookState) × (w : WorldState)
+        × IsWorldOf S.hash_of job.now owners.now C.workers book workers.old ins.items w }
+    ensures given { (book : BookState) (w : WorldState)
+        → IsWorldOf S.hash_of job.now owners.now C.workers book workers.old ins.items w
+        → book.stop ≡ stop → IsGiven w result }
     ensures same { states_of workers.new ≡ states_of workers.old }
 {
     let lowest = lowest_in_rows(job.bound(), ins, None);
