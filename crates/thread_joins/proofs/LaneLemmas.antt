@@ -1,12 +1,12 @@
 -- What is left in rings, and the lanes of the world that it makes.
-use Rattle.std.proofs.Common.{◌≡◌, ◌⊎◌, ℕ, zero, suc, ◌+◌, ◌<◌, ◌≤◌, List, [], ◌∷◌, ◌++◌, Vec, map, length, get_or, Option, Some, None, ap, sym, ◌∙◌, subst, refl, arith, append-nil, inl, inr, ⊎_elim}
-use Rattle.std.specs.Prelude.{Contains, slice_get, slice_index_or, option_map}
+use Rattle.std.proofs.Common.{◌≡◌, ◌⊎◌, ℕ, ◌+◌, ◌<◌, ◌≤◌, List, [], ◌∷◌, ◌++◌, Vec, length, get_or, Option, Some, None, ap, sym, ◌∙◌, subst, refl, arith, append-nil, inl, inr, ⊎_elim}
+use Rattle.std.specs.Prelude.{Contains, slice_get, slice_index_or}
 use Rattle.std.specs.List.{range_with_len}
 use Rattle.std.proofs.lemmas.Bool.{cases_lt}
 use Rattle.std.proofs.lemmas.List.{length-map, append_assoc}
 use Rattle.std.proofs.lemmas.List.Elements.{Contains-append_right}
 use Rattle.std.proofs.lemmas.List.FromFn.{length-range_with_len, length-map-range_with_len, get_or-range_with_len}
-use Rattle.std.proofs.lemmas.Option.{slice_get-map, slice_get_within, slice_get-get_or, get_or_from_slice_get}
+use Rattle.std.proofs.lemmas.Option.{slice_get_within, slice_get-get_or, get_or_from_slice_get}
 use Rattle.std.specs.declared.alloc.Global.{Global}
 use Rattle.board.specs.Grids.{Grid}
 use Rattle.board.specs.Positions.{Position}
@@ -17,11 +17,11 @@ use Rattle.world_model.specs.Shapes.{IsShaped}
 use Rattle.world_model.specs.Workers.{Packet, Lane}
 use Rattle.world_model.specs.Worlds.{WorldState, IsLane, LiesIn, HasInLaneTo}
 use Rattle.world_model.proofs.ListLemmas.{get_below, at_in, place_of, head_in}
-use Rattle.world_ends.specs.Lowest.{IsLeastBeside, IsLowestInLanes, IsOfItem, AreItemsOn}
+use Rattle.world_ends.specs.Lowest.{IsLeastBeside, IsLowestInLanes, AreItemsOn}
 use Rattle.world_ends.proofs.LeastLemmas.{beside_none, beside_both, beside_same, beside_nothing, least_same}
 use Rattle.hda_run.specs.Lanes.{IsOfOne}
 use Rattle.thread_joins.proofs.PartLemmas.{map_at, mapped_at}
-use Rattle.thread_joins.specs.Lanes.{lanes_from, by_sender, AreOfWidth, IsLeft, IsLeftInRow, IsLeftInRows}
+use Rattle.thread_joins.specs.Lanes.{lanes_from, by_sender, AreOfWidth, IsLeftInRows}
 
 -- ---- the least of one after the other
 
@@ -33,15 +33,15 @@ pub one_least : {A : Type 0} (IsOf : A → ℕ → Type 0) (done : List A) (here
 one_least {A} IsOf done here x y z before more =
     beside_same (λ f. IsOfOne IsOf done f ⊎ IsOf here f) (IsOfOne IsOf (done ++ here ∷ []))
     (λ n p. ⊎_elim
-      (λ (q : IsOfOne IsOf done n). (q.0, q.1, get_before done here q.0 (slice_get_within done q.0 q.1 q.2) ∙ q.2, q.3))
-      (λ (q : IsOf here n). (length done, here, get_end done here (length done) refl, q)) p)
+    (λ (q : IsOfOne IsOf done n). (q.0, q.1, get_before done here q.0 (slice_get_within done q.0 q.1 q.2) ∙ q.2, q.3))
+    (λ (q : IsOf here n). (length done, here, get_end done here (length done) refl, q)) p)
     (λ n p. ⊎_elim
-      (λ (lt : p.0 < length done). inl (p.0, p.1, sym (get_before done here p.0 lt) ∙ p.2, p.3))
-      (λ (le : length done ≤ p.0).
-        let low = slice_get_within (done ++ here ∷ []) p.0 p.1 p.2 in
-        let e : length done ≡ p.0 = omega (arith, low, le, length_end done here) in
-        let both : ◌≡◌ {A = Option A} (Some p.1) (Some here) = sym p.2 ∙ get_end done here p.0 e in
-        inr (subst (λ (a : A). IsOf a n) (search both) p.3)) (cases_lt p.0 (length done)))
+    (λ (lt : p.0 < length done). inl (p.0, p.1, sym (get_before done here p.0 lt) ∙ p.2, p.3))
+    (λ (le : length done ≤ p.0).
+    let low = slice_get_within (done ++ here ∷ []) p.0 p.1 p.2 in
+    let e : length done ≡ p.0 = omega (arith, low, le, length_end done here) in
+    let both : ◌≡◌ {A = Option A} (Some p.1) (Some here) = sym p.2 ∙ get_end done here p.0 e in
+    inr (subst (λ (a : A). IsOf a n) (search both) p.3)) (cases_lt p.0 (length done)))
     x z (beside_both (IsOfOne IsOf done) (IsOf here) x y z before more)
 
 -- the least beside those that are done, where these come next
@@ -148,15 +148,15 @@ module _ (w : WorldState) (n : ℕ) (ins : List (Vec ReceivingEnd Global)) (lane
   lowest_left sum lowest sums least =
       least_same (IsLeftInRows sum ins) (λ f. (to : ℕ) × (item : Item) × HasInLaneTo w to item × (f ≡ item.cost + w.task.sum item.board))
       (λ f p.
-        let row = p.1 in let inner = p.3 in
-        let it = inner.1 in let most = inner.3 in
-        let packet = most.1 in let of_item = most.3 in
-        let lies : LiesIn w inner.0 p.0 packet = record { lane = it.left; is = is_lane p.0 inner.0 row it p.2 inner.2; lies = at_in it.left most.0 packet most.2 } in
-        (p.0, of_item.0, (inner.0, packet, lies, of_item.1), subst (λ (s : Position → ℕ). f ≡ of_item.0.cost + s of_item.0.board) sums of_item.2))
+      let row = p.1 in let inner = p.3 in
+      let it = inner.1 in let most = inner.3 in
+      let packet = most.1 in let of_item = most.3 in
+      let lies : LiesIn w inner.0 p.0 packet = record { lane = it.left; is = is_lane p.0 inner.0 row it p.2 inner.2; lies = at_in it.left most.0 packet most.2 } in
+      (p.0, of_item.0, (inner.0, packet, lies, of_item.1), subst (λ (s : Position → ℕ). f ≡ of_item.0.cost + s of_item.0.board) sums of_item.2))
       (λ f p.
-        let item = p.1 in let lying = p.2 in
-        let lies = lying.2 in
-        let has = lane_end p.0 lying.0 lies.lane lies.is in
-        let place = place_of has.1.left lying.1 (subst (λ (l : Lane). Contains l lying.1) (sym has.4) lies.lies) in
-        (p.0, has.0, has.2, (lying.0, has.1, has.3, (place.0, lying.1, place.1, (item, lying.3, subst (λ (s : Position → ℕ). f ≡ item.cost + s item.board) (sym sums) p.3)))))
+      let item = p.1 in let lying = p.2 in
+      let lies = lying.2 in
+      let has = lane_end p.0 lying.0 lies.lane lies.is in
+      let place = place_of has.1.left lying.1 (subst (λ (l : Lane). Contains l lying.1) (sym has.4) lies.lies) in
+      (p.0, has.0, has.2, (lying.0, has.1, has.3, (place.0, lying.1, place.1, (item, lying.3, subst (λ (s : Position → ℕ). f ≡ item.cost + s item.board) (sym sums) p.3)))))
       lowest (beside_nothing (IsLeftInRows sum ins) lowest least)

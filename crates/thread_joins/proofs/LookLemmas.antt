@@ -1,5 +1,5 @@
 -- When a world of joined workers is kept.
-use Rattle.std.proofs.Common.{◌≡◌, ◌≢◌, ◌⊎◌, ℕ, ◌+◌, ◌*◌, ◌<◌, ◌≤◌, true, List, [], length, get_or, set, Option, Some, None, refl, sym, ap, ◌∙◌, subst, inl, inr, arith}
+use Rattle.std.proofs.Common.{◌≡◌, ℕ, ◌+◌, ◌*◌, ◌<◌, ◌≤◌, true, List, [], length, get_or, set, Option, Some, None, refl, sym, ap, ◌∙◌, subst, inl, inr, arith}
 use Rattle.std.specs.Prelude.{All, slice_get, sum_by, option_map}
 use Rattle.std.proofs.Math.Seq.{map-set_same}
 use Rattle.std.proofs.lemmas.Bool.Decides.{eqb_tells}
@@ -10,13 +10,13 @@ use Rattle.outcomes.specs.Outcomes.{Task}
 use Rattle.world_model.specs.declared.parts.Item.{Item}
 use Rattle.world_model.specs.declared.parts.Known.{Known}
 use Rattle.world_model.specs.declared.steps.Stop.{Stop}
-use Rattle.world_model.specs.declared.steps.Stop.TheVariants.{Quiet, Limit, Memory}
+use Rattle.world_model.specs.declared.steps.Stop.TheVariants.{Quiet, Limit}
 use Rattle.world_model.specs.declared.limits.TheConstants.{GREATEST_GRANT}
 use Rattle.world_model.specs.Costs.{limit_of}
 use Rattle.world_model.specs.Frontiers.{IsInFrontier, IsReached}
 use Rattle.world_model.specs.Quiet.{IsQuiet, IsKept, IsKeptAt, HasBegun}
 use Rattle.world_model.specs.Workers.{WorkerState, Lane, IsTaskBoard, IsFloor, HasNothingBelow}
-use Rattle.world_model.specs.Worlds.{IsUnderWay, IsWorker, Knows, LiesIn, WorldState}
+use Rattle.world_model.specs.Worlds.{IsUnderWay, Knows, LiesIn, WorldState}
 use Rattle.world_model.proofs.ListLemmas.{part_le, none_in_empty, all_from_places}
 use Rattle.search_lists.specs.Orders.{Guide}
 use Rattle.worker_core.specs.declared.worker.Worker.{Worker}
@@ -40,9 +40,9 @@ pub high_more : (task : Task) (limit : ℕ) (states : List WorkerState) (i : ℕ
     → ((k : ℕ) (worker : WorkerState) → k < i → slice_get states k ≡ Some worker → HasNothingBelow task worker limit)
     → (k : ℕ) (worker : WorkerState) → k < i + 1 → slice_get states k ≡ Some worker → HasNothingBelow task worker limit
 high_more task limit states i here at high before k worker low is = elim (eqb_tells k i) [
-    inl p ↦ subst (λ (x : WorkerState). HasNothingBelow task x limit) (some_is here worker (sym at ∙ (ap (slice_get states) (sym p.1) ∙ is))) high
-    | inr p ↦ before k worker (omega (arith, low, p.1)) is
-  ]
+  | inl p ↦ subst (λ (x : WorkerState). HasNothingBelow task x limit) (some_is here worker (sym at ∙ (ap (slice_get states) (sym p.1) ∙ is))) high
+  | inr p ↦ before k worker (omega (arith, low, p.1)) is
+]
 
 -- all have nothing below it
 pub high_all : (task : Task) (limit : ℕ) (states : List WorkerState) (n : ℕ) → length states ≤ n → ((k : ℕ) (worker : WorkerState) → k < n → slice_get states k ≡ Some worker → HasNothingBelow task worker limit) → All (λ worker. HasNothingBelow task worker limit) states
@@ -82,8 +82,8 @@ module _ (task : Task) (hash : Position → ℕ) (states : List WorkerState) (w 
       let knows = has.2 in
       let at = worker_from task hash states w parts has.0 knows.worker knows.is in
       let here : HasNothingBelow task knows.worker limit =
-          subst (λ (x : WorkerState). HasNothingBelow task x limit) (get_or_from_slice_get states has.0 knows.worker knows.worker at)
-            (All-get_or (λ (x : WorkerState). HasNothingBelow task x limit) states has.0 knows.worker (slice_get_within states has.0 knows.worker at) high) in
+      subst (λ (x : WorkerState). HasNothingBelow task x limit) (get_or_from_slice_get states has.0 knows.worker knows.worker at)
+      (All-get_or (λ (x : WorkerState). HasNothingBelow task x limit) states has.0 knows.worker (slice_get_within states has.0 knows.worker at) high) in
       let there : HasNothingBelow w.task knows.worker limit = subst (λ (t : Task). HasNothingBelow t knows.worker limit) (sym parts.asks) here in
       let le = there b has.1 (record { board = knows.board; knows = knows.knows; unexpanded = has.3; no_goal = has.4 }) in
       omega (arith, le, has.5)
@@ -111,8 +111,8 @@ module _ (task : Task) (hash : Position → ℕ) (states : List WorkerState) (w 
       → (GREATEST_GRANT * length states < limit → (known : Known) × (known_in hash states task.start ≡ Some known) × (known.expanded ≡ true)) → IsKept w
   kept_limit stop limit is begun =
       subst (λ (o : Option Stop). IsKeptAt w o) (sym stop)
-        (λ low.
-          let same = ap (λ (ws : List WorkerState). length ws) parts.works in
-          let lt : GREATEST_GRANT * length states < limit = subst (λ (k : ℕ). GREATEST_GRANT * k < limit) same (subst (λ (k : ℕ). GREATEST_GRANT * length w.workers < k) is low) in
-          let has = begun lt in
-          begun_is has.0 has.1 has.2)
+      (λ low.
+      let same = ap (λ (ws : List WorkerState). length ws) parts.works in
+      let lt : GREATEST_GRANT * length states < limit = subst (λ (k : ℕ). GREATEST_GRANT * k < limit) same (subst (λ (k : ℕ). GREATEST_GRANT * length w.workers < k) is low) in
+      let has = begun lt in
+      begun_is has.0 has.1 has.2)

@@ -1,12 +1,11 @@
 -- The outcome of joined workers.
-use Rattle.std.proofs.Common.{◌≡◌, ℕ, ◌+◌, ◌*◌, ◌<◌, ◌≤◌, List, length, Vec, Option, Some, None, refl, sym, ap, ◌∙◌, subst, arith}
+use Rattle.std.proofs.Common.{◌≡◌, ℕ, ◌+◌, ◌*◌, ◌≤◌, List, length, Vec, Some, sym, ap, ◌∙◌, subst, arith}
 use Rattle.std.specs.Prelude.{◌%◌, ◌≢◌, sum_by}
 use Rattle.std.proofs.lemmas.List.{length-map}
 use Rattle.std.specs.declared.alloc.Global.{Global}
 use Rattle.board.specs.CostRules.{CostRule}
 use Rattle.board.specs.Positions.{Position}
 use Rattle.lower_bound.specs.Tables.{Tables}
-use Rattle.outcomes.specs.Outcomes.{Task}
 use Rattle.outcomes.specs.declared.outcome.Outcome.{Outcome}
 use Rattle.outcomes.specs.declared.outcome.Want.TheVariants.{Stated}
 use Rattle.rings.specs.Rings.{ReceivingEnd}
@@ -22,8 +21,7 @@ use Rattle.worker_core.specs.Roles.{guide_of, task_of}
 use Rattle.worker_core.specs.Workers.{state_of}
 use Rattle.world_ends.specs.Parts.{AreGuided, HasParts, states_of}
 use Rattle.hda_run.specs.Problems.{Problem, task_in}
-use Rattle.hda_run.specs.Worlds.{job_of}
-use Rattle.thread_joins.specs.Threads.{IsByThreads, IsJoined}
+use Rattle.thread_joins.specs.Threads.{IsByThreads}
 use Rattle.thread_joins.specs.Worlds.{IsWorldOf}
 
 -- one task of the same four
@@ -41,8 +39,8 @@ module _ {S C D E K G : Type 0} (hash_of : S → Position → ℕ) (p : Problem)
       → IsWorldOf hash_of p owners n book workers ins w → IsWorldOf hash_of p owners n book workers' ins w
   world_same workers workers' ins w same guided is = record {
     count =
-      let e = ap (λ (ws : List WorkerState). length ws) same in
-      omega (arith, e, is.count, length-map workers (λ (x : Worker C D E K G). state_of x), length-map workers' (λ (x : Worker C D E K G). state_of x));
+        let e = ap (λ (ws : List WorkerState). length ws) same in
+        omega (arith, e, is.count, length-map workers (λ (x : Worker C D E K G). state_of x), length-map workers' (λ (x : Worker C D E K G). state_of x));
     parts = subst (λ (states : List WorkerState). HasParts (task_in p) (hash_of owners) states w) (sym same) is.parts;
     guided = guided;
     book_is = is.book_is;
@@ -64,8 +62,7 @@ module _ {S C D E K G : Type 0} (hash_of : S → Position → ℕ) (p : Problem)
   by_threads workers ins w outcome expanded is given limit sum within high capped at_limit no_list =
       let states : length (states_of workers) ≡ n = length-map workers (λ (x : Worker C D E K G). state_of x) ∙ is.count in
       let total : expanded ≡ sum_by (λ worker. worker.expansions) w.workers = sum ∙ ap (λ (ws : List WorkerState). sum_by (λ worker. worker.expansions) ws) (sym is.parts.works) in
-      let book_limit : w.book.limit ≡ p.limit = ap (λ (b : BookState). b.limit) is.book_is ∙ limit in
-      (
+      let book_limit : w.book.limit ≡ p.limit = ap (λ (b : BookState). b.limit) is.book_is ∙ limit in (
         w,
         record {
           task = is.parts.asks;

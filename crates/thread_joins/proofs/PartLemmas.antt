@@ -1,5 +1,5 @@
 -- Workers, with what each sent and received: the parts that were taken apart.
-use Rattle.std.proofs.Common.{◌≡◌, ℕ, zero, suc, ◌+◌, List, [], ◌∷◌, ◌++◌, length, Some, ap, ◌∙◌, subst, refl, arith}
+use Rattle.std.proofs.Common.{◌≡◌, ℕ, zero, suc, List, [], ◌∷◌, ◌++◌, length, Some, ap, ◌∙◌, subst, refl, arith}
 use Rattle.std.specs.Prelude.{map, option_map, slice_get}
 use Rattle.std.proofs.lemmas.Option.{slice_get-map}
 use Rattle.world_model.specs.Workers.{WorkerState, Lane}

@@ -1,5 +1,5 @@
 -- Rows of ends, of which one has changed.
-use Rattle.std.proofs.Common.{◌≡◌, ◌≢◌, ℕ, ◌+◌, ◌<◌, List, [], ◌∷◌, ◌⊎◌, inl, inr, Vec, map, set, get_or, length, slice_index_or, ap, sym, ◌∙◌, refl, arith}
+use Rattle.std.proofs.Common.{◌≡◌, ◌≢◌, ℕ, ◌+◌, ◌<◌, List, [], inl, inr, Vec, map, set, get_or, length, slice_index_or, ap, ◌∙◌, refl, arith}
 use Rattle.std.proofs.Math.Seq.{map-set_same}
 use Rattle.std.proofs.lemmas.Bool.Decides.{eqb_tells}
 use Rattle.std.specs.declared.alloc.Global.{Global}
@@ -29,24 +29,24 @@ module _ {V : Type 0} (f g : V → List Lane) (xs : List V) (j i : ℕ) (q x : V
       → ((k : ℕ) → k < j → IsTied (slice_index_or sent k []) (lane_at (map f xs) k i) (lane_at (map g xs) k i))
       → (k : ℕ) → k < j + 1 → IsTied (slice_index_or sent k []) (lane_at (map f (set xs j q)) k i) (lane_at (map g (set xs j q)) k i)
   tied_row sent new below k low = elim (eqb_tells k j) [
-      inl p ↦ rw (p.1, map_at_set f xs j q [] inside, map_at_set g xs j q [] inside) new
-      | inr p ↦ rw (map_at_other f xs j k q [] p.1, map_at_other g xs j k q [] p.1) (below k (omega (arith, p.1)))
-    ]
+    | inl p ↦ rw (p.1, map_at_set f xs j q [] inside, map_at_set g xs j q [] inside) new
+    | inr p ↦ rw (map_at_other f xs j k q [] p.1, map_at_other g xs j k q [] p.1) (below k (omega (arith, p.1)))
+  ]
 
   pub quiet_row : slice_index_or (g q) i [] ≡ []
       → ((k : ℕ) → k < j → lane_at (map g xs) k i ≡ [])
       → (k : ℕ) → k < j + 1 → lane_at (map g (set xs j q)) k i ≡ []
   quiet_row new below k low = elim (eqb_tells k j) [
-      inl p ↦ rw (p.1, map_at_set g xs j q [] inside) new
-      | inr p ↦ rw (map_at_other g xs j k q [] p.1) (below k (omega (arith, p.1)))
-    ]
+    | inl p ↦ rw (p.1, map_at_set g xs j q [] inside) new
+    | inr p ↦ rw (map_at_other g xs j k q [] p.1) (below k (omega (arith, p.1)))
+  ]
 
   pub others_row : slice_index_or (map g xs) j [] ≡ g x → ((m : ℕ) → m ≢ i → slice_index_or (g q) m [] ≡ slice_index_or (g x) m [])
       → (k m : ℕ) → m ≢ i → lane_at (map g (set xs j q)) k m ≡ lane_at (map g xs) k m
   others_row here same k m other = elim (eqb_tells k j) [
-      inl p ↦ rw (p.1, map_at_set g xs j q [] inside, here) (same m other)
-      | inr p ↦ rw (map_at_other g xs j k q [] p.1) refl
-    ]
+    | inl p ↦ rw (p.1, map_at_set g xs j q [] inside, here) (same m other)
+    | inr p ↦ rw (map_at_other g xs j k q [] p.1) refl
+  ]
 
 -- one more row was tied, and the others' are as before
 module _ (n i : ℕ) (sent received left left' : List (List Lane)) (row : List Lane) (at : slice_index_or sent i [] ≡ row) (others : (j k : ℕ) → k ≢ i → lane_at left' j k ≡ lane_at left j k) where
@@ -54,14 +54,14 @@ module _ (n i : ℕ) (sent received left left' : List (List Lane)) (row : List L
       → ((a b : ℕ) → a < i → b < n → IsTied (lane_at sent a b) (lane_at received b a) (lane_at left b a))
       → (a b : ℕ) → a < i + 1 → b < n → IsTied (lane_at sent a b) (lane_at received b a) (lane_at left' b a)
   tied_more new below a b low inside = elim (eqb_tells a i) [
-      inl p ↦ rw (p.1, at) (new b inside)
-      | inr p ↦ rw (others b a p.1) (below a b (omega (arith, p.1)) inside)
-    ]
+    | inl p ↦ rw (p.1, at) (new b inside)
+    | inr p ↦ rw (others b a p.1) (below a b (omega (arith, p.1)) inside)
+  ]
 
   pub quiet_more : ((j : ℕ) → j < n → lane_at left' j i ≡ [])
       → ((a b : ℕ) → a < i → b < n → lane_at left b a ≡ [])
       → (a b : ℕ) → a < i + 1 → b < n → lane_at left' b a ≡ []
   quiet_more new below a b low inside = elim (eqb_tells a i) [
-      inl p ↦ rw p.1 (new b inside)
-      | inr p ↦ rw (others b a p.1) (below a b (omega (arith, p.1)) inside)
-    ]
+    | inl p ↦ rw p.1 (new b inside)
+    | inr p ↦ rw (others b a p.1) (below a b (omega (arith, p.1)) inside)
+  ]

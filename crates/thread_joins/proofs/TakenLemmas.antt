@@ -5,7 +5,7 @@ use Rattle.std.proofs.lemmas.List.{map-append, length-map, length-append, append
 use Rattle.std.proofs.lemmas.List.Elements.{All-push}
 use Rattle.std.specs.declared.alloc.Global.{Global}
 use Rattle.board.specs.Positions.{Position}
-use Rattle.world_model.specs.Workers.{WorkerState, Lane, Role}
+use Rattle.world_model.specs.Workers.{WorkerState, Role}
 use Rattle.thread_model.specs.Parts.{PartState, IsRole, Keeps}
 use Rattle.thread_model.specs.Joined.{role_in}
 use Rattle.rings.specs.Rings.{Ring, SendingEnd, ReceivingEnd, ArePaired, out_rings, in_rings, sent_lanes, received_lanes, rings_of_outs, rings_of_ins, sent_rows, received_rows}
@@ -19,7 +19,7 @@ use Rattle.thread_parts.specs.Parts.{Face, Holds, face_of, part_state, role_of}
 use Rattle.thread_joins.specs.declared.apart.Joined.{Joined}
 use Rattle.thread_joins.specs.Joints.{IsJoint}
 use Rattle.thread_joins.specs.Worlds.{AreApart, parts_with, shared_by}
-use Rattle.thread_joins.proofs.PartLemmas.{part, part_count, part_more, each_more, next_at}
+use Rattle.thread_joins.proofs.PartLemmas.{part_count, part_more, each_more, next_at}
 
 -- each of these parts keeps what a part keeps in its role
 abbrev pub AllHold : {S : Type 0} → (S → Position → ℕ) → Problem → S → ℕ → List PartState → Type 0
@@ -87,7 +87,7 @@ module _ {S C D E K G : Type 0} where
     after : parts_with (states_of (workers ++ it.worker ∷ [])) (sent_rows (outs ++ it.outs ∷ [])) (received_rows (ins ++ it.ins ∷ [])) ≡ before ++ part_state it ∷ []
     after =
         (λ t. parts_with (map-append (λ (w : Worker C D E K G). state_of w) workers (it.worker ∷ []) t) (map-append (λ (v : Vec SendingEnd Global). sent_lanes v.items) outs (it.outs ∷ []) t) (map-append (λ (v : Vec ReceivingEnd Global). received_lanes v.items) ins (it.ins ∷ []) t))
-          ∙ part_more states (sent_rows outs) (received_rows ins) (state_of it.worker) (sent_lanes it.outs.items) (received_lanes it.ins.items) sent_count received_count
+        ∙ part_more states (sent_rows outs) (received_rows ins) (state_of it.worker) (sent_lanes it.outs.items) (received_lanes it.ins.items) sent_count received_count
 
     module _ (p : Problem) (owners : S) (joint : IsJoint p owners n faces) where
       job_is : it.job.now ≡ p
@@ -105,12 +105,12 @@ module _ {S C D E K G : Type 0} where
       hold_more : AllHold hash_of p owners n (before ++ part_state it ∷ [])
       hold_more =
           each_more (λ (i : ℕ) (x : PartState). IsRole n (role_in (shared_by hash_of p owners n) i) × Keeps n (role_in (shared_by hash_of p owners n) i) x) before (part_state it) (taken.hold p owners joint)
-            (subst (λ (r : Role). IsRole n r) role_is holds.role, subst (λ (r : Role). Keeps n r (part_state it)) role_is holds.keeps)
+          (subst (λ (r : Role). IsRole n r) role_is holds.role, subst (λ (r : Role). Keeps n r (part_state it)) role_is holds.keeps)
 
       guided_more : AreGuided (task_in p) (guide_of (task_in p)) (workers ++ it.worker ∷ [])
       guided_more =
           All-push (λ (w : Worker C D E K G). IsGuided (task_in p) (guide_of (task_in p)) w.lists) workers it.worker (taken.guided p owners joint)
-            (subst (λ (q : Problem). IsGuided (task_in q) (guide_of (task_in q)) it.worker.lists) job_is holds.guided)
+          (subst (λ (q : Problem). IsGuided (task_in q) (guide_of (task_in q)) it.worker.lists) job_is holds.guided)
 
     -- one part more
     pub taken_more : AreTaken hash_of n faces next (workers ++ it.worker ∷ []) (outs ++ it.outs ∷ []) (ins ++ it.ins ∷ [])
@@ -119,10 +119,10 @@ module _ {S C D E K G : Type 0} where
       all = append_assoc taken.done (one ∷ []) next ∙ taken.all;
       count = length-append workers (it.worker ∷ []) ∙ (ap (λ (k : ℕ). k + 1) taken.count ∙ sym (length-append taken.done (one ∷ [])));
       out_rings =
-        map-append (λ (v : Vec SendingEnd Global). out_rings v.items) outs (it.outs ∷ [])
+          map-append (λ (v : Vec SendingEnd Global). out_rings v.items) outs (it.outs ∷ [])
           ∙ ((λ t. taken.out_rings t ++ (is t).outs ∷ []) ∙ sym (map-append (λ (face : Face S). face.outs) taken.done (one ∷ [])));
       in_rings =
-        map-append (λ (v : Vec ReceivingEnd Global). in_rings v.items) ins (it.ins ∷ [])
+          map-append (λ (v : Vec ReceivingEnd Global). in_rings v.items) ins (it.ins ∷ [])
           ∙ ((λ t. taken.in_rings t ++ (is t).ins ∷ []) ∙ sym (map-append (λ (face : Face S). face.ins) taken.done (one ∷ [])));
       hold = λ p owners joint. subst (λ (parts : List PartState). AllHold hash_of p owners n parts) (sym after) (hold_more p owners joint);
       guided = guided_more;

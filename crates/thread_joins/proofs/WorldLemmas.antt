@@ -1,5 +1,5 @@
 -- Joined workers, and what is left in their rings, are the world of parts.
-use Rattle.std.proofs.Common.{◌≡◌, ℕ, zero, suc, ◌+◌, ◌<◌, ◌≤◌, List, [], ◌∷◌, ◌++◌, Vec, map, length, Some, ap, sym, ◌∙◌, subst, refl, arith}
+use Rattle.std.proofs.Common.{◌≡◌, ℕ, suc, ◌<◌, ◌≤◌, List, [], ◌∷◌, ◌++◌, Vec, length, Some, ap, sym, ◌∙◌, subst, refl, arith}
 use Rattle.std.specs.Prelude.{All, slice_get, slice_index_or, sum_by, ◌%◌}
 use Rattle.std.proofs.lemmas.List.{length-map}
 use Rattle.std.proofs.lemmas.List.Elements.{All-get_or}
@@ -15,7 +15,7 @@ use Rattle.world_model.specs.Workers.{WorkerState, Lane}
 use Rattle.world_model.specs.Worlds.{WorldState}
 use Rattle.world_model.proofs.ListLemmas.{all_from_places}
 use Rattle.thread_model.specs.Parts.{PartState, IsRole, Keeps}
-use Rattle.thread_model.specs.Joined.{AreParts, IsAt, Shared, role_in, workers_of, world_with}
+use Rattle.thread_model.specs.Joined.{AreParts, IsAt, Shared, role_in, world_with}
 use Rattle.thread_model.specs.Laws.{JoinedPartsAreSound}
 use Rattle.thread_model.proofs.JoinedQuiet.{worker_at_rest}
 use Rattle.worker_core.specs.declared.worker.Worker.{Worker}
@@ -25,7 +25,7 @@ use Rattle.world_ends.specs.Parts.{AreGuided, states_of}
 use Rattle.hda_run.specs.Problems.{Problem, task_in}
 use Rattle.thread_joins.specs.declared.apart.Joined.{Joined}
 use Rattle.thread_joins.specs.Lanes.{IsTied, AreOfWidth, by_sender, lanes_from}
-use Rattle.thread_joins.specs.Worlds.{AreApart, AreAtRest, IsWorldOf, parts_in, parts_with, shared_by}
+use Rattle.thread_joins.specs.Worlds.{AreApart, IsWorldOf, parts_in, parts_with, shared_by}
 use Rattle.thread_joins.proofs.LaneLemmas.{lane_from, receiver_count, sender_count, sender_from}
 use Rattle.thread_joins.proofs.PartLemmas.{map_at, part_at, part_count, part_workers}
 
@@ -72,7 +72,7 @@ module _ {S C D E K G : Type 0} (hash_of : S → Position → ℕ) (p : Problem)
   ins_count : length left ≡ n
   ins_count =
       length-map new.ins.items (λ (v : Vec ReceivingEnd Global). left_lanes v.items)
-        ∙ (sym (length-map new.ins.items (λ (v : Vec ReceivingEnd Global). received_lanes v.items)) ∙ (received_count ∙ state_count))
+      ∙ (sym (length-map new.ins.items (λ (v : Vec ReceivingEnd Global). received_lanes v.items)) ∙ (received_count ∙ state_count))
 
   count : length parts ≡ n
   count = part_count (states_of new.workers.items) (sent_rows new.outs.items) (received_rows new.ins.items) sent_count received_count ∙ state_count
@@ -145,16 +145,16 @@ module _ {S C D E K G : Type 0} (hash_of : S → Position → ℕ) (p : Problem)
       no_purse quiet =
           all_from_places (λ (it : PartState). it.worker.purse ≡ 0) parts
           (λ i it at.
-            let here = (at_part i it at).0 in
-            let low = All-get_or (λ (w : WorkerState). w.purse ≤ book.credit) (states_of new.workers.items) i it.worker (slice_get_within (states_of new.workers.items) i it.worker here) bound in
-            let le : it.worker.purse ≤ book.credit = subst (λ (w : WorkerState). w.purse ≤ book.credit) (get_or_from_slice_get (states_of new.workers.items) i it.worker it.worker here) low in
-            omega (arith, le, credit quiet))
+          let here = (at_part i it at).0 in
+          let low = All-get_or (λ (w : WorkerState). w.purse ≤ book.credit) (states_of new.workers.items) i it.worker (slice_get_within (states_of new.workers.items) i it.worker here) bound in
+          let le : it.worker.purse ≤ book.credit = subst (λ (w : WorkerState). w.purse ≤ book.credit) (get_or_from_slice_get (states_of new.workers.items) i it.worker it.worker here) low in
+          omega (arith, le, credit quiet))
 
       no_packet : book.stop ≡ Some Quiet → sum_by (λ to_each. sum_by length to_each) lanes ≡ 0
       no_packet quiet =
           none_summed (λ (to_each : List Lane). sum_by length to_each) lanes
           (λ from row at. none_summed (λ (lane : Lane). length lane) row
-            (λ to lane at'. let here = lane_is from to lane (row, at, at') in ap (λ (l : Lane). length l) (here.2 ∙ none quiet from to here.0 here.1)))
+          (λ to lane at'. let here = lane_is from to lane (row, at, at') in ap (λ (l : Lane). length l) (here.2 ∙ none quiet from to here.0 here.1)))
 
       pub joined_world : JoinedPartsAreSound → IsWorldOf hash_of p owners n book new.workers.items new.ins.items world
       joined_world law =

@@ -52,7 +52,9 @@ pub fn outcome_of_joined<S: Spread, L: Ledger + Send + Sync, M: Capped + Send + 
         return None;
     };
     let Joined {
-        mut workers, ins, ..
+        mut workers,
+        ins,
+        ..
     } = joined;
     let outcome = outcome_if_kept(alloc, job, owners, &book, &mut workers, ins);
     let _ = book.stop();

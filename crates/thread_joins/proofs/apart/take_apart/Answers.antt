@@ -1,8 +1,5 @@
-use Rattle.std.proofs.Common.{rules, arith, ◌≡◌, ◌∷◌, [], List, Vec, length, subst, sym, refl, ap, ◌∙◌}
-use Rattle.std.specs.declared.alloc.Global.{Global}
+use Rattle.std.proofs.Common.{rules, arith, ◌≡◌, ◌∷◌, [], List, subst, sym, refl}
 use Rattle.std.specs.Vec.Iter.{into_iter_items}
-use Rattle.rings.specs.Rings.{SendingEnd, ReceivingEnd}
-use Rattle.worker_core.specs.declared.worker.Worker.{Worker}
 use Rattle.thread_parts.specs.Parts.{Face}
 use Rattle.thread_joins.proofs.PartLemmas.{nothing}
 use Rattle.thread_joins.proofs.TakenLemmas.{AreTaken, none_taken, taken_same, taken_more, all_taken}
@@ -23,7 +20,7 @@ parts-init g c =
       outs_room = search rules;
       ins_room = search rules;
       taken = taken_same g.S.Spread.hash_of g.C.Tokens.workers faces faces (into_iter_items c.into_iter-one-iterator.result) [] c.in_ok-workers.workers.items [] c.in_ok-outs.outs.items [] c.in_ok-ins.ins.items
-        (sym rest) (sym c.in_ok-workers.ensures.items) (sym c.in_ok-outs.ensures.items) (sym c.in_ok-ins.ensures.items) taken;
+          (sym rest) (sym c.in_ok-workers.ensures.items) (sym c.in_ok-outs.ensures.items) (sym c.in_ok-ins.ensures.items) taken;
     }
 
 pub parts-preserved : goal.parts-preserved
@@ -48,7 +45,7 @@ parts-preserved g c =
       outs_room = search rules;
       ins_room = search rules;
       taken = taken_same hash_of n faces next next _ c.push_reserved.new.self.items _ c.push_reserved-in-parts.new.self.items _ c.push_reserved-in-parts-2.new.self.items
-        refl (sym c.push_reserved.ensures.items) (sym c.push_reserved-in-parts.ensures.items) (sym c.push_reserved-in-parts-2.ensures.items) more;
+          refl (sym c.push_reserved.ensures.items) (sym c.push_reserved-in-parts.ensures.items) (sym c.push_reserved-in-parts-2.ensures.items) more;
     }
 
 pub returns : goal.returns
@@ -59,4 +56,4 @@ returns g c = λ p owners joint.
     let l = c.in-None.ensures.steps.0 in
     let none : into_iter_items c.parts.one-iterator ≡ [] = nothing (into_iter_items c.parts.one-iterator) (omega (arith, l, c.parts.one-iterator.rest.ok.0)) in
     all_taken hash_of n faces (record { workers = c.parts.workers; outs = c.parts.outs; ins = c.parts.ins })
-      (subst (λ (fs : List (Face g.row.S.Denot)). AreTaken hash_of n faces fs c.parts.workers.items c.parts.outs.items c.parts.ins.items) none c.parts.invariant.taken) p owners joint
+    (subst (λ (fs : List (Face g.row.S.Denot)). AreTaken hash_of n faces fs c.parts.workers.items c.parts.outs.items c.parts.ins.items) none c.parts.invariant.taken) p owners joint

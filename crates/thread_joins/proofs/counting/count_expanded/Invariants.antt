@@ -1,4 +1,4 @@
-use Rattle.std.proofs.Common.{◌≡◌, ◌≤◌, ◌+◌, ◌*◌, vec_len, length, sum_by}
+use Rattle.std.proofs.Common.{◌≡◌, ◌≤◌, ◌+◌, ◌*◌, length, sum_by}
 use Rattle.std.specs.Vec.Iter.{into_iter_items}
 use Rattle.message_ledger.specs.Spending.{spent}
 use Rattle.world_model.specs.declared.limits.TheConstants.{GREATEST_GRANT}

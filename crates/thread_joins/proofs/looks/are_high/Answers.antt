@@ -1,4 +1,4 @@
-use Rattle.std.proofs.Common.{rules, arith, ◌≡◌, ℕ, ◌<◌, ◌≤◌, length, subst}
+use Rattle.std.proofs.Common.{rules, arith, ◌<◌, ◌≤◌, length}
 use Rattle.std.proofs.lemmas.List.{length-map}
 use Rattle.worker_core.specs.Workers.{state_of}
 use Rattle.world_ends.specs.Parts.{states_of}

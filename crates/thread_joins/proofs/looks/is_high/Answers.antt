@@ -1,4 +1,4 @@
-use Rattle.std.proofs.Common.{rules, arith, ◌≡◌, ℕ, ◌≤◌, Option, Some, None, subst, sym, ◌∙◌}
+use Rattle.std.proofs.Common.{rules, arith, ◌≡◌, ◌≤◌, None, sym, ◌∙◌}
 use Rattle.worker_core.specs.Workers.{state_of}
 use Rattle.std.proofs.lemmas.Option.{none-some}
 use Rattle.thread_joins.proofs.LookLemmas.{floor_high}
@@ -14,4 +14,4 @@ pub returns-clause-yes : goal.returns-clause-yes
 returns-clause-yes g c = λ yes task guide is.
     let le : c.args.limit ≤ c.in-Some.least = search (rules, yes) in
     floor_high task (state_of c.args.worker.now) c.floor.result c.args.limit (c.floor.ensures.floor task guide is)
-      (λ least at. let e = some_is c.in-Some.least least (sym c.in-Some.is ∙ at) in omega (arith, le, e))
+    (λ least at. let e = some_is c.in-Some.least least (sym c.in-Some.is ∙ at) in omega (arith, le, e))

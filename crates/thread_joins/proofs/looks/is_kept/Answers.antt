@@ -1,4 +1,4 @@
-use Rattle.std.proofs.Common.{◌≡◌, ℕ, ◌<◌, ◌*◌, true, List, length, Option, Some, ap, sym, ◌∙◌, subst}
+use Rattle.std.proofs.Common.{◌≡◌, ℕ, ◌<◌, ◌*◌, true, length, Option, Some, ap, sym, ◌∙◌, subst}
 use Rattle.std.specs.Prelude.{All, option_map}
 use Rattle.std.proofs.lemmas.List.{length-map}
 use Rattle.world_model.specs.declared.limits.TheConstants.{GREATEST_GRANT}
@@ -34,4 +34,4 @@ returns-in-Limit-clause-yes g c = λ yes w parts is rest.
     let limit : w.book.limit ≡ c.args.job.now.limit = ap (λ (b : BookState). b.limit) is ∙ (g.met.C.Tokens.one_limit c.args.book.now.limit c.stop.ensures.allowed ∙ sym c.requires.limit) in
     let count : length c.args.workers.now ≡ length states = sym (length-map c.args.workers.now (λ worker. state_of worker)) in
     kept_limit task hash states w parts (ap (λ (b : BookState). b.stop) is ∙ stop) c.args.job.now.limit limit
-      (subst (λ (k : ℕ). GREATEST_GRANT * k < c.args.job.now.limit → (known : Known) × (known_in hash states task.start ≡ Some known) × (known.expanded ≡ true)) count (c.has_spent.ensures yes))
+    (subst (λ (k : ℕ). GREATEST_GRANT * k < c.args.job.now.limit → (known : Known) × (known_in hash states task.start ≡ Some known) × (known.expanded ≡ true)) count (c.has_spent.ensures yes))

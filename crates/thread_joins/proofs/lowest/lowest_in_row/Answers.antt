@@ -1,4 +1,4 @@
-use Rattle.std.proofs.Common.{rules, arith, ◌≡◌, ◌∷◌, [], length}
+use Rattle.std.proofs.Common.{rules, arith, ◌≡◌, ◌∷◌, length}
 use Rattle.std.specs.Vec.Iter.{into_iter_items}
 use Rattle.lower_bound.specs.Bounds.{sum_of}
 use Rattle.lower_bound.specs.Tables.{parts_of}

@@ -1,4 +1,4 @@
-use Rattle.std.proofs.Common.{rules, arith, ◌≡◌, ◌∷◌, [], length}
+use Rattle.std.proofs.Common.{rules, arith, ◌≡◌, ◌∷◌, length}
 use Rattle.std.specs.Prelude.{Vec}
 use Rattle.std.specs.declared.alloc.Global.{Global}
 use Rattle.std.specs.Vec.Iter.{into_iter_items}

@@ -1,4 +1,4 @@
-use Rattle.std.proofs.Common.{rules, arith, ◌≡◌, ◌+◌, [], length, refl, subst, sym}
+use Rattle.std.proofs.Common.{rules, arith, ◌≡◌, length, refl, subst, sym}
 use Rattle.lower_bound.specs.Bounds.{sum_of}
 use Rattle.lower_bound.specs.Tables.{parts_of}
 use Rattle.world_model.specs.Workers.{Packet}

@@ -1,4 +1,4 @@
-use Rattle.std.proofs.Common.{rules, arith, ◌≡◌, ◌<◌, ℕ, [], List, length, vec_len, slice_index_or, ap, sym, ◌∙◌, subst}
+use Rattle.std.proofs.Common.{rules, arith, ◌≡◌, ◌<◌, [], List, length, vec_len, slice_index_or, ap, sym, ◌∙◌, subst}
 use Rattle.std.proofs.lemmas.List.{get_or-map, length-map}
 use Rattle.rings.specs.Rings.{Ring, SendingEnd, out_rings, rings_of_outs, sent_lanes, sent_rows, received_rows, left_rows, lane_at}
 use Rattle.world_model.specs.Workers.{Lane}
@@ -36,7 +36,7 @@ senders-preserved g c =
     let left' = left_rows c.tie_row.new.ins.items in
     let inside : i < length xs = search rules in
     let row : slice_index_or sent i [] ≡ sent_lanes q.items =
-        ap (λ (ss : List (List Lane)). slice_index_or ss i []) (sym inv.sent) ∙ (get_or-map (λ v. sent_lanes v.items) xs i x [] inside ∙ (ap (λ v. sent_lanes v.items) (sym at) ∙ ap sent_lanes (sym e.outs))) in
+    ap (λ (ss : List (List Lane)). slice_index_or ss i []) (sym inv.sent) ∙ (get_or-map (λ v. sent_lanes v.items) xs i x [] inside ∙ (ap (λ v. sent_lanes v.items) (sym at) ∙ ap sent_lanes (sym e.outs))) in
     record {
       book = e.book ∙ inv.book;
       outs_len = search rules;
@@ -46,8 +46,8 @@ senders-preserved g c =
       sent = sent-set xs i q x at e.outs ∙ inv.sent;
       received = e.received ∙ inv.received;
       tied = tied_more n i sent received left left' (sent_lanes q.items) row e.others
-        (λ j low. subst (λ (rs : List (List Lane)). IsTied (slice_index_or (sent_lanes q.items) j []) (lane_at rs j i) (lane_at left' j i)) (e.received ∙ inv.received) (e.tied j (search rules)))
-        (λ a b low within. inv.tied a b low (search rules));
+          (λ j low. subst (λ (rs : List (List Lane)). IsTied (slice_index_or (sent_lanes q.items) j []) (lane_at rs j i) (lane_at left' j i)) (e.received ∙ inv.received) (e.tied j (search rules)))
+          (λ a b low within. inv.tied a b low (search rules));
       quiet = λ quiet. quiet_more n i sent received left left' (sent_lanes q.items) row e.others
-        (λ j low. e.quiet (ap (λ b. b.stop) inv.book ∙ quiet) j (search rules)) (λ a b low within. inv.quiet quiet a b low (search rules));
+          (λ j low. e.quiet (ap (λ b. b.stop) inv.book ∙ quiet) j (search rules)) (λ a b low within. inv.quiet quiet a b low (search rules));
     }

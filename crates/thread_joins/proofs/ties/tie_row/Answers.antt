@@ -1,4 +1,4 @@
-use Rattle.std.proofs.Common.{rules, arith, ◌≡◌, ◌<◌, ℕ, [], List, length, slice_index_or, ap, sym, ◌∙◌, subst}
+use Rattle.std.proofs.Common.{rules, arith, ◌≡◌, ◌<◌, [], List, length, slice_index_or, ap, sym, ◌∙◌, subst}
 use Rattle.std.proofs.lemmas.List.{get_or-map, length-map}
 use Rattle.rings.specs.Rings.{Ring, ReceivingEnd, in_rings, received_lanes, left_lanes, rings_of_ins, sent_lanes}
 use Rattle.world_model.specs.Workers.{Lane}
@@ -40,7 +40,7 @@ receivers-preserved g c =
       in_rings = in_rings-set xs j q x at e.in_rings ∙ inv.in_rings;
       received = received-set xs j q x at e.received ∙ inv.received;
       tied = tied_row (λ v. received_lanes v.items) (λ v. left_lanes v.items) xs j i q x inside (sent_lanes c.args.outs.now.items)
-        (subst (λ (s : List Lane). IsTied (slice_index_or s j []) (slice_index_or (received_lanes q.items) i []) (slice_index_or (left_lanes q.items) i [])) sent e.tied) inv.tied;
+          (subst (λ (s : List Lane). IsTied (slice_index_or s j []) (slice_index_or (received_lanes q.items) i []) (slice_index_or (left_lanes q.items) i [])) sent e.tied) inv.tied;
       quiet = λ quiet. quiet_row (λ v. received_lanes v.items) (λ v. left_lanes v.items) xs j i q x inside (e.quiet (ap (λ b. b.stop) inv.book ∙ quiet)) (inv.quiet quiet);
       others = λ k m other. others_row (λ v. received_lanes v.items) (λ v. left_lanes v.items) xs j i q x inside here e.others k m other ∙ inv.others k m other;
     }

@@ -1,4 +1,4 @@
-use Rattle.std.proofs.Common.{rules, arith, ◌≡◌, ◌⊎◌, inl, inr, ℕ, ◌<◌, ◌≤◌, List, Some, length, get_or, ap, sym, ◌∙◌, subst}
+use Rattle.std.proofs.Common.{rules, arith, ◌≡◌, inl, inr, ◌<◌, ◌≤◌, length, get_or, ap, sym, ◌∙◌, subst}
 use Rattle.std.specs.Prelude.{slice_get}
 use Rattle.std.proofs.Math.Seq.{map-set_same}
 use Rattle.std.proofs.lemmas.Bool.Decides.{eqb_tells}
@@ -32,9 +32,9 @@ workers-preserved g c =
           let before = inv.guided task guide is in
           All-set (λ worker. IsGuided task guide worker.lists) xs i c.audit.new.self (subst (λ (l : Lists). IsGuided task guide l) (sym e.lists) (before i d within)) before;
       bound = λ k worker low here. elim (eqb_tells k i) [
-        inl p ↦ (
-          let same : state_of (get_or xs i d) ≡ worker = some_is (state_of (get_or xs i d)) worker (sym at ∙ (ap (slice_get states) (sym p.1) ∙ here)) in
-          subst (λ (w : WorkerState). w.purse ≤ c.args.book.now.credit) same (subst (λ (b : BookState). (state_of (get_or xs i d)).purse ≤ b.credit) inv.book e.bound))
+        | inl p ↦ (
+            let same : state_of (get_or xs i d) ≡ worker = some_is (state_of (get_or xs i d)) worker (sym at ∙ (ap (slice_get states) (sym p.1) ∙ here)) in
+            subst (λ (w : WorkerState). w.purse ≤ c.args.book.now.credit) same (subst (λ (b : BookState). (state_of (get_or xs i d)).purse ≤ b.credit) inv.book e.bound))
         | inr p ↦ inv.bound k worker (omega (arith, low, p.1)) here
       ];
     }

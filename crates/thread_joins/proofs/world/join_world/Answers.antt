@@ -1,14 +1,13 @@
-use Rattle.std.proofs.Common.{rules, arith, ◌≡◌, ℕ, ◌<◌, ◌≤◌, List, Some, length, ap, sym, ◌∙◌, subst}
+use Rattle.std.proofs.Common.{arith, ◌≡◌, ℕ, ◌≤◌, List, Some, length, ap, sym, ◌∙◌, subst}
 use Rattle.std.specs.Prelude.{vec_len, All}
 use Rattle.std.specs.Vec.{with_items}
 use Rattle.std.proofs.lemmas.List.{length-map, with_items_is}
 use Rattle.world_model.specs.Workers.{WorkerState}
 use Rattle.worker_core.specs.Workers.{state_of}
-use Rattle.rings.specs.Rings.{ArePaired, rings_of_outs, rings_of_ins, left_rows, sent_rows, received_rows, lane_at}
+use Rattle.rings.specs.Rings.{ArePaired, rings_of_outs, rings_of_ins, left_rows}
 use Rattle.world_model.specs.declared.steps.Stop.TheVariants.{Quiet}
 use Rattle.world_model.specs.Books.{BookState}
 use Rattle.thread_model.specs.Joined.{world_with}
-use Rattle.worker_core.specs.declared.worker.Worker.{Worker}
 use Rattle.worker_core.specs.Roles.{guide_of}
 use Rattle.world_ends.specs.Parts.{AreGuided, states_of}
 use Rattle.hda_run.specs.Problems.{task_in}
@@ -40,22 +39,22 @@ returns-clause-world g c = λ p owners joint.
     let value : c.deref_mut.result.now ≡ old.workers.items = c.deref_mut.ensures.value in
     let states : states_of c.audit_all.new.workers ≡ states_of old.workers.items = audit.same ∙ ap (λ ws. states_of ws) value in
     let len : length c.audit_all.new.workers ≡ old.workers.len =
-        let e = ap (λ (ws : List WorkerState). length ws) states in
-        omega (arith, e, length-map c.audit_all.new.workers (λ worker. state_of worker), length-map old.workers.items (λ worker. state_of worker), old.workers.ok.0) in
+    let e = ap (λ (ws : List WorkerState). length ws) states in
+    omega (arith, e, length-map c.audit_all.new.workers (λ worker. state_of worker), length-map old.workers.items (λ worker. state_of worker), old.workers.ok.0) in
     let items : new.workers.items ≡ c.audit_all.new.workers = with_items_is old.workers c.audit_all.new.workers len in
     let guided : AreGuided (task_in p) (guide_of (task_in p)) new.workers.items =
-        subst (λ ws. AreGuided (task_in p) (guide_of (task_in p)) ws) (sym items)
-          (audit.guided (task_in p) (guide_of (task_in p)) (subst (λ ws. AreGuided (task_in p) (guide_of (task_in p)) ws) (sym value) apart.guided)) in
+    subst (λ ws. AreGuided (task_in p) (guide_of (task_in p)) ws) (sym items)
+    (audit.guided (task_in p) (guide_of (task_in p)) (subst (λ ws. AreGuided (task_in p) (guide_of (task_in p)) ws) (sym value) apart.guided)) in
     let after : c.audit_all.new.book ≡ before = audit.book ∙ e.book in
     let bound : All (λ worker. worker.purse ≤ before.credit) (states_of new.workers.items) =
-        subst (λ ws. All (λ worker. worker.purse ≤ before.credit) ws) (sym (ap (λ ws. states_of ws) items ∙ audit.same))
-          (subst (λ (b : BookState). All (λ worker. worker.purse ≤ b.credit) (states_of c.deref_mut.result.now)) e.book audit.bound) in
+    subst (λ ws. All (λ worker. worker.purse ≤ before.credit) ws) (sym (ap (λ ws. states_of ws) items ∙ audit.same))
+    (subst (λ (b : BookState). All (λ worker. worker.purse ≤ b.credit) (states_of c.deref_mut.result.now)) e.book audit.bound) in
     let credit : before.stop ≡ Some Quiet → before.credit ≡ 0 = λ quiet. ap (λ (b : BookState). b.credit) (sym after) ∙ c.stop.ensures.quiet (c.stop.ensures.value ∙ (ap (λ (b : BookState). b.stop) after ∙ quiet)) in
     let floors : length before.floors ≡ n = sym c.workers.ensures.value ∙ g.met.C.Tokens.one_count c.workers.result c.workers.ensures.allowed in (
       world_with (shared_by hash_of p owners n) (parts_in new) before (by_sender n (left_rows new.ins.items)),
       joined_world hash_of p owners n old new apart (ap (λ ws. states_of ws) items ∙ states) guided e.sent e.received e.in_rings
-        (λ i j low high. e.tied i j (omega (arith, low, count)) (omega (arith, high, count)))
-        c.requires.some before floors bound credit
-        (λ quiet i j low high. e.quiet quiet i j (omega (arith, low, count)) (omega (arith, high, count)))
-        c.joined_parts_are_sound.ensures,
+          (λ i j low high. e.tied i j (omega (arith, low, count)) (omega (arith, high, count)))
+          c.requires.some before floors bound credit
+          (λ quiet i j low high. e.quiet quiet i j (omega (arith, low, count)) (omega (arith, high, count)))
+          c.joined_parts_are_sound.ensures,
     )
