@@ -1,18 +1,17 @@
 -- The outcome of joined workers.
-use Rattle.std.proofs.Common.{◌≡◌, ℕ, ◌+◌, ◌*◌, ◌≤◌, List, length, Vec, Some, sym, ap, ◌∙◌, subst, arith}
+use Rattle.std.proofs.Common.{◌≡◌, ℕ, ◌+◌, ◌*◌, ◌<◌, ◌≤◌, List, length, Vec, Option, Some, None, refl, sym, ap, ◌∙◌, subst, arith}
 use Rattle.std.specs.Prelude.{◌%◌, ◌≢◌, sum_by}
 use Rattle.std.proofs.lemmas.List.{length-map}
 use Rattle.std.specs.declared.alloc.Global.{Global}
 use Rattle.board.specs.CostRules.{CostRule}
 use Rattle.board.specs.Positions.{Position}
 use Rattle.lower_bound.specs.Tables.{Tables}
-use Rattle.outcomes.specs.declared.outcome.Outcome.{Outcome}
+use Rattle.outcomes.specs.Outcomes.{Task}
 use Rattle.outcomes.specs.declared.outcome.Want.TheVariants.{Stated}
 use Rattle.rings.specs.Rings.{ReceivingEnd}
 use Rattle.world_model.specs.declared.limits.TheConstants.{GREATEST_GRANT}
 use Rattle.world_model.specs.declared.steps.Stop.TheVariants.{Limit, Memory}
 use Rattle.world_model.specs.Books.{BookState}
-use Rattle.world_model.specs.Outcomes.{IsGiven}
 use Rattle.world_model.specs.Quiet.{IsKept}
 use Rattle.world_model.specs.Workers.{WorkerState}
 use Rattle.world_model.specs.Worlds.{WorldState}
@@ -21,7 +20,8 @@ use Rattle.worker_core.specs.Roles.{guide_of, task_of}
 use Rattle.worker_core.specs.Workers.{state_of}
 use Rattle.world_ends.specs.Parts.{AreGuided, HasParts, states_of}
 use Rattle.hda_run.specs.Problems.{Problem, task_in}
-use Rattle.thread_joins.specs.Threads.{IsByThreads}
+use Rattle.hda_run.specs.Worlds.{job_of}
+use Rattle.thread_joins.specs.Threads.{IsJoined}
 use Rattle.thread_joins.specs.Worlds.{IsWorldOf}
 
 -- one task of the same four
@@ -39,8 +39,8 @@ module _ {S C D E K G : Type 0} (hash_of : S → Position → ℕ) (p : Problem)
       → IsWorldOf hash_of p owners n book workers ins w → IsWorldOf hash_of p owners n book workers' ins w
   world_same workers workers' ins w same guided is = record {
     count =
-        let e = ap (λ (ws : List WorkerState). length ws) same in
-        omega (arith, e, is.count, length-map workers (λ (x : Worker C D E K G). state_of x), length-map workers' (λ (x : Worker C D E K G). state_of x));
+      let e = ap (λ (ws : List WorkerState). length ws) same in
+      omega (arith, e, is.count, length-map workers (λ (x : Worker C D E K G). state_of x), length-map workers' (λ (x : Worker C D E K G). state_of x));
     parts = subst (λ (states : List WorkerState). HasParts (task_in p) (hash_of owners) states w) (sym same) is.parts;
     guided = guided;
     book_is = is.book_is;
@@ -49,8 +49,8 @@ module _ {S C D E K G : Type 0} (hash_of : S → Position → ℕ) (p : Problem)
     at_quiet = is.at_quiet;
   }
 
-  -- the outcome is that of threads, where the workers' expansions add up
-  pub by_threads : (workers : List (Worker C D E K G)) (ins : List (Vec ReceivingEnd Global)) (w : WorldState) (outcome : Outcome) (expanded : ℕ) → IsWorldOf hash_of p owners n book workers ins w → IsKept w × IsGiven w outcome
+  -- what the world gives is given by threads, where the workers' expansions add up
+  pub by_threads : {X : Type 0} (Gives : WorldState → X → Type 0) (workers : List (Worker C D E K G)) (ins : List (Vec ReceivingEnd Global)) (w : WorldState) (it : X) (expanded : ℕ) → IsWorldOf hash_of p owners n book workers ins w → IsKept w × Gives w it
       → book.limit ≡ p.limit
       → expanded ≡ sum_by (λ worker. worker.expansions) (states_of workers)
       → expanded ≤ book.granted
@@ -58,11 +58,12 @@ module _ {S C D E K G : Type 0} (hash_of : S → Position → ℕ) (p : Problem)
       → book.granted ≤ book.limit
       → (book.stop ≡ Some Limit → book.granted ≡ book.limit)
       → book.stop ≢ Some (Memory Stated)
-      → IsByThreads hash_of p owners n outcome
-  by_threads workers ins w outcome expanded is given limit sum within high capped at_limit no_list =
+      → (w : WorldState) × IsJoined (job_of hash_of p owners n) w × IsKept w × Gives w it
+  by_threads {X} Gives workers ins w it expanded is given limit sum within high capped at_limit no_list =
       let states : length (states_of workers) ≡ n = length-map workers (λ (x : Worker C D E K G). state_of x) ∙ is.count in
       let total : expanded ≡ sum_by (λ worker. worker.expansions) w.workers = sum ∙ ap (λ (ws : List WorkerState). sum_by (λ worker. worker.expansions) ws) (sym is.parts.works) in
-      let book_limit : w.book.limit ≡ p.limit = ap (λ (b : BookState). b.limit) is.book_is ∙ limit in (
+      let book_limit : w.book.limit ≡ p.limit = ap (λ (b : BookState). b.limit) is.book_is ∙ limit in
+      (
         w,
         record {
           task = is.parts.asks;

@@ -1,6 +1,7 @@
 -- Runs by threads.
 use Rattle.std.specs.Prelude.{ℕ, ◌≡◌, ◌≢◌, ◌+◌, ◌*◌, ◌≤◌, length, Some}
 use Rattle.board.specs.Positions.{Position}
+use Rattle.outcomes.specs.declared.outcome.Ending.{Ending}
 use Rattle.outcomes.specs.declared.outcome.Outcome.{Outcome}
 use Rattle.outcomes.specs.declared.outcome.Want.TheVariants.{Stated}
 use Rattle.world_model.specs.declared.limits.TheConstants.{GREATEST_GRANT}
@@ -12,6 +13,7 @@ use Rattle.world_model.specs.Quiet.{IsKept}
 use Rattle.world_model.specs.Shapes.{IsShaped}
 use Rattle.world_model.specs.Soundness.{IsSound}
 use Rattle.world_model.specs.Worlds.{WorldState}
+use Rattle.world_ends.specs.Endings.{EndsIn}
 use Rattle.hda_run.specs.Problems.{Problem}
 use Rattle.hda_run.specs.Worlds.{job_of}
 use Rattle.thread_joins.specs.Worlds.{AreAtRest}
@@ -34,3 +36,7 @@ pub record IsJoined (job : Job) (w : WorldState) : Type 0 where
 -- The outcome is that of n threads: their joined workers make a world that is kept, and it gives the outcome.
 abbrev pub IsByThreads : {S : Type 0} → (S → Position → ℕ) → Problem → S → ℕ → Outcome → Type 0
 IsByThreads hash_of p owners n outcome = (w : WorldState) × IsJoined (job_of hash_of p owners n) w × IsKept w × IsGiven w outcome
+
+-- The ending is that of n threads: their joined workers make a world that is kept, and it ends so.
+abbrev pub EndsByThreads : {S : Type 0} → (S → Position → ℕ) → Problem → S → ℕ → Ending → Type 0
+EndsByThreads hash_of p owners n ending = (w : WorldState) × IsJoined (job_of hash_of p owners n) w × IsKept w × EndsIn w ending

@@ -4,10 +4,12 @@
 
 mod apart;
 mod counting;
+mod ending;
 mod looks;
 mod lowest;
 mod outcome;
 mod ties;
 mod world;
 
+pub use ending::ending_of_joined;
 pub use outcome::outcome_of_joined;

@@ -108,8 +108,8 @@ fn outcome_with<C: Tokens, S: Spread>(
     outcome_of(alloc, &asked, owners, workers, lowest, stop)
 }
 
-// What a job asks.
-fn asked_in<'b>(job: &'b Job<'_>) -> Asked<'b>
+/// What a job asks.
+pub(crate) fn asked_in<'b>(job: &'b Job<'_>) -> Asked<'b>
     ensures start { result.start ≡ job.now.start }
     ensures goal { result.goal ≡ job.now.goal }
     ensures weights { result.weights ≡ job.now.rule }

@@ -1,0 +1,17 @@
+use Rattle.std.proofs.Common.{rules, ◌≡◌, sym}
+use Rattle.std.specs.Prelude.{IsTrue}
+use Rattle.thread_joins.proofs.OutcomeLemmas.{world_same}
+use Rattle.thread_joins.proofs.ending.ending_if_kept.Goals as goal
+
+pub ending_with-requires-after_bounds : goal.ending_with-requires-after_bounds
+ending_with-requires-after_bounds g c κs within = (
+  c.args.book.now,
+  c.requires.world.0,
+  world_same g.S.Spread.hash_of c.args.job.now c.args.owners.now g.C.Tokens.workers c.args.book.now c.args.workers.now c.is_kept.new.workers c.args.ins.items c.requires.world.0 c.is_kept.ensures.same c.is_kept.ensures.guided c.requires.world.1,
+)
+
+pub returns-clause-given : goal.returns-clause-given
+returns-clause-given g c = λ w is.
+    let yes : IsTrue c.is_kept.result = search rules in
+    let same = world_same g.S.Spread.hash_of c.args.job.now c.args.owners.now g.C.Tokens.workers c.args.book.now c.args.workers.now c.is_kept.new.workers c.args.ins.items w c.is_kept.ensures.same c.is_kept.ensures.guided is in
+    (c.is_kept.ensures.yes yes w is.parts is.book_is is.at_quiet, c.ending_with.ensures.given c.args.book.now w same (sym c.stop-stop.ensures.value))

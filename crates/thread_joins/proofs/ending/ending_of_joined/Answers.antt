@@ -1,0 +1,71 @@
+use Rattle.std.proofs.Common.{rules, arith, ◌≡◌, ◌≢◌, ℕ, ◌+◌, ◌*◌, ◌≤◌, List, Some, length, ap, sym, ◌∙◌, subst, refl}
+use Rattle.std.specs.Prelude.{sum_by, IfSome}
+use Rattle.std.specs.Vec.{with_items}
+use Rattle.std.proofs.lemmas.List.{length-map, with_items_is}
+use Rattle.std.proofs.lemmas.Option.{IfSome_then}
+use Rattle.outcomes.specs.declared.outcome.Ending.{Ending}
+use Rattle.outcomes.specs.declared.outcome.Want.TheVariants.{Stated}
+use Rattle.world_model.specs.declared.limits.TheConstants.{GREATEST_GRANT}
+use Rattle.world_model.specs.declared.steps.Stop.TheVariants.{Limit, Memory}
+use Rattle.world_model.specs.Books.{BookState}
+use Rattle.world_model.specs.Quiet.{IsKept}
+use Rattle.world_model.specs.Workers.{WorkerState}
+use Rattle.world_model.specs.Worlds.{WorldState}
+use Rattle.worker_core.specs.Workers.{state_of}
+use Rattle.world_ends.specs.Endings.{EndsIn}
+use Rattle.world_ends.specs.Parts.{states_of}
+use Rattle.thread_joins.specs.Threads.{EndsByThreads}
+use Rattle.thread_joins.specs.Worlds.{IsWorldOf}
+use Rattle.thread_joins.proofs.OutcomeLemmas.{by_threads, world_at}
+use Rattle.thread_joins.proofs.ending.ending_of_joined.Goals as goal
+
+pub ending_if_kept-ending-requires-clause-world : goal.ending_if_kept-ending-requires-clause-world
+ending_if_kept-ending-requires-clause-world g c κs within =
+    let has = c.in-Ok.ensures.world c.args.job.now c.args.owners.now c.requires.joint in
+    (has.0, world_at g.S.Spread.hash_of c.args.job.now c.args.owners.now g.M.Ledger.parts c.args.book c.join_world.new.book c.in-Ok.joined.workers.items c.deref_mut.result.now c.in-Ok.joined.ins.items has.0 (sym c.join_world.ensures.book) (sym c.deref_mut.ensures.value) has.1)
+
+pub count_expanded-requires-clause-whole : goal.count_expanded-requires-clause-whole
+count_expanded-requires-clause-whole g c κs within =
+    let has = c.in-Ok.ensures.world c.args.job.now c.args.owners.now c.requires.joint in
+    let workers = c.in-Ok.joined.workers in
+    let new = c.ending_if_kept-ending.new.workers in
+    let value = c.deref_mut.ensures.value in
+    let same : states_of new ≡ states_of workers.items = c.ending_if_kept-ending.ensures.same ∙ ap (λ ws. states_of ws) value in
+    let e = ap (λ (ws : List WorkerState). length ws) same in
+    let len : length new ≡ workers.len = omega (arith, e, length-map new (λ worker. state_of worker), length-map workers.items (λ worker. state_of worker), workers.ok.0) in
+    let items : (with_items workers new).items ≡ new = with_items_is workers new len in
+    ap (λ ws. length ws) items ∙ omega (arith, len, workers.ok.0, has.1.count)
+
+pub returns : goal.returns
+returns g c =
+    let p = c.args.job.now in
+    let hash_of = g.S.Spread.hash_of in
+    let owners = c.args.owners.now in
+    let n = g.M.Ledger.parts in
+    let book = c.join_world.new.book in
+    let joined = c.in-Ok.joined in
+    let has = c.in-Ok.ensures.world p owners c.requires.joint in
+    let w = has.0 in
+    let new = c.ending_if_kept-ending.new.workers in
+    let value = c.deref_mut.ensures.value in
+    let is : IsWorldOf hash_of p owners n book c.deref_mut.result.now joined.ins.items w =
+        world_at hash_of p owners n c.args.book book joined.workers.items c.deref_mut.result.now joined.ins.items w (sym c.join_world.ensures.book) (sym value) has.1 in
+    let same : states_of new ≡ states_of c.deref_mut.result.now = c.ending_if_kept-ending.ensures.same in
+    let e = ap (λ (ws : List WorkerState). length ws) same in
+    let e' = ap (λ ws. length ws) value in
+    let len : length new ≡ joined.workers.len = omega (arith, e, e', length-map new (λ worker. state_of worker), length-map c.deref_mut.result.now (λ worker. state_of worker), joined.workers.ok.0) in
+    let items : (with_items joined.workers new).items ≡ new = with_items_is joined.workers new len in
+    let count : length (with_items joined.workers new).items ≡ n = ap (λ ws. length ws) items ∙ omega (arith, len, joined.workers.ok.0, has.1.count) in
+    let expanded = c.count_expanded.result in
+    let sum : expanded ≡ sum_by (λ worker. worker.expansions) (states_of c.deref_mut.result.now) =
+        c.count_expanded.ensures.sum ∙ ap (λ (ws : List WorkerState). sum_by (λ worker. worker.expansions) ws) (ap (λ ws. states_of ws) items ∙ same) in
+    let granted : c.into_grants.result ≡ book.granted = c.into_grants.ensures in
+    let within : expanded ≤ book.granted = subst (λ (k : ℕ). expanded ≤ k) granted c.count_expanded.ensures.within in
+    let high : book.granted ≤ expanded + GREATEST_GRANT * n =
+        subst (λ (k : ℕ). book.granted ≤ expanded + GREATEST_GRANT * k) count (subst (λ (k : ℕ). k ≤ expanded + GREATEST_GRANT * length (with_items joined.workers new).items) granted c.count_expanded.ensures.spent) in
+    let limit : book.limit ≡ p.limit = c.stop.ensures.allowed ∙ sym c.requires.limit in
+    let at_limit : book.stop ≡ Some Limit → book.granted ≡ book.limit = λ stopped. c.stop.ensures.limit (c.stop.ensures.value ∙ stopped) in
+    let no_list : book.stop ≢ Some (Memory Stated) = λ stopped. c.stop.ensures.want Stated (c.stop.ensures.value ∙ stopped) refl in
+    IfSome_then c.ending_if_kept-ending.result {Q = EndsByThreads hash_of p owners n} c.ending_if_kept-ending.ensures.given
+      (λ (ending : Ending) (given : (w : WorldState) → IsWorldOf hash_of p owners n book c.deref_mut.result.now joined.ins.items w → IsKept w × EndsIn w ending).
+        by_threads hash_of p owners n book EndsIn c.deref_mut.result.now joined.ins.items w ending expanded is (given w is) limit sum within high c.stop.ensures.within at_limit no_list)
