@@ -1,0 +1,3 @@
+-- Lemmas.
+pub mod OpeningLemmas
+pub mod WholeLemmas

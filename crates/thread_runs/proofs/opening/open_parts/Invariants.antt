@@ -1,0 +1,20 @@
+use Rattle.std.proofs.Common.{◌≡◌, ℕ, ◌+◌, ◌<◌, ◌≤◌, vec_len, Some}
+use Rattle.std.specs.Prelude.{slice_get}
+use Rattle.std.specs.Vec.{vec_capacity}
+use Rattle.rings.specs.Rings.{rings_of_outs, rings_of_ins}
+use Rattle.thread_parts.specs.Parts.{Face}
+use Rattle.thread_runs.proofs.OpeningLemmas.{IsFace}
+use Rattle.thread_runs.proofs.opening.open_parts.Given as goal
+
+abbrev pub invariant-workers : goal.invariant-workers
+invariant-workers g l =
+    (vec_len l.parts ≡ l.me)
+    × (l.fn.workers ≤ vec_capacity l.parts)
+    × (vec_len l.outs ≡ l.fn.workers)
+    × (vec_len l.ins ≡ l.fn.workers)
+    × (l.tickets + l.me ≡ l.fn.workers)
+    × (l.credit ≡ l.fn.credit)
+    × (l.me ≤ l.owner → 0 < l.seed)
+    × ((k : ℕ) → l.me ≤ k → slice_get l.outs.items k ≡ slice_get l.fn.rings.outs.items k)
+    × ((k : ℕ) → l.me ≤ k → slice_get l.ins.items k ≡ slice_get l.fn.rings.ins.items k)
+    × ((i : ℕ) (it : Face _) → slice_get l.parts.items i ≡ Some it → IsFace l.fn.job l.fn.owners (rings_of_outs l.fn.rings.outs.items) (rings_of_ins l.fn.rings.ins.items) i it)

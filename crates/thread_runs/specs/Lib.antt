@@ -1,0 +1,2 @@
+-- Runs by threads.
+pub mod Solved

@@ -1,0 +1,34 @@
+-- What so many workers answer.
+use Rattle.std.specs.Prelude.{ℕ, ◌≡◌, ◌≢◌, ◌⊎◌, Option, Vec}
+use Rattle.std.specs.declared.alloc.Global.{Global}
+use Rattle.board.specs.declared.moves.Move.{Move}
+use Rattle.board.specs.Positions.{Position}
+use Rattle.outcomes.specs.declared.outcome.Cause.{Cause}
+use Rattle.outcomes.specs.declared.outcome.Cause.TheVariants.{Cut, Start, Memory}
+use Rattle.outcomes.specs.declared.outcome.Want.TheVariants.{Stated}
+use Rattle.outcomes.specs.declared.outcome.Ending.{Ending}
+use Rattle.outcomes.specs.declared.outcome.Ending.TheVariants as ending
+use Rattle.outcomes.specs.declared.outcome.Outcome.{Outcome}
+use Rattle.outcomes.specs.declared.outcome.Outcome.TheVariants as outcome
+use Rattle.hda_run.specs.Alone.{IsByOne, EndsByOne}
+use Rattle.hda_run.specs.Problems.{Problem}
+use Rattle.thread_joins.specs.Threads.{IsByThreads, EndsByThreads}
+
+-- the outcome is that of n threads, or that of one worker alone
+abbrev pub IsSolved : {S : Type 0} → (S → Position → ℕ) → Problem → S → ℕ → Outcome → Type 0
+IsSolved hash_of p owners n outcome = IsByThreads hash_of p owners n outcome ⊎ IsByOne hash_of p owners outcome
+
+-- the same without rows
+abbrev pub IsEnded : {S : Type 0} → (S → Position → ℕ) → Problem → S → ℕ → Ending → Type 0
+IsEnded hash_of p owners n ending = EndsByThreads hash_of p owners n ending ⊎ EndsByOne hash_of p owners ending
+
+-- the cause is that of a run that stopped by itself: it was not cut, each thread was started, and no want of memory was stated by a list
+abbrev pub IsOfWholeRun : Cause → Type 0
+IsOfWholeRun cause = (cause ≢ Cut) × (cause ≢ Start) × (cause ≢ Memory Stated)
+
+-- a bound has such a cause
+abbrev pub HasWholeRun : Outcome → Type 0
+HasWholeRun it = (bound : ℕ) (best : Option (ℕ × Vec Move Global)) (cause : Cause) → it ≡ outcome.Bounded bound best cause → IsOfWholeRun cause
+
+abbrev pub EndsWholeRun : Ending → Type 0
+EndsWholeRun it = (bound : ℕ) (best : Option (ℕ × Vec Move Global)) (cause : Cause) → it ≡ ending.Bounded bound best cause → IsOfWholeRun cause

@@ -1,0 +1,11 @@
+//! Runs of hash-distributed A* by threads. Whatever the threads do, what is answered rests on what
+//! was found once all were joined; where that does not bear an answer out, one worker solves the
+//! job alone.
+#![tactic(auto)]
+
+mod ledgers;
+mod opening;
+mod solving;
+mod teams;
+
+pub use solving::{end, solve};
