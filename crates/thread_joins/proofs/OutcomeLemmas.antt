@@ -39,8 +39,8 @@ module _ {S C D E K G : Type 0} (hash_of : S → Position → ℕ) (p : Problem)
       → IsWorldOf hash_of p owners n book workers ins w → IsWorldOf hash_of p owners n book workers' ins w
   world_same workers workers' ins w same guided is = record {
     count =
-      let e = ap (λ (ws : List WorkerState). length ws) same in
-      omega (arith, e, is.count, length-map workers (λ (x : Worker C D E K G). state_of x), length-map workers' (λ (x : Worker C D E K G). state_of x));
+        let e = ap (λ (ws : List WorkerState). length ws) same in
+        omega (arith, e, is.count, length-map workers (λ (x : Worker C D E K G). state_of x), length-map workers' (λ (x : Worker C D E K G). state_of x));
     parts = subst (λ (states : List WorkerState). HasParts (task_in p) (hash_of owners) states w) (sym same) is.parts;
     guided = guided;
     book_is = is.book_is;
@@ -62,8 +62,7 @@ module _ {S C D E K G : Type 0} (hash_of : S → Position → ℕ) (p : Problem)
   by_threads {X} Gives workers ins w it expanded is given limit sum within high capped at_limit no_list =
       let states : length (states_of workers) ≡ n = length-map workers (λ (x : Worker C D E K G). state_of x) ∙ is.count in
       let total : expanded ≡ sum_by (λ worker. worker.expansions) w.workers = sum ∙ ap (λ (ws : List WorkerState). sum_by (λ worker. worker.expansions) ws) (sym is.parts.works) in
-      let book_limit : w.book.limit ≡ p.limit = ap (λ (b : BookState). b.limit) is.book_is ∙ limit in
-      (
+      let book_limit : w.book.limit ≡ p.limit = ap (λ (b : BookState). b.limit) is.book_is ∙ limit in (
         w,
         record {
           task = is.parts.asks;

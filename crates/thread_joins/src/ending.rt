@@ -50,7 +50,9 @@ pub fn ending_of_joined<S: Spread, L: Ledger + Send + Sync, M: Capped + Send + S
         return None;
     };
     let Joined {
-        mut workers, ins, ..
+        mut workers,
+        ins,
+        ..
     } = joined;
     let ending = ending_if_kept(alloc, job, owners, &book, &mut workers, ins);
     let _ = book.stop();

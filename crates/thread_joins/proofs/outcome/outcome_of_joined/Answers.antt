@@ -49,7 +49,7 @@ returns g c =
     let new = c.outcome_if_kept-outcome.new.workers in
     let value = c.deref_mut.ensures.value in
     let is : IsWorldOf hash_of p owners n book c.deref_mut.result.now joined.ins.items w =
-        world_at hash_of p owners n c.args.book book joined.workers.items c.deref_mut.result.now joined.ins.items w (sym c.join_world.ensures.book) (sym value) has.1 in
+    world_at hash_of p owners n c.args.book book joined.workers.items c.deref_mut.result.now joined.ins.items w (sym c.join_world.ensures.book) (sym value) has.1 in
     let same : states_of new ≡ states_of c.deref_mut.result.now = c.outcome_if_kept-outcome.ensures.same in
     let e = ap (λ (ws : List WorkerState). length ws) same in
     let e' = ap (λ ws. length ws) value in
@@ -58,14 +58,14 @@ returns g c =
     let count : length (with_items joined.workers new).items ≡ n = ap (λ ws. length ws) items ∙ omega (arith, len, joined.workers.ok.0, has.1.count) in
     let expanded = c.count_expanded.result in
     let sum : expanded ≡ sum_by (λ worker. worker.expansions) (states_of c.deref_mut.result.now) =
-        c.count_expanded.ensures.sum ∙ ap (λ (ws : List WorkerState). sum_by (λ worker. worker.expansions) ws) (ap (λ ws. states_of ws) items ∙ same) in
+    c.count_expanded.ensures.sum ∙ ap (λ (ws : List WorkerState). sum_by (λ worker. worker.expansions) ws) (ap (λ ws. states_of ws) items ∙ same) in
     let granted : c.into_grants.result ≡ book.granted = c.into_grants.ensures in
     let within : expanded ≤ book.granted = subst (λ (k : ℕ). expanded ≤ k) granted c.count_expanded.ensures.within in
     let high : book.granted ≤ expanded + GREATEST_GRANT * n =
-        subst (λ (k : ℕ). book.granted ≤ expanded + GREATEST_GRANT * k) count (subst (λ (k : ℕ). k ≤ expanded + GREATEST_GRANT * length (with_items joined.workers new).items) granted c.count_expanded.ensures.spent) in
+    subst (λ (k : ℕ). book.granted ≤ expanded + GREATEST_GRANT * k) count (subst (λ (k : ℕ). k ≤ expanded + GREATEST_GRANT * length (with_items joined.workers new).items) granted c.count_expanded.ensures.spent) in
     let limit : book.limit ≡ p.limit = c.stop.ensures.allowed ∙ sym c.requires.limit in
     let at_limit : book.stop ≡ Some Limit → book.granted ≡ book.limit = λ stopped. c.stop.ensures.limit (c.stop.ensures.value ∙ stopped) in
     let no_list : book.stop ≢ Some (Memory Stated) = λ stopped. c.stop.ensures.want Stated (c.stop.ensures.value ∙ stopped) refl in
     IfSome_then c.outcome_if_kept-outcome.result {Q = IsByThreads hash_of p owners n} c.outcome_if_kept-outcome.ensures.given
-      (λ (outcome : Outcome) (given : (w : WorldState) → IsWorldOf hash_of p owners n book c.deref_mut.result.now joined.ins.items w → IsKept w × IsGiven w outcome).
-        by_threads hash_of p owners n book IsGiven c.deref_mut.result.now joined.ins.items w outcome expanded is (given w is) limit sum within high c.stop.ensures.within at_limit no_list)
+    (λ (outcome : Outcome) (given : (w : WorldState) → IsWorldOf hash_of p owners n book c.deref_mut.result.now joined.ins.items w → IsKept w × IsGiven w outcome).
+    by_threads hash_of p owners n book IsGiven c.deref_mut.result.now joined.ins.items w outcome expanded is (given w is) limit sum within high c.stop.ensures.within at_limit no_list)
