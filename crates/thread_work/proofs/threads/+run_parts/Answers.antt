@@ -1,4 +1,4 @@
-use Rattle.std.proofs.Common.{rules, ◌∙◌}
+use Rattle.std.proofs.Common.{◌∙◌}
 use Rattle.thread_work.proofs.JoinLemmas.{last_joined}
 use Rattle.thread_work.proofs.threads.+run_parts.Goals as goal
 

@@ -1,4 +1,3 @@
-use Rattle.std.proofs.Common.{◌≡◌}
 use Rattle.thread_parts.specs.Parts.{IsKept, Holds}
 use Rattle.thread_work.proofs.site.Site.expand_some.Given as goal
 

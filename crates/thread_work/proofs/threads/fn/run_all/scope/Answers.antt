@@ -1,4 +1,4 @@
-use Rattle.std.proofs.Common.{◌≡◌, ◌++◌, List, subst}
+use Rattle.std.proofs.Common.{◌≡◌, ◌++◌, subst}
 use Rattle.thread_work.proofs.threads.fn.run_all.scope.Goals as goal
 
 -- behind an empty list stand the parts themselves
