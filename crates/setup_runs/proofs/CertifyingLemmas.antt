@@ -1,12 +1,8 @@
--- What one worker proves may be answered.
-use Rattle.std.proofs.Common.{ℕ, ◌≡◌, ◌≢◌, ◌↔◌, Option, Some, Result, Ok, Err, IfOk, Vec, ap}
-use Rattle.std.specs.declared.alloc.Global.{Global}
-use Rattle.board.specs.declared.moves.Move.{Move}
+-- What the setup's workers prove may be answered.
+use Rattle.std.proofs.Common.{ℕ, ◌≡◌, ◌↔◌, ◌%◌, Some, Result, Ok, Err, IfOk, ap, inl, inr}
 use Rattle.board.specs.Positions.{Position}
 use Rattle.board.specs.Classes.{SameClass}
 use Rattle.memory.specs.declared.OutOfMemory.{OutOfMemory}
-use Rattle.outcomes.specs.declared.outcome.Cause.{Cause}
-use Rattle.outcomes.specs.declared.outcome.Cause.TheVariants.{Cut, Start}
 use Rattle.outcomes.specs.declared.outcome.Outcome.{Outcome}
 use Rattle.outcomes.specs.declared.outcome.Outcome.TheVariants as outcome
 use Rattle.outcomes.specs.declared.outcome.Ending.{Ending}
@@ -15,22 +11,26 @@ use Rattle.outcomes.specs.declared.outcome.Why.TheVariants.{Parity}
 use Rattle.outcomes.specs.Endings.{without_rows}
 use Rattle.outcomes.specs.Outcomes.{Answers}
 use Rattle.outcomes.specs.Laws.{RowsCanBeLeft}
-use Rattle.hda_run.specs.Alone.{IsByOne, EndsByOne}
 use Rattle.hda_run.specs.Problems.{Problem}
+use Rattle.world_model.specs.Outcomes.{IsGiven}
+use Rattle.world_model.specs.Worlds.{WorldState}
+use Rattle.world_ends.specs.Endings.{EndsIn}
 use Rattle.world_ends.proofs.LawLemmas.{rows_alone}
-use Rattle.batch_runs.specs.Setups.{SetupState, task_of}
-use Rattle.setup_runs.specs.Solving.{problem_of, IsNeverCut, MayAnswer}
+use Rattle.batch_runs.specs.Setups.{SetupState, hash_by, task_of}
+use Rattle.thread_runs.specs.Solved.{IsSolved, IsEnded, HasWholeRun, EndsWholeRun}
+use Rattle.setup_runs.specs.Solving.{problem_of, MayAnswer}
 use Rattle.setup_runs.proofs.SolvingLemmas.{allowed}
 
--- a run that gives an outcome ends with what it says, but for rows
-pub ends_by_one : {S : Type 0} (hash : S → Position → ℕ) (p : Problem) (owners : S) (o : Outcome) → IsByOne hash p owners o → EndsByOne hash p owners (without_rows o)
-ends_by_one hash p owners (outcome.Optimal cost plan rows) (w, run, given) = (w, run, (rows_alone w cost plan rows given.4.2).1 given)
-ends_by_one hash p owners (outcome.Unsolvable why) (w, run, given) = (w, run, given)
-ends_by_one hash p owners (outcome.Bounded bound best cause) (w, run, given) = (w, run, given)
+-- a world that gives an outcome ends with what it says, but for rows
+ends_in : (w : WorldState) (o : Outcome) → IsGiven w o → EndsIn w (without_rows o)
+ends_in w (outcome.Optimal cost plan rows) given = (rows_alone w cost plan rows given.4.2).1 given
+ends_in w (outcome.Unsolvable why) given = given
+ends_in w (outcome.Bounded bound best cause) given = given
 
--- the outcome was not cut
-abbrev pub IsKeptOutcome : Outcome → Type 0
-IsKeptOutcome o = (bound : ℕ) (best : Option (ℕ × Vec Move Global)) (cause : Cause) → o ≡ outcome.Bounded bound best cause → (cause ≢ Cut) × (cause ≢ Start)
+-- so does a run
+ends_solved : {S : Type 0} (hash_of : S → Position → ℕ) (p : Problem) (owners : S) (n : ℕ) (o : Outcome) → IsSolved hash_of p owners n o → IsEnded hash_of p owners n (without_rows o)
+ends_solved hash_of p owners n o (inl (several, (w, joined, kept, given))) = inl (several, (w, joined, kept, ends_in w o given))
+ends_solved hash_of p owners n o (inr (w, run, given)) = inr (w, run, ends_in w o given)
 
 -- the ending as an outcome, where it has a place for no rows
 abbrev with_none : Ending → Outcome
@@ -38,7 +38,7 @@ with_none (Optimal cost plan) = outcome.Unsolvable Parity
 with_none (Unsolvable why) = outcome.Unsolvable why
 with_none (Bounded bound best cause) = outcome.Bounded bound best cause
 
-ending_kept : (o : Outcome) → IsKeptOutcome o → IsNeverCut (without_rows o)
+ending_kept : (o : Outcome) → HasWholeRun o → EndsWholeRun (without_rows o)
 ending_kept (outcome.Optimal cost plan rows) kept bound best cause e = absurd (cc)
 ending_kept (outcome.Unsolvable why) kept bound best cause e = absurd (cc)
 ending_kept (outcome.Bounded bound' best' cause') kept bound best cause e = kept bound best cause (ap with_none e)
@@ -62,11 +62,11 @@ parity_back (outcome.Unsolvable why) e = ap outcome_of e
 parity_back (outcome.Bounded bound best cause) e = absurd (cc)
 
 module _ (setup : SetupState) (start : Position) where
-  pub proof_allowed : {S : Type 0} (hash_of : S → Position → ℕ) (owners : S) → RowsCanBeLeft → (result : Result Outcome OutOfMemory) → (result ≡ Ok (outcome.Unsolvable Parity)) ↔ (¬ SameClass start setup.goal) → (SameClass start setup.goal → IfOk result (IsByOne hash_of (problem_of setup start) owners)) → IfOk result (Answers (task_of setup start)) → IfOk result IsKeptOutcome → IfOk result (λ o. MayAnswer setup start (Some (without_rows o)))
-  proof_allowed hash_of owners rows (Err refused) parity run answers kept = tt
-  proof_allowed hash_of owners rows (Ok o) parity run answers kept =
-      allowed setup start hash_of owners (Ok (without_rows o))
+  pub proof_allowed : {S : Type 0} (hash_of : S → Position → ℕ) (owners : S) → ((b : Position) → hash_of owners b % setup.workers ≡ hash_by setup.spread b % setup.workers) → RowsCanBeLeft → (result : Result Outcome OutOfMemory) → (result ≡ Ok (outcome.Unsolvable Parity)) ↔ (¬ SameClass start setup.goal) → (SameClass start setup.goal → IfOk result (IsSolved hash_of (problem_of setup start) owners setup.workers)) → IfOk result (Answers (task_of setup start)) → IfOk result HasWholeRun → IfOk result (λ o. MayAnswer setup start (Some (without_rows o)))
+  proof_allowed hash_of owners same rows (Err refused) parity run answers kept = tt
+  proof_allowed hash_of owners same rows (Ok o) parity run answers kept =
+      allowed setup start hash_of owners same (Ok (without_rows o))
       ((λ e. parity.0 (parity_back o e)), (λ other. ap ending_of (parity.1 other)))
-      (λ same. ends_by_one hash_of (problem_of setup start) owners o (run same))
+      (λ together. ends_solved hash_of (problem_of setup start) owners setup.workers o (run together))
       (rows (task_of setup start) o answers)
       (ending_kept o kept)

@@ -1,4 +1,4 @@
--- What one worker answers may be answered.
+-- What the setup's workers answer may be answered.
 use Rattle.std.proofs.Common.{ℕ, ◌≡◌, ◌+◌, ◌%◌, ◌==◌, ◌⊎◌, ◌↔◌, Bool, true, false, Some, Result, Ok, Err, IfOk, refl, ap, sym, ◌∙◌, subst, inl, inr}
 use Rattle.std.specs.Bool.{Decides}
 use Rattle.std.proofs.Math.Nat.{mod-one}
@@ -10,13 +10,17 @@ use Rattle.outcomes.specs.declared.outcome.Ending.{Ending}
 use Rattle.outcomes.specs.declared.outcome.Ending.TheVariants.{Unsolvable}
 use Rattle.outcomes.specs.declared.outcome.Why.TheVariants.{Parity}
 use Rattle.outcomes.specs.Endings.{EndAnswers}
-use Rattle.hda_run.specs.Alone.{EndsByOne, IsRunAlone}
+use Rattle.hda_run.specs.Alone.{IsRunAlone}
 use Rattle.hda_run.specs.Problems.{task_in}
+use Rattle.world_model.specs.Openings.{Job}
+use Rattle.world_model.specs.Quiet.{IsKept}
 use Rattle.world_model.specs.Worlds.{WorldState}
 use Rattle.world_ends.specs.Endings.{EndsIn}
 use Rattle.batch_runs.specs.Setups.{SetupState, hash_by, task_of}
 use Rattle.batch_runs.specs.Batches.{IsTruthful}
-use Rattle.setup_runs.specs.Solving.{problem_of, rules_of, IsNeverCut, MayAnswer}
+use Rattle.thread_joins.specs.Threads.{IsJoined}
+use Rattle.thread_runs.specs.Solved.{IsEnded, EndsWholeRun}
+use Rattle.setup_runs.specs.Solving.{problem_of, rules_of, MayAnswer}
 
 decided : {P : Type 0} (r : Bool) → Decides r P → P ⊎ (¬ P)
 decided true decides = inl (decides.0 refl)
@@ -39,27 +43,38 @@ abbrev owner_by : (Position → ℕ) → Position → ℕ
 owner_by hash b = hash b % 1
 
 -- one worker owns all boards, whatever they are spread by
-pub lone_owner : (hash other : Position → ℕ) → owner_by hash ≡ owner_by other
+lone_owner : (hash other : Position → ℕ) → owner_by hash ≡ owner_by other
 lone_owner hash other = λ t b. (mod-one (hash b) ∙ sym (mod-one (other b))) t
 
+-- so do as many workers as there are, where there is one
+pub lone_shares : (n : ℕ) → n ≡ 1 → (hash other : Position → ℕ) (b : Position) → hash b % n ≡ other b % n
+lone_shares n one hash other b = subst (λ (count : ℕ). hash b % count ≡ other b % count) (sym one) (mod-one (hash b) ∙ sym (mod-one (other b)))
+
 module _ (setup : SetupState) (start : Position) where
-  -- the run of one worker whose boards are owned by this hash
+  -- the run of the setup's workers whose boards are owned by this hash
   abbrev Ends : {S : Type 0} → (S → Position → ℕ) → S → Ending → Type 0
-  Ends hash_of owners ending = EndsByOne hash_of (problem_of setup start) owners ending
+  Ends hash_of owners ending = IsEnded hash_of (problem_of setup start) owners setup.workers ending
 
-  -- a run of one worker that owns each board by this
-  abbrev EndsOwned : (Position → ℕ) → Ending → Type 0
-  EndsOwned owner ending = (w : WorldState) × IsRunAlone (record { task = task_in (problem_of setup start); limit = setup.limit; count = 1; owner = owner }) w × EndsIn w ending
+  -- what so many workers do that own each board by this
+  abbrev job_owned : ℕ → (Position → ℕ) → Job
+  job_owned n owner = record { task = task_in (problem_of setup start); limit = setup.limit; count = n; owner = owner }
 
-  pub spread_any : {S T : Type 0} (hash_of : S → Position → ℕ) (owners : S) (other_of : T → Position → ℕ) (others : T) (ending : Ending) → Ends hash_of owners ending → Ends other_of others ending
-  spread_any hash_of owners other_of others ending run = subst (λ (owner : Position → ℕ). EndsOwned owner ending) (lone_owner (hash_of owners) (other_of others)) run
+  abbrev JoinedOwned : Ending → (Position → ℕ) → Type 0
+  JoinedOwned ending owner = (w : WorldState) × IsJoined (job_owned setup.workers owner) w × IsKept w × EndsIn w ending
 
-  pub allowed : {S : Type 0} (hash_of : S → Position → ℕ) (owners : S) → (result : Result Ending OutOfMemory) → (result ≡ Ok (Unsolvable Parity)) ↔ (¬ SameClass start setup.goal) → (SameClass start setup.goal → IfOk result (Ends hash_of owners)) → IfOk result (EndAnswers (task_of setup start)) → IfOk result IsNeverCut → IfOk result (λ ending. MayAnswer setup start (Some ending))
-  allowed hash_of owners (Err refused) parity run answers kept = tt
-  allowed hash_of owners (Ok ending) parity run answers kept = (answers, of_class (one_class start setup.goal))
+  abbrev AloneOwned : Ending → (Position → ℕ) → Type 0
+  AloneOwned ending owner = (w : WorldState) × IsRunAlone (job_owned 1 owner) w × EndsIn w ending
+
+  spread_any : {S T : Type 0} (hash_of : S → Position → ℕ) (owners : S) (other_of : T → Position → ℕ) (others : T) (ending : Ending) → ((b : Position) → hash_of owners b % setup.workers ≡ other_of others b % setup.workers) → Ends hash_of owners ending → Ends other_of others ending
+  spread_any hash_of owners other_of others ending same (inl (several, by)) = inl (several, subst (JoinedOwned ending) (λ t b. same b t) by)
+  spread_any hash_of owners other_of others ending same (inr run) = inr (subst (AloneOwned ending) (lone_owner (hash_of owners) (other_of others)) run)
+
+  pub allowed : {S : Type 0} (hash_of : S → Position → ℕ) (owners : S) → ((b : Position) → hash_of owners b % setup.workers ≡ hash_by setup.spread b % setup.workers) → (result : Result Ending OutOfMemory) → (result ≡ Ok (Unsolvable Parity)) ↔ (¬ SameClass start setup.goal) → (SameClass start setup.goal → IfOk result (Ends hash_of owners)) → IfOk result (EndAnswers (task_of setup start)) → IfOk result EndsWholeRun → IfOk result (λ ending. MayAnswer setup start (Some ending))
+  allowed hash_of owners same (Err refused) parity run answers kept = tt
+  allowed hash_of owners same (Ok ending) parity run answers kept = (answers, of_class (one_class start setup.goal))
     where
-      of_class : SameClass start setup.goal ⊎ (¬ SameClass start setup.goal) → (SameClass start setup.goal × (EndsByOne hash_by (problem_of setup start) setup.spread ending × IsNeverCut ending)) ⊎ ((¬ SameClass start setup.goal) × (ending ≡ Unsolvable Parity))
-      of_class (inl same) = inl (same, (spread_any hash_of owners hash_by setup.spread ending (run same), kept))
+      of_class : SameClass start setup.goal ⊎ (¬ SameClass start setup.goal) → (SameClass start setup.goal × (Ends hash_by setup.spread ending × EndsWholeRun ending)) ⊎ ((¬ SameClass start setup.goal) × (ending ≡ Unsolvable Parity))
+      of_class (inl together) = inl (together, (spread_any hash_of owners hash_by setup.spread ending same (run together), kept))
       of_class (inr other) = inr (other, ap (value_or ending) (parity.1 other))
 
 -- what a setup allows is true

@@ -1,14 +1,17 @@
 -- The laws of the definitions. Each is the contract of a function that does nothing.
-use Rattle.std.specs.Prelude.{ℕ, ◌≡◌, ◌≢◌, List, Option, None, Some, Vec}
+use Rattle.std.specs.Prelude.{ℕ, ◌≡◌, ◌≢◌, ◌≤◌, ◌+◌, ◌*◌, List, Option, None, Some, Vec}
 use Rattle.std.specs.declared.alloc.Global.{Global}
 use Rattle.board.specs.declared.moves.Move.{Move}
 use Rattle.board.specs.Positions.{Position}
 use Rattle.board.specs.Classes.{SameClass}
 use Rattle.outcomes.specs.declared.outcome.Ending.{Ending}
 use Rattle.outcomes.specs.declared.outcome.Cause.{Cause}
-use Rattle.outcomes.specs.declared.outcome.Cause.TheVariants.{Limit, Start, Cut}
+use Rattle.outcomes.specs.declared.outcome.Cause.TheVariants.{Limit, Start, Cut, Memory}
+use Rattle.outcomes.specs.declared.outcome.Want.TheVariants.{Stated}
 use Rattle.outcomes.specs.declared.outcome.Ending.TheVariants.{Unsolvable, Bounded}
 use Rattle.outcomes.specs.declared.outcome.Why.TheVariants.{Parity}
+use Rattle.world_ends.specs.Endings.{EndsIn}
+use Rattle.world_model.specs.declared.limits.TheConstants.{GREATEST_GRANT}
 use Rattle.world_model.specs.declared.steps.Refusal.{Refusal}
 use Rattle.world_model.specs.declared.steps.Step.{Step}
 use Rattle.world_model.specs.Credit.{expansion_count}
@@ -26,21 +29,30 @@ ParityWantsNoMemory = (setup : SetupState) (b : Position) → ¬ SameClass b set
 abbrev pub ParityIsAnswered : Type 0
 ParityIsAnswered = (setup : SetupState) (b : Position) (ending : Ending) → ¬ SameClass b setup.goal → MayAnswer setup b (Some ending) → ending ≡ Unsolvable Parity
 
--- no bound is answered for which a run was cut, or a thread was wanting
+-- no bound is answered for which a run was cut, a thread was wanting, or a want of memory was only stated
 abbrev pub BoundsAreNeverCut : Type 0
 BoundsAreNeverCut =
     (setup : SetupState) (b : Position) (bound : ℕ) (best : Option (ℕ × Vec Move Global)) (cause : Cause)
     → MayAnswer setup b (Some (Bounded bound best cause))
-    → (cause ≢ Cut) × (cause ≢ Start)
+    → (cause ≢ Cut) × (cause ≢ Start) × (cause ≢ Memory Stated)
 
 -- what one worker does for a board of the setup, where boards are owned so
 abbrev pub job_by : (Position → ℕ) → SetupState → Position → Job
 job_by owner setup b = record { task = task_of setup b; limit = setup.limit; count = 1; owner = owner }
 
--- where one is for the limit, steps from the opening world of the board's job have expanded just as many boards as the setup says
+-- where one is for the limit and there is one worker, steps from the opening world of the board's job have expanded just as many boards as the setup says
 abbrev pub LimitsAreTheSetups : Type 0
 LimitsAreTheSetups =
     (setup : SetupState) (b : Position) (bound : ℕ) (best : Option (ℕ × Vec Move Global))
+    → setup.workers ≡ 1
     → MayAnswer setup b (Some (Bounded bound best Limit))
     → (owner : Position → ℕ) × (via : Move) × (made : List (Step × Option Refusal)) × (w : WorldState)
     × IsRun (opening (job_by owner setup b) via) made w × (expansion_count w ≡ setup.limit)
+
+-- of any number of workers, the world that gives it has expanded no more than that, and all of it but for one grant for each worker
+abbrev pub LimitsAreNearlySpent : Type 0
+LimitsAreNearlySpent =
+    (setup : SetupState) (b : Position) (bound : ℕ) (best : Option (ℕ × Vec Move Global))
+    → MayAnswer setup b (Some (Bounded bound best Limit))
+    → (w : WorldState) × EndsIn w (Bounded bound best Limit)
+    × (expansion_count w ≤ setup.limit) × (setup.limit ≤ expansion_count w + GREATEST_GRANT * setup.workers)

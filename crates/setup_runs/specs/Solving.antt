@@ -1,17 +1,13 @@
 -- How the boards of a setup are answered.
-use Rattle.std.specs.Prelude.{ℕ, ◌≡◌, ◌≢◌, ◌⊎◌, Option, None, Some, Vec}
-use Rattle.std.specs.declared.alloc.Global.{Global}
-use Rattle.board.specs.declared.moves.Move.{Move}
+use Rattle.std.specs.Prelude.{◌≡◌, ◌⊎◌, Option, None, Some}
 use Rattle.board.specs.Positions.{Position}
 use Rattle.board.specs.Classes.{SameClass}
-use Rattle.outcomes.specs.declared.outcome.Cause.{Cause}
-use Rattle.outcomes.specs.declared.outcome.Cause.TheVariants.{Cut, Start}
 use Rattle.outcomes.specs.declared.outcome.Ending.{Ending}
-use Rattle.outcomes.specs.declared.outcome.Ending.TheVariants.{Unsolvable, Bounded}
+use Rattle.outcomes.specs.declared.outcome.Ending.TheVariants.{Unsolvable}
 use Rattle.outcomes.specs.declared.outcome.Why.TheVariants.{Parity}
 use Rattle.outcomes.specs.Endings.{EndAnswers}
 use Rattle.hda_run.specs.Problems.{Problem, problem}
-use Rattle.hda_run.specs.Alone.{EndsByOne}
+use Rattle.thread_runs.specs.Solved.{IsEnded, EndsWholeRun}
 use Rattle.batch_runs.specs.Setups.{SetupState, hash_by, task_of}
 use Rattle.batch_runs.specs.Batches.{Rules}
 
@@ -19,13 +15,9 @@ use Rattle.batch_runs.specs.Batches.{Rules}
 abbrev pub problem_of : SetupState → Position → Problem
 problem_of setup start = problem start setup.goal setup.rule setup.tables setup.limit
 
--- a bound is named for no run that was cut, and for no thread that was wanting
-abbrev pub IsNeverCut : Ending → Type 0
-IsNeverCut ending = (bound : ℕ) (best : Option (ℕ × Vec Move Global)) (cause : Cause) → ending ≡ Bounded bound best cause → (cause ≢ Cut) × (cause ≢ Start)
-
--- the ending is that of a run by one worker, which is guided by the setup's tables and keeps to its limit
+-- the ending is that of a run by the setup's workers, which are guided by its tables and keep to its limit
 abbrev pub IsOfRun : SetupState → Position → Ending → Type 0
-IsOfRun setup start ending = EndsByOne hash_by (problem_of setup start) setup.spread ending × IsNeverCut ending
+IsOfRun setup start ending = IsEnded hash_by (problem_of setup start) setup.spread setup.workers ending × EndsWholeRun ending
 
 -- A board is answered by an ending that answers its task. A board that isn't in the goal's class is answered by its parity; any other one by a run, which may want memory before the first step: when it does, no definition can tell.
 abbrev pub MayAnswer : SetupState → Position → Option Ending → Type 0

@@ -16,8 +16,9 @@ use std::thread::Threads;
 
 /// Writes a report for each line of the source that isn't passed over, in order: that of its first
 /// fault, or of an ending that answers its board. A board that isn't in the goal's class is
-/// answered without a search; any other one by A* with the setup's tables, by one worker in the
-/// calling thread, within the setup's limit. The gate is passed after each of its steps.
+/// answered without a search; any other one by A* with the setup's tables, within the setup's limit:
+/// by one worker in the calling thread, or by more in threads of their own, which all end before the
+/// next line is read. The gate is passed after each of their steps.
 ///
 /// The sink is flushed after each report, so that whoever waits for one has it; nothing is flushed
 /// for a line that is passed over.
@@ -42,7 +43,5 @@ pub fn run_batch<R: Threads + Wait + Sync, S: Source, K: Sink, G: Gate + Sync>(
     ensures flushed { K.is_flushed sink.new ⊎ (sink.new ≡ sink.old)
         ⊎ HasFailed (K.state sink.new) }
 {
-    // No thread is started for one worker.
-    let _ = rt;
-    run_lines(alloc, source, sink, setup.shape(), &Guided { setup, gate })
+    run_lines(alloc, source, sink, setup.shape(), &Guided { rt, setup, gate })
 }

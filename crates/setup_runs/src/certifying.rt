@@ -1,36 +1,74 @@
 //! Certificates of a setup's boards.
 
+ghost use Rattle.std.specs.Prelude.{◌≡◌, ◌%◌, IfOk, OnErr, Some};
+ghost use Rattle.board.specs.Classes.{SameClass};
+ghost use Rattle.board.specs.Positions.{Position};
 ghost use Rattle.byte_streams.specs.Streams.{change};
+ghost use Rattle.outcomes.specs.Endings.{without_rows};
+ghost use Rattle.outcomes.specs.Outcomes.{Answers};
+ghost use Rattle.batch_runs.specs.Setups.{hash_by, task_of};
 ghost use Rattle.certificate.specs.Certificates.{AreNamedCosts};
 ghost use Rattle.certificate_runs.specs.Certifying.{Replies};
 ghost use Rattle.certificate_runs.specs.Headline.{IsTrueAnswer};
-ghost use Rattle.setup_runs.specs.Solving.{rules_of};
+ghost use Rattle.setup_runs.specs.Solving.{rules_of, MayAnswer};
 
 use crate::solving::{Guided, job_for};
-use batch_runs::Setup;
+use batch_runs::{Setup, SpreadKind};
 use board::Board;
 use byte_streams::{Sink, Source};
 use certificate_runs::{CertifyFault, Prover, certify_first};
-use hda_run::{Gate, solve_one};
+use hda_run::Gate;
 use memory::OutOfMemory;
 use outcomes::Outcome;
 use outcomes::laws::rows_can_be_left;
-use owners::ByBlank;
+use owners::{ByBlank, Spread, Zobrist};
 use std::alloc::Global;
 use std::sync::Wait;
 use std::thread::Threads;
+use thread_runs::solve_by_workers;
 
-impl<'a, G: Gate> Prover for Guided<'a, G> {
+impl<'a, R: Threads + Wait + Sync, G: Gate + Sync> Prover for Guided<'a, R, G> {
     ghost use Rattle.setup_runs.specs.Solving.{rules_of};
 
     ghost rules = { λ guided. rules_of guided.setup.now };
 
     fn prove(&self, alloc: Global, start: &Board) -> Result<Outcome, OutOfMemory> {
-        // By this law what answers a task does so without rows too.
-        rows_can_be_left();
+        let Guided { rt, setup, gate } = *self;
         // One worker owns all boards, whatever they are spread by.
-        solve_one(alloc, job_for(self.setup, start), ByBlank, self.gate)
+        if setup.worker_count() == 1 {
+            return prove_spread(rt, alloc, setup, start, ByBlank, gate);
+        }
+        match setup.spread_kind() {
+            SpreadKind::Zobrist => {
+                let spread = Zobrist::new(setup.shape());
+                prove_spread(rt, alloc, setup, start, spread, gate)
+            }
+            SpreadKind::Blank => prove_spread(rt, alloc, setup, start, ByBlank, gate),
+        }
     }
+}
+
+// The outcome by the setup's workers, where each owns the boards that the setup says by this spread.
+fn prove_spread<R: Threads + Wait + Sync, S: Spread + Drop + Sync, G: Gate + Sync>(
+    rt: &R,
+    alloc: Global,
+    setup: &Setup,
+    start: &Board,
+    spread: S,
+    gate: &G,
+) -> Result<Outcome, OutOfMemory>
+    requires sides { start.now.grid ≡ setup.now.goal.grid }
+    requires owners { (b : Position)
+        → S.hash_of spread b % setup.now.workers ≡ hash_by setup.now.spread b % setup.now.workers }
+    ensures allowed { IfOk result (λ outcome.
+        MayAnswer setup.now start.now (Some (without_rows outcome))) }
+    ensures answers { IfOk result (Answers (task_of setup.now start.now)) }
+    ensures lacking { OnErr result (SameClass start.now setup.now.goal) }
+{
+    // By this law what answers a task does so without rows too.
+    rows_can_be_left();
+    let workers = setup.worker_count();
+    solve_by_workers(rt, alloc, job_for(setup, start), workers, spread, gate)
 }
 
 /// Answers the first line of the source that isn't passed over, and takes nothing behind it: where
@@ -57,7 +95,5 @@ pub fn run_cert<R: Threads + Wait + Sync, S: Source, K: Sink, G: Gate + Sync>(
     ensures truth { IsTrueAnswer setup.now.tables.split (rules_of setup.now)
         (change S.state source.old source.new) (change K.state sink.old sink.new) result }
 {
-    // No thread is started for one worker.
-    let _ = rt;
-    certify_first(alloc, source, sink, setup, &Guided { setup, gate })
+    certify_first(alloc, source, sink, setup, &Guided { rt, setup, gate })
 }

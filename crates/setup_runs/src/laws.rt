@@ -1,7 +1,7 @@
 //! The laws of the definitions: each is the contract of a function that does nothing.
 
 ghost use Rattle.setup_runs.specs.Laws.{ParityWantsNoMemory, ParityIsAnswered};
-ghost use Rattle.setup_runs.specs.Laws.{BoundsAreNeverCut, LimitsAreTheSetups};
+ghost use Rattle.setup_runs.specs.Laws.{BoundsAreNeverCut, LimitsAreTheSetups, LimitsAreNearlySpent};
 
 /// A board of the other class is refused for no want of memory.
 pub fn parity_wants_no_memory()
@@ -13,8 +13,10 @@ pub fn parity_is_answered()
     ensures { ParityIsAnswered }
 {}
 
-/// A bound is answered for no run that was cut, and for the limit after just as many expansions.
+/// A bound is answered for no run that was cut, and for the limit after just as many expansions by
+/// one worker, and after nearly as many by more.
 pub fn bounds_are_due()
     ensures kept { BoundsAreNeverCut }
     ensures limit { LimitsAreTheSetups }
+    ensures nearly { LimitsAreNearlySpent }
 {}

@@ -1,32 +1,69 @@
 //! The solver of a setup's boards.
 
-ghost use Rattle.std.specs.Prelude.{◌≡◌};
-ghost use Rattle.setup_runs.specs.Solving.{problem_of};
+ghost use Rattle.std.specs.Prelude.{◌≡◌, ◌%◌, IfOk, OnErr, Some};
+ghost use Rattle.board.specs.Classes.{SameClass};
+ghost use Rattle.board.specs.Positions.{Position};
+ghost use Rattle.batch_runs.specs.Setups.{hash_by};
+ghost use Rattle.setup_runs.specs.Solving.{problem_of, MayAnswer};
 
-use batch_runs::{Setup, Solver};
+use batch_runs::{Setup, Solver, SpreadKind};
 use board::Board;
-use hda_run::{Gate, Job, end_one};
+use hda_run::{Gate, Job};
 use memory::OutOfMemory;
 use outcomes::Ending;
-use owners::ByBlank;
+use owners::{ByBlank, Spread, Zobrist};
 use std::alloc::Global;
+use std::sync::Wait;
+use std::thread::Threads;
+use thread_runs::end_by_workers;
 
-/// What solves the boards of a setup, by one worker in the calling thread.
+/// What solves the boards of a setup, by its workers: one alone in the calling thread, more in
+/// threads of their own.
 #[derive(Drop)]
-pub struct Guided<'a, G> {
+pub struct Guided<'a, R, G> {
+    pub rt: &'a R,
     pub setup: &'a Setup,
     pub gate: &'a G,
 }
 
-impl<'a, G: Gate> Solver for Guided<'a, G> {
+impl<'a, R: Threads + Wait + Sync, G: Gate + Sync> Solver for Guided<'a, R, G> {
     ghost use Rattle.setup_runs.specs.Solving.{rules_of};
 
     ghost rules = { λ guided. rules_of guided.setup.now };
 
     fn solve(&self, alloc: Global, start: &Board) -> Result<Ending, OutOfMemory> {
+        let Guided { rt, setup, gate } = *self;
         // One worker owns all boards, whatever they are spread by.
-        end_one(alloc, job_for(self.setup, start), ByBlank, self.gate)
+        if setup.worker_count() == 1 {
+            return end_spread(rt, alloc, setup, start, ByBlank, gate);
+        }
+        match setup.spread_kind() {
+            SpreadKind::Zobrist => {
+                let spread = Zobrist::new(setup.shape());
+                end_spread(rt, alloc, setup, start, spread, gate)
+            }
+            SpreadKind::Blank => end_spread(rt, alloc, setup, start, ByBlank, gate),
+        }
     }
+}
+
+// The ending by the setup's workers, where each owns the boards that the setup says by this spread.
+fn end_spread<R: Threads + Wait + Sync, S: Spread + Drop + Sync, G: Gate + Sync>(
+    rt: &R,
+    alloc: Global,
+    setup: &Setup,
+    start: &Board,
+    spread: S,
+    gate: &G,
+) -> Result<Ending, OutOfMemory>
+    requires sides { start.now.grid ≡ setup.now.goal.grid }
+    requires owners { (b : Position)
+        → S.hash_of spread b % setup.now.workers ≡ hash_by setup.now.spread b % setup.now.workers }
+    ensures answered { IfOk result (λ ending. MayAnswer setup.now start.now (Some ending)) }
+    ensures lacking { OnErr result (SameClass start.now setup.now.goal) }
+{
+    let workers = setup.worker_count();
+    end_by_workers(rt, alloc, job_for(setup, start), workers, spread, gate)
 }
 
 /// The job of a board: the setup says the rest.

@@ -1,5 +1,5 @@
 -- What so many workers answer.
-use Rattle.std.specs.Prelude.{ℕ, ◌≡◌, ◌≢◌, ◌⊎◌, Option, Vec}
+use Rattle.std.specs.Prelude.{ℕ, ◌≡◌, ◌≢◌, ◌≤◌, ◌⊎◌, Option, Vec}
 use Rattle.std.specs.declared.alloc.Global.{Global}
 use Rattle.board.specs.declared.moves.Move.{Move}
 use Rattle.board.specs.Positions.{Position}
@@ -14,13 +14,13 @@ use Rattle.hda_run.specs.Alone.{IsByOne, EndsByOne}
 use Rattle.hda_run.specs.Problems.{Problem}
 use Rattle.thread_joins.specs.Threads.{IsByThreads, EndsByThreads}
 
--- the outcome is that of n threads, or that of one worker alone
+-- the outcome is that of n threads, of which there are two at least, or that of one worker alone
 abbrev pub IsSolved : {S : Type 0} → (S → Position → ℕ) → Problem → S → ℕ → Outcome → Type 0
-IsSolved hash_of p owners n outcome = IsByThreads hash_of p owners n outcome ⊎ IsByOne hash_of p owners outcome
+IsSolved hash_of p owners n outcome = ((2 ≤ n) × IsByThreads hash_of p owners n outcome) ⊎ IsByOne hash_of p owners outcome
 
 -- the same without rows
 abbrev pub IsEnded : {S : Type 0} → (S → Position → ℕ) → Problem → S → ℕ → Ending → Type 0
-IsEnded hash_of p owners n ending = EndsByThreads hash_of p owners n ending ⊎ EndsByOne hash_of p owners ending
+IsEnded hash_of p owners n ending = ((2 ≤ n) × EndsByThreads hash_of p owners n ending) ⊎ EndsByOne hash_of p owners ending
 
 -- the cause is that of a run that stopped by itself: it was not cut, each thread was started, and no want of memory was stated by a list
 abbrev pub IsOfWholeRun : Cause → Type 0

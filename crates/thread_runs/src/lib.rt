@@ -8,4 +8,4 @@ mod opening;
 mod solving;
 mod teams;
 
-pub use solving::{end, solve};
+pub use solving::{end, end_by_workers, solve, solve_by_workers};

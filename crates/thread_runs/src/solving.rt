@@ -1,6 +1,6 @@
 //! Jobs that so many workers solve.
 
-ghost use Rattle.std.specs.Prelude.{◌≡◌, ◌↔◌, Ok, IfOk, IfSome, IsErrOf, IsTrue};
+ghost use Rattle.std.specs.Prelude.{◌≡◌, ◌↔◌, ◌≤◌, Ok, IfOk, IfSome, IsErrOf, IsTrue};
 ghost use Rattle.board.specs.Classes.{SameClass};
 ghost use Rattle.outcomes.specs.Outcomes.{Answers};
 ghost use Rattle.outcomes.specs.Endings.{EndAnswers};
@@ -17,6 +17,7 @@ use crate::ledgers::{ending_by_threads, outcome_by_threads};
 use board::laws::plans_keep_the_class;
 use board::same_class;
 use hda_run::{Gate, Job, WorldFault, end_one, solve_one};
+use memory::OutOfMemory;
 use outcomes::{Ending, Outcome, Why};
 use owners::Spread;
 use std::alloc::Global;
@@ -47,19 +48,13 @@ pub fn solve<'a, R: Threads + Wait + Sync, S: Spread + Drop + Sync, G: Gate + Sy
     ensures answers { IfOk result (Answers (task_in job.entry)) }
     ensures kept { IfOk result HasWholeRun }
 {
-    // By this law no plan leads from a board to another class.
-    plans_keep_the_class();
-    let _ = job.goal();
     if !is_worker_count(workers) {
         return Err(WorldFault::WorkerCount);
     }
-    if are_apart(&job) {
-        return Ok(Outcome::Unsolvable { why: Why::Parity });
+    match solve_by_workers(rt, alloc, job, workers, spread, gate) {
+        Ok(outcome) => Ok(outcome),
+        Err(refused) => Err(WorldFault::Memory(refused)),
     }
-    if let Some(outcome) = solve_by_threads(rt, alloc, &job, workers, &spread, gate) {
-        return Ok(outcome);
-    }
-    solve_alone(alloc, job, spread, gate)
 }
 
 /// The same without rows, for which no memory is taken.
@@ -79,12 +74,65 @@ pub fn end<'a, R: Threads + Wait + Sync, S: Spread + Drop + Sync, G: Gate + Sync
     ensures answers { IfOk result (EndAnswers (task_in job.entry)) }
     ensures kept { IfOk result EndsWholeRun }
 {
-    // By this law no plan leads from a board to another class.
-    plans_keep_the_class();
-    let _ = job.goal();
     if !is_worker_count(workers) {
         return Err(WorldFault::WorkerCount);
     }
+    match end_by_workers(rt, alloc, job, workers, spread, gate) {
+        Ok(ending) => Ok(ending),
+        Err(refused) => Err(WorldFault::Memory(refused)),
+    }
+}
+
+/// `solve` for a count of workers that is known to be one. The error tells a want of memory before
+/// the first step.
+pub fn solve_by_workers<'a, R: Threads + Wait + Sync, S: Spread + Drop + Sync, G: Gate + Sync>(
+    rt: &R,
+    alloc: Global,
+    job: Job<'a>,
+    workers: usize,
+    spread: S,
+    gate: &G,
+) -> Result<Outcome, OutOfMemory>
+    requires { IsWorkerCount workers }
+    ensures parity { (result ≡ Ok (Unsolvable Parity))
+        ↔ (¬ SameClass job.entry.start job.entry.goal) }
+    ensures run { SameClass job.entry.start job.entry.goal
+        → IfOk result (IsSolved S.hash_of job.entry spread workers) }
+    ensures answers { IfOk result (Answers (task_in job.entry)) }
+    ensures kept { IfOk result HasWholeRun }
+{
+    // By this law no plan leads from a board to another class.
+    plans_keep_the_class();
+    let _ = job.goal();
+    if are_apart(&job) {
+        return Ok(Outcome::Unsolvable { why: Why::Parity });
+    }
+    if let Some(outcome) = solve_by_threads(rt, alloc, &job, workers, &spread, gate) {
+        return Ok(outcome);
+    }
+    solve_alone(alloc, job, spread, gate)
+}
+
+/// The same without rows.
+pub fn end_by_workers<'a, R: Threads + Wait + Sync, S: Spread + Drop + Sync, G: Gate + Sync>(
+    rt: &R,
+    alloc: Global,
+    job: Job<'a>,
+    workers: usize,
+    spread: S,
+    gate: &G,
+) -> Result<Ending, OutOfMemory>
+    requires { IsWorkerCount workers }
+    ensures parity { (result ≡ Ok (ending.Unsolvable Parity))
+        ↔ (¬ SameClass job.entry.start job.entry.goal) }
+    ensures run { SameClass job.entry.start job.entry.goal
+        → IfOk result (IsEnded S.hash_of job.entry spread workers) }
+    ensures answers { IfOk result (EndAnswers (task_in job.entry)) }
+    ensures kept { IfOk result EndsWholeRun }
+{
+    // By this law no plan leads from a board to another class.
+    plans_keep_the_class();
+    let _ = job.goal();
     if are_apart(&job) {
         return Ok(Ending::Unsolvable { why: Why::Parity });
     }
@@ -118,6 +166,7 @@ fn solve_by_threads<R: Threads + Wait + Sync, S: Spread + Sync, G: Gate + Sync>(
     gate: &G,
 ) -> Option<Outcome>
     requires { IsWorkerCount workers }
+    ensures several { IfSome result (λ outcome. 2 ≤ workers) }
     ensures run { IfSome result (IsByThreads S.hash_of job.now spread.now workers) }
     ensures answers { IfSome result (Answers (task_in job.now)) }
     ensures kept { IfSome result HasWholeRun }
@@ -141,6 +190,7 @@ fn end_by_threads<R: Threads + Wait + Sync, S: Spread + Sync, G: Gate + Sync>(
     gate: &G,
 ) -> Option<Ending>
     requires { IsWorkerCount workers }
+    ensures several { IfSome result (λ ending. 2 ≤ workers) }
     ensures run { IfSome result (EndsByThreads S.hash_of job.now spread.now workers) }
     ensures answers { IfSome result (EndAnswers (task_in job.now)) }
     ensures kept { IfSome result EndsWholeRun }
@@ -160,17 +210,14 @@ fn solve_alone<'a, S: Spread + Drop, G: Gate>(
     job: Job<'a>,
     spread: S,
     gate: &G,
-) -> Result<Outcome, WorldFault>
+) -> Result<Outcome, OutOfMemory>
     requires { SameClass job.start job.goal }
-    ensures fault { ¬ IsErrOf result WorldFault.WorkerCount }
+    ensures parity { ¬ (result ≡ Ok (Unsolvable Parity)) }
     ensures run { IfOk result (IsByOne S.hash_of job.entry spread) }
     ensures answers { IfOk result (Answers (task_in job.entry)) }
     ensures kept { IfOk result HasWholeRun }
 {
-    match solve_one(alloc, job, spread, gate) {
-        Ok(outcome) => Ok(outcome),
-        Err(refused) => Err(WorldFault::Memory(refused)),
-    }
+    solve_one(alloc, job, spread, gate)
 }
 
 // The same without rows.
@@ -179,15 +226,12 @@ fn end_alone<'a, S: Spread + Drop, G: Gate>(
     job: Job<'a>,
     spread: S,
     gate: &G,
-) -> Result<Ending, WorldFault>
+) -> Result<Ending, OutOfMemory>
     requires { SameClass job.start job.goal }
-    ensures fault { ¬ IsErrOf result WorldFault.WorkerCount }
+    ensures parity { ¬ (result ≡ Ok (ending.Unsolvable Parity)) }
     ensures run { IfOk result (EndsByOne S.hash_of job.entry spread) }
     ensures answers { IfOk result (EndAnswers (task_in job.entry)) }
     ensures kept { IfOk result EndsWholeRun }
 {
-    match end_one(alloc, job, spread, gate) {
-        Ok(ending) => Ok(ending),
-        Err(refused) => Err(WorldFault::Memory(refused)),
-    }
+    end_one(alloc, job, spread, gate)
 }
