@@ -9,8 +9,8 @@ mod program;
 pub use batch_lines::{
     Entry, EntryFault, INPUT_LIMIT, LINE_LIMIT, Line, LineKind, LineReader, read_entry,
 };
-pub use batch_runs::{LinesFault, Setup, Solver, SpreadKind, Summary, run_lines};
-pub use certificate_runs::{CertifyFault, CheckFault, Prover, certify_first, run_check};
+pub use batch_runs::{LinesFault, Ruled, Setup, SpreadKind, Summary, run_lines};
+pub use certificate_runs::{CertifyFault, CheckFault, certify_first, run_check};
 pub use faults::BatchFault;
 pub use hda_run::{Free, Gate, Kind};
 pub use outcomes::{Cause, Outcome, SolveFault, Want, Why};

@@ -1,5 +1,6 @@
 -- What is written for an input: a report for each line that isn't passed over, in order.
 use Rattle.std.specs.Prelude.{ℕ, ◌≡◌, ◌⊎◌, ◌+◌, ◌-◌, ◌<◌, ◌^◌, true, false, List, [], ◌∷◌, ◌++◌, length, Option, None, Some, Result, Ok, Err, ⊤, ◌==◌, ◌&&◌, if◌then◌else◌, codes}
+use Rattle.memory.specs.declared.OutOfMemory.{OutOfMemory}
 use Rattle.board.specs.Grids.{Grid}
 use Rattle.board.specs.Positions.{Position}
 use Rattle.byte_streams.specs.Streams.{SourceState, SinkState, Change, from_to}
@@ -31,6 +32,11 @@ pub record Rules : Type 1 where
 -- each outcome that a board may be answered by answers what is asked of it
 abbrev pub IsTruthful : Rules → Type 0
 IsTruthful rules = (b : Position) (outcome : Ending) → rules.allows b (Some outcome) → EndAnswers (rules.task b) outcome
+
+-- who solves a board gives an ending that it may be answered by, or tells a want of memory where that may be answered
+abbrev pub MayGive : Rules → Position → Result Ending OutOfMemory → Type 0
+MayGive rules b (Ok ending) = rules.allows b (Some ending)
+MayGive rules b (Err refused) = rules.allows b None
 
 -- ---- the answer to a line
 

@@ -5,7 +5,7 @@ ghost use Rattle.byte_streams.specs.Streams.{change};
 ghost use Rattle.byte_streams.specs.Sink.{Writes};
 ghost use Rattle.batch_lines.specs.declared.lines.LineKind.TheVariants.{PassedOver};
 ghost use Rattle.batch_runs.specs.Batches.{Rules, Answer, AnswersKind, AnswersEntry, ReportsLines};
-ghost use Rattle.batch_runs.specs.Batches.{IsTruthful, HasRoom, answer_text, with_answer};
+ghost use Rattle.batch_runs.specs.Batches.{IsTruthful, HasRoom, MayGive, answer_text, with_answer};
 ghost use Rattle.batch_runs.specs.Batches.{with_outcome, with_refused, HasFailed};
 ghost use Rattle.batch_runs.specs.Headline.{IsTrueRun};
 
@@ -18,18 +18,10 @@ use outcomes::{Ending, SolveFault};
 use reports::{NoReport, outcome_report, refused_report};
 use std::alloc::Global;
 
-/// What solves boards.
-pub trait Solver {
-    // The shape of the boards that it solves, what is asked of a board, and what it may be
-    // answered by.
+/// What says how boards are answered.
+pub trait Ruled {
+    // The shape of the boards, what is asked of a board, and what it may be answered by.
     ghost rules: { Self → Rules };
-
-    /// Solves a board. The error tells a want of memory before the first step.
-    fn solve(&self, alloc: Global, start: &Board) -> Result<Ending, OutOfMemory>
-        requires { start.now.grid ≡ (rules self.now).grid }
-        ensures answered { IfOk result (λ outcome.
-            (rules self.now).allows start.now (Some outcome)) }
-        ensures lacking { OnErr result ((rules self.now).allows start.now None) };
 }
 
 /// How many lines were answered, and how.
@@ -68,35 +60,49 @@ impl Summary {
 }
 
 /// Writes a report for each line of the source that isn't passed over, in order, and flushes the
-/// sink after each. Where the solver is truthful, so is what is written.
-pub fn run_lines<S: Source, K: Sink, A: Solver>(
+/// sink after each. A board is solved by the closure, which answers what the rules allow, or tells
+/// a want of memory before the first step. Where the rules are truthful, so is what is written.
+pub fn run_lines<
+    S: Source,
+    K: Sink,
+    A: Ruled,
+    F: Fn(&Board) -> Result<Ending, OutOfMemory> + Drop,
+>(
     alloc: Global,
     source: &mut S,
     sink: &mut K,
     shape: Shape,
-    solver: &A,
+    asked: &A,
+    solver: F,
 ) -> Result<Summary, LinesFault>
-    requires { (A.rules solver.now).grid ≡ shape }
-    ensures reports { ReportsLines (A.rules solver.now) (change S.state source.old source.new)
+    requires grid { (A.rules asked.now).grid ≡ shape }
+    requires callable { (start : _) → start.now.grid ≡ shape → F.pre solver start }
+    requires gives { (start result : _) → start.now.grid ≡ shape → F.post solver start result
+        → MayGive (A.rules asked.now) start.now result }
+    ensures reports { ReportsLines (A.rules asked.now) (change S.state source.old source.new)
         (change K.state sink.old sink.new) result }
-    ensures truth { IsTruthful (A.rules solver.now) → IsTrueRun (A.rules solver.now)
+    ensures truth { IsTruthful (A.rules asked.now) → IsTrueRun (A.rules asked.now)
         (change S.state source.old source.new) (change K.state sink.old sink.new) result }
     ensures flushed { K.is_flushed sink.new ⊎ (sink.new ≡ sink.old)
         ⊎ HasFailed (K.state sink.new) }
 {
-    report_all(alloc, source, sink, shape, solver)
+    report_all(alloc, source, sink, shape, asked, &solver)
 }
 
 // The same, by what was answered.
-fn report_all<S: Source, K: Sink, A: Solver>(
+fn report_all<S: Source, K: Sink, A: Ruled, F: Fn(&Board) -> Result<Ending, OutOfMemory>>(
     alloc: Global,
     source: &mut S,
     sink: &mut K,
     shape: Shape,
-    solver: &A,
+    asked: &A,
+    solver: &F,
 ) -> Result<Summary, LinesFault>
-    requires { (A.rules solver.now).grid ≡ shape }
-    ensures reports { ReportsLines (A.rules solver.now) (change S.state source.old source.new)
+    requires grid { (A.rules asked.now).grid ≡ shape }
+    requires callable { (start : _) → start.now.grid ≡ shape → F.pre solver.now start }
+    requires gives { (start result : _) → start.now.grid ≡ shape → F.post solver.now start result
+        → MayGive (A.rules asked.now) start.now result }
+    ensures reports { ReportsLines (A.rules asked.now) (change S.state source.old source.new)
         (change K.state sink.old sink.new) result }
     ensures flushed { K.is_flushed sink.new ⊎ (sink.new ≡ sink.old)
         ⊎ HasFailed (K.state sink.new) }
@@ -122,6 +128,7 @@ fn report_all<S: Source, K: Sink, A: Solver>(
                 let report = match report_line(
                     alloc,
                     shape,
+                    asked,
                     solver,
                     line,
                     reader.bytes(),
@@ -150,24 +157,30 @@ fn send<K: Sink>(sink: &mut K, text: &str) -> Result<(), WriteFailed>
 
 // What is written for a line that isn't passed over, whose bytes are given where it is to be read,
 // and the counts after it.
-fn report_line<A: Solver>(
+fn report_line<A: Ruled, F: Fn(&Board) -> Result<Ending, OutOfMemory>>(
     alloc: Global,
     shape: Shape,
-    solver: &A,
+    asked: &A,
+    solver: &F,
     line: Line,
     bytes: &[u8],
     summary: Summary,
 ) -> Result<(String, Summary), NoReport>
-    requires grid { (A.rules solver.now).grid ≡ shape }
+    requires grid { (A.rules asked.now).grid ≡ shape }
+    requires callable { (start : _) → start.now.grid ≡ shape → F.pre solver.now start }
+    requires gives { (start result : _) → start.now.grid ≡ shape → F.post solver.now start result
+        → MayGive (A.rules asked.now) start.now result }
     requires room { HasRoom summary }
     requires kind { line.kind ≢ PassedOver }
     ensures { IfOk result (λ report. (answer : Answer)
-        × AnswersKind (A.rules solver.now) line.kind bytes.now answer
+        × AnswersKind (A.rules asked.now) line.kind bytes.now answer
         × (string_bytes report.0 ≡ answer_text line.number answer)
         × (report.1 ≡ with_answer summary answer)) }
 {
     match line.kind {
-        LineKind::Within => answer_line(alloc, shape, solver, line.number, bytes, summary),
+        LineKind::Within => {
+            answer_line(alloc, shape, asked, solver, line.number, bytes, summary)
+        }
         _ => {
             let text = refused_report(alloc, EntryFault::NoText.code(), line.number)?;
             Ok((text, summary.with_refused()))
@@ -176,18 +189,22 @@ fn report_line<A: Solver>(
 }
 
 // What is written for a line that is to be read, and the counts after it.
-fn answer_line<A: Solver>(
+fn answer_line<A: Ruled, F: Fn(&Board) -> Result<Ending, OutOfMemory>>(
     alloc: Global,
     shape: Shape,
-    solver: &A,
+    asked: &A,
+    solver: &F,
     number: u64,
     bytes: &[u8],
     summary: Summary,
 ) -> Result<(String, Summary), NoReport>
-    requires grid { (A.rules solver.now).grid ≡ shape }
+    requires grid { (A.rules asked.now).grid ≡ shape }
+    requires callable { (start : _) → start.now.grid ≡ shape → F.pre solver.now start }
+    requires gives { (start result : _) → start.now.grid ≡ shape → F.post solver.now start result
+        → MayGive (A.rules asked.now) start.now result }
     requires room { HasRoom summary }
     ensures { IfOk result (λ report. (answer : Answer)
-        × AnswersEntry (A.rules solver.now) bytes.now answer
+        × AnswersEntry (A.rules asked.now) bytes.now answer
         × (string_bytes report.0 ≡ answer_text number answer)
         × (report.1 ≡ with_answer summary answer)) }
 {
@@ -198,7 +215,7 @@ fn answer_line<A: Solver>(
             return Ok((text, summary.with_refused()));
         }
     };
-    match solver.solve(alloc, &entry.board) {
+    match solve(shape, asked, solver, &entry.board) {
         Ok(outcome) => {
             let text = outcome_report(alloc, entry.id, &outcome)?;
             Ok((text, summary.with_outcome(&outcome)))
@@ -208,4 +225,24 @@ fn answer_line<A: Solver>(
             Ok((text, summary.with_refused()))
         }
     }
+}
+
+// What is answered of a board.
+fn solve<A: Ruled, F: Fn(&Board) -> Result<Ending, OutOfMemory>>(
+    shape: Shape,
+    asked: &A,
+    solver: &F,
+    start: &Board,
+) -> Result<Ending, OutOfMemory>
+    requires grid { start.now.grid ≡ shape }
+    requires callable { (start : _) → start.now.grid ≡ shape → F.pre solver.now start }
+    requires gives { (start result : _) → start.now.grid ≡ shape → F.post solver.now start result
+        → MayGive (A.rules asked.now) start.now result }
+    ensures answered { IfOk result (λ ending. (A.rules asked.now).allows start.now (Some ending)) }
+    ensures lacking { OnErr result ((A.rules asked.now).allows start.now None) }
+{
+    // What is known of the board and of the rules is for the clauses alone.
+    let _ = shape;
+    let _ = asked;
+    solver(start)
 }

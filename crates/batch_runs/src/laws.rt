@@ -5,29 +5,29 @@ ghost use Rattle.batch_runs.specs.Headline.{OutputsTellTheTruth, BeginningsTellT
 ghost use Rattle.batch_runs.specs.Laws.{LinesAreLostToFailures, OutputsAreAnswers};
 ghost use Rattle.batch_runs.specs.Laws.{FailedWritesAreTold};
 
-use crate::batch::Solver;
+use crate::batch::Ruled;
 
 /// What is written of the answers of a truthful solver tells the truth of each line.
-pub fn answers_tell_the_truth<A: Solver>(solver: &A)
-    ensures { AnswersTellTheTruth (A.rules solver.now) }
+pub fn answers_tell_the_truth<A: Ruled>(asked: &A)
+    ensures { AnswersTellTheTruth (A.rules asked.now) }
 {
-    let _ = solver;
+    let _ = asked;
 }
 
 /// Where the input is known and the output was empty, what a run that ends well leaves there tells
 /// the truth of the input's lines.
-pub fn outputs_tell_the_truth<A: Solver>(solver: &A)
-    ensures { OutputsTellTheTruth (A.rules solver.now) }
+pub fn outputs_tell_the_truth<A: Ruled>(asked: &A)
+    ensures { OutputsTellTheTruth (A.rules asked.now) }
 {
-    let _ = solver;
+    let _ = asked;
 }
 
 /// Where the input is known and the output was empty, what a run that ends early leaves there is a
 /// beginning of what tells the truth of the input's first lines.
-pub fn beginnings_tell_the_truth<A: Solver>(solver: &A)
-    ensures { BeginningsTellTheTruth (A.rules solver.now) }
+pub fn beginnings_tell_the_truth<A: Ruled>(asked: &A)
+    ensures { BeginningsTellTheTruth (A.rules asked.now) }
 {
-    let _ = solver;
+    let _ = asked;
 }
 
 /// In a beginning of an output each line that another one follows is a line of the output.
@@ -37,11 +37,11 @@ pub fn beginnings_are_of_lines()
 
 /// Where the input is known and the output was empty, a run that ends well leaves an answer to each
 /// line; and a sink fails only in a run that says so.
-pub fn runs_are_told<A: Solver>(solver: &A)
-    ensures outputs { OutputsAreAnswers (A.rules solver.now) }
-    ensures failures { FailedWritesAreTold (A.rules solver.now) }
+pub fn runs_are_told<A: Ruled>(asked: &A)
+    ensures outputs { OutputsAreAnswers (A.rules asked.now) }
+    ensures failures { FailedWritesAreTold (A.rules asked.now) }
 {
-    let _ = solver;
+    let _ = asked;
 }
 
 /// A line of an input within the limit is lost only where the source has failed.

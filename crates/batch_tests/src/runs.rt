@@ -7,7 +7,7 @@ ghost use Rattle.certificate.specs.Certificates.{AreNamedCosts};
 
 use crate::certificates::{ONE_MOVE, SOLVED, THREE_MOVES};
 use batch_cli::{
-    BatchFault, Cause, Free, LinesFault, Setup, Solver, Summary, Why, run_batch, run_cert,
+    BatchFault, Cause, Free, LinesFault, Ruled, Setup, Summary, Why, run_batch, run_cert,
     run_check, run_lines, run_program,
 };
 use board::{Board, Move, Shape, Weights};
@@ -29,31 +29,31 @@ struct ByBlank {
     shape: Shape,
 }
 
-impl Solver for ByBlank {
+impl Ruled for ByBlank {
     ghost rules = { λ s. record {
       grid = s.shape;
       task = λ b. record { start = b; goal = b; rule = unit_rule s.shape; sum = λ _. 0 };
       allows = λ _ _. Unit {0};
     } };
+}
 
-    fn solve(&self, alloc: Global, start: &Board) -> Result<Ending, OutOfMemory> {
-        match start.blank() {
-            0 => Ok(Ending::Optimal {
-                cost: 2,
-                plan: copy_of(alloc, &[Move::L, Move::U])?,
-            }),
-            1 => Ok(Ending::Unsolvable { why: Why::Parity }),
-            2 => Ok(Ending::Bounded {
-                bound: 21,
-                best: None,
-                cause: Cause::Limit,
-            }),
-            _ => {
-                with_capacity::<TooLarge>(alloc, 1 << 27)?;
-                Ok(Ending::Unsolvable {
-                    why: Why::Exhausted,
-                })
-            }
+fn answer_by_blank(alloc: Global, start: &Board) -> Result<Ending, OutOfMemory> {
+    match start.blank() {
+        0 => Ok(Ending::Optimal {
+            cost: 2,
+            plan: copy_of(alloc, &[Move::L, Move::U])?,
+        }),
+        1 => Ok(Ending::Unsolvable { why: Why::Parity }),
+        2 => Ok(Ending::Bounded {
+            bound: 21,
+            best: None,
+            cause: Cause::Limit,
+        }),
+        _ => {
+            with_capacity::<TooLarge>(alloc, 1 << 27)?;
+            Ok(Ending::Unsolvable {
+                why: Why::Exhausted,
+            })
         }
     }
 }
@@ -338,7 +338,10 @@ fn start<R: Threads + Wait + AllocGlobal + Sync>(
     match run {
         Run::Lines => {
             let shape = square();
-            let counts = run_lines(alloc, source, sink, shape, &ByBlank { shape });
+            let asked = ByBlank { shape };
+            let counts = run_lines(alloc, source, sink, shape, &asked, |start: &Board| {
+                answer_by_blank(alloc, start)
+            });
             tell_counts(counts, errors)
         }
         Run::Batch => match setup_of_faces(alloc) {
@@ -465,7 +468,10 @@ fn counts_of_lines(alloc: Global) -> Result<Summary, LinesFault> {
     let shape = square();
     let mut source = ByteSource::new(LINES);
     let mut sink = ByteSink::new(Vec::new(alloc));
-    run_lines(alloc, &mut source, &mut sink, shape, &ByBlank { shape })
+    let asked = ByBlank { shape };
+    run_lines(alloc, &mut source, &mut sink, shape, &asked, |start: &Board| {
+        answer_by_blank(alloc, start)
+    })
 }
 
 #[test]

@@ -17,7 +17,10 @@ use Rattle.certificate.specs.Spellings.{spelling}
 use Rattle.certificate_check.specs.Refusals.{IsProved}
 use Rattle.pattern_index.specs.Splits.{Split}
 use Rattle.outcomes.specs.declared.outcome.Ending.TheVariants.{Optimal, Unsolvable, Bounded}
-use Rattle.outcomes.specs.Outcomes.{Task}
+use Rattle.outcomes.specs.declared.outcome.Outcome.{Outcome}
+use Rattle.outcomes.specs.Endings.{without_rows}
+use Rattle.outcomes.specs.Outcomes.{Task, Answers}
+use Rattle.memory.specs.declared.OutOfMemory.{OutOfMemory}
 use Rattle.batch_runs.specs.Batches.{Rules, IsTruthful, Answer, AnswersKind, AreRead, AreAll, TakesSome, LosesLine, IsReadable, answer_text, with_answer, no_lines, status_of_counts}
 use Rattle.batch_runs.specs.Batches.Answer.{passed_over, refused, answered}
 use Rattle.batch_runs.specs.Setups.{SetupState, task_of}
@@ -28,6 +31,11 @@ use Rattle.certificate_runs.specs.declared.certifying.Reply.{Reply}
 use Rattle.certificate_runs.specs.declared.certifying.Reply.TheVariants.{Certified, Reported}
 use Rattle.certificate_runs.specs.declared.faults.CertifyFault.{CertifyFault}
 use Rattle.certificate_runs.specs.declared.faults.CertifyFault.TheVariants.{Read, Write, Memory, GroupsMemory, CertificateWrite}
+
+-- who proves a board's plans gives an outcome that answers what is asked, and that it may be answered by but for rows, or tells a want of memory where that may be answered
+abbrev pub MayProve : Rules → Position → Result Outcome OutOfMemory → Type 0
+MayProve rules b (Ok given) = rules.allows b (Some (without_rows given)) × Answers (rules.task b) given
+MayProve rules b (Err lacking) = rules.allows b None
 
 -- these rules are of a prover of the setup's boards, whose endings answer what is asked
 pub record AreRulesFor (setup : SetupState) (rules : Rules) : Type 0 where

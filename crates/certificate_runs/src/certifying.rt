@@ -15,12 +15,12 @@ ghost use Rattle.batch_runs.specs.Setups.{task_of};
 ghost use Rattle.certificate_runs.specs.Certifying.{Replies, SeeksFirst, PutsReply};
 ghost use Rattle.certificate_runs.specs.Headline.{IsTrueAnswer};
 ghost use Rattle.certificate_runs.specs.Certifying.{AreRulesFor, IsCertificateOf, IsReply};
-ghost use Rattle.certificate_runs.specs.Certifying.{IsRefusal, HasNoReply};
+ghost use Rattle.certificate_runs.specs.Certifying.{IsRefusal, HasNoReply, MayProve};
 ghost use Rattle.certificate_runs.specs.Built.{HasSmallEntries};
 
 use crate::faults::CertifyFault;
 use batch_lines::{EntryFault, Line, LineKind, LineReader, read_entry};
-use batch_runs::Setup;
+use batch_runs::{Ruled, Setup};
 use board::laws::keys_are_in_order;
 use board::{Board, Move};
 use byte_streams::{ReadFailed, Sink, Source};
@@ -31,63 +31,69 @@ use outcomes::{Ending, Outcome, SolveFault};
 use reports::{outcome_report, refused_report};
 use std::alloc::Global;
 
-/// What solves boards and proves its plans: a plan of least cost comes with rows.
-pub trait Prover {
-    // The shape of the boards that it solves, what is asked of a board, and which endings it may be
-    // answered by.
-    ghost rules: { Self → Rules };
-
-    /// Solves a board. The error tells a want of memory before the first step.
-    fn prove(&self, alloc: Global, start: &Board) -> Result<Outcome, OutOfMemory>
-        requires { start.now.grid ≡ (rules self.now).grid }
-        ensures allowed { IfOk result (λ outcome.
-            (rules self.now).allows start.now (Some (without_rows outcome))) }
-        ensures answers { IfOk result (Answers ((rules self.now).task start.now)) }
-        ensures lacking { OnErr result ((rules self.now).allows start.now None) };
-}
-
 /// Answers the first line of the source that isn't passed over, and takes nothing behind it: where
 /// a plan of least cost is found, its certificate is written, else the line's report. A certificate
 /// names the groups of the setup's tables.
+///
+/// A board is solved by the closure, which answers what the rules allow and, where that is a plan of
+/// least cost, the rows that prove it; or it tells a want of memory before the first step.
 ///
 /// Answers the status: 0 for a certificate, for a board without a plan, and where no line is to be
 /// answered; 1 for a bound and for a line that is refused. Nothing is written where reading fails
 /// or memory is wanting. Nothing is flushed.
 ///
 /// What is written tells the truth: so says the clause `truth`, in words of what a reader sees.
-pub fn certify_first<S: Source, K: Sink, A: Prover>(
+pub fn certify_first<
+    S: Source,
+    K: Sink,
+    A: Ruled,
+    F: Fn(&Board) -> Result<Outcome, OutOfMemory> + Drop,
+>(
     alloc: Global,
     source: &mut S,
     sink: &mut K,
     setup: &Setup,
-    prover: &A,
+    asked: &A,
+    prover: F,
 ) -> Result<u8, CertifyFault>
     requires named { AreNamedCosts setup.now.goal.grid setup.now.rule }
-    requires rules { AreRulesFor setup.now (A.rules prover.now) }
-    ensures replies { Replies setup.now.tables.split (A.rules prover.now)
+    requires rules { AreRulesFor setup.now (A.rules asked.now) }
+    requires callable { (start : _) → start.now.grid ≡ setup.now.goal.grid → F.pre prover start }
+    requires gives { (start result : _) → start.now.grid ≡ setup.now.goal.grid
+        → F.post prover start result → MayProve (A.rules asked.now) start.now result }
+    ensures replies { Replies setup.now.tables.split (A.rules asked.now)
         (change S.state source.old source.new) (change K.state sink.old sink.new) result }
-    ensures truth { IsTrueAnswer setup.now.tables.split (A.rules prover.now)
+    ensures truth { IsTrueAnswer setup.now.tables.split (A.rules asked.now)
         (change S.state source.old source.new) (change K.state sink.old sink.new) result }
 {
-    reply_to_first(alloc, source, sink, setup, prover)
+    reply_to_first(alloc, source, sink, setup, asked, &prover)
 }
 
 // The same, by what was replied.
-fn reply_to_first<S: Source, K: Sink, A: Prover>(
+fn reply_to_first<
+    S: Source,
+    K: Sink,
+    A: Ruled,
+    F: Fn(&Board) -> Result<Outcome, OutOfMemory>,
+>(
     alloc: Global,
     source: &mut S,
     sink: &mut K,
     setup: &Setup,
-    prover: &A,
+    asked: &A,
+    prover: &F,
 ) -> Result<u8, CertifyFault>
     requires named { AreNamedCosts setup.now.goal.grid setup.now.rule }
-    requires rules { AreRulesFor setup.now (A.rules prover.now) }
-    ensures { Replies setup.now.tables.split (A.rules prover.now)
+    requires rules { AreRulesFor setup.now (A.rules asked.now) }
+    requires callable { (start : _) → start.now.grid ≡ setup.now.goal.grid → F.pre prover.now start }
+    requires gives { (start result : _) → start.now.grid ≡ setup.now.goal.grid
+        → F.post prover.now start result → MayProve (A.rules asked.now) start.now result }
+    ensures { Replies setup.now.tables.split (A.rules asked.now)
         (change S.state source.old source.new) (change K.state sink.old sink.new) result }
 {
     let mut reader = LineReader::new();
     match find_line(source, &mut reader) {
-        Ok(Some(line)) => match reply_to_line(alloc, setup, prover, line, reader.bytes()) {
+        Ok(Some(line)) => match reply_to_line(alloc, setup, asked, prover, line, reader.bytes()) {
             Ok(reply) => put_reply(sink, &reply),
             Err(fault) => Err(fault),
         },
@@ -124,46 +130,54 @@ fn find_line<S: Source>(source: &mut S, reader: &mut LineReader) -> Result<Optio
 }
 
 // The reply to a line that isn't passed over, whose bytes are given where it is to be read.
-fn reply_to_line<A: Prover>(
+fn reply_to_line<A: Ruled, F: Fn(&Board) -> Result<Outcome, OutOfMemory>>(
     alloc: Global,
     setup: &Setup,
-    prover: &A,
+    asked: &A,
+    prover: &F,
     line: Line,
     bytes: &[u8],
 ) -> Result<Reply, CertifyFault>
     requires named { AreNamedCosts setup.now.goal.grid setup.now.rule }
-    requires rules { AreRulesFor setup.now (A.rules prover.now) }
+    requires rules { AreRulesFor setup.now (A.rules asked.now) }
+    requires callable { (start : _) → start.now.grid ≡ setup.now.goal.grid → F.pre prover.now start }
+    requires gives { (start result : _) → start.now.grid ≡ setup.now.goal.grid
+        → F.post prover.now start result → MayProve (A.rules asked.now) start.now result }
     requires kind { line.kind ≢ PassedOver }
     ensures reply { IfOk result
-        (IsReply setup.now.tables.split (A.rules prover.now) line bytes.now) }
-    ensures lacking { IfErr result (HasNoReply (A.rules prover.now) line bytes.now) }
+        (IsReply setup.now.tables.split (A.rules asked.now) line bytes.now) }
+    ensures lacking { IfErr result (HasNoReply (A.rules asked.now) line bytes.now) }
 {
     match line.kind {
-        LineKind::Within => reply_to_entry(alloc, setup, prover, line.number, bytes),
+        LineKind::Within => reply_to_entry(alloc, setup, asked, prover, line.number, bytes),
         _ => refuse(alloc, EntryFault::NoText.code(), line.number),
     }
 }
 
 // The reply to a line that is to be read.
-fn reply_to_entry<A: Prover>(
+fn reply_to_entry<A: Ruled, F: Fn(&Board) -> Result<Outcome, OutOfMemory>>(
     alloc: Global,
     setup: &Setup,
-    prover: &A,
+    asked: &A,
+    prover: &F,
     number: u64,
     bytes: &[u8],
 ) -> Result<Reply, CertifyFault>
     requires named { AreNamedCosts setup.now.goal.grid setup.now.rule }
-    requires rules { AreRulesFor setup.now (A.rules prover.now) }
-    ensures reply { IfOk result (IsReply setup.now.tables.split (A.rules prover.now)
+    requires rules { AreRulesFor setup.now (A.rules asked.now) }
+    requires callable { (start : _) → start.now.grid ≡ setup.now.goal.grid → F.pre prover.now start }
+    requires gives { (start result : _) → start.now.grid ≡ setup.now.goal.grid
+        → F.post prover.now start result → MayProve (A.rules asked.now) start.now result }
+    ensures reply { IfOk result (IsReply setup.now.tables.split (A.rules asked.now)
         (record { number = number; kind = Within }) bytes.now) }
-    ensures lacking { IfErr result (HasNoReply (A.rules prover.now)
+    ensures lacking { IfErr result (HasNoReply (A.rules asked.now)
         (record { number = number; kind = Within }) bytes.now) }
 {
     let entry = match read_entry(setup.shape(), bytes) {
         Ok(entry) => entry,
         Err(fault) => return refuse(alloc, fault.code(), number),
     };
-    let outcome = match prover.prove(alloc, &entry.board) {
+    let outcome = match prove(setup, asked, prover, &entry.board) {
         Ok(outcome) => outcome,
         Err(refused) => return refuse(alloc, SolveFault::Memory(refused).code(), number),
     };
@@ -182,6 +196,28 @@ fn reply_to_entry<A: Prover>(
             }
         }
     }
+}
+
+// What is answered of a board.
+fn prove<A: Ruled, F: Fn(&Board) -> Result<Outcome, OutOfMemory>>(
+    setup: &Setup,
+    asked: &A,
+    prover: &F,
+    start: &Board,
+) -> Result<Outcome, OutOfMemory>
+    requires grid { start.now.grid ≡ setup.now.goal.grid }
+    requires callable { (start : _) → start.now.grid ≡ setup.now.goal.grid → F.pre prover.now start }
+    requires gives { (start result : _) → start.now.grid ≡ setup.now.goal.grid
+        → F.post prover.now start result → MayProve (A.rules asked.now) start.now result }
+    ensures allowed { IfOk result (λ outcome.
+        (A.rules asked.now).allows start.now (Some (without_rows outcome))) }
+    ensures answers { IfOk result (Answers ((A.rules asked.now).task start.now)) }
+    ensures lacking { OnErr result ((A.rules asked.now).allows start.now None) }
+{
+    // What is known of the setup and of the rules is for the clauses alone.
+    let _ = setup;
+    let _ = asked;
+    prover(start)
 }
 
 // The report of a line that is refused.

@@ -3,13 +3,13 @@
 ghost use Rattle.certificate_runs.specs.Laws.{OtherFaultsLeaveTheSink, OtherFaultsWriteNoVerdict};
 ghost use Rattle.certificate_runs.specs.Laws.{SilenceIsUnasked};
 
-use crate::certifying::Prover;
+use batch_runs::Ruled;
 
 /// A run that writes a certificate leaves the sink as it was, but after a fault of writing.
-pub fn other_faults_leave_the_sink<A: Prover>(prover: &A)
-    ensures { OtherFaultsLeaveTheSink (A.rules prover.now) }
+pub fn other_faults_leave_the_sink<A: Ruled>(asked: &A)
+    ensures { OtherFaultsLeaveTheSink (A.rules asked.now) }
 {
-    let _ = prover;
+    let _ = asked;
 }
 
 /// And so does one that checks a certificate.
@@ -18,8 +18,8 @@ pub fn other_faults_write_no_verdict()
 {}
 
 /// Where nothing is written for lines, none of them asks for an answer.
-pub fn silence_is_unasked<A: Prover>(prover: &A)
-    ensures { SilenceIsUnasked (A.rules prover.now) }
+pub fn silence_is_unasked<A: Ruled>(asked: &A)
+    ensures { SilenceIsUnasked (A.rules asked.now) }
 {
-    let _ = prover;
+    let _ = asked;
 }

@@ -7,6 +7,6 @@ mod checking;
 mod faults;
 pub mod laws;
 
-pub use certifying::{Prover, certify_first};
+pub use certifying::certify_first;
 pub use checking::run_check;
 pub use faults::{CertifyFault, CheckFault};

@@ -4,7 +4,7 @@ ghost use Rattle.std.specs.Prelude.{◌≡◌, IfSome};
 ghost use Rattle.certificate.specs.Certificates.{AreNamedCosts};
 
 use crate::tables::bound_of;
-use batch_runs::Setup;
+use batch_runs::{Setup, SpreadKind};
 use board::{Board, Shape, Weights};
 use byte_streams::{ByteSink, ByteSource};
 use hda_run::Free;
@@ -31,6 +31,8 @@ pub struct Asked {
     costs: Costs,
     groups: &'static [&'static [u8]],
     limit: u64,
+    workers: usize,
+    spread: SpreadKind,
     pub line: &'static str,
 }
 
@@ -40,6 +42,8 @@ const SOLVED: Asked = Asked {
     costs: Costs::Unit,
     groups: &[],
     limit: 0,
+    workers: 1,
+    spread: SpreadKind::Zobrist,
     line: "g 0 1 2 3 4 5 6 7 8",
 };
 
@@ -74,6 +78,8 @@ const LARGE: Asked = Asked {
         &[24],
     ],
     limit: u64::MAX,
+    workers: 1,
+    spread: SpreadKind::Zobrist,
     line: "b 1 2 3 4 9 5 6 7 8 0 10 11 12 13 14 15 16 17 18 19 20 21 22 23 24",
 };
 
@@ -84,11 +90,20 @@ const FAR: Asked = Asked {
     costs: Costs::Unit,
     groups: &[&[1], &[2], &[3], &[4], &[5], &[6], &[7], &[8]],
     limit: 0,
+    workers: 1,
+    spread: SpreadKind::Zobrist,
     line: "h 8 0 6 5 4 7 2 3 1",
 };
 
-/// The lines.
-pub static LINES: [Asked; 6] = [
+// The same board, with tables and without a limit.
+const PROVED: Asked = Asked {
+    groups: &[&[1, 2, 3, 4], &[5, 6, 7, 8]],
+    limit: u64::MAX,
+    ..FAR
+};
+
+/// The lines. Those of several workers have one report, whatever their threads do.
+pub static LINES: [Asked; 9] = [
     SOLVED,
     LARGE,
     Asked {
@@ -106,10 +121,21 @@ pub static LINES: [Asked; 6] = [
         limit: 1,
         ..FAR
     },
+    Asked {
+        workers: 2,
+        spread: SpreadKind::Blank,
+        ..LARGE
+    },
+    Asked {
+        costs: Costs::Face,
+        workers: 4,
+        ..LARGE
+    },
+    Asked { workers: 16, ..FAR },
 ];
 
 /// The lines whose certificates are written.
-pub static CERTIFIED: [Asked; 2] = [
+pub static CERTIFIED: [Asked; 4] = [
     // The sums leave the start alone to be proved by a row.
     Asked {
         side: 2,
@@ -117,10 +143,15 @@ pub static CERTIFIED: [Asked; 2] = [
         line: "x 1 3 0 2",
         ..LARGE
     },
+    PROVED,
     Asked {
-        groups: &[&[1, 2, 3, 4], &[5, 6, 7, 8]],
-        limit: u64::MAX,
-        ..FAR
+        workers: 2,
+        ..PROVED
+    },
+    Asked {
+        workers: 3,
+        spread: SpreadKind::Blank,
+        ..PROVED
     },
 ];
 
@@ -131,11 +162,13 @@ impl Asked {
             costs,
             groups,
             limit,
+            workers,
+            spread,
             line,
             ..
         } = self;
         println!(rt;
-            "# {line}\n# at {costs:?} cost, {} groups, limit {limit}",
+            "# {line}\n# at {costs:?} cost, {} groups, limit {limit}, workers {workers}, by {spread:?}",
             groups.len()
         )
     }
@@ -170,8 +203,11 @@ pub fn setup_of<R: Threads + Sync>(rt: &R, alloc: Global, asked: &Asked) -> Opti
     let goal = Board::goal(shape);
     let weights = weights_of(asked.costs, shape);
     let bound = bound_of(rt, alloc, &goal, &weights, asked.groups)?;
-    let setup = Setup::new(alloc, goal, weights).limit(asked.limit);
-    Some(setup.bound(bound))
+    let setup = Setup::new(alloc, goal, weights)
+        .bound(bound)
+        .limit(asked.limit)
+        .spread(asked.spread);
+    setup.workers(asked.workers).ok()
 }
 
 // What the moves of boards of this shape cost.

@@ -1,4 +1,4 @@
--- What the setup's workers prove may be answered.
+-- What the setup's workers prove is what its rules allow.
 use Rattle.std.proofs.Common.{ℕ, ◌≡◌, ◌↔◌, ◌%◌, Some, Result, Ok, Err, IfOk, ap, inl, inr}
 use Rattle.board.specs.Positions.{Position}
 use Rattle.board.specs.Classes.{SameClass}
@@ -18,8 +18,9 @@ use Rattle.world_ends.specs.Endings.{EndsIn}
 use Rattle.world_ends.proofs.LawLemmas.{rows_alone}
 use Rattle.batch_runs.specs.Setups.{SetupState, hash_by, task_of}
 use Rattle.thread_runs.specs.Solved.{IsSolved, IsEnded, HasWholeRun, EndsWholeRun}
-use Rattle.setup_runs.specs.Solving.{problem_of, MayAnswer}
-use Rattle.setup_runs.proofs.SolvingLemmas.{allowed}
+use Rattle.certificate_runs.specs.Certifying.{MayProve}
+use Rattle.setup_runs.specs.Solving.{problem_of, rules_of}
+use Rattle.setup_runs.proofs.SolvingLemmas.{may_give}
 
 -- a world that gives an outcome ends with what it says, but for rows
 ends_in : (w : WorldState) (o : Outcome) → IsGiven w o → EndsIn w (without_rows o)
@@ -61,12 +62,20 @@ parity_back (outcome.Optimal cost plan rows) e = absurd (cc)
 parity_back (outcome.Unsolvable why) e = ap outcome_of e
 parity_back (outcome.Bounded bound best cause) e = absurd (cc)
 
+abbrev error_of : OutOfMemory → Result Outcome OutOfMemory
+error_of refused = Err refused
+
+error_back : (refused : OutOfMemory) → error_of refused ≡ Ok (outcome.Unsolvable Parity) → ⊥
+error_back refused e = absurd (cc)
+
 module _ (setup : SetupState) (start : Position) where
-  pub proof_allowed : {S : Type 0} (hash_of : S → Position → ℕ) (owners : S) → ((b : Position) → hash_of owners b % setup.workers ≡ hash_by setup.spread b % setup.workers) → RowsCanBeLeft → (result : Result Outcome OutOfMemory) → (result ≡ Ok (outcome.Unsolvable Parity)) ↔ (¬ SameClass start setup.goal) → (SameClass start setup.goal → IfOk result (IsSolved hash_of (problem_of setup start) owners setup.workers)) → IfOk result (Answers (task_of setup start)) → IfOk result HasWholeRun → IfOk result (λ o. MayAnswer setup start (Some (without_rows o)))
-  proof_allowed hash_of owners same rows (Err refused) parity run answers kept = tt
-  proof_allowed hash_of owners same rows (Ok o) parity run answers kept =
-      allowed setup start hash_of owners same (Ok (without_rows o))
-      ((λ e. parity.0 (parity_back o e)), (λ other. ap ending_of (parity.1 other)))
-      (λ together. ends_solved hash_of (problem_of setup start) owners setup.workers o (run together))
-      (rows (task_of setup start) o answers)
-      (ending_kept o kept)
+  pub may_prove : {S : Type 0} (hash_of : S → Position → ℕ) (owners : S) → ((b : Position) → hash_of owners b % setup.workers ≡ hash_by setup.spread b % setup.workers) → RowsCanBeLeft → (result : Result Outcome OutOfMemory) → (result ≡ Ok (outcome.Unsolvable Parity)) ↔ (¬ SameClass start setup.goal) → (SameClass start setup.goal → IfOk result (IsSolved hash_of (problem_of setup start) owners setup.workers)) → IfOk result (Answers (task_of setup start)) → IfOk result HasWholeRun → MayProve (rules_of setup) start result
+  may_prove hash_of owners same rows (Err refused) parity run answers kept =
+      may_give setup start hash_of owners same (Err refused) ((λ e. absurd (cc)), (λ other. absurd (error_back refused (parity.1 other)))) (λ together. tt) tt tt
+  may_prove hash_of owners same rows (Ok o) parity run answers kept =
+      (may_give setup start hash_of owners same (Ok (without_rows o))
+       ((λ e. parity.0 (parity_back o e)), (λ other. ap ending_of (parity.1 other)))
+       (λ together. ends_solved hash_of (problem_of setup start) owners setup.workers o (run together))
+       (rows (task_of setup start) o answers)
+       (ending_kept o kept),
+       answers)

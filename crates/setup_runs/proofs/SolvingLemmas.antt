@@ -1,4 +1,4 @@
--- What the setup's workers answer may be answered.
+-- What the setup's workers answer is what its rules allow.
 use Rattle.std.proofs.Common.{ℕ, ◌≡◌, ◌+◌, ◌%◌, ◌==◌, ◌⊎◌, ◌↔◌, Bool, true, false, Some, Result, Ok, Err, IfOk, refl, ap, sym, ◌∙◌, subst, inl, inr}
 use Rattle.std.specs.Bool.{Decides}
 use Rattle.std.proofs.Math.Nat.{mod-one}
@@ -17,10 +17,10 @@ use Rattle.world_model.specs.Quiet.{IsKept}
 use Rattle.world_model.specs.Worlds.{WorldState}
 use Rattle.world_ends.specs.Endings.{EndsIn}
 use Rattle.batch_runs.specs.Setups.{SetupState, hash_by, task_of}
-use Rattle.batch_runs.specs.Batches.{IsTruthful}
+use Rattle.batch_runs.specs.Batches.{IsTruthful, MayGive}
 use Rattle.thread_joins.specs.Threads.{IsJoined}
 use Rattle.thread_runs.specs.Solved.{IsEnded, EndsWholeRun}
-use Rattle.setup_runs.specs.Solving.{problem_of, rules_of, MayAnswer}
+use Rattle.setup_runs.specs.Solving.{problem_of, rules_of}
 
 decided : {P : Type 0} (r : Bool) → Decides r P → P ⊎ (¬ P)
 decided true decides = inl (decides.0 refl)
@@ -37,6 +37,14 @@ one_class b q =
 abbrev value_or : Ending → Result Ending OutOfMemory → Ending
 value_or other (Ok ending) = ending
 value_or other (Err refused) = other
+
+-- a want of memory, where there might be an ending
+abbrev ending_error : OutOfMemory → Result Ending OutOfMemory
+ending_error refused = Err refused
+
+-- no error is the ending that parity has
+is_no_error : (refused : OutOfMemory) → ending_error refused ≡ Ok (Unsolvable Parity) → ⊥
+is_no_error refused e = absurd (cc)
 
 -- the owner of a board among one worker
 abbrev owner_by : (Position → ℕ) → Position → ℕ
@@ -69,9 +77,13 @@ module _ (setup : SetupState) (start : Position) where
   spread_any hash_of owners other_of others ending same (inl (several, by)) = inl (several, subst (JoinedOwned ending) (λ t b. same b t) by)
   spread_any hash_of owners other_of others ending same (inr run) = inr (subst (AloneOwned ending) (lone_owner (hash_of owners) (other_of others)) run)
 
-  pub allowed : {S : Type 0} (hash_of : S → Position → ℕ) (owners : S) → ((b : Position) → hash_of owners b % setup.workers ≡ hash_by setup.spread b % setup.workers) → (result : Result Ending OutOfMemory) → (result ≡ Ok (Unsolvable Parity)) ↔ (¬ SameClass start setup.goal) → (SameClass start setup.goal → IfOk result (Ends hash_of owners)) → IfOk result (EndAnswers (task_of setup start)) → IfOk result EndsWholeRun → IfOk result (λ ending. MayAnswer setup start (Some ending))
-  allowed hash_of owners same (Err refused) parity run answers kept = tt
-  allowed hash_of owners same (Ok ending) parity run answers kept = (answers, of_class (one_class start setup.goal))
+  pub may_give : {S : Type 0} (hash_of : S → Position → ℕ) (owners : S) → ((b : Position) → hash_of owners b % setup.workers ≡ hash_by setup.spread b % setup.workers) → (result : Result Ending OutOfMemory) → (result ≡ Ok (Unsolvable Parity)) ↔ (¬ SameClass start setup.goal) → (SameClass start setup.goal → IfOk result (Ends hash_of owners)) → IfOk result (EndAnswers (task_of setup start)) → IfOk result EndsWholeRun → MayGive (rules_of setup) start result
+  may_give hash_of owners same (Err refused) parity run answers kept = of_class (one_class start setup.goal)
+    where
+      of_class : SameClass start setup.goal ⊎ (¬ SameClass start setup.goal) → SameClass start setup.goal
+      of_class (inl together) = together
+      of_class (inr other) = absurd (is_no_error refused (parity.1 other))
+  may_give hash_of owners same (Ok ending) parity run answers kept = (answers, of_class (one_class start setup.goal))
     where
       of_class : SameClass start setup.goal ⊎ (¬ SameClass start setup.goal) → (SameClass start setup.goal × (Ends hash_by setup.spread ending × EndsWholeRun ending)) ⊎ ((¬ SameClass start setup.goal) × (ending ≡ Unsolvable Parity))
       of_class (inl together) = inl (together, (spread_any hash_of owners hash_by setup.spread ending same (run together), kept))

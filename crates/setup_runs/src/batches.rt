@@ -2,14 +2,17 @@
 
 ghost use Rattle.std.specs.Prelude.{◌≡◌, ◌⊎◌};
 ghost use Rattle.byte_streams.specs.Streams.{change};
-ghost use Rattle.batch_runs.specs.Batches.{ReportsLines, HasFailed};
+ghost use Rattle.batch_runs.specs.Batches.{ReportsLines, HasFailed, MayGive};
 ghost use Rattle.batch_runs.specs.Headline.{IsTrueRun};
 ghost use Rattle.setup_runs.specs.Solving.{rules_of};
 
-use crate::solving::Guided;
+use crate::solving::{Guided, end_board};
 use batch_runs::{LinesFault, Setup, Summary, run_lines};
+use board::Board;
 use byte_streams::{Sink, Source};
 use hda_run::Gate;
+use memory::OutOfMemory;
+use outcomes::Ending;
 use std::alloc::Global;
 use std::sync::Wait;
 use std::thread::Threads;
@@ -43,5 +46,10 @@ pub fn run_batch<R: Threads + Wait + Sync, S: Source, K: Sink, G: Gate + Sync>(
     ensures flushed { K.is_flushed sink.new ⊎ (sink.new ≡ sink.old)
         ⊎ HasFailed (K.state sink.new) }
 {
-    run_lines(alloc, source, sink, setup.shape(), &Guided { rt, setup, gate })
+    let guided = Guided { setup };
+    let solve = |start: &Board| -> Result<Ending, OutOfMemory>
+        requires { start.now.grid ≡ setup.now.goal.grid }
+        ensures { MayGive (rules_of setup.entry.now) start.now result }
+    { end_board(rt, alloc, setup, start, gate) };
+    run_lines(alloc, source, sink, setup.shape(), &guided, solve)
 }

@@ -1,22 +1,19 @@
 //! Certificates of a setup's boards.
 
-ghost use Rattle.std.specs.Prelude.{◌≡◌, ◌%◌, IfOk, OnErr, Some};
-ghost use Rattle.board.specs.Classes.{SameClass};
+ghost use Rattle.std.specs.Prelude.{◌≡◌, ◌%◌};
 ghost use Rattle.board.specs.Positions.{Position};
 ghost use Rattle.byte_streams.specs.Streams.{change};
-ghost use Rattle.outcomes.specs.Endings.{without_rows};
-ghost use Rattle.outcomes.specs.Outcomes.{Answers};
-ghost use Rattle.batch_runs.specs.Setups.{hash_by, task_of};
+ghost use Rattle.batch_runs.specs.Setups.{hash_by};
 ghost use Rattle.certificate.specs.Certificates.{AreNamedCosts};
-ghost use Rattle.certificate_runs.specs.Certifying.{Replies};
+ghost use Rattle.certificate_runs.specs.Certifying.{Replies, MayProve};
 ghost use Rattle.certificate_runs.specs.Headline.{IsTrueAnswer};
-ghost use Rattle.setup_runs.specs.Solving.{rules_of, MayAnswer};
+ghost use Rattle.setup_runs.specs.Solving.{rules_of};
 
 use crate::solving::{Guided, job_for};
 use batch_runs::{Setup, SpreadKind};
 use board::Board;
 use byte_streams::{Sink, Source};
-use certificate_runs::{CertifyFault, Prover, certify_first};
+use certificate_runs::{CertifyFault, certify_first};
 use hda_run::Gate;
 use memory::OutOfMemory;
 use outcomes::Outcome;
@@ -27,24 +24,27 @@ use std::sync::Wait;
 use std::thread::Threads;
 use thread_runs::solve_by_workers;
 
-impl<'a, R: Threads + Wait + Sync, G: Gate + Sync> Prover for Guided<'a, R, G> {
-    ghost use Rattle.setup_runs.specs.Solving.{rules_of};
-
-    ghost rules = { λ guided. rules_of guided.setup.now };
-
-    fn prove(&self, alloc: Global, start: &Board) -> Result<Outcome, OutOfMemory> {
-        let Guided { rt, setup, gate } = *self;
-        // One worker owns all boards, whatever they are spread by.
-        if setup.worker_count() == 1 {
-            return prove_spread(rt, alloc, setup, start, ByBlank, gate);
+// The outcome of a board by the setup's workers, as `end_board` has its ending.
+fn prove_board<R: Threads + Wait + Sync, G: Gate + Sync>(
+    rt: &R,
+    alloc: Global,
+    setup: &Setup,
+    start: &Board,
+    gate: &G,
+) -> Result<Outcome, OutOfMemory>
+    requires { start.now.grid ≡ setup.now.goal.grid }
+    ensures { MayProve (rules_of setup.now) start.now result }
+{
+    // One worker owns all boards, whatever they are spread by.
+    if setup.worker_count() == 1 {
+        return prove_spread(rt, alloc, setup, start, ByBlank, gate);
+    }
+    match setup.spread_kind() {
+        SpreadKind::Zobrist => {
+            let spread = Zobrist::new(setup.shape());
+            prove_spread(rt, alloc, setup, start, spread, gate)
         }
-        match setup.spread_kind() {
-            SpreadKind::Zobrist => {
-                let spread = Zobrist::new(setup.shape());
-                prove_spread(rt, alloc, setup, start, spread, gate)
-            }
-            SpreadKind::Blank => prove_spread(rt, alloc, setup, start, ByBlank, gate),
-        }
+        SpreadKind::Blank => prove_spread(rt, alloc, setup, start, ByBlank, gate),
     }
 }
 
@@ -60,10 +60,7 @@ fn prove_spread<R: Threads + Wait + Sync, S: Spread + Drop + Sync, G: Gate + Syn
     requires sides { start.now.grid ≡ setup.now.goal.grid }
     requires owners { (b : Position)
         → S.hash_of spread b % setup.now.workers ≡ hash_by setup.now.spread b % setup.now.workers }
-    ensures allowed { IfOk result (λ outcome.
-        MayAnswer setup.now start.now (Some (without_rows outcome))) }
-    ensures answers { IfOk result (Answers (task_of setup.now start.now)) }
-    ensures lacking { OnErr result (SameClass start.now setup.now.goal) }
+    ensures { MayProve (rules_of setup.now) start.now result }
 {
     // By this law what answers a task does so without rows too.
     rows_can_be_left();
@@ -95,5 +92,10 @@ pub fn run_cert<R: Threads + Wait + Sync, S: Source, K: Sink, G: Gate + Sync>(
     ensures truth { IsTrueAnswer setup.now.tables.split (rules_of setup.now)
         (change S.state source.old source.new) (change K.state sink.old sink.new) result }
 {
-    certify_first(alloc, source, sink, setup, &Guided { rt, setup, gate })
+    let guided = Guided { setup };
+    let prove = |start: &Board| -> Result<Outcome, OutOfMemory>
+        requires { start.now.grid ≡ setup.now.goal.grid }
+        ensures { MayProve (rules_of setup.entry.now) start.now result }
+    { prove_board(rt, alloc, setup, start, gate) };
+    certify_first(alloc, source, sink, setup, &guided, prove)
 }

@@ -1,12 +1,12 @@
 //! The solver of a setup's boards.
 
-ghost use Rattle.std.specs.Prelude.{◌≡◌, ◌%◌, IfOk, OnErr, Some};
-ghost use Rattle.board.specs.Classes.{SameClass};
+ghost use Rattle.std.specs.Prelude.{◌≡◌, ◌%◌};
 ghost use Rattle.board.specs.Positions.{Position};
 ghost use Rattle.batch_runs.specs.Setups.{hash_by};
-ghost use Rattle.setup_runs.specs.Solving.{problem_of, MayAnswer};
+ghost use Rattle.batch_runs.specs.Batches.{MayGive};
+ghost use Rattle.setup_runs.specs.Solving.{problem_of, rules_of};
 
-use batch_runs::{Setup, Solver, SpreadKind};
+use batch_runs::{Ruled, Setup, SpreadKind};
 use board::Board;
 use hda_run::{Gate, Job};
 use memory::OutOfMemory;
@@ -17,33 +17,40 @@ use std::sync::Wait;
 use std::thread::Threads;
 use thread_runs::end_by_workers;
 
-/// What solves the boards of a setup, by its workers: one alone in the calling thread, more in
-/// threads of their own.
+/// The boards of a setup, and how its workers may answer them.
 #[derive(Drop)]
-pub struct Guided<'a, R, G> {
-    pub rt: &'a R,
+pub struct Guided<'a> {
     pub setup: &'a Setup,
-    pub gate: &'a G,
 }
 
-impl<'a, R: Threads + Wait + Sync, G: Gate + Sync> Solver for Guided<'a, R, G> {
+impl<'a> Ruled for Guided<'a> {
     ghost use Rattle.setup_runs.specs.Solving.{rules_of};
 
     ghost rules = { λ guided. rules_of guided.setup.now };
+}
 
-    fn solve(&self, alloc: Global, start: &Board) -> Result<Ending, OutOfMemory> {
-        let Guided { rt, setup, gate } = *self;
-        // One worker owns all boards, whatever they are spread by.
-        if setup.worker_count() == 1 {
-            return end_spread(rt, alloc, setup, start, ByBlank, gate);
+/// The ending of a board by the setup's workers: one alone in the calling thread, more in threads of
+/// their own. The error tells a want of memory before the first step.
+pub(crate) fn end_board<R: Threads + Wait + Sync, G: Gate + Sync>(
+    rt: &R,
+    alloc: Global,
+    setup: &Setup,
+    start: &Board,
+    gate: &G,
+) -> Result<Ending, OutOfMemory>
+    requires { start.now.grid ≡ setup.now.goal.grid }
+    ensures { MayGive (rules_of setup.now) start.now result }
+{
+    // One worker owns all boards, whatever they are spread by.
+    if setup.worker_count() == 1 {
+        return end_spread(rt, alloc, setup, start, ByBlank, gate);
+    }
+    match setup.spread_kind() {
+        SpreadKind::Zobrist => {
+            let spread = Zobrist::new(setup.shape());
+            end_spread(rt, alloc, setup, start, spread, gate)
         }
-        match setup.spread_kind() {
-            SpreadKind::Zobrist => {
-                let spread = Zobrist::new(setup.shape());
-                end_spread(rt, alloc, setup, start, spread, gate)
-            }
-            SpreadKind::Blank => end_spread(rt, alloc, setup, start, ByBlank, gate),
-        }
+        SpreadKind::Blank => end_spread(rt, alloc, setup, start, ByBlank, gate),
     }
 }
 
@@ -59,8 +66,7 @@ fn end_spread<R: Threads + Wait + Sync, S: Spread + Drop + Sync, G: Gate + Sync>
     requires sides { start.now.grid ≡ setup.now.goal.grid }
     requires owners { (b : Position)
         → S.hash_of spread b % setup.now.workers ≡ hash_by setup.now.spread b % setup.now.workers }
-    ensures answered { IfOk result (λ ending. MayAnswer setup.now start.now (Some ending)) }
-    ensures lacking { OnErr result (SameClass start.now setup.now.goal) }
+    ensures { MayGive (rules_of setup.now) start.now result }
 {
     let workers = setup.worker_count();
     end_by_workers(rt, alloc, job_for(setup, start), workers, spread, gate)

@@ -10,7 +10,7 @@ lines-init g c =
     let source = g.S.Source.state c.args.source.now in
     let sink = g.K.Sink.state c.args.sink.now in
     rw c.new-reader.ensures (record {
-      running = IsRunning-none (g.A.Solver.rules c.args.solver.now) source sink;
+      running = IsRunning-none (g.A.Ruled.rules c.args.asked.now) source sink;
       taken = counted_at_once source.left 0;
       unfailed = refl;
       flushed = inr refl;
@@ -18,7 +18,7 @@ lines-init g c =
 
 pub returns-in_default-send-clause-reports : goal.returns-in_default-send-clause-reports
 returns-in_default-send-clause-reports g c =
-    let allowed = g.A.Solver.rules c.args.solver.now in
+    let allowed = g.A.Ruled.rules c.args.asked.now in
     let source = g.S.Source.state in
     let sink = g.K.Sink.state in
     let read = rw c.in-Some.is at c.in-Ok.ensures in
@@ -31,7 +31,7 @@ returns-in_default-send-clause-reports g c =
 
 pub lines-preserved : goal.lines-preserved
 lines-preserved g c =
-    let allowed = g.A.Solver.rules c.args.solver.now in
+    let allowed = g.A.Ruled.rules c.args.asked.now in
     let source = g.S.Source.state in
     let sink = g.K.Sink.state in
     let read = rw c.in-Some.is at c.in-Ok.ensures in
@@ -50,7 +50,7 @@ lines-preserved g c =
 
 pub lines-preserved-in-PassedOver : goal.lines-preserved-in-PassedOver
 lines-preserved-in-PassedOver g c =
-    let allowed = g.A.Solver.rules c.args.solver.now in
+    let allowed = g.A.Ruled.rules c.args.asked.now in
     let source = g.S.Source.state in
     let sink = g.K.Sink.state in
     let read = rw c.in-Some.is at c.in-Ok.ensures in

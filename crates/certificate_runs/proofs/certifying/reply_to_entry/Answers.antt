@@ -14,41 +14,41 @@ use Rattle.certificate_runs.proofs.certifying.reply_to_entry.Goals as goal
 pub returns-in-Err-clause-reply : goal.returns-in-Err-clause-reply
 returns-in-Err-clause-reply g c =
     let split = c.args.setup.now.tables.split in
-    let prover = g.A.Prover.rules c.args.prover.now in
+    let prover = g.A.Ruled.rules c.args.asked.now in
     let fault = subst (λ (grid : Grid). IsFirstEntryFault grid c.args.bytes.now c.in-Err.fault) (sym c.requires.rules.grid) (rw c.shape.ensures at (c.in-Err.ensures.fault c.in-Err.fault).0 refl) in
     IfOk-weaker c.refuse.result (IsRefusal c.code.result.now c.args.number) (IsReply split prover (within c.args.number) c.args.bytes.now)
     (λ reply refused. refused_entry split prover c.args.number c.args.bytes.now c.in-Err.fault reply fault (rw c.code.ensures at refused)) c.refuse.ensures.refusal
 
 pub returns-in-Err-clause-lacking : goal.returns-in-Err-clause-lacking
 returns-in-Err-clause-lacking g c =
-    let prover = g.A.Prover.rules c.args.prover.now in
+    let prover = g.A.Ruled.rules c.args.asked.now in
     IfErr-weaker c.refuse.result (λ fault. (lacking : NoReport) × (fault ≡ Memory lacking)) (HasNoReply prover (within c.args.number) c.args.bytes.now)
     (λ fault lacks. report_lacks prover (within c.args.number) c.args.bytes.now fault lacks) c.refuse.ensures.lacking
 
 pub returns-in-Err-prove-clause-reply : goal.returns-in-Err-prove-clause-reply
 returns-in-Err-prove-clause-reply g c =
     let split = c.args.setup.now.tables.split in
-    let prover = g.A.Prover.rules c.args.prover.now in
+    let prover = g.A.Ruled.rules c.args.asked.now in
     let entry = subst (λ (grid : Grid). IsEntry grid c.args.bytes.now c.in-Ok.entry.id.now c.in-Ok.entry.board) (sym c.requires.rules.grid) (rw c.shape.ensures at c.in-Ok.ensures.entry) in
     IfOk-weaker c.refuse-in-Err-prove.result (IsRefusal c.code-in-Err-prove.result.now c.args.number) (IsReply split prover (within c.args.number) c.args.bytes.now)
     (λ reply refused. refused_board split prover c.args.number c.args.bytes.now c.in-Ok.entry.id.now c.in-Ok.entry.board reply entry c.in-Err-prove.ensures.lacking (rw c.code-in-Err-prove.ensures at refused)) c.refuse-in-Err-prove.ensures.refusal
 
 pub returns-in-Err-prove-clause-lacking : goal.returns-in-Err-prove-clause-lacking
 returns-in-Err-prove-clause-lacking g c =
-    let prover = g.A.Prover.rules c.args.prover.now in
+    let prover = g.A.Ruled.rules c.args.asked.now in
     IfErr-weaker c.refuse-in-Err-prove.result (λ fault. (lacking : NoReport) × (fault ≡ Memory lacking)) (HasNoReply prover (within c.args.number) c.args.bytes.now)
     (λ fault lacks. report_lacks prover (within c.args.number) c.args.bytes.now fault lacks) c.refuse-in-Err-prove.ensures.lacking
 
 pub returns-in-Optimal-clause-lacking : goal.returns-in-Optimal-clause-lacking
 returns-in-Optimal-clause-lacking g c =
-    let prover = g.A.Prover.rules c.args.prover.now in
+    let prover = g.A.Ruled.rules c.args.asked.now in
     let entry = c.in-Ok.entry in
     let named = subst (λ (grid : Grid). IsEntry grid c.args.bytes.now entry.id.now entry.board) (sym c.requires.rules.grid) (rw c.shape.ensures at c.in-Ok.ensures.entry) in
     (refl, (entry.id.now, entry.board, c.in-Optimal.cost, c.in-Optimal.plan, named, rw c.in-Optimal.is at c.in-Ok-prove.ensures.allowed))
 
 pub returns-in-Ok-outcome_report : goal.returns-in-Ok-outcome_report
 returns-in-Ok-outcome_report g c =
-    let prover = g.A.Prover.rules c.args.prover.now in
+    let prover = g.A.Ruled.rules c.args.asked.now in
     let entry = c.in-Ok.entry in
     let ending = c.without_rows-ending.result in
     let named = subst (λ (grid : Grid). IsEntry grid c.args.bytes.now entry.id.now entry.board) (sym c.requires.rules.grid) (rw c.shape.ensures at c.in-Ok.ensures.entry) in
