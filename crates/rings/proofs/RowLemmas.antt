@@ -1,5 +1,5 @@
 -- A row of ends that grows by one, and rows of which one grows.
-use Rattle.std.proofs.Common.{◌≡◌, ◌≢◌, ℕ, zero, suc, ◌<◌, ◌≤◌, ◌+◌, List, [], ◌∷◌, ◌++◌, inl, inr, map, set, get_or, length, replicate, ap, sym, ◌∙◌, refl, arith}
+use Rattle.std.proofs.Common.{◌≡◌, ◌≢◌, ℕ, zero, suc, ◌<◌, ◌≤◌, ◌+◌, List, [], ◌∷◌, ◌++◌, inl, inr, map, set, get_or, slice_get, Some, length, replicate, ap, subst, sym, ◌∙◌, refl, arith}
 use Rattle.std.proofs.lemmas.List.{map-append, length-map, get_or-map}
 use Rattle.std.proofs.Math.ListN.{get_or-append}
 use Rattle.std.proofs.Math.Seq.{get_or-append_seam}
@@ -54,6 +54,23 @@ nil_rows f xs j x q inside here more h k m = elim (eqb_tells k j) [
   | inl p ↦ rw (p.1, map_at_set f xs j q [] inside, more) (nil_at_end (f x) (λ i. (ap (λ l. get_or l i []) (ap f here ∙ sym (get_or-map f xs j x [] inside)) ∙ h j i)) m)
   | inr p ↦ rw (map_at_other f xs j k q [] p.1) (h k m)
 ]
+
+some_is : {X : Type 0} (a b : X) → Some a ≡ Some b → a ≡ b
+some_is a b h = cc
+
+-- what is so of each and of one more at the end
+pub each_pushed : {X Y : Type 0} (P : ℕ → Y → Type 0) (f : X → Y) (xs : List X) (x : X) → ((i : ℕ) (y : Y) → slice_get (map f xs) i ≡ Some y → P i y) → P (length xs) (f x) → (i : ℕ) (y : Y) → slice_get (map f (xs ++ x ∷ [])) i ≡ Some y → P i y
+each_pushed P f [] x old new zero y at = subst (P 0) (some_is (f x) y at) new
+each_pushed P f [] x old new (suc i) y at = absurd (cc at)
+each_pushed P f (z ∷ xs) x old new zero y at = old 0 y at
+each_pushed P f (z ∷ xs) x old new (suc i) y at = each_pushed (λ (k : ℕ). P (suc k)) f xs x (λ k v h. old (suc k) v h) new i y at
+
+-- the same of rows, of which there is one more
+pub rows_more : {X R : Type 0} (P : ℕ → ℕ → R → Type 0) (f : X → List R) (rows : List X) (row : X) → ((i j : ℕ) (r : R) → slice_get (get_or (map f rows) i []) j ≡ Some r → P i j r) → ((j : ℕ) (r : R) → slice_get (f row) j ≡ Some r → P (length rows) j r) → (i j : ℕ) (r : R) → slice_get (get_or (map f (rows ++ row ∷ [])) i []) j ≡ Some r → P i j r
+rows_more P f [] row old new zero j r at = new j r at
+rows_more P f [] row old new (suc i) j r at = absurd (cc at)
+rows_more P f (z ∷ rows) row old new zero j r at = old 0 j r at
+rows_more P f (z ∷ rows) row old new (suc i) j r at = rows_more (λ (a b : ℕ). P (suc a) b) f rows row (λ a b c h. old (suc a) b c h) new i j r at
 
 -- a list that has nothing but empty lists
 pub all_nil : {Y : Type 0} (rows : List (List Y)) (n : ℕ) → length rows ≡ n → ((i : ℕ) → get_or rows i [] ≡ []) → rows ≡ replicate n []

@@ -1,16 +1,25 @@
 -- The two ends of a ring, and those of all rings of a run.
-use Rattle.std.specs.Prelude.{◌≡◌, ℕ, ◌<◌, List, [], ◌∷◌, ◌++◌, Vec, map, length, slice_get, slice_index_or}
+use Rattle.std.specs.Prelude.{◌≡◌, ◌≢◌, ℕ, ◌<◌, List, [], ◌∷◌, ◌++◌, Vec, map, length, Some, slice_get, slice_index_or}
 use denote.RawPtr.{Ptr}
 use Rattle.std.specs.declared.alloc.Global.{Global}
 use Rattle.rtrb.specs.Shared.{Names}
 use Rattle.rtrb.specs.Ring.{sent, received, known_items}
 use Rattle.rtrb.specs.declared.producer.Producer.{Producer}
 use Rattle.rtrb.specs.declared.consumer.Consumer.{Consumer}
+use Rattle.world_model.specs.declared.limits.TheConstants.{LANE_LIMIT}
 use Rattle.world_model.specs.Workers.{Packet, Lane}
 
 -- what tells one ring from another: its memory
 abbrev pub Ring : Type 0
 Ring = Ptr × Ptr × Names × Global
+
+-- for how many packets a ring has room
+abbrev pub room_of : Ring → ℕ
+room_of ring = ring.2.0
+
+-- the room of a ring between two workers: a worker sends nothing to itself
+abbrev pub IsRoomBetween : ℕ → ℕ → ℕ → Type 0
+IsRoomBetween from to room = (from ≡ to → room ≡ 1) × (from ≢ to → room ≡ LANE_LIMIT)
 
 -- the end at which packets go in: of which ring it is, and the packets that were sent by it, the first first
 pub record SendingEnd : Type 0 where
@@ -89,3 +98,7 @@ pub record ArePaired (n : ℕ) (outs ins : List (List Ring)) : Type 0 where
   pub rows_out : (i : ℕ) → i < n → length (slice_index_or outs i []) ≡ n
   pub rows_in : (j : ℕ) → j < n → length (slice_index_or ins j []) ≡ n
   pub pairs : (i j : ℕ) → i < n → j < n → slice_get (slice_index_or outs i []) j ≡ slice_get (slice_index_or ins j []) i
+
+-- each ring has its room
+abbrev pub HaveRoom : List (List Ring) → Type 0
+HaveRoom outs = (i j : ℕ) (ring : Ring) → slice_get (slice_index_or outs i []) j ≡ Some ring → IsRoomBetween i j (room_of ring)

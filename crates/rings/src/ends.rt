@@ -3,7 +3,7 @@
 ghost use Rattle.std.specs.Prelude.{◌≡◌, ◌<◌, ◌≤◌, ◌∷◌, ◌++◌, [], ⊤, length};
 ghost use Rattle.std.specs.Prelude.{IfErr, IfSome, IfNone, OnOk, OnErr};
 ghost use Rattle.world_model.specs.declared.limits.TheConstants.{LANE_LIMIT};
-ghost use Rattle.rings.specs.Rings.{TakesIn, GivesOut, Looks};
+ghost use Rattle.rings.specs.Rings.{TakesIn, GivesOut, Looks, room_of};
 
 use message_ledger::{Counting, Packet};
 use rtrb::{Consumer, Producer, PushError, RingBuffer};
@@ -50,6 +50,7 @@ impl<C: Counting> Model for Receiver<C> {
 pub(crate) fn open_ring<C: Counting>(alloc: Global, room: usize) -> Option<(Sender<C>, Receiver<C>)>
     requires { room ≤ LANE_LIMIT }
     ensures pair { IfSome result (λ ends. ends.1.ring ≡ ends.0.ring) }
+    ensures room { IfSome result (λ ends. room_of ends.0.ring ≡ room) }
     ensures sent { IfSome result (λ ends. ends.0.sent ≡ []) }
     ensures received { IfSome result (λ ends. ends.1.received ≡ []) }
     ensures left { IfSome result (λ ends. ends.1.left ≡ []) }
@@ -86,12 +87,12 @@ impl<C: Counting> LaneOut<Packet<C>> for Sender<C> {
 }
 
 impl<C: Counting> LaneIn<Packet<C>> for Receiver<C> {
-    ghost use Rattle.std.specs.Prelude.{⊤, refl};
+    ghost use Rattle.std.specs.Prelude.{◌≡◌, [], refl};
     ghost use Rattle.rings.specs.Rings.{GivesOut, Looks};
 
     ghost gives = { λ before packet after. GivesOut before packet after };
 
-    ghost may_be_empty = { λ lane. ⊤ };
+    ghost may_be_empty = { λ lane. lane.left ≡ [] };
 
     ghost is_same = { λ before after. Looks before after };
 
@@ -99,7 +100,7 @@ impl<C: Counting> LaneIn<Packet<C>> for Receiver<C> {
 
     fn pop(&mut self) -> Option<Packet<C>>
         ensures some { IfSome result (λ packet. GivesOut self.old packet self.new) }
-        ensures empty { IfNone result ⊤ }
+        ensures empty { IfNone result (self.old.left ≡ []) }
         ensures kept { IfNone result (Looks self.old self.new) }
     {
         match self.consumer.pop() {

@@ -5,7 +5,7 @@ ghost use Rattle.std.specs.Prelude.{IfSome, Some, slice_get, slice_index_or};
 ghost use Rattle.world_model.specs.declared.limits.TheConstants.{LANE_LIMIT};
 ghost use Rattle.rings.specs.Rings.{Ring, out_rings, in_rings, sent_lanes, received_lanes};
 ghost use Rattle.rings.specs.Rings.{rings_of_outs, rings_of_ins, sent_rows, received_rows};
-ghost use Rattle.rings.specs.Rings.{lane_at, ArePaired};
+ghost use Rattle.rings.specs.Rings.{lane_at, ArePaired, HaveRoom, IsRoomBetween, room_of};
 
 use crate::ends::{Receiver, Sender, open_ring};
 use message_ledger::Counting;
@@ -28,6 +28,7 @@ pub fn open_rings<C: Counting>(alloc: Global, n: usize) -> Option<Rings<C>>
         ≡ replicate n (replicate n [])) }
     ensures received { IfSome result (λ rings. received_rows rings.ins.items
         ≡ replicate n (replicate n [])) }
+    ensures rooms { IfSome result (λ rings. HaveRoom (rings_of_outs rings.outs.items)) }
 {
     let mut ins = no_receivers(alloc, n)?;
     let mut outs = Vec::new(alloc);
@@ -85,6 +86,8 @@ fn open_row<C: Counting>(
         → slice_index_or (rings_of_ins ins.new.items) j []
         ≡ slice_index_or (rings_of_ins ins.old.items) j []
         ++ slice_index_or (out_rings outs.items) j d ∷ []) }
+    ensures rooms { IfSome result (λ outs. (j : ℕ) (ring : Ring)
+        → slice_get (out_rings outs.items) j ≡ Some ring → IsRoomBetween from j (room_of ring)) }
 {
     let mut outs = Vec::new(alloc);
     'workers: for to in 0..ins.len() {
@@ -98,7 +101,8 @@ fn open_row<C: Counting>(
 
 // For how many packets a ring has room. A worker sends nothing to itself.
 fn room_between(from: usize, to: usize) -> usize
-    ensures { result ≤ LANE_LIMIT }
+    ensures room { IsRoomBetween from to result }
+    ensures few { result ≤ LANE_LIMIT }
 {
     if from == to { 1 } else { LANE_LIMIT }
 }
@@ -112,6 +116,7 @@ fn add_ring<C: Counting>(
     requires { room ≤ LANE_LIMIT }
     ensures rings { IfSome result (λ sender. in_rings ins.new.items
         ≡ in_rings ins.old.items ++ sender.ring ∷ []) }
+    ensures room { IfSome result (λ sender. room_of sender.ring ≡ room) }
     ensures sent { IfSome result (λ sender. sender.sent ≡ []) }
     ensures received { IfSome result (λ sender. received_lanes ins.new.items
         ≡ received_lanes ins.old.items ++ [] ∷ []) }

@@ -48,7 +48,7 @@ send_by_ring to part part' (Err refusal) sent refused = refuses_to_send to part 
 -- ---- a packet comes
 
 -- an end by which nothing came may be that of an empty lane
-pub at_empty : (end end' : ReceivingEnd) → Looks end end' → IsAtReceiver (λ packet. GivesOut end packet end') ⊤ (Looks end end') [] []
+pub at_empty : (end end' : ReceivingEnd) → Looks end end' → IsAtReceiver (λ packet. GivesOut end packet end') (end.left ≡ []) (Looks end end') [] []
 at_empty end end' same = record {
   given = λ packet gave. absurd (not_longer end.received packet (sym same.1 ∙ gave.1));
   empty = λ _. refl;

@@ -1,7 +1,7 @@
-use Rattle.std.proofs.Common.{rules, arith, ◌≡◌, ◌++◌, ◌∷◌, [], ap, ◌∙◌, length}
+use Rattle.std.proofs.Common.{rules, ℕ, arith, ◌≡◌, ◌++◌, ◌∷◌, [], ap, ◌∙◌, length}
 use Rattle.std.proofs.lemmas.List.{map-append, length-map}
-use Rattle.rings.specs.Rings.{SendingEnd, ReceivingEnd, out_rings, sent_lanes, received_lanes, rings_of_outs, rings_of_ins, sent_rows, received_rows}
-use Rattle.rings.proofs.RowLemmas.{nil_row, all_nil_rows, as_wide}
+use Rattle.rings.specs.Rings.{Ring, SendingEnd, ReceivingEnd, IsRoomBetween, room_of, out_rings, sent_lanes, received_lanes, rings_of_outs, rings_of_ins, sent_rows, received_rows}
+use Rattle.rings.proofs.RowLemmas.{nil_row, all_nil_rows, as_wide, rows_more}
 use Rattle.rings.proofs.GridLemmas.{length_end, grid_more}
 use Rattle.rings.proofs.rows.open_rings.Goals as goal
 
@@ -21,7 +21,8 @@ rows-preserved g c =
       rw (e, map-append (λ row. out_rings row.items) outs (row ∷ [])) (grid_more n c.rows.from (rings_of_outs outs) (rings_of_ins c.rows.ins.items) (rings_of_ins c.open_row.new.ins.items) (out_rings row.items) inv.2
           (length-map outs (λ row. out_rings row.items) ∙ len) (length-map row.items (λ out. out.ring) ∙ wide) (λ j d low. ends.rings j d (omega (arith, low, inv.1)))),
       rw (e, map-append (λ row. sent_lanes row.items) outs (row ∷ [])) (nil_row (sent_rows outs) (sent_lanes row.items) inv.3 ends.sent),
-      ends.received inv.4,
+      rw e (rows_more (λ (i j : ℕ) (ring : Ring). IsRoomBetween i j (room_of ring)) (λ row. out_rings row.items) outs row inv.4 (rw len ends.rooms)),
+      ends.received inv.5,
     )
 
 pub returns-clause-sent : goal.returns-clause-sent
@@ -41,4 +42,4 @@ returns-clause-received g c =
     let all : c.rows.from ≡ n = omega arith in
     let len : length ins ≡ n = omega (arith, inv.1, c.rows.ins.ok.0) in
     all_nil_rows (received_rows ins) n n (length-map ins (λ row. received_lanes row.items) ∙ len)
-    (λ j low. as_wide (λ row. row.items) (λ (into : ReceivingEnd). into.received) (λ (into : ReceivingEnd). into.ring) ins j ∙ (inv.2.rows_in j low ∙ all)) inv.4
+    (λ j low. as_wide (λ row. row.items) (λ (into : ReceivingEnd). into.received) (λ (into : ReceivingEnd). into.ring) ins j ∙ (inv.2.rows_in j low ∙ all)) inv.5

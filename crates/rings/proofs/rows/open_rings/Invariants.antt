@@ -1,5 +1,5 @@
 use Rattle.std.proofs.Common.{ℕ, ◌≡◌, [], vec_len}
-use Rattle.rings.specs.Rings.{rings_of_outs, rings_of_ins, sent_rows, received_rows, lane_at}
+use Rattle.rings.specs.Rings.{rings_of_outs, rings_of_ins, sent_rows, received_rows, lane_at, HaveRoom}
 use Rattle.rings.proofs.GridLemmas.{IsGrid}
 use Rattle.rings.proofs.rows.open_rings.Given as goal
 
@@ -9,4 +9,5 @@ invariant-rows g l =
     × (vec_len l.ins ≡ l.fn.n)
     × IsGrid l.fn.n l.from (rings_of_outs l.outs.items) (rings_of_ins l.ins.items)
     × ((i j : ℕ) → lane_at (sent_rows l.outs.items) i j ≡ [])
+    × HaveRoom (rings_of_outs l.outs.items)
     × ((j i : ℕ) → lane_at (received_rows l.ins.items) j i ≡ [])

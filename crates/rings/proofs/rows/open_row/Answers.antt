@@ -1,8 +1,8 @@
-use Rattle.std.proofs.Common.{rules, arith, ◌≡◌, ◌<◌, ◌∷◌, ◌++◌, [], length, ap, sym, ◌∙◌}
+use Rattle.std.proofs.Common.{rules, ℕ, arith, ◌≡◌, ◌<◌, ◌∷◌, ◌++◌, [], length, ap, sym, ◌∙◌}
 use Rattle.std.proofs.lemmas.List.{get_or-map}
-use Rattle.rings.specs.Rings.{SendingEnd, in_rings, received_lanes, rings_of_ins}
+use Rattle.rings.specs.Rings.{Ring, SendingEnd, IsRoomBetween, room_of, in_rings, received_lanes, rings_of_ins}
 use Rattle.rings.proofs.GridLemmas.{length_end}
-use Rattle.rings.proofs.RowLemmas.{row_below, row_above, nil_pushed, nil_rows}
+use Rattle.rings.proofs.RowLemmas.{row_below, row_above, nil_pushed, nil_rows, each_pushed}
 use Rattle.rings.proofs.rows.open_row.Goals as goal
 
 pub workers-preserved : goal.workers-preserved
@@ -27,5 +27,6 @@ workers-preserved g c =
       rw e (row_below (λ row. in_rings row.items) (λ (out : SendingEnd). out.ring) xs base outs to x q sender inside len ends.rings inv.2 (inv.3 to (omega arith)) read),
       row_above (λ row. in_rings row.items) (λ (out : SendingEnd). out.ring) xs base outs to x q sender inside len ends.rings inv.3,
       rw e (nil_pushed (λ (out : SendingEnd). out.sent) outs sender ends.sent inv.4),
-      (λ given. nil_rows (λ row. received_lanes row.items) xs to x q inside here ends.received (inv.5 given)),
+      rw e (each_pushed (λ (k : ℕ) (ring : Ring). IsRoomBetween c.args.from k (room_of ring)) (λ (out : SendingEnd). out.ring) outs sender inv.5 (rw (len, ends.room) c.room_between.ensures.room)),
+      (λ given. nil_rows (λ row. received_lanes row.items) xs to x q inside here ends.received (inv.6 given)),
     )

@@ -1,5 +1,5 @@
-use Rattle.std.proofs.Common.{ℕ, ◌≡◌, ◌≤◌, ◌<◌, ◌∷◌, ◌++◌, [], vec_len, slice_index_or}
-use Rattle.rings.specs.Rings.{Ring, out_rings, sent_lanes, rings_of_ins, received_rows, lane_at}
+use Rattle.std.proofs.Common.{ℕ, ◌≡◌, ◌≤◌, ◌<◌, ◌∷◌, ◌++◌, [], vec_len, Some, slice_get, slice_index_or}
+use Rattle.rings.specs.Rings.{Ring, out_rings, sent_lanes, rings_of_ins, received_rows, lane_at, IsRoomBetween, room_of}
 use Rattle.rings.proofs.rows.open_row.Given as goal
 
 abbrev pub invariant-workers : goal.invariant-workers
@@ -9,4 +9,5 @@ invariant-workers g l =
     × ((k : ℕ) (d : Ring) → k < l.to → slice_index_or (rings_of_ins l.ins.items) k [] ≡ slice_index_or (rings_of_ins l.fn.ins.items) k [] ++ slice_index_or (out_rings l.outs.items) k d ∷ [])
     × ((k : ℕ) → l.to ≤ k → slice_index_or (rings_of_ins l.ins.items) k [] ≡ slice_index_or (rings_of_ins l.fn.ins.items) k [])
     × ((k : ℕ) → slice_index_or (sent_lanes l.outs.items) k [] ≡ [])
+    × ((k : ℕ) (ring : Ring) → slice_get (out_rings l.outs.items) k ≡ Some ring → IsRoomBetween l.fn.from k (room_of ring))
     × (((j i : ℕ) → lane_at (received_rows l.fn.ins.items) j i ≡ []) → (j i : ℕ) → lane_at (received_rows l.ins.items) j i ≡ [])
