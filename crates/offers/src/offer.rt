@@ -15,7 +15,7 @@ ghost use Rattle.offers.specs.Offers.{item_by, IsOffered, AreOffered, OfEach, Is
 
 use board::{Board, Move, Shape, Weights};
 use lower_bound::Bound;
-use owners::{Slide, Spread};
+use owners::{Slide, Spread, worker_of};
 use successor_sums::{Successor, UnpackedBoard};
 
 /// What a move from a board offers: a successor, by its key.
@@ -151,5 +151,5 @@ fn owner_after<S: Spread>(owners: &S, hashed: Hashed, shape: Shape, slide: Slide
     if hashed.workers == 1 {
         return 0;
     }
-    (owners.hash_after(hashed.hash, shape, slide) % hashed.workers as u64) as usize
+    worker_of(owners.hash_after(hashed.hash, shape, slide), hashed.workers)
 }

@@ -41,6 +41,25 @@ pub trait Spread {
             → result ≡ hash_of self.now (blank_exchange b slide.from) };
 }
 
+/// The worker, of so many, that owns what has this hash: its remainder. To divide by a number that
+/// the compiler knows is much faster, so common numbers of workers are told apart.
+pub fn worker_of(hash: u64, workers: usize) -> usize
+    requires { 0 < workers }
+    ensures value { result ≡ hash % workers }
+    ensures within { result < workers }
+{
+    match workers {
+        2 => (hash % 2) as usize,
+        3 => (hash % 3) as usize,
+        4 => (hash % 4) as usize,
+        6 => (hash % 6) as usize,
+        8 => (hash % 8) as usize,
+        12 => (hash % 12) as usize,
+        16 => (hash % 16) as usize,
+        _ => (hash % workers as u64) as usize,
+    }
+}
+
 /// By the cell of the blank.
 #[derive(Clone, Copy, Debug)]
 pub struct ByBlank;
@@ -51,7 +70,7 @@ impl Spread for ByBlank {
     ghost hash_of = { λ s. blank_of };
 
     fn owner(&self, board: &Board, workers: usize) -> usize {
-        board.blank() % workers
+        worker_of(board.blank() as u64, workers)
     }
 
     fn hash(&self, _shape: Shape, tiles: &[u8]) -> u64 {

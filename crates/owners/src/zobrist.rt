@@ -5,7 +5,7 @@ ghost use Rattle.board.specs.Positions.{IsBoard};
 ghost use Rattle.owners.specs.Hashes.{hash_of, word, word_on};
 ghost use Rattle.owners.specs.Slides.{position_of};
 
-use crate::spread::{Slide, Spread};
+use crate::spread::{Slide, Spread, worker_of};
 use board::{Board, Shape};
 use rand_core::SeedableRng;
 use rand_core::utils::NextWord;
@@ -74,7 +74,7 @@ impl Spread for Zobrist {
     ghost hash_of = { λ z. hash_of };
 
     fn owner(&self, board: &Board, workers: usize) -> usize {
-        (self.hash(board.shape(), board.tiles()) % workers as u64) as usize
+        worker_of(self.hash(board.shape(), board.tiles()), workers)
     }
 
     fn hash(&self, shape: Shape, tiles: &[u8]) -> u64 {
