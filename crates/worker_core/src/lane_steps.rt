@@ -11,7 +11,8 @@ use crate::lanes::{LaneIn, LaneOut};
 use crate::packets::{put_packet, take_packet};
 use crate::worker::Worker;
 use message_ledger::{Counting, Packet};
-use world_model::Refusal;
+use search_lists::SearchLists;
+use world_model::{Item, PACKET_LIMIT, Refusal};
 
 impl<C: Counting> Worker<C> {
     /// Sends what is unsent for worker `to` as one packet, with 1 of the purse. Refusals: S13
@@ -70,6 +71,18 @@ impl<C: Counting> Worker<C> {
             return Err(Refusal::RingEmpty);
         };
         self.held = packet.open(&mut self.purse);
+        read_ahead(&mut self.lists, &self.held);
         Ok(())
     }
+}
+
+// Reads ahead what is read of the boards that came, so that the reads of memory overlap.
+fn read_ahead(lists: &mut SearchLists, items: &[Item])
+    ensures { lists.new ≡ lists.old }
+{
+    let mut keys = [0; PACKET_LIMIT];
+    'keys: for (key, item) in keys.iter_mut().zip(items) {
+        *key = item.board.key();
+    }
+    lists.read_ahead(&keys);
 }

@@ -1,6 +1,7 @@
 //! The step that takes an item in.
 
 ghost use Rattle.std.specs.Prelude.{◌≡◌, ◌<◌, ◌≤◌, OnOk, OnErr};
+ghost use Rattle.std.specs.FinMap as map;
 ghost use Rattle.board.specs.declared.costs.TheConstants.{GREATEST_COST};
 ghost use Rattle.board.specs.Positions.{Position};
 ghost use Rattle.board.specs.CostRules.{CostRule};
@@ -9,7 +10,7 @@ ghost use Rattle.open_buckets.specs.declared.open.TheConstants.{GREATEST_F};
 ghost use Rattle.outcomes.specs.Outcomes.{Task};
 ghost use Rattle.search_lists.specs.Lists.{HasMoreRoom};
 ghost use Rattle.search_lists.specs.Orders.{Guide, IsInOrder};
-ghost use Rattle.world_model.specs.Knowledge.{relaxation};
+ghost use Rattle.world_model.specs.Knowledge.{is_news, relaxation};
 ghost use Rattle.world_model.specs.Turns.{turn, refusal_in};
 ghost use Rattle.world_model.specs.WorkerSteps.{SettleStep};
 ghost use Rattle.worker_core.specs.Roles.{IsGuideOf, IsGuided, AreTaskBoards, AreAtHome, task_of};
@@ -22,6 +23,7 @@ use memory::OutOfMemory;
 use message_ledger::Counting;
 use search_lists::{Met, SearchLists};
 use std::alloc::Global;
+use successor_sums::UnpackedBoard;
 use world_model::{Item, Refusal};
 
 impl<C: Counting> Worker<C> {
@@ -107,15 +109,29 @@ fn relax_item(
         → IsGuided (task_of start goal.now rule bound.now) guide lists.old
         → IsGuided (task_of start goal.now rule bound.now) guide lists.new }
 {
+    let key = item.board.key();
+    if !brings_news(lists, key, item.cost) {
+        return Ok(());
+    }
     let met = Met {
-        key: item.board.key(),
+        key,
         cost: item.cost,
         via: item.via,
-        f: item.cost + bound.of(&item.board),
+        f: item.cost + UnpackedBoard::new(&item.board).sum(bound),
     };
     make_place(lists, alloc, met.f)?;
     lists.relax(goal.key(), met);
     Ok(())
+}
+
+// Whether a cost of a board is news. To find what is known of it is much cheaper than its sum is.
+fn brings_news(lists: &SearchLists, key: u128, cost: u32) -> bool
+    ensures { result ≡ is_news (map.get lists.now.closed.known key) cost }
+{
+    match lists.get(key) {
+        Some(known) => cost < known.cost,
+        None => true,
+    }
 }
 
 // Makes a place for one board more, which waits at an f.
