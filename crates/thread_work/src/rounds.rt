@@ -14,11 +14,9 @@ use std::sync::{Mutex, Wait};
 use thread_parts::{Part, Sealed};
 use world_model::Refusal;
 
-// The most expansions between two looks at the rings.
-const EXPANSIONS_IN_A_ROUND: u32 = 64;
-
-// After so many expansions the worker looks whether it knows the goal.
-const EXPANSIONS_BETWEEN_LOOKS: u32 = 16;
+// The most expansions between two looks at the rings, and at whether the goal is known. In so many
+// another worker hardly fills more than one packet, and one is taken in from each.
+const EXPANSIONS_IN_A_ROUND: u32 = 16;
 
 /// Works with a part until the book has stopped, and gives it back with the face that it had.
 pub fn work<'a, S: Spread, C: Tokens, R: Wait, G: Gate>(
@@ -74,13 +72,13 @@ impl<'a, R: Wait, G: Gate, C: Tokens> Site<'a, R, G, C> {
         if part.worker.purse() == 0 {
             return received;
         }
+        self.tell_news(part);
         if self.expand_some(part) {
             return true;
         }
         if received {
             return true;
         }
-        self.tell_news(part);
         self.rest(part)
     }
 
@@ -91,27 +89,16 @@ impl<'a, R: Wait, G: Gate, C: Tokens> Site<'a, R, G, C> {
         ensures kept { IsKept part.old part.new }
     {
         let mut some = false;
-        'boards: for count in 0..EXPANSIONS_IN_A_ROUND {
+        'boards: for _ in 0..EXPANSIONS_IN_A_ROUND {
             if let Err(refusal) = part.expand(self.alloc) {
                 return self.help(part, refusal) || some;
             }
             self.gate.pass(part.me, Kind::Expand);
-            self.tell_news_at_times(part, count);
+            // Where a packet is found to have no room, all of an expansion's work is done in vain.
+            self.send_full(part);
             some = true;
         }
         some
-    }
-
-    // Announces the goal's cost, if there is news of it and the time has come to look.
-    fn tell_news_at_times<S: Spread>(&self, part: &mut Part<'_, S, C>, count: u32)
-        requires { Holds S.hash_of C.workers part.old }
-        ensures holds { Holds S.hash_of C.workers part.new }
-        ensures kept { IsKept part.old part.new }
-    {
-        if count % EXPANSIONS_BETWEEN_LOOKS != 0 {
-            return;
-        }
-        self.tell_news(part);
     }
 
     // Does what has to be done before the next board can be expanded. Answers whether something was
