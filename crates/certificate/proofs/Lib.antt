@@ -6,6 +6,7 @@ pub mod SourceLemmas
 pub mod PartLemmas
 pub mod CertificateLemmas
 pub mod RowLemmas
+pub mod RisingLemmas
 pub mod GroupLemmas
 pub mod TextLemmas
 pub mod ReaderLemmas

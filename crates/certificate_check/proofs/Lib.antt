@@ -1,3 +1,4 @@
 pub mod RefusalLemmas
 pub mod RowLemmas
+pub mod SumLemmas
 pub mod GroupLemmas

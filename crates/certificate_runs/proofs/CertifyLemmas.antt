@@ -13,7 +13,8 @@ use Rattle.lower_bound.specs.Bounds.{sum_of}
 use Rattle.lower_bound.specs.Tables.{Tables, IsTables, parts_of}
 use Rattle.certificate_check.specs.Refusals.{IsProved}
 use Rattle.certificate_runs.specs.Built.{AreBuiltFor, HasSmallEntries}
-use Rattle.certificate_runs.proofs.TableLemmas.{AreTrue, sums_below, true_potentials, proved_above}
+use Rattle.certificate_check.proofs.SumLemmas.{proved_above}
+use Rattle.certificate_runs.proofs.TableLemmas.{AreTrue, sums_below, true_potentials}
 use Rattle.reports.specs.declared.report.NoReport.{NoReport}
 use Rattle.outcomes.specs.Outcomes.{Task, AreRowsOf, Answers}
 use Rattle.outcomes.specs.declared.outcome.Outcome.TheVariants.{Optimal}
@@ -26,7 +27,8 @@ use Rattle.batch_lines.specs.declared.words.EntryFault.{EntryFault}
 use Rattle.batch_lines.specs.declared.lines.Line.{Line}
 use Rattle.batch_lines.specs.declared.lines.LineKind.{LineKind}
 use Rattle.batch_lines.specs.declared.lines.LineKind.TheVariants.{PassedOver, Within, TooLong}
-use Rattle.certificate.specs.Certificates.{Statement, AreNamedCosts, IsBoardOf, IsRow, RiseAfter, IsCertificate}
+use Rattle.certificate.specs.Certificates.{Statement, AreNamedCosts, IsBoardOf, IsCertificate}
+use Rattle.certificate.proofs.RisingLemmas.{rise, rows_fit}
 use Rattle.batch_runs.specs.Batches.Answer.{refused, answered}
 use Rattle.batch_runs.specs.Batches.{no_lines, with_outcome, status_of_counts}
 use Rattle.reports.specs.Readings.{AreSmall}
@@ -46,26 +48,6 @@ use Rattle.certificate_runs.specs.Certifying.{IsCertificateOf, IsCertificateFor,
 -- a line that is to be read
 abbrev pub within : ℕ → Line
 within n = record { number = n; kind = Within }
-
--- the rows of an outcome rise by their lists of tiles
-module _ (order : KeysAreInOrder) (grid : Grid) where
-  rise_after : (b : Position) (rows : List (Position × ℕ)) → IsBoard b → b.grid ≡ grid → All (λ row. key_of b < key_of row.0) rows → All (λ row. IsBoard row.0 × (row.0.grid ≡ grid)) rows → AllPairs (λ row later. key_of row.0 < key_of later.0) rows → RiseAfter (Some b) rows
-  rise_after b [] is sides first boards rising = tt
-  rise_after b (row ∷ rows) is sides first boards rising =
-      let here = boards 0 row (omega arith) in (
-        (order b row.0 is here.0 (sides ∙ sym here.1)).0 (first 0 row (omega arith)),
-        rise_after row.0 rows here.0 here.1 (λ k d in_range. rising 0 (suc k) d (omega arith) (omega (arith, in_range))) (λ k d in_range. boards (suc k) d (omega (arith, in_range))) (λ i j d before in_range. rising (suc i) (suc j) d (omega (arith, before)) (omega (arith, in_range))),
-      )
-
-  pub rise : (rows : List (Position × ℕ)) → All (λ row. IsBoard row.0 × (row.0.grid ≡ grid)) rows → AllPairs (λ row later. key_of row.0 < key_of later.0) rows → RiseAfter None rows
-  rise [] boards rising = tt
-  rise (row ∷ rows) boards rising =
-      let here = boards 0 row (omega arith) in
-      (tt, rise_after row.0 rows here.0 here.1 (λ k d in_range. rising 0 (suc k) d (omega arith) (omega (arith, in_range))) (λ k d in_range. boards (suc k) d (omega (arith, in_range))) (λ i j d before in_range. rising (suc i) (suc j) d (omega (arith, before)) (omega (arith, in_range))))
-
--- each is a row that can be written
-pub rows_fit : (task : Task) (rows : List (Position × ℕ)) (cost : ℕ) → AreRowsOf task rows cost → AllByRecursion (IsRow task.goal.grid) rows
-rows_fit task rows cost are = recursion_from_All (IsRow task.goal.grid) rows (λ k d in_range. record { board = record { board = (are.boards k d in_range).0; sides = (are.boards k d in_range).1 }; cost = are.low k d in_range })
 
 -- no certificate is a refusal
 no_refusal : (c : Statement) (code : List ℕ) (n : ℕ) → ¬ IsRefusal code n (Certified c)
@@ -144,7 +126,7 @@ certificate_is order setup b cost plan rows goal there sides start named few ans
   cost = answers.3;
   plan = answers.4;
   count = few;
-  rows = rows_fit (task_of setup b) rows.items cost answers.2;
+  rows = rows_fit setup.goal.grid rows.items answers.2.boards answers.2.low;
   rising = rise order setup.goal.grid rows.items answers.2.boards answers.2.rising;
 }
 
