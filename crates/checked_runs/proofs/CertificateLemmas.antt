@@ -1,0 +1,56 @@
+-- The certificate of a plan that answers a problem.
+use Rattle.std.proofs.Common.{◌≡◌, ℕ, ◌<◌, ◌^◌, List, None, Vec, length, refl}
+use Rattle.std.specs.declared.alloc.Global.{Global}
+use Rattle.memory.specs.declared.OutOfMemory.{OutOfMemory}
+use Rattle.board.specs.declared.moves.Move.{Move}
+use Rattle.board.specs.Grids.{Grid}
+use Rattle.board.specs.CostRules.{CostRule}
+use Rattle.board.specs.Positions.{Position}
+use Rattle.board.specs.Laws.{KeysAreInOrder}
+use Rattle.board.specs.Rows.{IsLowerBound}
+use Rattle.outcomes.specs.declared.outcome.Cause.TheVariants.{Memory}
+use Rattle.outcomes.specs.declared.outcome.Want.TheVariants.{Refused}
+use Rattle.outcomes.specs.declared.outcome.Outcome.TheVariants.{Optimal, Bounded}
+use Rattle.outcomes.specs.Outcomes.{Answers}
+use Rattle.pattern_index.specs.Splits.{Split}
+use Rattle.lower_bound.specs.Tables.{Tables, IsTables}
+use Rattle.world_model.specs.Shapes.{IsTask}
+use Rattle.certificate.specs.Certificates.{AreNamedCosts, IsCertificate}
+use Rattle.certificate.proofs.RisingLemmas.{rise, rows_fit}
+use Rattle.certificate_check.specs.Refusals.{sum_in, IsProved}
+use Rattle.certificate_check.proofs.SumLemmas.{proved_above}
+use Rattle.hda_run.specs.Problems.{Problem, task_in}
+use Rattle.checked_runs.specs.Certificates.{certificate_in, AreAsGood}
+
+-- these fields are those of it
+pub stated : (p : Problem) (shape : Grid) (costs : CostRule) (groups : Split) (start goal : Position) (cost : ℕ) (plan : List Move) (rows : List (Position × ℕ)) → shape ≡ p.goal.grid → costs ≡ p.rule → groups ≡ p.tables.split → start ≡ p.start → goal ≡ p.goal
+    → record { grid = shape; costs = costs; groups = groups; start = start; goal = goal; cost = cost; plan = plan; rows = rows } ≡ certificate_in p cost plan rows
+stated p shape costs groups start goal cost plan rows e1 e2 e3 e4 e5 = λ i. record { grid = e1 i; costs = e2 i; groups = e3 i; start = e4 i; goal = e5 i; cost = cost; plan = plan; rows = rows }
+
+module _ (p : Problem) (cost : ℕ) (plan : Vec Move Global) (rows : Vec (Position × ℕ) Global) (answers : Answers (task_in p) (Optimal cost plan rows)) (task : IsTask (task_in p)) where
+  -- it is one
+  pub certificate_is : KeysAreInOrder → IsTables p.tables → p.tables.split.grid ≡ p.goal.grid → AreNamedCosts p.goal.grid p.rule → length rows.items < 2 ^ 64 → IsCertificate (certificate_in p cost plan.items rows.items)
+  certificate_is order tables sides named few = record {
+    sides = task.goal.sides;
+    costs = named;
+    groups = record { split = tables.partition; sides = sides };
+    start = record { board = task.start; sides = task.sides };
+    goal = record { board = task.goal; sides = refl };
+    cost = answers.3;
+    plan = answers.4;
+    count = few;
+    rows = rows_fit p.goal.grid rows.items answers.2.boards answers.2.low;
+    rising = rise order p.goal.grid rows.items answers.2.boards answers.2.rising;
+  }
+
+  -- with tables that are as good as the problem's it proves its cost
+  pub proved_with : (tables : Tables) → AreAsGood p tables → IsProved (certificate_in p cost plan.items rows.items) tables
+  proved_with tables good = record {
+    plan = answers.0;
+    fit = record { groups = good.groups; potentials = good.potentials };
+    rows = proved_above p.rule rows.items (sum_in p.tables) (sum_in tables) p.start p.goal cost task.start task.sides answers.2.boards good.sums answers.2.proves;
+  }
+
+  -- its cost is a bound
+  pub bound_answers : IsLowerBound p.rule (task_in p).sum p.goal → (refused : OutOfMemory) → Answers (task_in p) (Bounded cost None (Memory (Refused refused)))
+  bound_answers lower refused = (answers.1.none_below, lower p.start task.start plan.items cost answers.0, tt, tt)

@@ -1,0 +1,18 @@
+-- The certificates of a problem's plans, and the tables that they are checked with.
+use Rattle.std.specs.Prelude.{ℕ, ◌≡◌, ◌≤◌, List}
+use Rattle.board.specs.declared.moves.Move.{Move}
+use Rattle.board.specs.Positions.{Position, IsBoard}
+use Rattle.lower_bound.specs.Tables.{Tables, ArePotentials}
+use Rattle.certificate.specs.Certificates.{Statement}
+use Rattle.certificate_check.specs.Refusals.{sum_in}
+use Rattle.hda_run.specs.Problems.{Problem}
+
+-- the certificate that this plan leads from the problem's start to its goal at this cost, which the rows prove to be least with the sums of the problem's groups
+abbrev pub certificate_in : Problem → ℕ → List Move → List (Position × ℕ) → Statement
+certificate_in p cost plan rows = record { grid = p.goal.grid; costs = p.rule; groups = p.tables.split; start = p.start; goal = p.goal; cost = cost; plan = plan; rows = rows }
+
+-- Tables that are as good as those of the problem: they are of the same groups, they are potentials, and no board's sum is lower.
+pub record AreAsGood (p : Problem) (tables : Tables) : Type 0 where
+  pub groups : tables.split ≡ p.tables.split
+  pub potentials : ArePotentials p.rule p.goal tables
+  pub sums : (b : Position) → IsBoard b → b.grid ≡ p.goal.grid → sum_in p.tables b ≤ sum_in tables b

@@ -1,0 +1,38 @@
+-- What is answered where each least plan is checked.
+use Rattle.std.specs.Prelude.{ℕ, ◌≡◌, ◌⊎◌, ⊤, Vec, None}
+use Rattle.std.specs.declared.alloc.Global.{Global}
+use Rattle.memory.specs.declared.OutOfMemory.{OutOfMemory}
+use Rattle.board.specs.declared.moves.Move.{Move}
+use Rattle.board.specs.Positions.{Position}
+use Rattle.outcomes.specs.declared.outcome.Cause.TheVariants.{Memory}
+use Rattle.outcomes.specs.declared.outcome.Want.TheVariants.{Refused}
+use Rattle.outcomes.specs.declared.outcome.Outcome.{Outcome}
+use Rattle.outcomes.specs.declared.outcome.Outcome.TheVariants.{Optimal, Unsolvable, Bounded}
+use Rattle.lower_bound.specs.Tables.{Tables}
+use Rattle.certificate_check.specs.declared.refusals.Refusal.{Refusal}
+use Rattle.certificate_check.specs.Refusals.{IsProved, IsFirstRefusal}
+use Rattle.hda_run.specs.Problems.{Problem}
+use Rattle.thread_runs.specs.Solved.{IsSolved}
+use Rattle.checked_runs.specs.Certificates.{certificate_in}
+
+-- where a plan is called least, its certificate proves so with these tables
+abbrev pub IsProvedWith : Problem → Tables → Outcome → Type 0
+IsProvedWith p tables (Optimal cost plan rows) = IsProved (certificate_in p cost plan.items rows.items) tables
+IsProvedWith p tables (Unsolvable why) = ⊤
+IsProvedWith p tables (Bounded bound best cause) = ⊤
+
+-- a plan of n workers, or of one alone, has this cost, and memory was refused for the groups of its certificate: the cost is given as a bound
+abbrev pub IsUncertified : {S : Type 0} → (S → Position → ℕ) → Problem → S → ℕ → Outcome → Type 0
+IsUncertified hash_of p owners n outcome =
+    (cost : ℕ) × (plan : Vec Move Global) × (rows : Vec (Position × ℕ) Global) × (refused : OutOfMemory)
+    × IsSolved hash_of p owners n (Optimal cost plan rows) × (outcome ≡ Bounded cost None (Memory (Refused refused)))
+
+-- the outcome is that of n workers, or of one alone, or it has the cost of theirs as its bound
+abbrev pub IsCheckedRun : {S : Type 0} → (S → Position → ℕ) → Problem → S → ℕ → Outcome → Type 0
+IsCheckedRun hash_of p owners n outcome = IsSolved hash_of p owners n outcome ⊎ IsUncertified hash_of p owners n outcome
+
+-- for this cause first a certificate is refused with these tables: that of a plan of n workers, or of one alone
+abbrev pub IsRefusedRun : {S : Type 0} → (S → Position → ℕ) → Problem → S → ℕ → Tables → Refusal → Type 0
+IsRefusedRun hash_of p owners n tables refusal =
+    (cost : ℕ) × (plan : Vec Move Global) × (rows : Vec (Position × ℕ) Global)
+    × IsSolved hash_of p owners n (Optimal cost plan rows) × IsFirstRefusal (certificate_in p cost plan.items rows.items) tables refusal

@@ -1,0 +1,17 @@
+-- The faults of checked runs.
+use Rattle.std.specs.Prelude.{ℕ, List, codes}
+use Rattle.hda_run.specs.declared.faults.WorldFault.{WorldFault}
+use Rattle.hda_run.specs.declared.faults.WorldFault.TheVariants as world
+use Rattle.checked_runs.specs.declared.faults.CheckedFault.{CheckedFault}
+use Rattle.checked_runs.specs.declared.faults.CheckedFault.TheVariants.{WorkerCount, Memory, Refused}
+
+-- the code that a fault is reported by
+abbrev pub checked_code : CheckedFault → List ℕ
+checked_code WorkerCount = codes "V2"
+checked_code (Memory refused) = codes "V3"
+checked_code (Refused refusal) = codes "V4"
+
+-- a world's fault, as one of a checked run
+abbrev pub of_world : WorldFault → CheckedFault
+of_world world.WorkerCount = WorkerCount
+of_world (world.Memory refused) = Memory refused
