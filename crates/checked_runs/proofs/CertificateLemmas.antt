@@ -1,16 +1,12 @@
 -- The certificate of a plan that answers a problem.
-use Rattle.std.proofs.Common.{◌≡◌, ℕ, ◌<◌, ◌^◌, List, None, Vec, length, refl}
+use Rattle.std.proofs.Common.{◌≡◌, ℕ, ◌<◌, ◌^◌, List, Vec, length, refl}
 use Rattle.std.specs.declared.alloc.Global.{Global}
-use Rattle.memory.specs.declared.OutOfMemory.{OutOfMemory}
 use Rattle.board.specs.declared.moves.Move.{Move}
 use Rattle.board.specs.Grids.{Grid}
 use Rattle.board.specs.CostRules.{CostRule}
 use Rattle.board.specs.Positions.{Position}
 use Rattle.board.specs.Laws.{KeysAreInOrder}
-use Rattle.board.specs.Rows.{IsLowerBound}
-use Rattle.outcomes.specs.declared.outcome.Cause.TheVariants.{Memory}
-use Rattle.outcomes.specs.declared.outcome.Want.TheVariants.{Refused}
-use Rattle.outcomes.specs.declared.outcome.Outcome.TheVariants.{Optimal, Bounded}
+use Rattle.outcomes.specs.declared.outcome.Outcome.TheVariants.{Optimal}
 use Rattle.outcomes.specs.Outcomes.{Answers}
 use Rattle.pattern_index.specs.Splits.{Split}
 use Rattle.lower_bound.specs.Tables.{Tables, IsTables}
@@ -50,7 +46,3 @@ module _ (p : Problem) (cost : ℕ) (plan : Vec Move Global) (rows : Vec (Positi
     fit = record { groups = good.groups; potentials = good.potentials };
     rows = proved_above p.rule rows.items (sum_in p.tables) (sum_in tables) p.start p.goal cost task.start task.sides answers.2.boards good.sums answers.2.proves;
   }
-
-  -- its cost is a bound
-  pub bound_answers : IsLowerBound p.rule (task_in p).sum p.goal → (refused : OutOfMemory) → Answers (task_in p) (Bounded cost None (Memory (Refused refused)))
-  bound_answers lower refused = (answers.1.none_below, lower p.start task.start plan.items cost answers.0, tt, tt)

@@ -1,21 +1,18 @@
 -- Outcomes whose plans the checker gives back, and those that name no least plan.
-use Rattle.std.proofs.Common.{◌≡◌, ◌≢◌, ℕ, ◌≤◌, Vec, Result, Ok, Err, length, refl, ap, subst, inl, inr}
+use Rattle.std.proofs.Common.{◌≡◌, ◌≢◌, ℕ, Vec, Result, Ok, Err, refl, ap, subst, inl, inr}
 use Rattle.std.specs.Prelude.{◌↔◌}
 use Rattle.std.specs.Result.{IsErrOf}
 use Rattle.std.specs.declared.alloc.Global.{Global}
-use Rattle.board.specs.declared.costs.TheConstants.{GREATEST_COST}
 use Rattle.board.specs.declared.moves.Move.{Move}
 use Rattle.board.specs.Positions.{Position}
-use Rattle.board.specs.Plans.{Leads, IsLeast}
 use Rattle.outcomes.specs.declared.outcome.Outcome.{Outcome}
 use Rattle.outcomes.specs.declared.outcome.Outcome.TheVariants.{Optimal, Unsolvable, Bounded}
-use Rattle.outcomes.specs.Outcomes.{Answers, AreRowsOf}
 use Rattle.lower_bound.specs.Tables.{Tables}
 use Rattle.world_model.specs.Outcomes.{End, IsBoundOf, IsFollowedBack, AreRowsFor, IsGiven}
 use Rattle.world_model.specs.Worlds.{WorldState}
 use Rattle.certificate.specs.Certificates.{Statement}
 use Rattle.certificate_check.specs.declared.refusals.Refusal.{Refusal}
-use Rattle.hda_run.specs.Problems.{Problem, task_in}
+use Rattle.hda_run.specs.Problems.{Problem}
 use Rattle.thread_runs.specs.Solved.{IsSolved}
 use Rattle.checked_runs.specs.Certificates.{certificate_in}
 use Rattle.checked_runs.specs.Checked.{IsProvedWith}
@@ -24,13 +21,6 @@ use Rattle.checked_runs.specs.declared.faults.CheckedFault.TheVariants.{WorkerCo
 
 module _ (p : Problem) (cost cost' : ℕ) (plan plan' : Vec Move Global) (rows rows' : Vec (Position × ℕ) Global)
     (same : certificate_in p cost plan.items rows.items ≡ certificate_in p cost' plan'.items rows'.items) where
-  -- what answers the task does so again
-  pub answers_again : Answers (task_in p) (Optimal cost plan rows) → Answers (task_in p) (Optimal cost' plan' rows')
-  answers_again = subst Answering same
-    where
-      Answering : Statement → Type 0
-      Answering c = Leads p.rule p.start c.plan p.goal c.cost × IsLeast p.rule p.start p.goal c.cost × AreRowsOf (task_in p) c.rows c.cost × (c.cost ≤ GREATEST_COST) × (length c.plan ≤ GREATEST_COST)
-
   -- a world gives it again
   given_again : (w : WorldState) → IsGiven w (Optimal cost plan rows) → IsGiven w (Optimal cost' plan' rows')
   given_again w (lowest, reached, low, at, given) = (lowest, reached, low, at, subst (Given (record { world = w; lowest = lowest; reached = reached })) same given)
