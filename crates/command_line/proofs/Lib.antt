@@ -1,0 +1,5 @@
+mod CommandLemmas
+mod ParseLemmas
+mod ReadLemmas
+mod SimpleLemmas
+mod WordLemmas

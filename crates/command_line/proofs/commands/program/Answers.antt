@@ -1,0 +1,30 @@
+use Rattle.std.proofs.Common.{Bool, true, ap, ◌∙◌}
+use Rattle.clap.specs.Words.{Shape}
+use Rattle.clap.specs.Simple.{app_of_fields, on_top}
+use Rattle.clap.specs.declared.builder.command.Command.{Command}
+use Rattle.clap.specs.declared.builder.command.Command.TheOpen.{Command-F}
+use Rattle.command_line.proofs.CommandLemmas.{adds_rule, adds_subcommand, stays_local}
+use Rattle.command_line.proofs.commands.program.Goals as goal
+
+abbrev globals : Command-F Command → Bool
+globals fields = fields.has_globals
+
+pub returns-clause-app : goal.returns-clause-app
+returns-clause-app c =
+    let solve_texts = ap app_of_fields c.after_help.ensures ∙ ap app_of_fields c.long_about.ensures ∙ ap app_of_fields c.about.ensures ∙ c.in_ok-puzzle.ensures.app in
+    let solve_globals = ap globals c.after_help.ensures ∙ ap globals c.long_about.ensures ∙ ap globals c.about.ensures ∙ c.in_ok-puzzle.ensures.local in
+    let solve = adds_rule _ _ _ c.in_ok-solve.ensures c.flag.ensures.local solve_texts c.flag.ensures.rule in
+    let solve_local = stays_local _ _ _ c.in_ok-solve.ensures c.flag.ensures.local solve_globals in
+    let check = ap app_of_fields c.after_help-check.ensures ∙ ap app_of_fields c.long_about-2.ensures ∙ ap app_of_fields c.about-2.ensures ∙ c.new.ensures.app in
+    let check_local = ap globals c.after_help-check.ensures ∙ ap globals c.long_about-2.ensures ∙ ap globals c.about-2.ensures ∙ c.new.ensures.local in
+    let replay = ap app_of_fields c.after_help-replay.ensures ∙ ap app_of_fields c.long_about-3.ensures ∙ ap app_of_fields c.about-3.ensures ∙ c.in_ok-puzzle-2.ensures.app in
+    let replay_local = ap globals c.after_help-replay.ensures ∙ ap globals c.long_about-3.ensures ∙ ap globals c.about-3.ensures ∙ c.in_ok-puzzle-2.ensures.local in
+    let bare = ap app_of_fields c.in_ok-bin_name.ensures.0 ∙ c.new-2.ensures.app in
+    let version = ap app_of_fields c.version.ensures ∙ ap (on_top (λ (s : Shape). record s { has_version = true })) bare in
+    let texts = ap app_of_fields c.after_help-2.ensures ∙ ap app_of_fields c.long_about-4.ensures ∙ ap app_of_fields c.about-4.ensures ∙ version in
+    let named = ap app_of_fields c.no_binary_name.ensures ∙ ap (on_top (λ (s : Shape). record s { no_binary_name = true })) texts in
+    let required = ap app_of_fields c.subcommand_required.ensures ∙ ap (on_top (λ (s : Shape). record s { subcommand_required = true })) named in
+    let top = ap app_of_fields c.disable_help_subcommand.ensures ∙ ap (on_top (λ (s : Shape). record s { disable_help_subcommand = true })) required in
+    let with_solve = adds_subcommand _ _ _ c.in_ok-subcommand.ensures solve_local top solve in
+    let with_check = adds_subcommand _ _ _ c.in_ok-subcommand-2.ensures check_local with_solve check in
+    adds_subcommand _ _ _ c.in_ok-command.ensures replay_local with_check replay

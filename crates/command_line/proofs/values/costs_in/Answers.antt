@@ -1,0 +1,10 @@
+use Rattle.std.proofs.Common.{codes}
+use Rattle.clap.specs.Words.{found_of}
+use Rattle.command_line.proofs.ReadLemmas.{word_read}
+use Rattle.command_line.proofs.values.costs_in.Goals as goal
+
+pub returns-then-eq : goal.returns-then-eq
+returns-then-eq c = word_read (found_of c.args.matches.now) (codes "cost") c.in_ok-text.text.now (codes "unit") c.eq.result c.in_ok-text.ensures c.eq.ensures c.if-eq.true
+
+pub returns-then-eq-2 : goal.returns-then-eq-2
+returns-then-eq-2 c = word_read (found_of c.args.matches.now) (codes "cost") c.in_ok-text.text.now (codes "face") c.eq-2.result c.in_ok-text.ensures c.eq-2.ensures c.if-eq-2.true

@@ -1,0 +1,59 @@
+-- The program's subcommands and their options, as a parse of words reads them.
+use Rattle.std.specs.Prelude.{ℕ, ◌≡◌, true, List, [], ◌∷◌, Some, codes, map}
+use Rattle.std.specs.Borrow.{Bor}
+use Rattle.clap.specs.Words.{Text, Rule, App, new_rule, new_app, with_rule, with_subcommand}
+use Rattle.clap.specs.declared.builder.action.ArgAction.TheVariants.{Set, SetTrue}
+use Rattle.clap.specs.declared.builder.value_parser.ValueParser.TheVariants as value
+
+-- the words that an option may have as its value, as code holds them
+abbrev pub Choices : Type 0
+Choices = Bor (List (Bor Text))
+
+-- an option of one value, any text
+abbrev pub option_rule : Text → Rule
+option_rule name = record (new_rule name) { long = Some name; action = Some Set; value_names = 1 }
+
+-- an option that must be there, of a number from 2 to 5
+abbrev pub side_rule : Text → Rule
+side_rule name = record (option_rule name) { required = true; parser = Some (value.Unsigned 2 5) }
+
+-- an option of a number between two, with the value that it has where it is left out
+abbrev pub number_rule : Text → ℕ → ℕ → Text → Rule
+number_rule name least most given = record (option_rule name) { parser = Some (value.Unsigned least most); defaults = given ∷ [] }
+
+-- an option of one of some words, with the one that it has where it is left out
+abbrev pub choice_rule : Text → Choices → Text → Rule
+choice_rule name choices given = record (option_rule name) { parser = Some (value.Names choices); defaults = given ∷ [] }
+
+-- an option without a value
+abbrev pub flag_rule : Text → Rule
+flag_rule name = record (new_rule name) { long = Some name; action = Some SetTrue }
+
+-- a subcommand with the options that say a puzzle and how it is searched
+abbrev pub puzzle_app : Choices → Choices → Text → App
+puzzle_app costs spreads name =
+    let sides = with_rule (with_rule (new_app name) (side_rule (codes "rows"))) (side_rule (codes "cols")) in
+    let texts = with_rule (with_rule (with_rule sides (choice_rule (codes "cost") costs (codes "unit"))) (option_rule (codes "goal"))) (option_rule (codes "groups")) in
+    let workers = with_rule texts (number_rule (codes "workers") 1 16 (codes "1")) in
+    with_rule (with_rule workers (choice_rule (codes "spread") spreads (codes "zobrist"))) (number_rule (codes "limit") 0 18446744073709551615 (codes "18446744073709551615"))
+
+-- the program without its subcommands: it has a version, one subcommand must be there, and `help` is none
+abbrev pub top_app : App
+top_app =
+    let empty = new_app (codes "tilesolve") in
+    record empty { top = record empty.top { has_version = true; no_binary_name = true; subcommand_required = true; disable_help_subcommand = true } }
+
+-- the program with its subcommands
+abbrev pub program_app : Choices → Choices → App
+program_app costs spreads =
+    let solve = with_rule (puzzle_app costs spreads (codes "solve")) (flag_rule (codes "cert")) in
+    with_subcommand (with_subcommand (with_subcommand top_app solve.top) (new_app (codes "check")).top) (puzzle_app costs spreads (codes "replay")).top
+
+-- the words that `--cost` and `--spread` may have
+pub record AreChoices (costs spreads : Choices) : Type 0 where
+  pub cost_words : map (λ t. t.now) costs.now ≡ codes "unit" ∷ codes "face" ∷ []
+  pub spread_words : map (λ t. t.now) spreads.now ≡ codes "zobrist" ∷ codes "blank" ∷ []
+
+-- the program with these words
+abbrev pub IsProgram : App → Type 0
+IsProgram program = (costs : Choices) × (spreads : Choices) × AreChoices costs spreads × (program ≡ program_app costs spreads)

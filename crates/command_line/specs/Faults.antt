@@ -1,0 +1,27 @@
+-- Why words ask for nothing: the status that each reason ends the program by, and the code that stands for it.
+use Rattle.std.specs.Prelude.{ℕ, List, [], ◌∷◌, ◌++◌, codes, string_bytes}
+use Rattle.board.specs.Faults.{tiles_code}
+use Rattle.option_texts.specs.Faults.{groups_code}
+use Rattle.option_texts.specs.declared.faults.GroupsFault.TheVariants as groups
+use Rattle.command_line.specs.declared.faults.NoRequest.{NoRequest}
+use Rattle.command_line.specs.declared.faults.NoRequest.TheVariants.{Usage, Goal, Groups, Memory}
+
+-- 2 for the words, with the texts of the goal and of the groups among them; 4 for want of memory
+abbrev pub refusal_status : NoRequest → ℕ
+refusal_status (Usage text) = 2
+refusal_status (Goal fault) = 2
+refusal_status (Groups (groups.NoGroup fault)) = 2
+refusal_status (Groups (groups.NoPartition fault)) = 2
+refusal_status (Groups (groups.Memory refused)) = 4
+refusal_status Memory = 4
+
+-- a code as a line for standard error
+abbrev pub coded_line : List ℕ → List ℕ
+coded_line code = codes "tilesolve: " ++ code ++ 10 ∷ []
+
+-- what is written of it to standard error: the text of usage, or a line with a code
+abbrev pub refusal_message : NoRequest → List ℕ
+refusal_message (Usage text) = string_bytes text
+refusal_message (Goal fault) = coded_line (tiles_code fault)
+refusal_message (Groups fault) = coded_line (groups_code fault)
+refusal_message Memory = coded_line (codes "memory")

@@ -1,0 +1,163 @@
+-- What the words of a command line ask for.
+use Rattle.std.specs.Prelude.{ℕ, ◌≡◌, ◌≢◌, ◌⊎◌, ◌-◌, ◌^◌, List, [], ◌∷◌, Option, Some, None, codes, option_map, map, ⊤}
+use Rattle.std.specs.Str.Parse.{digits_value, without_leading_plus}
+use Rattle.clap.specs.Words.{Text, Row, App, Kinds, IsAmong, first_of, one_of, fault_of, subcommand_of}
+use Rattle.clap.specs.declared.error.kind.ErrorKind.{ErrorKind}
+use Rattle.clap.specs.declared.error.kind.ErrorKind.TheVariants.{DisplayHelp, DisplayVersion}
+use Rattle.board.specs.Grids.{Grid}
+use Rattle.board.specs.Positions.{Position, goal_of}
+use Rattle.board.specs.CostRules.{CostRule, unit_rule, face_rule}
+use Rattle.pattern_index.specs.Splits.{Split}
+use Rattle.batch_lines.specs.Words.{IsFirstWordFault}
+use Rattle.batch_runs.specs.declared.setup.SpreadKind.{SpreadKind}
+use Rattle.batch_runs.specs.declared.setup.SpreadKind.TheVariants.{Zobrist, Blank}
+use Rattle.option_texts.specs.Texts.{comma_words, IsGoalOf, group_texts, AreGroupsOf}
+use Rattle.option_texts.specs.Faults.{IsFirstGroupsFault}
+use Rattle.option_texts.specs.Defaults.{default_groups}
+use Rattle.option_texts.specs.Laws.{IsRefusal}
+use Rattle.option_texts.specs.declared.faults.GroupsFault.{GroupsFault}
+use Rattle.board.specs.declared.faults.TilesFault.{TilesFault}
+use Rattle.command_line.specs.declared.requests.Costs.{Costs}
+use Rattle.command_line.specs.declared.requests.Costs.TheVariants.{Unit, Face}
+use Rattle.command_line.specs.declared.requests.Options.{Options}
+use Rattle.command_line.specs.declared.requests.Request.{Request}
+use Rattle.command_line.specs.declared.requests.Request.TheVariants.{Solve, Certify, Check, Replay, Help, Version}
+use Rattle.command_line.specs.declared.values.Values.{Values}
+use Rattle.command_line.specs.declared.faults.NoRequest.{NoRequest}
+use Rattle.command_line.specs.declared.faults.NoRequest.TheVariants.{Usage, Goal, Groups, Memory}
+use Rattle.command_line.specs.Commands.{IsProgram}
+
+-- ---- values of options
+
+-- the option has a value, whose digits say this number
+pub record HasNumber (rows : List Row) (id : Text) (n : ℕ) : Type 0 where
+  pub text : Text
+  pub given : one_of id rows ≡ Some text
+  pub value : n ≡ digits_value 10 (without_leading_plus text)
+
+abbrev pub costs_text : Costs → Text
+costs_text Unit = codes "unit"
+costs_text Face = codes "face"
+
+abbrev pub spread_text : SpreadKind → Text
+spread_text Zobrist = codes "zobrist"
+spread_text Blank = codes "blank"
+
+-- what a move costs on boards of this shape
+abbrev pub rule_of_costs : Costs → Grid → CostRule
+rule_of_costs Unit grid = unit_rule grid
+rule_of_costs Face grid = face_rule grid
+
+-- the shape that the rows and columns say
+pub record HasShape (rows : List Row) (grid : Grid) : Type 0 where
+  pub tall : HasNumber rows (codes "rows") grid.rows
+  pub wide : HasNumber rows (codes "cols") grid.cols
+
+-- what the values of a subcommand's options say, but for the texts of the goal and of the groups
+pub record AreValues (rows : List Row) (v : Values) : Type 0 where
+  pub shape : HasShape rows v.shape
+  pub goal : first_of (codes "goal") rows ≡ option_map (λ t. t.now) v.goal
+  pub costs : first_of (codes "cost") rows ≡ Some (costs_text v.costs)
+  pub groups : first_of (codes "groups") rows ≡ option_map (λ t. t.now) v.groups
+  pub workers : HasNumber rows (codes "workers") v.workers
+  pub spread : first_of (codes "spread") rows ≡ Some (spread_text v.spread)
+  pub limit : HasNumber rows (codes "limit") v.limit
+
+-- the goal that a text says, and where there is no text Korf's
+abbrev pub IsGoalSaid : Grid → Option Text → Position → Type 0
+IsGoalSaid grid None goal = goal ≡ goal_of grid
+IsGoalSaid grid (Some text) goal = IsGoalOf grid text goal
+
+-- the first fault of that text
+abbrev pub IsGoalFault : Grid → Option Text → TilesFault → Type 0
+IsGoalFault grid None fault = ⊥
+IsGoalFault grid (Some text) fault = IsFirstWordFault grid (comma_words text) fault
+
+-- the groups that a text says, and where there is no text the default groups
+abbrev pub AreGroupsSaid : Grid → Option Text → Split → Type 0
+AreGroupsSaid grid None split = (split.grid ≡ grid) × (map (λ g. g.tiles) split.groups ≡ default_groups grid)
+AreGroupsSaid grid (Some text) split = (split.grid ≡ grid) × AreGroupsOf grid (group_texts text) split.groups
+
+-- the first fault of that text; without a text only that memory is refused
+abbrev pub IsGroupsFault : Grid → Option Text → GroupsFault → Type 0
+IsGroupsFault grid None fault = IsRefusal fault
+IsGroupsFault grid (Some text) fault = IsFirstGroupsFault grid (group_texts text) fault
+
+-- what the values of a subcommand's options say
+pub record AreOptions (rows : List Row) (o : Options) : Type 0 where
+  pub shape : HasShape rows o.goal.grid
+  pub goal : IsGoalSaid o.goal.grid (first_of (codes "goal") rows) o.goal
+  pub costs : first_of (codes "cost") rows ≡ Some (costs_text o.costs)
+  pub groups : AreGroupsSaid o.goal.grid (first_of (codes "groups") rows) o.groups
+  pub workers : HasNumber rows (codes "workers") o.workers
+  pub spread : first_of (codes "spread") rows ≡ Some (spread_text o.spread)
+  pub limit : HasNumber rows (codes "limit") o.limit
+
+-- why they say nothing: the fault of the goal's text; or where that has none, the fault of the groups' text; and memory may be refused
+abbrev pub OptionsFail : List Row → NoRequest → Type 0
+OptionsFail rows (Usage text) = ⊥
+OptionsFail rows (Goal fault) = (grid : Grid) × HasShape rows grid × IsGoalFault grid (first_of (codes "goal") rows) fault
+OptionsFail rows (Groups fault) =
+    (grid : Grid) × HasShape rows grid × (goal : Position) × IsGoalSaid grid (first_of (codes "goal") rows) goal × IsGroupsFault grid (first_of (codes "groups") rows) fault
+OptionsFail rows Memory = ⊤
+
+-- ---- what words ask for
+
+-- the run that a subcommand and the values of its options ask for
+abbrev pub AsksRun : Option (Text × List Row) → Request → Type 0
+AsksRun None request = ⊥
+AsksRun (Some p) (Solve o) = (p.0 ≡ codes "solve") × AreOptions p.1 o × (first_of (codes "cert") p.1 ≢ Some (codes "true"))
+AsksRun (Some p) (Certify o) = (p.0 ≡ codes "solve") × AreOptions p.1 o × (first_of (codes "cert") p.1 ≡ Some (codes "true"))
+AsksRun (Some p) Check = p.0 ≡ codes "check"
+AsksRun (Some p) (Replay o) = (p.0 ≡ codes "replay") × AreOptions p.1 o
+AsksRun (Some p) (Help text) = ⊥
+AsksRun (Some p) (Version text) = ⊥
+
+-- why the values of a subcommand's options ask for no run
+abbrev pub RunFails : Option (Text × List Row) → NoRequest → Type 0
+RunFails None refusal = refusal ≡ Memory
+RunFails (Some p) refusal = OptionsFail p.1 refusal
+
+-- a text that a parse with these faults asks for
+abbrev pub AsksText : Kinds → Request → Type 0
+AsksText faults (Help text) = IsAmong DisplayHelp faults
+AsksText faults (Version text) = IsAmong DisplayVersion faults
+AsksText faults _ = ⊥
+
+-- why a parse with these faults asks for nothing; and memory may be refused
+abbrev pub TextFails : Kinds → NoRequest → Type 0
+TextFails faults (Usage text) = (kind : ErrorKind) × IsAmong kind faults × (kind ≢ DisplayHelp) × (kind ≢ DisplayVersion)
+TextFails faults (Goal fault) = ⊥
+TextFails faults (Groups fault) = ⊥
+TextFails faults Memory = ⊤
+
+-- without words: boards of 3 by 3 at unit cost with Korf's goal and the default groups, by one worker without a limit
+pub record AreDefaults (o : Options) : Type 0 where
+  pub goal : o.goal ≡ goal_of (record { rows = 3; cols = 3 })
+  pub costs : o.costs ≡ Unit
+  pub groups : AreGroupsSaid o.goal.grid None o.groups
+  pub workers : o.workers ≡ 1
+  pub spread : o.spread ≡ Zobrist
+  pub limit : o.limit ≡ 2 ^ 64 - 1
+
+abbrev pub AsksDefaults : Request → Type 0
+AsksDefaults (Solve o) = AreDefaults o
+AsksDefaults _ = ⊥
+
+abbrev pub DefaultsFail : NoRequest → Type 0
+DefaultsFail (Groups fault) = IsRefusal fault
+DefaultsFail _ = ⊥
+
+-- what words ask for: a text, or where a parse by the program finds no fault a run
+abbrev pub WordsAsk : List Text → Request → Type 0
+WordsAsk [] request = AsksDefaults request
+WordsAsk (word ∷ words) request =
+    (program : App) × IsProgram program
+    × (AsksText (fault_of program (word ∷ words)) request ⊎ ((fault_of program (word ∷ words) ≡ []) × AsksRun (subcommand_of program (word ∷ words)) request))
+
+-- why they ask for nothing
+abbrev pub WordsFail : List Text → NoRequest → Type 0
+WordsFail [] refusal = DefaultsFail refusal
+WordsFail (word ∷ words) refusal =
+    (program : App) × IsProgram program
+    × (TextFails (fault_of program (word ∷ words)) refusal ⊎ ((fault_of program (word ∷ words) ≡ []) × RunFails (subcommand_of program (word ∷ words)) refusal))

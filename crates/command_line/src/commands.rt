@@ -1,0 +1,149 @@
+//! The program's subcommands and their options.
+
+ghost use Rattle.std.specs.Prelude.{◌≡◌, IfOk, IfErr, false};
+ghost use Rattle.clap.specs.Words.{app_of, rule_of, kind_of};
+ghost use Rattle.clap.specs.declared.builder.command.Command.TheViews.{out-Command};
+ghost use Rattle.clap.specs.declared.error.kind.ErrorKind.TheVariants.{OutOfMemory};
+ghost use Rattle.command_line.specs.Commands.{option_rule, side_rule, number_rule, choice_rule};
+ghost use Rattle.command_line.specs.Commands.{flag_rule, puzzle_app, program_app};
+
+use crate::help;
+use clap::builder::ValueParser;
+use clap::{Arg, ArgAction, Command, Error};
+use std::alloc::Global;
+
+/// `tilesolve` with its subcommands `solve`, `check` and `replay`. The error is that memory was
+/// refused.
+pub(crate) fn program<'a>(
+    alloc: Global,
+    costs: &'a [&'a str],
+    spreads: &'a [&'a str],
+) -> Result<Command<'a>, Error>
+    ensures app { IfOk result (λ c. app_of c ≡ program_app costs.entry spreads.entry) }
+    ensures refused { IfErr result (λ e. kind_of e ≡ OutOfMemory) }
+{
+    let solve = puzzle(alloc, "solve", costs, spreads)?
+        .about(help::SOLVE)
+        .long_about(help::SOLVE_LONG)
+        .after_help(help::SOLVE_AFTER)
+        .arg(flag(alloc, "cert", help::CERT))?;
+    let check = Command::new(alloc, "check")
+        .about(help::CHECK)
+        .long_about(help::CHECK_LONG)
+        .after_help(help::CHECK_AFTER);
+    let replay = puzzle(alloc, "replay", costs, spreads)?
+        .about(help::REPLAY)
+        .long_about(help::REPLAY_LONG)
+        .after_help(help::REPLAY_AFTER);
+    let command = Command::new(alloc, "tilesolve")
+        .bin_name("tilesolve")?
+        .version(help::VERSION)
+        .about(help::PROGRAM)
+        .long_about(help::PROGRAM_LONG)
+        .after_help(help::PROGRAM_AFTER)
+        .no_binary_name(true)
+        .subcommand_required(true)
+        .disable_help_subcommand(true)
+        .subcommand(solve)?
+        .subcommand(check)?
+        .subcommand(replay)?;
+    Ok(command)
+}
+
+// A subcommand with the options that say a puzzle and how it is searched.
+fn puzzle<'a>(
+    alloc: Global,
+    name: &'a str,
+    costs: &'a [&'a str],
+    spreads: &'a [&'a str],
+) -> Result<Command<'a>, Error>
+    ensures app { IfOk result (λ c.
+        app_of c ≡ puzzle_app costs.entry spreads.entry name.entry.now) }
+    ensures local { IfOk result (λ c. (out-Command c).has_globals ≡ false) }
+    ensures refused { IfErr result (λ e. kind_of e ≡ OutOfMemory) }
+{
+    let command = Command::new(alloc, name)
+        .arg(side(alloc, "rows", help::ROWS))?
+        .arg(side(alloc, "cols", help::COLS))?
+        .arg(choice(alloc, "cost", "COST", help::COST, costs, "unit"))?
+        .arg(option(alloc, "goal", "TILES", help::GOAL))?
+        .arg(option(alloc, "groups", "GROUPS", help::GROUPS))?
+        .arg(number(alloc, "workers", help::WORKERS, 1, 16, "1"))?
+        .arg(choice(alloc, "spread", "SPREAD", help::SPREAD, spreads, "zobrist"))?
+        .arg(number(
+            alloc,
+            "limit",
+            help::LIMIT,
+            0,
+            u64::MAX,
+            "18446744073709551615",
+        ))?;
+    Ok(command)
+}
+
+// An option of one value, any text, which help shows by a name.
+fn option<'a>(alloc: Global, name: &'a str, value: &'a str, help: &'a str) -> Arg<'a>
+    ensures rule { rule_of result ≡ option_rule name.entry.now }
+    ensures local { result.global ≡ false }
+{
+    Arg::new(alloc, name)
+        .long(name)
+        .action(ArgAction::Set)
+        .value_name(value)
+        .help(help)
+}
+
+// An option that must be there, of a number from 2 to 5.
+fn side<'a>(alloc: Global, name: &'a str, help: &'a str) -> Arg<'a>
+    ensures rule { rule_of result ≡ side_rule name.entry.now }
+    ensures local { result.global ≡ false }
+{
+    option(alloc, name, "N", help)
+        .required(true)
+        .value_parser(ValueParser::unsigned(2, 5))
+}
+
+// An option of a number.
+fn number<'a>(
+    alloc: Global,
+    name: &'a str,
+    help: &'a str,
+    least: u64,
+    most: u64,
+    given: &'a str,
+) -> Arg<'a>
+    ensures rule { rule_of result ≡ number_rule name.entry.now least most given.entry.now }
+    ensures local { result.global ≡ false }
+{
+    option(alloc, name, "N", help)
+        .value_parser(ValueParser::unsigned(least, most))
+        .default_value(given)
+}
+
+// An option of one of some words.
+fn choice<'a>(
+    alloc: Global,
+    name: &'a str,
+    value: &'a str,
+    help: &'a str,
+    choices: &'a [&'a str],
+    given: &'a str,
+) -> Arg<'a>
+    ensures rule { rule_of result ≡ choice_rule name.entry.now choices.entry given.entry.now }
+    ensures local { result.global ≡ false }
+{
+    option(alloc, name, value, help)
+        .value_parser(ValueParser::Names(choices))
+        .default_value(given)
+}
+
+// An option without a value.
+fn flag<'a>(alloc: Global, name: &'a str, help: &'a str) -> Arg<'a>
+    ensures rule { rule_of result ≡ flag_rule name.entry.now }
+    ensures local { result.global ≡ false }
+{
+    Arg::new(alloc, name)
+        .long(name)
+        .action(ArgAction::SetTrue)
+        .help(help)
+}

@@ -1,0 +1,95 @@
+//! Why words ask for nothing.
+
+ghost use Rattle.std.specs.Prelude.{◌≡◌};
+ghost use Rattle.board.specs.Faults.{tiles_code};
+ghost use Rattle.option_texts.specs.Faults.{groups_code};
+ghost use Rattle.pattern_index.specs.Faults.{group_code, partition_code};
+ghost use Rattle.command_line.specs.Faults.{refusal_status, refusal_message, coded_line};
+
+use board::TilesFault;
+use option_texts::GroupsFault;
+use pattern_index::{GroupFault, PartitionFault};
+
+/// Why words ask for nothing.
+#[derive(Debug, Drop)]
+pub enum NoRequest {
+    /// The words are at fault, as this text says.
+    Usage(String),
+    /// The text of the goal is at fault: E2 to E4.
+    Goal(TilesFault),
+    /// The text of the groups is at fault: E5 to E10; or there is no memory for them.
+    Groups(GroupsFault),
+    /// There is no memory for the parser of the words.
+    Memory,
+}
+
+impl NoRequest {
+    /// The status that the program ends by: 2 for the words, with the texts of the goal and of the
+    /// groups among them; 4 for want of memory.
+    pub fn status(&self) -> u8
+        ensures { result ≡ refusal_status self.now }
+    {
+        match self {
+            NoRequest::Usage(_) | NoRequest::Goal(_) => 2,
+            NoRequest::Groups(GroupsFault::Memory(_)) => 4,
+            NoRequest::Groups(_) => 2,
+            NoRequest::Memory => 4,
+        }
+    }
+
+    /// What is written of it to standard error: the text of usage, or a line with a code.
+    pub fn message(&self) -> &str
+        ensures { result.now ≡ refusal_message self.now }
+    {
+        match self {
+            NoRequest::Usage(text) => text.as_str(),
+            NoRequest::Goal(fault) => goal_line(*fault),
+            NoRequest::Groups(fault) => groups_line(*fault),
+            NoRequest::Memory => "tilesolve: memory\n",
+        }
+    }
+}
+
+// The line of a goal's fault.
+fn goal_line(fault: TilesFault) -> &'static str
+    ensures { result.now ≡ coded_line (tiles_code fault) }
+{
+    match fault {
+        TilesFault::WrongCount => "tilesolve: E2\n",
+        TilesFault::TileOutOfRange(_) => "tilesolve: E3\n",
+        TilesFault::TileRepeated(_) => "tilesolve: E4\n",
+    }
+}
+
+// The line of a fault of groups.
+fn groups_line(fault: GroupsFault) -> &'static str
+    ensures { result.now ≡ coded_line (groups_code fault) }
+{
+    match fault {
+        GroupsFault::NoGroup(fault) => group_line(fault),
+        GroupsFault::NoPartition(fault) => partition_line(fault),
+        GroupsFault::Memory(_) => "tilesolve: memory\n",
+    }
+}
+
+// The line of a group's fault.
+fn group_line(fault: GroupFault) -> &'static str
+    ensures { result.now ≡ coded_line (group_code fault) }
+{
+    match fault {
+        GroupFault::Empty => "tilesolve: E5\n",
+        GroupFault::NotATile => "tilesolve: E6\n",
+        GroupFault::Repeated => "tilesolve: E7\n",
+        GroupFault::TooManyViews => "tilesolve: E8\n",
+    }
+}
+
+// The line of a fault of groups that are no partition.
+fn partition_line(fault: PartitionFault) -> &'static str
+    ensures { result.now ≡ coded_line (partition_code fault) }
+{
+    match fault {
+        PartitionFault::SharedTile => "tilesolve: E9\n",
+        PartitionFault::TooManyGroups => "tilesolve: E10\n",
+    }
+}

@@ -1,0 +1,13 @@
+//! What the words after the program's name ask for: boards to be solved, a certificate to be
+//! written or checked, steps to be replayed, or a text of help.
+#![tactic(auto)]
+
+mod commands;
+mod faults;
+mod help;
+mod matches;
+mod requests;
+mod values;
+
+pub use faults::NoRequest;
+pub use requests::{Costs, Options, Request, read_words};

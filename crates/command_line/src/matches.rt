@@ -1,0 +1,103 @@
+//! What the parser's matches ask for.
+
+ghost use Rattle.std.specs.Prelude.{◌≡◌, ◌↔◌, IsTrue, IfOk, IfErr, IfSome, Some, codes, option_map};
+ghost use Rattle.clap.specs.Words.{first_of, found_of, rows_of, subcommand_rows_of};
+ghost use Rattle.command_line.specs.Requests.{AsksRun, RunFails, AreOptions, OptionsFail};
+ghost use Rattle.command_line.specs.Requests.{IsGoalSaid, IsGoalFault, AreGroupsSaid, IsGroupsFault};
+
+use crate::faults::NoRequest;
+use crate::requests::{Options, Request};
+use crate::values::{Values, has_cert, values_in};
+use board::{Board, Shape, TilesFault};
+use clap::ArgMatches;
+use option_texts::{GroupsFault, default_groups, read_goal, read_groups};
+use pattern_index::Partition;
+use std::alloc::Global;
+
+// What the subcommand asks for.
+pub(crate) fn run_in(alloc: Global, matches: &ArgMatches<'_>) -> Result<Request, NoRequest>
+    ensures request { IfOk result (AsksRun (subcommand_rows_of matches.now)) }
+    ensures refusal { IfErr result (RunFails (subcommand_rows_of matches.now)) }
+{
+    if let Some(below) = matches.subcommand_matches("solve") {
+        return solve_in(alloc, below);
+    }
+    if let Some(below) = matches.subcommand_matches("replay") {
+        return match options_in(alloc, below) {
+            Ok(options) => Ok(Request::Replay(options)),
+            Err(refusal) => Err(refusal),
+        };
+    }
+    if matches.subcommand_matches("check").is_some() {
+        return Ok(Request::Check);
+    }
+    Err(NoRequest::Memory)
+}
+
+// What the options of `solve` ask for.
+fn solve_in(alloc: Global, matches: &ArgMatches<'_>) -> Result<Request, NoRequest>
+    ensures request { IfOk result
+        (λ r. AsksRun (Some (codes "solve", rows_of (found_of matches.now))) r) }
+    ensures refusal { IfErr result (OptionsFail (rows_of (found_of matches.now))) }
+{
+    let options = match options_in(alloc, matches) {
+        Ok(options) => options,
+        Err(refusal) => return Err(refusal),
+    };
+    if has_cert(matches) {
+        return Ok(Request::Certify(options));
+    }
+    Ok(Request::Solve(options))
+}
+
+// What the values of the options say. The goal's text is judged first.
+fn options_in(alloc: Global, matches: &ArgMatches<'_>) -> Result<Options, NoRequest>
+    ensures options { IfOk result (AreOptions (rows_of (found_of matches.now))) }
+    ensures refusal { IfErr result (OptionsFail (rows_of (found_of matches.now))) }
+{
+    let Some(values) = values_in(matches) else {
+        return Err(NoRequest::Memory);
+    };
+    let goal = match goal_said(values.shape, values.goal) {
+        Ok(goal) => goal,
+        Err(fault) => return Err(NoRequest::Goal(fault)),
+    };
+    let groups = match groups_said(alloc, values.shape, values.groups) {
+        Ok(groups) => groups,
+        Err(fault) => return Err(NoRequest::Groups(fault)),
+    };
+    Ok(Options {
+        goal,
+        costs: values.costs,
+        groups,
+        workers: values.workers,
+        spread: values.spread,
+        limit: values.limit,
+    })
+}
+
+// The goal that a text says, and where there is no text Korf's.
+fn goal_said(shape: Shape, text: Option<&str>) -> Result<Board, TilesFault>
+    ensures goal { IfOk result (IsGoalSaid shape (option_map (λ t. t.now) text.entry)) }
+    ensures sides { IfOk result (λ goal. goal.grid ≡ shape) }
+    ensures fault { IfErr result (IsGoalFault shape (option_map (λ t. t.now) text.entry)) }
+{
+    match text {
+        Some(text) => read_goal(shape, text),
+        None => Ok(Board::goal(shape)),
+    }
+}
+
+// The groups that a text says, and where there is no text the default groups.
+fn groups_said(alloc: Global, shape: Shape, text: Option<&str>) -> Result<Partition, GroupsFault>
+    ensures groups { IfOk result (AreGroupsSaid shape (option_map (λ t. t.now) text.entry)) }
+    ensures fault { IfErr result (IsGroupsFault shape (option_map (λ t. t.now) text.entry)) }
+{
+    match text {
+        Some(text) => read_groups(alloc, shape, text),
+        None => match default_groups(alloc, shape) {
+            Ok(groups) => Ok(groups),
+            Err(refused) => Err(GroupsFault::Memory(refused)),
+        },
+    }
+}

@@ -1,0 +1,144 @@
+//! What words ask for.
+
+ghost use Rattle.std.specs.Prelude.{◌≡◌, [], IfOk, IfErr, map, string_bytes};
+ghost use Rattle.clap.specs.Words.{App, Kinds, HasKind, fault_of, subcommand_of};
+ghost use Rattle.clap.specs.Words.{subcommand_rows_of};
+ghost use Rattle.command_line.specs.Commands.{IsProgram};
+ghost use Rattle.command_line.specs.Requests.{AreDefaults, AsksText, TextFails};
+ghost use Rattle.command_line.specs.Requests.{WordsAsk, WordsFail, rule_of_costs};
+
+use crate::commands::program;
+use crate::faults::NoRequest;
+use crate::matches::run_in;
+use batch_runs::SpreadKind;
+use board::{Board, Shape, Weights};
+use clap::error::ErrorKind;
+use clap::{ArgMatches, Error};
+use memory::OutOfMemory;
+use option_texts::{GroupsFault, default_groups};
+use pattern_index::Partition;
+use std::alloc::Global;
+
+// The words that `--cost` may have.
+static COSTS: [&str; 2] = ["unit", "face"];
+
+// The words that `--spread` may have.
+static SPREADS: [&str; 2] = ["zobrist", "blank"];
+
+/// What a move costs.
+#[derive(Clone, Copy, Debug, PartialEq, Eq)]
+pub enum Costs {
+    /// Every move costs 1.
+    Unit,
+    /// To move tile t costs t.
+    Face,
+}
+
+impl Costs {
+    /// What moving each tile costs on boards of this shape.
+    pub fn weights(self, shape: Shape) -> Weights
+        ensures { result ≡ rule_of_costs self shape }
+    {
+        match self {
+            Costs::Unit => Weights::unit(shape),
+            Costs::Face => Weights::face(shape),
+        }
+    }
+}
+
+/// A puzzle and how it is searched.
+#[derive(Debug, Drop)]
+pub struct Options {
+    /// The goal, whose shape is that of all boards.
+    pub goal: Board,
+    pub costs: Costs,
+    /// The groups of tiles whose tables guide the search.
+    pub groups: Partition,
+    /// From 1 to 16.
+    pub workers: u8,
+    pub spread: SpreadKind,
+    /// The most boards that are expanded for one line.
+    pub limit: u64,
+}
+
+/// What words ask for.
+#[derive(Debug, Drop)]
+pub enum Request {
+    /// That boards are solved.
+    Solve(Options),
+    /// That the first board is solved, and its certificate written.
+    Certify(Options),
+    /// That a certificate is checked.
+    Check,
+    /// That steps are taken one by one.
+    Replay(Options),
+    /// This text of help.
+    Help(String),
+    /// This text of the version.
+    Version(String),
+}
+
+/// What the words after the program's name ask for; no words at all mean
+/// `solve --rows 3 --cols 3`. Or why they ask for nothing: the words themselves are judged first,
+/// then the text of the goal, then that of the groups.
+pub fn read_words(alloc: Global, words: &[String]) -> Result<Request, NoRequest>
+    ensures request { IfOk result (WordsAsk (map string_bytes words.now)) }
+    ensures refusal { IfErr result (WordsFail (map string_bytes words.now)) }
+{
+    if words.is_empty() {
+        return match default_options(alloc) {
+            Ok(options) => Ok(Request::Solve(options)),
+            Err(refused) => Err(NoRequest::Groups(GroupsFault::Memory(refused))),
+        };
+    }
+    let matches = match matches_of(alloc, words) {
+        Ok(matches) => matches,
+        Err(error) => return unmatched(alloc, &error),
+    };
+    run_in(alloc, &matches)
+}
+
+// The options where there are no words.
+fn default_options(alloc: Global) -> Result<Options, OutOfMemory>
+    ensures { IfOk result AreDefaults }
+{
+    let shape = Shape::new(3, 3).unwrap();
+    let groups = default_groups(alloc, shape)?;
+    Ok(Options {
+        goal: Board::goal(shape),
+        costs: Costs::Unit,
+        groups,
+        workers: 1,
+        spread: SpreadKind::Zobrist,
+        limit: u64::MAX,
+    })
+}
+
+// What the parser makes of the words.
+fn matches_of<'a>(alloc: Global, words: &'a [String]) -> Result<ArgMatches<'a>, Error>
+    ensures matches { IfOk result (λ matches. (program : App) × IsProgram program
+        × (fault_of program (map string_bytes words.entry.now) ≡ [])
+        × (subcommand_rows_of matches
+        ≡ subcommand_of program (map string_bytes words.entry.now))) }
+    ensures fault { IfErr result (λ error. (program : App) × IsProgram program
+        × HasKind (fault_of program (map string_bytes words.entry.now)) error) }
+{
+    program(alloc, COSTS.as_slice(), SPREADS.as_slice())?.try_get_matches_from(words)
+}
+
+// What is asked for where the parser gives no matches: a text, or nothing.
+fn unmatched(alloc: Global, error: &Error) -> Result<Request, NoRequest>
+    ensures request { (faults : Kinds) → HasKind faults error.now → IfOk result (AsksText faults) }
+    ensures refusal { (faults : Kinds) → HasKind faults error.now
+        → IfErr result (TextFails faults) }
+{
+    let Ok(text) = error.to_string(alloc) else {
+        return Err(NoRequest::Memory);
+    };
+    match error.kind() {
+        ErrorKind::DisplayHelp => Ok(Request::Help(text)),
+        ErrorKind::DisplayVersion => Ok(Request::Version(text)),
+        ErrorKind::OutOfMemory => Err(NoRequest::Memory),
+        _ => Err(NoRequest::Usage(text)),
+    }
+}

@@ -1,0 +1,111 @@
+//! The values of a subcommand's options, which the parser has judged.
+
+ghost use Rattle.std.specs.Prelude.{◌≡◌, ◌↔◌, IsTrue, IfSome, Some, codes};
+ghost use Rattle.clap.specs.Words.{first_of, found_of, rows_of};
+ghost use Rattle.command_line.specs.Requests.{HasNumber, HasShape, AreValues, costs_text};
+ghost use Rattle.command_line.specs.Requests.{spread_text};
+
+use crate::requests::Costs;
+use batch_runs::SpreadKind;
+use board::Shape;
+use clap::ArgMatches;
+
+/// The values of a subcommand's options. The texts of the goal and of the groups are not yet read.
+#[derive(Clone, Copy, Debug)]
+pub(crate) struct Values<'a> {
+    pub shape: Shape,
+    pub goal: Option<&'a str>,
+    pub costs: Costs,
+    pub groups: Option<&'a str>,
+    pub workers: u8,
+    pub spread: SpreadKind,
+    pub limit: u64,
+}
+
+// What the values of the options say. Nothing is said only where a value isn't what the parser
+// takes as one.
+pub(crate) fn values_in<'a>(matches: &ArgMatches<'a>) -> Option<Values<'a>>
+    ensures { IfSome result (AreValues (rows_of (found_of matches.now))) }
+{
+    let shape = shape_in(matches)?;
+    let costs = costs_in(matches)?;
+    let workers = byte_in(matches, "workers")?;
+    let spread = spread_in(matches)?;
+    let limit = number_in(matches, "limit")?;
+    Some(Values {
+        shape,
+        goal: matches.get_str("goal"),
+        costs,
+        groups: matches.get_str("groups"),
+        workers,
+        spread,
+        limit,
+    })
+}
+
+// Whether a certificate is asked for.
+pub(crate) fn has_cert(matches: &ArgMatches<'_>) -> bool
+    ensures { IsTrue result
+        ↔ (first_of (codes "cert") (rows_of (found_of matches.now)) ≡ Some (codes "true")) }
+{
+    match matches.get_str("cert") {
+        Some(text) => text == "true",
+        None => false,
+    }
+}
+
+// The shape that the rows and columns say.
+fn shape_in(matches: &ArgMatches<'_>) -> Option<Shape>
+    ensures { IfSome result (HasShape (rows_of (found_of matches.now))) }
+{
+    let rows = byte_in(matches, "rows")?;
+    let cols = byte_in(matches, "cols")?;
+    let Ok(shape) = Shape::new(rows, cols) else {
+        return None;
+    };
+    Some(shape)
+}
+
+// The number that the option's value says.
+fn byte_in(matches: &ArgMatches<'_>, id: &str) -> Option<u8>
+    ensures { IfSome result (HasNumber (rows_of (found_of matches.now)) id.now) }
+{
+    matches.get_one::<u8>(id)
+}
+
+// The number that the option's value says.
+fn number_in(matches: &ArgMatches<'_>, id: &str) -> Option<u64>
+    ensures { IfSome result (HasNumber (rows_of (found_of matches.now)) id.now) }
+{
+    matches.get_one::<u64>(id)
+}
+
+// What `--cost` says that a move costs.
+fn costs_in(matches: &ArgMatches<'_>) -> Option<Costs>
+    ensures { IfSome result (λ costs.
+        first_of (codes "cost") (rows_of (found_of matches.now)) ≡ Some (costs_text costs)) }
+{
+    let text = matches.get_str("cost")?;
+    if text == "unit" {
+        return Some(Costs::Unit);
+    }
+    if text == "face" {
+        return Some(Costs::Face);
+    }
+    None
+}
+
+// How `--spread` says that boards are spread over workers.
+fn spread_in(matches: &ArgMatches<'_>) -> Option<SpreadKind>
+    ensures { IfSome result (λ spread.
+        first_of (codes "spread") (rows_of (found_of matches.now)) ≡ Some (spread_text spread)) }
+{
+    let text = matches.get_str("spread")?;
+    if text == "zobrist" {
+        return Some(SpreadKind::Zobrist);
+    }
+    if text == "blank" {
+        return Some(SpreadKind::Blank);
+    }
+    None
+}
