@@ -1,5 +1,5 @@
 -- What the words of a command line ask for.
-use Rattle.std.specs.Prelude.{ℕ, ◌≡◌, ◌≢◌, ◌⊎◌, ◌-◌, ◌^◌, List, [], ◌∷◌, Option, Some, None, codes, option_map, map, ⊤}
+use Rattle.std.specs.Prelude.{ℕ, ◌≡◌, ◌≢◌, ◌≤◌, ◌⊎◌, ◌-◌, ◌^◌, List, [], ◌∷◌, Option, Some, None, codes, option_map, map, ⊤}
 use Rattle.std.specs.Str.Parse.{digits_value, without_leading_plus}
 use Rattle.clap.specs.Words.{Text, Row, App, Kinds, IsAmong, first_of, one_of, fault_of, subcommand_of}
 use Rattle.clap.specs.declared.error.kind.ErrorKind.{ErrorKind}
@@ -53,13 +53,19 @@ pub record HasShape (rows : List Row) (grid : Grid) : Type 0 where
   pub tall : HasNumber rows (codes "rows") grid.rows
   pub wide : HasNumber rows (codes "cols") grid.cols
 
+-- how many workers are said, from 1 to 16
+pub record HasWorkers (rows : List Row) (n : ℕ) : Type 0 where
+  pub count : HasNumber rows (codes "workers") n
+  pub some : 1 ≤ n
+  pub few : n ≤ 16
+
 -- what the values of a subcommand's options say, but for the texts of the goal and of the groups
 pub record AreValues (rows : List Row) (v : Values) : Type 0 where
   pub shape : HasShape rows v.shape
   pub goal : first_of (codes "goal") rows ≡ option_map (λ t. t.now) v.goal
   pub costs : first_of (codes "cost") rows ≡ Some (costs_text v.costs)
   pub groups : first_of (codes "groups") rows ≡ option_map (λ t. t.now) v.groups
-  pub workers : HasNumber rows (codes "workers") v.workers
+  pub workers : HasWorkers rows v.workers
   pub spread : first_of (codes "spread") rows ≡ Some (spread_text v.spread)
   pub limit : HasNumber rows (codes "limit") v.limit
 
@@ -89,7 +95,7 @@ pub record AreOptions (rows : List Row) (o : Options) : Type 0 where
   pub goal : IsGoalSaid o.goal.grid (first_of (codes "goal") rows) o.goal
   pub costs : first_of (codes "cost") rows ≡ Some (costs_text o.costs)
   pub groups : AreGroupsSaid o.goal.grid (first_of (codes "groups") rows) o.groups
-  pub workers : HasNumber rows (codes "workers") o.workers
+  pub workers : HasWorkers rows o.workers
   pub spread : first_of (codes "spread") rows ≡ Some (spread_text o.spread)
   pub limit : HasNumber rows (codes "limit") o.limit
 

@@ -47,7 +47,8 @@ Examples:
   echo 'a 8 0 6 5 4 7 2 3 1' | tilesolve solve --rows 3 --cols 3
   echo 'b 1 2 3 4 5 6 7 8 9 10 11 12 13 14 0 15' |
     tilesolve solve --rows 4 --cols 4 --goal 1,2,3,4,5,6,7,8,9,10,11,12,13,14,15,0
-  echo 'c 3 2 1 0' | tilesolve solve --rows 2 --cols 2 --cost face --groups 1,2/3 --cert
+  echo 'c 3 2 1 0' | tilesolve solve --rows 2 --cols 2 --cost face --groups 1,2/3 --cert |
+    tilesolve check
 
 Exit status:
   0  every line is optimal or unsolvable
@@ -137,8 +138,8 @@ pub(crate) const GOAL: &str = "Tiles of the goal, cell by cell, as 1,2,3,0 [defa
 
 /// The option `--groups`.
 pub(crate) const GROUPS: &str = "\
-Groups of tiles that have a table each, as 1,2/3, or none [default: the tiles in order, by 2 up to
-6 cells, by 4 up to 10, by 5 up to 16, else by 4]";
+Groups of tiles that have a table each, as 1,2/3, or none [default: the tiles in order,
+by 2 up to 6 cells, by 4 up to 10, by 5 up to 16, else by 4]";
 
 /// The option `--workers`.
 pub(crate) const WORKERS: &str = "Workers that share the search, 1 to 16";

@@ -2,8 +2,8 @@
 
 ghost use Rattle.std.specs.Prelude.{◌≡◌, ◌↔◌, IsTrue, IfSome, Some, codes};
 ghost use Rattle.clap.specs.Words.{first_of, found_of, rows_of};
-ghost use Rattle.command_line.specs.Requests.{HasNumber, HasShape, AreValues, costs_text};
-ghost use Rattle.command_line.specs.Requests.{spread_text};
+ghost use Rattle.command_line.specs.Requests.{HasNumber, HasShape, HasWorkers, AreValues};
+ghost use Rattle.command_line.specs.Requests.{costs_text, spread_text};
 
 use crate::requests::Costs;
 use batch_runs::SpreadKind;
@@ -29,7 +29,7 @@ pub(crate) fn values_in<'a>(matches: &ArgMatches<'a>) -> Option<Values<'a>>
 {
     let shape = shape_in(matches)?;
     let costs = costs_in(matches)?;
-    let workers = byte_in(matches, "workers")?;
+    let workers = workers_in(matches)?;
     let spread = spread_in(matches)?;
     let limit = number_in(matches, "limit")?;
     Some(Values {
@@ -64,6 +64,17 @@ fn shape_in(matches: &ArgMatches<'_>) -> Option<Shape>
         return None;
     };
     Some(shape)
+}
+
+// How many workers `--workers` says, from 1 to 16 as the parser takes them.
+fn workers_in(matches: &ArgMatches<'_>) -> Option<u8>
+    ensures { IfSome result (HasWorkers (rows_of (found_of matches.now))) }
+{
+    let workers = byte_in(matches, "workers")?;
+    if workers == 0 || workers > 16 {
+        return None;
+    }
+    Some(workers)
 }
 
 // The number that the option's value says.
