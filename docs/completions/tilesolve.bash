@@ -1,0 +1,30 @@
+# Completions of tilesolve for bash: source this file, or put it into the folder of completions.
+
+_tilesolve() {
+    local word=${COMP_WORDS[COMP_CWORD]} before=${COMP_WORDS[COMP_CWORD - 1]} words=
+    local options='--rows --cols --cost --goal --groups --workers --spread --limit'
+    # Where COMP_WORDBREAKS has an equals sign, an option and its value are three words.
+    if [[ $word == = ]]; then
+        word=
+    elif [[ $before == = ]]; then
+        before=${COMP_WORDS[COMP_CWORD - 2]}
+    fi
+    case $before in
+    --rows | --cols) words='2 3 4 5' ;;
+    --cost) words='unit face' ;;
+    --groups) words='none' ;;
+    --spread) words='zobrist blank' ;;
+    --goal | --workers | --limit) ;;
+    tilesolve | */tilesolve) words='solve check replay --help --version' ;;
+    *)
+        case ${COMP_WORDS[1]} in
+        solve) words="$options --cert --help" ;;
+        replay) words="$options --help" ;;
+        check) words='--help' ;;
+        esac
+        ;;
+    esac
+    mapfile -t COMPREPLY < <(compgen -W "$words" -- "$word")
+}
+
+complete -F _tilesolve tilesolve
