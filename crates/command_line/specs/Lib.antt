@@ -1,3 +1,4 @@
 pub mod Commands
 pub mod Requests
 pub mod Faults
+pub mod Worked

@@ -8,6 +8,7 @@ mod help;
 mod matches;
 mod requests;
 mod values;
+mod worked;
 
 pub use faults::NoRequest;
 pub use requests::{Costs, Options, Request, read_words};

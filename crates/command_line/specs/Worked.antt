@@ -1,0 +1,27 @@
+-- Worked rows: what a parse of words by the program finds at fault. Each is the contract of a function that does nothing.
+use Rattle.std.specs.Prelude.{◌≡◌, [], ◌∷◌, codes}
+use Rattle.clap.specs.Words.{fault_of}
+use Rattle.clap.specs.declared.error.kind.ErrorKind.TheVariants.{ValueValidation, ArgumentConflict, UnknownArgument, DisplayHelp, DisplayVersion}
+use Rattle.command_line.specs.Commands.{Choices, program_app}
+
+-- a side of 6 and 17 workers are no values of these options
+abbrev pub NumbersAreWithin : Type 0
+NumbersAreWithin =
+    (costs spreads : Choices)
+    → (fault_of (program_app costs spreads) (codes "solve" ∷ codes "--rows" ∷ codes "6" ∷ codes "--cols" ∷ codes "3" ∷ []) ≡ ValueValidation ∷ [])
+    × (fault_of (program_app costs spreads) (codes "replay" ∷ codes "--rows" ∷ codes "3" ∷ codes "--workers=17" ∷ codes "--cols" ∷ codes "3" ∷ []) ≡ ValueValidation ∷ [])
+
+-- an option that stands twice is at fault, and so is one of another subcommand
+abbrev pub OptionsStandOnce : Type 0
+OptionsStandOnce =
+    (costs spreads : Choices)
+    → (fault_of (program_app costs spreads) (codes "solve" ∷ codes "--rows" ∷ codes "3" ∷ codes "--rows" ∷ codes "3" ∷ []) ≡ ArgumentConflict ∷ [])
+    × (fault_of (program_app costs spreads) (codes "replay" ∷ codes "--cert" ∷ []) ≡ UnknownArgument ∷ [])
+
+-- help and the version are asked for; `check` alone is at no fault
+abbrev pub TextsAreAskedFor : Type 0
+TextsAreAskedFor =
+    (costs spreads : Choices)
+    → (fault_of (program_app costs spreads) (codes "solve" ∷ codes "--help" ∷ []) ≡ DisplayHelp ∷ [])
+    × (fault_of (program_app costs spreads) (codes "--version" ∷ []) ≡ DisplayVersion ∷ [])
+    × (fault_of (program_app costs spreads) (codes "check" ∷ []) ≡ [])

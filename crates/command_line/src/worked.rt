@@ -1,0 +1,18 @@
+//! Worked rows of the definitions: what a parse of words by the program finds at fault.
+
+ghost use Rattle.command_line.specs.Worked.{NumbersAreWithin, OptionsStandOnce, TextsAreAskedFor};
+
+/// A side of 6 and 17 workers are no values of these options.
+pub fn numbers_are_within()
+    ensures { NumbersAreWithin }
+{}
+
+/// An option that stands twice is at fault, and so is one of another subcommand.
+pub fn options_stand_once()
+    ensures { OptionsStandOnce }
+{}
+
+/// Help and the version are asked for; `check` alone is at no fault.
+pub fn texts_are_asked_for()
+    ensures { TextsAreAskedFor }
+{}
