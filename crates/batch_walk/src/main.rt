@@ -1,9 +1,11 @@
 //! A batch with tables: the lines on standard input are answered on standard output, by the groups
 //! that are the default for their shape. `bench/batch` times it.
 //!
-//!     batch_walk ROWS COLS    boards of this shape, with Korf's goal and unit costs
+//!     batch_walk ROWS COLS [WORKERS [SPREAD]]    boards of this shape, with Korf's goal and unit
+//!                                                costs, by so many workers, over which they are
+//!                                                spread by `zobrist` or by `blank`
 //!
-//! Without words it answers boards of 3 by 3.
+//! Without words it answers boards of 3 by 3, by one worker.
 //!
 //! Standard error has a line when the tables are built, and one at the end: how many lines are
 //! optimal, unsolvable, bounded and refused, and how many boards were expanded for them.
@@ -11,42 +13,103 @@
 
 mod setup;
 
-use batch_runs::{Setup, Summary};
+use batch_runs::{Setup, SpreadKind, Summary};
 use board::Shape;
 use byte_streams::{ByteSink, ByteSource, Sink, Source};
 use hda_run::{Gate, Kind};
 use setup::guided_setup;
 use setup_runs::run_batch;
-use std::env;
 use std::io::{self, BufReader, BufWriter, Eprint};
 use std::process::ExitCode;
 use std::sync::Wait;
 use std::sync::atomic::{AtomicU64, Ordering};
 use std::thread::Threads;
+use std::{array, env};
+use world_model::WORKER_LIMIT;
 
-// A gate that counts the boards that are expanded.
+// How many counts there are from one worker's on to the next one's: as many as a cache line and the
+// one that is fetched beside it have, so that workers don't wait for one another's.
+const STRIDE: usize = 16;
+
+// A gate that counts the boards that each worker expands.
 #[derive(Drop)]
 struct Counter {
-    expanded: AtomicU64,
+    expanded: [AtomicU64; STRIDE * WORKER_LIMIT],
 }
 
 impl Gate for Counter {
-    fn pass(&self, _worker: usize, kind: Kind) {
-        if kind == Kind::Expand {
-            let _ = self.expanded.fetch_add(1, Ordering::Relaxed);
+    fn pass(&self, worker: usize, kind: Kind) {
+        if kind != Kind::Expand || worker >= WORKER_LIMIT {
+            return;
         }
+        let _ = self.expanded[worker * STRIDE].fetch_add(1, Ordering::Relaxed);
     }
 }
 
-// The shape that the words name, or None where they name none.
-fn read_words(rt: &(impl std::rt::Env + AllocGlobal)) -> Option<Shape> {
+impl Counter {
+    fn new() -> Self {
+        Counter {
+            expanded: array::from_fn(|_| AtomicU64::new(0)),
+        }
+    }
+
+    // How many boards were expanded by all.
+    fn total(&self) -> u64 {
+        let mut total = 0u64;
+        for count in &self.expanded {
+            total = total.saturating_add(count.load(Ordering::Relaxed));
+        }
+        total
+    }
+}
+
+// What the words say.
+#[derive(Clone, Copy)]
+struct Words {
+    shape: Shape,
+    workers: usize,
+    spread: SpreadKind,
+}
+
+// What the words say, or None where they are none of the above.
+fn read_words(rt: &(impl std::rt::Env + AllocGlobal)) -> Option<Words> {
     let mut words = env::args(rt).ok()?.skip(1);
     let Some(rows) = words.next() else {
-        return Shape::new(3, 3).ok();
+        return by_one(3, 3);
     };
     let rows = rows.parse().ok()?;
     let cols = words.next()?.parse().ok()?;
-    Shape::new(rows, cols).ok()
+    let by_one = by_one(rows, cols)?;
+    let Some(workers) = words.next() else {
+        return Some(by_one);
+    };
+    let workers = workers.parse().ok()?;
+    let spread = match words.next() {
+        Some(word) => read_spread(&word)?,
+        None => SpreadKind::Zobrist,
+    };
+    Some(Words {
+        workers,
+        spread,
+        ..by_one
+    })
+}
+
+// Boards of this shape by one worker.
+fn by_one(rows: u8, cols: u8) -> Option<Words> {
+    Some(Words {
+        shape: Shape::new(rows, cols).ok()?,
+        workers: 1,
+        spread: SpreadKind::Zobrist,
+    })
+}
+
+fn read_spread(word: &str) -> Option<SpreadKind> {
+    match word {
+        "zobrist" => Some(SpreadKind::Zobrist),
+        "blank" => Some(SpreadKind::Blank),
+        _ => None,
+    }
 }
 
 // Answers the lines of the source, and tells the counts.
@@ -56,11 +119,9 @@ fn run<R: Threads + Wait + Eprint + AllocGlobal + Sync, S: Source, K: Sink>(
     sink: &mut K,
     setup: &Setup,
 ) -> Option<()> {
-    let counter = Counter {
-        expanded: AtomicU64::new(0),
-    };
+    let counter = Counter::new();
     let counts = run_batch(rt, rt.alloc(), source, sink, setup, &counter).ok()?;
-    tell(rt, counts, counter.expanded.load(Ordering::Relaxed)).ok()
+    tell(rt, counts, counter.total()).ok()
 }
 
 fn tell(rt: &(impl Eprint + AllocGlobal), counts: Summary, expanded: u64) -> io::Result<()> {
@@ -77,7 +138,7 @@ fn tell(rt: &(impl Eprint + AllocGlobal), counts: Summary, expanded: u64) -> io:
 
 fn main(rt: HostRuntime) -> ExitCode {
     let alloc = rt.alloc();
-    let Some(shape) = read_words(&rt) else {
+    let Some(words) = read_words(&rt) else {
         return ExitCode::from(2);
     };
     let (Ok(reader), Ok(writer)) = (
@@ -86,8 +147,11 @@ fn main(rt: HostRuntime) -> ExitCode {
     ) else {
         return ExitCode::from(4);
     };
-    let Ok(setup) = guided_setup(&rt, alloc, shape) else {
+    let Ok(setup) = guided_setup(&rt, alloc, words.shape) else {
         return ExitCode::from(4);
+    };
+    let Ok(setup) = setup.spread(words.spread).workers(words.workers) else {
+        return ExitCode::from(2);
     };
     let _ = eprintln!(&rt; "tables are built");
     let mut source = ByteSource::new(reader);
