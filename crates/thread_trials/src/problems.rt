@@ -1,0 +1,59 @@
+//! What is asked of workers, and what they answer.
+
+use board::{Board, Weights};
+use outcomes::Cause;
+
+/// A board, the goal, what moves cost, and how many boards may be expanded.
+#[derive(Clone, Copy)]
+pub struct Problem {
+    pub start: Board,
+    pub goal: Board,
+    pub weights: Weights,
+    pub limit: u64,
+}
+
+/// How boards are divided among workers.
+#[derive(Clone, Copy)]
+pub enum Division {
+    /// By the blank's cell.
+    ByBlank,
+    /// By the hash of the whole board.
+    ByHash,
+}
+
+impl Division {
+    /// Both ways.
+    pub const ALL: [Division; 2] = [Division::ByBlank, Division::ByHash];
+
+    /// The word for it.
+    pub fn word(self) -> &'static str {
+        match self {
+            Division::ByBlank => "blank",
+            Division::ByHash => "hash",
+        }
+    }
+}
+
+/// How many workers share a problem, and how.
+#[derive(Clone, Copy)]
+pub struct Team {
+    pub workers: usize,
+    pub division: Division,
+}
+
+/// What a run answers.
+#[derive(Clone, Copy, Debug, PartialEq, Eq)]
+pub enum Answer {
+    /// A least plan of this cost.
+    Plan(u32),
+    /// There is no plan.
+    NoPlan,
+    /// No plan costs less than this, and why no more was found.
+    Bound(u32, Cause),
+    /// A plan whose certificate the checker refuses.
+    Refused,
+    /// Memory was refused before the first step, or for the certificate.
+    NoMemory,
+    /// The parts of the problem are not of one shape, or the workers are not from 1 to 16.
+    Invalid,
+}

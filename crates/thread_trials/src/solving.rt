@@ -1,0 +1,161 @@
+//! What is answered by so many workers.
+
+ghost use Rattle.lower_bound.specs.Tables.{ArePotentials};
+
+use crate::problems::{Answer, Division, Problem, Team};
+use board::{Board, Move};
+use certificate::{Certificate, Parts};
+use certificate_check::check;
+use hda_run::{Gate, Job, WorldFault};
+use lower_bound::Bound;
+use outcomes::{Ending, Outcome};
+use owners::{ByBlank, Spread, Zobrist};
+use std::alloc::Global;
+use std::sync::Wait;
+use std::thread::Threads;
+use thread_runs::{end, solve};
+
+/// What `solve` answers. A plan's rows are looked at by the checker.
+pub fn answer_with_rows<R: Threads + Wait + Sync, G: Gate + Sync>(
+    rt: &R,
+    alloc: Global,
+    problem: &Problem,
+    bound: &Bound,
+    team: Team,
+    gate: &G,
+) -> Answer
+    requires { ArePotentials problem.now.weights problem.now.goal bound.now }
+{
+    match team.division {
+        Division::ByBlank => solve_by(rt, alloc, problem, bound, team.workers, ByBlank, gate),
+        Division::ByHash => {
+            let spread = Zobrist::new(problem.goal.shape());
+            solve_by(rt, alloc, problem, bound, team.workers, spread, gate)
+        }
+    }
+}
+
+/// What `end` answers, which makes no rows.
+pub fn answer_without_rows<R: Threads + Wait + Sync, G: Gate + Sync>(
+    rt: &R,
+    alloc: Global,
+    problem: &Problem,
+    bound: &Bound,
+    team: Team,
+    gate: &G,
+) -> Answer
+    requires { ArePotentials problem.now.weights problem.now.goal bound.now }
+{
+    match team.division {
+        Division::ByBlank => end_by(rt, alloc, problem, bound, team.workers, ByBlank, gate),
+        Division::ByHash => {
+            let spread = Zobrist::new(problem.goal.shape());
+            end_by(rt, alloc, problem, bound, team.workers, spread, gate)
+        }
+    }
+}
+
+fn solve_by<R: Threads + Wait + Sync, S: Spread + Drop + Sync, G: Gate + Sync>(
+    rt: &R,
+    alloc: Global,
+    problem: &Problem,
+    bound: &Bound,
+    workers: usize,
+    spread: S,
+    gate: &G,
+) -> Answer
+    requires { ArePotentials problem.now.weights problem.now.goal bound.now }
+{
+    let Some(job) = job_of(problem, bound) else {
+        return Answer::Invalid;
+    };
+    match solve(rt, alloc, job, workers, spread, gate) {
+        Ok(outcome) => answer_of_outcome(alloc, problem, bound, outcome),
+        Err(fault) => answer_of_fault(fault),
+    }
+}
+
+fn end_by<R: Threads + Wait + Sync, S: Spread + Drop + Sync, G: Gate + Sync>(
+    rt: &R,
+    alloc: Global,
+    problem: &Problem,
+    bound: &Bound,
+    workers: usize,
+    spread: S,
+    gate: &G,
+) -> Answer
+    requires { ArePotentials problem.now.weights problem.now.goal bound.now }
+{
+    let Some(job) = job_of(problem, bound) else {
+        return Answer::Invalid;
+    };
+    match end(rt, alloc, job, workers, spread, gate) {
+        Ok(ending) => answer_of_ending(ending),
+        Err(fault) => answer_of_fault(fault),
+    }
+}
+
+// The job, or None where its parts are not of one shape.
+fn job_of<'a>(problem: &Problem, bound: &'a Bound) -> Option<Job<'a>>
+    requires { ArePotentials problem.now.weights problem.now.goal bound.now }
+{
+    Job::new(
+        problem.start,
+        problem.goal,
+        problem.weights,
+        bound,
+        problem.limit,
+    )
+    .ok()
+}
+
+fn answer_of_outcome(alloc: Global, problem: &Problem, bound: &Bound, outcome: Outcome) -> Answer {
+    match outcome {
+        Outcome::Optimal { cost, plan, rows } => judge(alloc, problem, bound, cost, plan, rows),
+        Outcome::Unsolvable { .. } => Answer::NoPlan,
+        Outcome::Bounded { bound, cause, .. } => Answer::Bound(bound, cause),
+    }
+}
+
+fn answer_of_ending(ending: Ending) -> Answer {
+    match ending {
+        Ending::Optimal { cost, .. } => Answer::Plan(cost),
+        Ending::Unsolvable { .. } => Answer::NoPlan,
+        Ending::Bounded { bound, cause, .. } => Answer::Bound(bound, cause),
+    }
+}
+
+fn answer_of_fault(fault: WorldFault) -> Answer {
+    match fault {
+        WorldFault::WorkerCount => Answer::Invalid,
+        WorldFault::Memory(_) => Answer::NoMemory,
+    }
+}
+
+// A plan, as far as the checker accepts its certificate.
+fn judge(
+    alloc: Global,
+    problem: &Problem,
+    bound: &Bound,
+    cost: u32,
+    plan: Vec<Move>,
+    rows: Vec<(Board, u32)>,
+) -> Answer {
+    let Ok(groups) = bound.partition().copy(alloc) else {
+        return Answer::NoMemory;
+    };
+    let parts = Parts {
+        shape: problem.goal.shape(),
+        costs: problem.weights,
+        groups,
+        start: problem.start,
+        goal: problem.goal,
+        cost,
+        plan,
+        rows,
+    };
+    match Certificate::new(parts) {
+        Some(certificate) if check(&certificate, bound).is_ok() => Answer::Plan(cost),
+        _ => Answer::Refused,
+    }
+}
