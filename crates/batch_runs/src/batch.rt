@@ -62,12 +62,7 @@ impl Summary {
 /// Writes a report for each line of the source that isn't passed over, in order, and flushes the
 /// sink after each. A board is solved by the closure, which answers what the rules allow, or tells
 /// a want of memory before the first step. Where the rules are truthful, so is what is written.
-pub fn run_lines<
-    S: Source,
-    K: Sink,
-    A: Ruled,
-    F: Fn(&Board) -> Result<Ending, OutOfMemory> + Drop,
->(
+pub fn run_lines<S: Source, K: Sink, A: Ruled, F: Fn(&Board) -> Result<Ending, OutOfMemory> + Drop>(
     alloc: Global,
     source: &mut S,
     sink: &mut K,

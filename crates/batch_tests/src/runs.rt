@@ -469,9 +469,14 @@ fn counts_of_lines(alloc: Global) -> Result<Summary, LinesFault> {
     let mut source = ByteSource::new(LINES);
     let mut sink = ByteSink::new(Vec::new(alloc));
     let asked = ByBlank { shape };
-    run_lines(alloc, &mut source, &mut sink, shape, &asked, |start: &Board| {
-        answer_by_blank(alloc, start)
-    })
+    run_lines(
+        alloc,
+        &mut source,
+        &mut sink,
+        shape,
+        &asked,
+        |start: &Board| { answer_by_blank(alloc, start) },
+    )
 }
 
 #[test]

@@ -70,12 +70,7 @@ pub fn certify_first<
 }
 
 // The same, by what was replied.
-fn reply_to_first<
-    S: Source,
-    K: Sink,
-    A: Ruled,
-    F: Fn(&Board) -> Result<Outcome, OutOfMemory>,
->(
+fn reply_to_first<S: Source, K: Sink, A: Ruled, F: Fn(&Board) -> Result<Outcome, OutOfMemory>>(
     alloc: Global,
     source: &mut S,
     sink: &mut K,

@@ -72,10 +72,11 @@ module _ (setup : SetupState) (start : Position) where
   pub may_prove : {S : Type 0} (hash_of : S → Position → ℕ) (owners : S) → ((b : Position) → hash_of owners b % setup.workers ≡ hash_by setup.spread b % setup.workers) → RowsCanBeLeft → (result : Result Outcome OutOfMemory) → (result ≡ Ok (outcome.Unsolvable Parity)) ↔ (¬ SameClass start setup.goal) → (SameClass start setup.goal → IfOk result (IsSolved hash_of (problem_of setup start) owners setup.workers)) → IfOk result (Answers (task_of setup start)) → IfOk result HasWholeRun → MayProve (rules_of setup) start result
   may_prove hash_of owners same rows (Err refused) parity run answers kept =
       may_give setup start hash_of owners same (Err refused) ((λ e. absurd (cc)), (λ other. absurd (error_back refused (parity.1 other)))) (λ together. tt) tt tt
-  may_prove hash_of owners same rows (Ok o) parity run answers kept =
-      (may_give setup start hash_of owners same (Ok (without_rows o))
-       ((λ e. parity.0 (parity_back o e)), (λ other. ap ending_of (parity.1 other)))
-       (λ together. ends_solved hash_of (problem_of setup start) owners setup.workers o (run together))
-       (rows (task_of setup start) o answers)
-       (ending_kept o kept),
-       answers)
+  may_prove hash_of owners same rows (Ok o) parity run answers kept = (
+    may_give setup start hash_of owners same (Ok (without_rows o))
+        ((λ e. parity.0 (parity_back o e)), (λ other. ap ending_of (parity.1 other)))
+        (λ together. ends_solved hash_of (problem_of setup start) owners setup.workers o (run together))
+        (rows (task_of setup start) o answers)
+        (ending_kept o kept),
+    answers,
+  )
