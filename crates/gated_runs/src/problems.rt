@@ -1,0 +1,22 @@
+//! The board.
+
+ghost use Rattle.std.specs.Prelude.{◌≡◌, IfSome};
+
+use board::{Board, Shape, Weights};
+use thread_trials::Problem;
+
+/// Thirty-one moves from the goal.
+pub const START: [u8; 9] = [8, 0, 6, 5, 4, 7, 2, 3, 1];
+
+/// The way from the board to Korf's goal at unit cost, by so many expansions at most.
+pub fn problem(limit: u64) -> Option<Problem>
+    ensures { IfSome result (λ problem. problem.weights.grid ≡ problem.goal.grid) }
+{
+    let shape = Shape::new(3, 3).ok()?;
+    Some(Problem {
+        start: Board::from_tiles(shape, &START).ok()?,
+        goal: Board::goal(shape),
+        weights: Weights::unit(shape),
+        limit,
+    })
+}
