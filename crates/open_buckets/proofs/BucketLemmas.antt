@@ -1,12 +1,13 @@
 -- Buckets, one of which changes.
 use Rattle.std.proofs.Common.{◌≡◌, ◌≢◌, ℕ, ◌+◌, ◌-◌, ◌<◌, ◌≤◌, ◌∙◌, List, [], ◌∷◌, ◌++◌, length, sym, ap, subst, inl, inr, arith, get_or, length-set}
-use Rattle.std.specs.Prelude.{map, set, take}
+use Rattle.std.specs.Prelude.{map, set, take, IsPermutation}
+use Rattle.std.specs.List.Sorted.{IsNonDecreasingBy}
 use Rattle.std.specs.Vec.{vec_len}
 use Rattle.std.specs.declared.vec.Vec.{Vec}
 use Rattle.std.proofs.lemmas.Bool.{cases_eq, cases_lt}
 use Rattle.std.proofs.lemmas.List.{take_more, take_all, get_or-set_same, get_or-set_other, get_or-map, length-map, get_or_past, get_or_append_left, get_or_push, length_push, nil_from_length}
 use Rattle.std.proofs.Math.Seq.{map-set_same}
-use Rattle.open_buckets.specs.OpenLists.{entries_at, places_at, NothingWaits, OthersStay, Puts, Takes, IsNext}
+use Rattle.open_buckets.specs.OpenLists.{entries_at, places_at, NothingWaits, OthersStay, Puts, Takes, Sorts, IsNext}
 use Rattle.open_buckets.specs.Buckets.{list_of}
 
 module _ {K Z : Type 0} where
@@ -86,6 +87,14 @@ module _ {K Z : Type 0} where
       taken_from e items spare before = record {
         here = entries_old ∙ items ∙ ap (λ xs. xs ++ e ∷ []) (sym entries_set);
         least = before;
+        places = let p = places_set in let o = places_old in omega arith;
+        others = others_set;
+      }
+
+      pub sorted_in : IsPermutation old.items b.items → IsNonDecreasingBy (λ (e : K × ℕ). e.1) b.items → b.cap - b.len ≡ old.cap - old.len → Sorts f (list_of bs) (list_of (set bs f b))
+      sorted_in moved sorted spare = record {
+        moved = subst (λ xs. IsPermutation xs (entries_at (list_of (set bs f b)) f)) (sym entries_old) (subst (IsPermutation old.items) (sym entries_set) moved);
+        sorted = subst (IsNonDecreasingBy (λ (e : K × ℕ). e.1)) (sym entries_set) sorted;
         places = let p = places_set in let o = places_old in omega arith;
         others = others_set;
       }

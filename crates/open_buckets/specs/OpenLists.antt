@@ -1,6 +1,7 @@
 -- What contracts see of an open list: at each f, the cost of a board plus its sum, the entries, of which each is a key and a cost, and
 -- for how many more there is a place.
-use Rattle.std.specs.Prelude.{ℕ, ◌≡◌, ◌≢◌, ◌<◌, ◌≤◌, ◌+◌, List, [], ◌∷◌, ◌++◌, Option, None, Some, slice_index, slice_index_or}
+use Rattle.std.specs.Prelude.{ℕ, ◌≡◌, ◌≢◌, ◌<◌, ◌≤◌, ◌+◌, List, [], ◌∷◌, ◌++◌, Option, None, Some, slice_index, slice_index_or, IsPermutation}
+use Rattle.std.specs.List.Sorted.{IsNonDecreasingBy}
 
 -- Entries and places, both by f.
 pub record OpenList (K : Type 0) : Type 0 where
@@ -31,6 +32,13 @@ OthersStay f old new = (h : ℕ) → h ≢ f → (entries_at new h ≡ entries_a
 pub record Puts {K : Type 0} (f : ℕ) (entry : K × ℕ) (old new : OpenList K) : Type 0 where
   pub here : entries_at new f ≡ entries_at old f ++ entry ∷ []
   pub places : places_at old f ≤ places_at new f + 1
+  pub others : OthersStay f old new
+
+-- the entries at f are put in order of their costs
+pub record Sorts {K : Type 0} (f : ℕ) (old new : OpenList K) : Type 0 where
+  pub moved : IsPermutation (entries_at old f) (entries_at new f)
+  pub sorted : IsNonDecreasingBy (λ (entry : K × ℕ). entry.1) (entries_at new f)
+  pub places : places_at new f ≡ places_at old f
   pub others : OthersStay f old new
 
 -- an entry is taken out at f, which is the least f of all, and gives its place back

@@ -2,7 +2,7 @@
 
 ghost use Rattle.std.specs.Prelude.{◌≡◌, ◌<◌, ◌≤◌, ◌^◌, ℕ, OnOk, MatchOption};
 ghost use Rattle.open_buckets.specs.OpenLists.{empty_list, entries_at, places_at, NothingWaits};
-ghost use Rattle.open_buckets.specs.OpenLists.{Puts, Takes, IsNext, IsLowest};
+ghost use Rattle.open_buckets.specs.OpenLists.{Puts, Takes, Sorts, IsNext, IsLowest};
 
 use memory::OutOfMemory;
 use std::alloc::Global;
@@ -73,6 +73,18 @@ impl<K: Copy> Open<K> {
         }
         if place < self.cursor {
             self.cursor = place;
+        }
+    }
+
+    /// Puts the entries at an f in order of their costs, so that one of the greatest cost is taken
+    /// there next.
+    pub fn sort_at(&mut self, f: u32)
+        ensures { Sorts f self.old self.new }
+    {
+        let place = f as usize;
+        if place < self.buckets.len() {
+            let bucket = &mut self.buckets[place];
+            bucket.sort_unstable_by_key(|entry| entry.1);
         }
     }
 

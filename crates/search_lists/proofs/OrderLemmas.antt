@@ -3,17 +3,18 @@ use Rattle.std.proofs.Common.{◌≡◌, ◌≢◌, ◌⊎◌, ℕ, zero, suc, �
 use Rattle.std.specs.Prelude.{Contains, slice_get, nat_lt, if◌then◌else◌}
 use Rattle.std.specs.FinMap as map
 use Rattle.std.proofs.lemmas.Bool.{cases_eq, cases_lt, cases_Bool, cond-true, cond-false}
-use Rattle.std.proofs.lemmas.List.{length-append}
+use Rattle.std.proofs.lemmas.List.{length-append, nil_from_length}
 use Rattle.std.proofs.lemmas.List.Elements.{Contains-append_left, Contains-push, Contains-push_cases}
+use Rattle.std.proofs.lemmas.List.Sorted.{Contains-permutation, IsPermutation-sym, length_permutation}
 use Rattle.std.proofs.lemmas.Option.{slice_get_within}
 use Rattle.board.specs.declared.moves.Move.{Move}
-use Rattle.open_buckets.specs.OpenLists.{OpenList, entries_at, NothingWaits, Puts, Takes, IsNext}
+use Rattle.open_buckets.specs.OpenLists.{OpenList, entries_at, places_at, NothingWaits, IsLowest, Puts, Takes, Sorts, IsNext}
 use Rattle.closed_table.specs.Tables.{Table, arrivals, relaxation_answer, table_relaxation, table_closure}
 use Rattle.closed_table.specs.declared.table.Relaxed.TheVariants.{New, Lower, Kept}
 use Rattle.world_model.specs.declared.parts.Known.{Known}
 use Rattle.world_model.specs.Knowledge.{Knowledge, is_news}
 use Rattle.world_model.proofs.TableLemmas.{with_insert, get_inserted, same_known}
-use Rattle.search_lists.specs.Lists.{Lists, both, AreKnown}
+use Rattle.search_lists.specs.Lists.{Lists, both, AreKnown, HasEntriesOf}
 use Rattle.open_buckets.specs.declared.open.TheConstants.{GREATEST_F}
 use Rattle.search_lists.specs.Orders.{Guide, IsOpen, IsInOrder, NoneBelow, IsFirst, IsLeastOpen, AddsUp}
 use Rattle.search_lists.specs.declared.lists.Next.{Next}
@@ -68,6 +69,14 @@ was_put f e old new puts h x has =
 pub is_there : (f : ℕ) (e : Entry) (list : OpenList ℕ) → IsNext f e list → Contains (entries_at list f) e
 is_there f e list first = subst (λ (xs : List Entry). Contains xs e) (sym first.last.1) (Contains-push first.last.0 e)
 
+-- no place is lost
+pub places_stay : (f : ℕ) (e : Entry) (old new : OpenList ℕ) → Takes f e old new → (h : ℕ) → places_at old h ≤ places_at new h
+places_stay f e old new takes h =
+    ⊎_elim
+    (λ (here : h ≡ f). subst (λ (k : ℕ). places_at old k ≤ places_at new k) (sym here) (omega (arith, takes.places)))
+    (λ (other : h ≢ f). omega (arith, (takes.others h other).1))
+    (cases_eq h f)
+
 -- how many entries there are below f
 abbrev pub count_below : ℕ → OpenList ℕ → ℕ
 count_below zero list = 0
@@ -102,6 +111,35 @@ none_below guide lists n order nothing key known opens =
   where
     no_entry : (x : Entry) → Contains [] x → ⊥
     no_entry x has = omega (arith, has.1)
+
+-- ---- entries in another order
+
+-- the least f stays
+pub lowest_sorted : (f : ℕ) (old new : OpenList ℕ) → Sorts f old new → IsLowest old (Some f) → IsLowest new (Some f)
+lowest_sorted f old new sorts lowest = (
+  λ none. lowest.0 (nil_from_length (entries_at old f) (sym (length_permutation (entries_at old f) (entries_at new f) sorts.moved) ∙ ap length none)),
+  λ h below. (sorts.others h (omega (arith, below))).0 ∙ lowest.1 h below,
+)
+
+module _ (old new : OpenList ℕ) (same : HasEntriesOf old new) where
+  had : (h : ℕ) (x : Entry) → Contains (entries_at new h) x → Contains (entries_at old h) x
+  had h x has = Contains-permutation (entries_at new h) (entries_at old h) x (IsPermutation-sym (entries_at old h) (entries_at new h) (same.entries h)) has
+
+  pub known_same : (closed : Table) → AreKnown (both closed old) → AreKnown (both closed new)
+  known_same closed known h p c has = known h p c (had h (p, c) has)
+
+  pub order_same : (guide : Guide) (closed : Table) → IsInOrder guide (both closed old) → IsInOrder guide (both closed new)
+  order_same guide closed order = record {
+    waits = λ key known opens.
+        let waits = order.waits key known opens in
+        let f = known.cost + guide.sum key in
+        (waits.0, waits.1, Contains-permutation (entries_at old f) (entries_at new f) (waits.0, known.cost) (same.entries f) waits.2);
+    adds = λ h p c has. order.adds h p c (had h (p, c) has);
+  }
+
+  pub count_same : (n : ℕ) → count_below n new ≡ count_below n old
+  count_same zero = refl
+  count_same (suc n) = λ t. count_same n t + length_permutation (entries_at old n) (entries_at new n) (same.entries n) t
 
 -- the entry is out of date: its board is closed, or has another cost
 abbrev pub IsStale : Table → ℕ → ℕ → Type 0

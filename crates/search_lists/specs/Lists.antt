@@ -1,5 +1,5 @@
 -- What contracts see of the two lists of a search: the known boards, and what waits to be expanded, which are places of known boards.
-use Rattle.std.specs.Prelude.{ℕ, ◌≡◌, ◌<◌, ◌≤◌, List, length, Contains, refl}
+use Rattle.std.specs.Prelude.{ℕ, ◌≡◌, ◌<◌, ◌≤◌, List, length, Contains, IsPermutation, refl}
 use Rattle.std.specs.Coded.{Coded, code_by, coded×, coded_ℕ, coded_list}
 use Rattle.closed_table.specs.Tables.{Table, empty_table, table_code}
 use Rattle.open_buckets.specs.OpenLists.{OpenList, empty_list, entries_at, places_at}
@@ -29,6 +29,11 @@ pub record HasMoreRoom (old new : Lists) : Type 0 where
   pub room : old.closed.room ≤ new.closed.room
   pub entries : (h : ℕ) → entries_at new.waiting h ≡ entries_at old.waiting h
   pub places : (h : ℕ) → places_at old.waiting h ≤ places_at new.waiting h
+
+-- the same entries wait at each f, in some order, with as many places
+pub record HasEntriesOf (old new : OpenList ℕ) : Type 0 where
+  pub entries : (h : ℕ) → IsPermutation (entries_at old h) (entries_at new h)
+  pub places : (h : ℕ) → places_at new h ≡ places_at old h
 
 -- lists as numbers, by which a proof tells them apart
 abbrev pub lists_code : Coded Lists

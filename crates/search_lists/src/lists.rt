@@ -6,9 +6,9 @@ ghost use Rattle.std.specs.FinMap as map;
 ghost use Rattle.closed_table.specs.Tables.{IsTable, table_relaxation, table_closure};
 ghost use Rattle.closed_table.specs.declared.table.Relaxed.TheVariants.{Kept};
 ghost use Rattle.open_buckets.specs.declared.open.TheConstants.{GREATEST_F};
-ghost use Rattle.open_buckets.specs.OpenLists.{places_at, NothingWaits, IsNext, Takes, Puts};
+ghost use Rattle.open_buckets.specs.OpenLists.{places_at, NothingWaits, IsLowest, IsNext, Takes, Puts};
 ghost use Rattle.world_model.specs.Knowledge.{is_news};
-ghost use Rattle.search_lists.specs.Lists.{empty_lists, both, AreKnown, HasMoreRoom};
+ghost use Rattle.search_lists.specs.Lists.{empty_lists, both, AreKnown, HasMoreRoom, HasEntriesOf};
 ghost use Rattle.search_lists.specs.Orders.{Guide, IsInOrder, NoneBelow, IsFloor, IsFirst};
 ghost use Rattle.search_lists.specs.Orders.{IsLeastOpen, AddsUp};
 
@@ -52,6 +52,8 @@ pub struct Next {
 pub struct SearchLists {
     closed: Closed,
     open: Open<u32>,
+    // The greatest f whose entries were put in order of cost.
+    ordered: u32,
 }
 
 impl Model for SearchLists {
@@ -74,6 +76,7 @@ impl SearchLists {
         SearchLists {
             closed: Closed::new(alloc),
             open: Open::new(alloc),
+            ordered: 0,
         }
     }
 
@@ -154,7 +157,7 @@ impl SearchLists {
         ensures least { IfSome result (λ next. (guide : Guide) → IsInOrder guide self.old
             → IsLeastOpen guide self.old.closed next) }
     {
-        let Some(next) = next_open(&self.closed, &mut self.open, below) else {
+        let Some(next) = next_open(&self.closed, &mut self.open, &mut self.ordered, below) else {
             return None;
         };
         Some(next)
@@ -253,7 +256,12 @@ fn is_kept(relaxed: Relaxed) -> bool
 }
 
 // An open board of least cost plus sum, where that is below a limit. What is out of date goes out.
-fn next_open(closed: &Closed, waiting: &mut Open<u32>, below: u32) -> Option<Next>
+fn next_open(
+    closed: &Closed,
+    waiting: &mut Open<u32>,
+    ordered: &mut u32,
+    below: u32,
+) -> Option<Next>
     requires { AreKnown (both closed.now waiting.old) }
     ensures known { AreKnown (both closed.now waiting.new) }
     ensures places { (h : ℕ) → places_at waiting.old h ≤ places_at waiting.new h }
@@ -263,7 +271,7 @@ fn next_open(closed: &Closed, waiting: &mut Open<u32>, below: u32) -> Option<Nex
     ensures first { IfSome result (IsFirst (both closed.now waiting.new)) }
     ensures below { IfSome result (λ next. next.f < below) }
 {
-    'entries: while let Some(first) = first_waiting(waiting, below) {
+    'entries: while let Some(first) = first_waiting(waiting, ordered, below) {
         let (key, known) = closed.at(first.place as usize);
         if is_current(known, first.cost) {
             return Some(Next {
@@ -296,11 +304,12 @@ struct Waiting {
 }
 
 // What waits next, where its f is below a limit.
-fn first_waiting(waiting: &Open<u32>, below: u32) -> Option<Waiting>
-    ensures { MatchOption result (NothingWaits waiting.now below)
-        (λ first. (first.f < below) × IsNext first.f (first.place, first.cost) waiting.now) }
+fn first_waiting(waiting: &mut Open<u32>, ordered: &mut u32, below: u32) -> Option<Waiting>
+    ensures same { HasEntriesOf waiting.old waiting.new }
+    ensures next { MatchOption result (NothingWaits waiting.new below)
+        (λ first. (first.f < below) × IsNext first.f (first.place, first.cost) waiting.new) }
 {
-    let Some(f) = waiting.lowest() else {
+    let Some(f) = lowest_in_order(waiting, ordered) else {
         return None;
     };
     if f >= below {
@@ -310,6 +319,22 @@ fn first_waiting(waiting: &Open<u32>, below: u32) -> Option<Waiting>
         unreachable!()
     };
     Some(Waiting { f, place, cost })
+}
+
+// The least f of all entries. Where it is greater than each before, its entries are put in order of
+// cost: a board of greater cost is nearer to the goal, so it is taken first.
+fn lowest_in_order(waiting: &mut Open<u32>, ordered: &mut u32) -> Option<u32>
+    ensures same { HasEntriesOf waiting.old waiting.new }
+    ensures lowest { IsLowest waiting.new result }
+{
+    let Some(f) = waiting.lowest() else {
+        return None;
+    };
+    if *ordered < f {
+        waiting.sort_at(f);
+        *ordered = f;
+    }
+    Some(f)
 }
 
 // Takes out what waits next.
