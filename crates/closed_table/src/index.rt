@@ -39,7 +39,7 @@ pub(crate) struct Bucket {
     pub(crate) hashes: [u32; ENTRIES],
     pub(crate) link: u32,
     pub(crate) filter: u16,
-    pub(crate) count: u8,
+    pub(crate) count: u16,
     pub(crate) places: [u32; ENTRIES],
 }
 

@@ -9,10 +9,10 @@ use std::marker::Model;
 use std::vec::Vec;
 
 /// How many items a page has.
-pub const PAGE_LENGTH: usize = 512;
+pub const PAGE_LENGTH: usize = 256;
 
 /// The most pages: so a place, and one more, is told by 32 bits.
-const PAGE_LIMIT: usize = 8_388_608;
+const PAGE_LIMIT: usize = 16_777_216;
 
 /// A list in pages. To add a page moves none of the others.
 #[derive(Drop)]
