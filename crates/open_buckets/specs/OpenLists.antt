@@ -12,7 +12,7 @@ pub record OpenList (K : Type 0) : Type 0 where
 abbrev pub empty_list : {K : Type 0} → OpenList K
 empty_list = record { entries = []; places = [] }
 
--- the entries at f, in the order in which they were put there; one that was put there twice stands there twice
+-- the entries at f, of which the last is taken first; one that was put there twice stands there twice
 abbrev pub entries_at : {K : Type 0} → OpenList K → ℕ → List (K × ℕ)
 entries_at list f = slice_index_or list.entries f []
 
