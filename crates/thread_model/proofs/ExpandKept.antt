@@ -1,31 +1,34 @@
 -- A part whose worker expands a board keeps what it keeps.
-use Rattle.std.proofs.Common.{◌≡◌, ◌≢◌, ◌⊎◌, ℕ, ◌+◌, ◌≤◌, true, false, eqb, List, [], ◌∷◌, refl, sym, ap, ◌∙◌, subst, inl, inr, ⊎_elim, arith, Some, None}
+use Rattle.std.proofs.Common.{◌≡◌, ◌≢◌, ◌⊎◌, ℕ, ◌+◌, ◌<◌, ◌≤◌, true, false, eqb, List, [], ◌∷◌, refl, sym, ap, ◌∙◌, subst, inl, inr, ⊎_elim, arith, Option, Some, None}
 use Rattle.std.specs.Prelude.{Contains, fold, length}
 use Rattle.std.specs.FinMap as map
-use Rattle.std.proofs.lemmas.Bool.{cases_eq, cases_Bool, cond-true, cond-false, true≢false}
+use Rattle.std.proofs.lemmas.Bool.{cases_eq, cases_Bool, cond-true, cond-false, eq-eqb, ne_eqb, true≢false}
 use Rattle.board.specs.Keys.{key_of}
 use Rattle.board.specs.Moves.{Moves}
+use Rattle.board.specs.Neighbours.{opposite}
 use Rattle.board.specs.Positions.{Position}
 use Rattle.board.specs.declared.costs.TheConstants.{GREATEST_EXPANDED_COST}
 use Rattle.board.specs.declared.moves.Move.{Move}
 use Rattle.world_model.specs.declared.limits.TheConstants.{PACKET_LIMIT}
 use Rattle.world_model.specs.declared.parts.Item.{Item}
 use Rattle.world_model.specs.declared.parts.Known.{Known}
+use Rattle.world_model.specs.declared.steps.Refusal.{Refusal}
 use Rattle.world_model.specs.Costs.{limit_of}
-use Rattle.world_model.specs.Expansions.{expansion, successor_items, with_closure, with_successor}
+use Rattle.world_model.specs.Expansions.{expansion_by, items_by, move_back, moves_but, with_closure, with_successor}
 use Rattle.world_model.specs.Shapes.{IsShapedWorker}
 use Rattle.world_model.specs.Turns.{turn}
-use Rattle.world_model.specs.WorkerSteps.{IsOverfull}
+use Rattle.world_model.specs.WorkerSteps.{ExpandStepBy, IsOverfull}
 use Rattle.world_model.specs.Workers.{WorkerState, Role, IsTaskBoard, KnowsAs, IsIdle, IsOpen, HasNothingBelow}
 use Rattle.world_model.proofs.ExpandLemmas.{Among, HasSlots, all_known, all_lower, all_there, all_unsent, all_put, all_back, all_held, all_rest}
-use Rattle.world_model.proofs.ExpandOffers.{offered, offers_all, offered_board}
-use Rattle.world_model.proofs.ShapeKept.{expanded_low, shaped_expanded, slots}
-use Rattle.world_model.proofs.StepCases.{IsLeft, Expands, expand_cases}
+use Rattle.world_model.proofs.ExpandOffers.{offered_by, offers_but, offered_board_by}
+use Rattle.world_model.proofs.ShapeKept.{expanded_low, shaped_expanded_by, slots}
+use Rattle.world_model.proofs.ShapeLemmas.{known_owned}
+use Rattle.world_model.proofs.StepCases.{IsLeft, ExpandsBy, expand_cases_by}
 use Rattle.world_model.proofs.TableLemmas.{entry, same_key, with_insert}
-use Rattle.thread_model.specs.Parts.{PartState, HasUnsent, KnowsAtMost, IsSeenTo, IsMade, IsRole, Keeps}
+use Rattle.thread_model.specs.Parts.{PartState, HasOrigin, HasUnsent, KnowsAtMost, KnowsBefore, IsSeenTo, IsMade, LeadsBack, IsRole, Keeps}
 use Rattle.thread_model.specs.Changes.{with_worker}
 use Rattle.thread_model.specs.Laws.{ExpandingIsKept}
-use Rattle.thread_model.proofs.WorkerKept.{Remembers, IsFounded, origin_kept, worker_kept}
+use Rattle.thread_model.proofs.WorkerKept.{Remembers, IsFounded, led_back, origin_kept, worker_kept}
 
 -- the worker holds nothing
 abbrev empty_handed : WorkerState → WorkerState
@@ -43,20 +46,21 @@ module _ (role : Role) where
   all_empty_handed [] x = refl
   all_empty_handed (first ∷ rest) x = ap (λ (y : WorkerState). fold (with_successor role) y rest) (one_empty_handed x first) ∙ all_empty_handed rest (with_successor role x first)
 
-module _ (n : ℕ) (role : Role) (part : PartState) (is : IsRole n role) (keeps : Keeps n role part) (b : Position) (known : Known) (open_at : IsOpen role.task part.worker b known) where
+-- the board is expanded by all moves but one, if any is left out, and then by the one back
+module _ (n : ℕ) (role : Role) (part : PartState) (is : IsRole n role) (keeps : Keeps n role part) (b : Position) (known : Known) (open_at : IsOpen role.task part.worker b known) (left_out : Option Move) (back : (m : Move) → left_out ≡ Some m → (0 < known.cost) × (m ≡ opposite known.via)) where
   done : WorkerState
-  done = expansion role part.worker b known
+  done = expansion_by (moves_but left_out) role part.worker b known
 
   marked : WorkerState
   marked = with_closure part.worker b known
 
   offers : List Item
-  offers = successor_items role.task.rule b known.cost
+  offers = items_by (moves_but left_out) role.task.rule b known.cost
 
   -- an expansion with nothing held
-  emptied_is : expansion role (empty_handed part.worker) b known ≡ empty_handed done
+  emptied_is : expansion_by (moves_but left_out) role (empty_handed part.worker) b known ≡ empty_handed done
   unfolding done
-  emptied_is = all_empty_handed role (successor_items role.task.rule b known.cost) (with_closure part.worker b known)
+  emptied_is = all_empty_handed role (items_by (moves_but left_out) role.task.rule b known.cost) (with_closure part.worker b known)
 
   emptied_open : IsOpen role.task (empty_handed part.worker) b known
   emptied_open = record { board = open_at.board; knows = open_at.knows; unexpanded = open_at.unexpanded; no_goal = open_at.no_goal }
@@ -64,7 +68,7 @@ module _ (n : ℕ) (role : Role) (part : PartState) (is : IsRole n role) (keeps 
   done_shaped : known.cost + role.task.sum b ≤ GREATEST_EXPANDED_COST → ¬ IsOverfull done → IsShapedWorker n role (empty_handed done)
   done_shaped low room =
       subst (IsShapedWorker n role) emptied_is
-      (shaped_expanded n role (empty_handed part.worker) keeps.shaped is.task is.owners b known emptied_open low
+      (shaped_expanded_by n role (empty_handed part.worker) keeps.shaped (moves_but left_out) is.task is.owners b known emptied_open low
       (λ full. room (subst IsOverfull emptied_is full)))
 
   lists : HasSlots role marked
@@ -96,29 +100,51 @@ module _ (n : ℕ) (role : Role) (part : PartState) (is : IsRole n role) (keeps 
   unfolding done offers marked
   remembers = record { lower = lower; unsent = λ to item has. all_unsent role offers marked lists to item has }
 
-  -- each successor is seen to
-  successor_seen_to : (m : Move) (b' : Position) (c : ℕ) → Moves role.task.rule b m b' c → IsSeenTo role (with_worker part done) b' (known.cost + c)
+  -- what an offer leads to is seen to
+  offer_seen_to : (offer : Item) → Among offers offer → IsSeenTo role (with_worker part done) offer.board offer.cost
   unfolding done offers marked
-  successor_seen_to m b' c moves =
-      let offer = offer_of m b' c in
-      let among : Among offers offer = offers_all role.task is.task b open_at.board known.cost m b' c moves in
-      ⊎_elim (λ (mine : role.owner b' ≡ role.me). inl (mine, all_there role offers marked offer among mine))
-      (λ (foreign : role.owner b' ≢ role.me). inr (offer, inl (all_put role offers marked lists offer among foreign), refl, omega arith))
-      (cases_eq (role.owner b') role.me)
+  offer_seen_to offer among =
+      ⊎_elim (λ (mine : role.owner offer.board ≡ role.me). inl (mine, all_there role offers marked offer among mine))
+      (λ (foreign : role.owner offer.board ≢ role.me). inr (offer, inl (all_put role offers marked lists offer among foreign), refl, omega arith))
+      (cases_eq (role.owner offer.board) role.me)
+
+  -- and so is what the move back leads to, where the worker knows the board before
+  before_seen_to : KnowsBefore role part.worker b known.cost known.via → (b' : Position) (c : ℕ) → Moves role.task.rule b (opposite known.via) b' c → IsSeenTo role (with_worker part done) b' (known.cost + c)
+  before_seen_to (before, cost, first, board, there, knows, low) b' c leads =
+      let own = known_owned n role (empty_handed part.worker) is.task keeps.shaped before first board knows in
+      let now = lower before first knows in
+      subst (λ (x : Position). IsSeenTo role (with_worker part done) x (known.cost + c))
+      (led_back role.task.rule b known.via before cost b' c board.0 open_at.board.0 there leads)
+      (inl (own.0, (now.0, now.1, omega (arith, now.2, low))))
+
+  -- the move that is left out leads to what is seen to, or back to where the board came from
+  left_out_seen_to : (m : Move) (b' : Position) (c : ℕ) → Moves role.task.rule b m b' c → left_out ≡ Some m → IsSeenTo role (with_worker part done) b' (known.cost + c) ⊎ LeadsBack (with_worker part done) b known m
+  left_out_seen_to m b' c leads out = by_origin (keeps.origins b known open_at.board open_at.knows)
     where
-      offer_of : Move → Position → ℕ → Item
-      offer_of m b' c = record { board = b'; cost = known.cost + c; via = m }
+      by_origin : HasOrigin role part b known.cost known.via → IsSeenTo role (with_worker part done) b' (known.cost + c) ⊎ LeadsBack (with_worker part done) b known m
+      by_origin (inl (inl start)) = absurd (let later = (back m out).0 in omega (arith, later, start.1))
+      by_origin (inl (inr before)) = inl (before_seen_to before b' c (subst (λ (x : Move). Moves role.task.rule b x b' c) (back m out).1 leads))
+      by_origin (inr came) = inr ((back m out).0, (back m out).1, came)
+
+  -- so each successor is seen to, but for one to which a move leads back
+  successor_seen_to : (m : Move) (b' : Position) (c : ℕ) → Moves role.task.rule b m b' c → IsSeenTo role (with_worker part done) b' (known.cost + c) ⊎ LeadsBack (with_worker part done) b known m
+  unfolding offers
+  successor_seen_to m b' c leads =
+      ⊎_elim
+      (λ (out : left_out ≡ Some m). left_out_seen_to m b' c leads out)
+      (λ (among : Among offers (record { board = b'; cost = known.cost + c; via = m })). inl (offer_seen_to (record { board = b'; cost = known.cost + c; via = m }) among))
+      (offers_but role.task is.task b open_at.board known.cost left_out m b' c leads)
 
   offer_made : (offer : Item) → Among offers offer → IsMade role done offer.board offer.cost offer.via
   unfolding offers
   offer_made offer among =
-      let from = offered role.task is.task b open_at.board known.cost offer among in
+      let from = offered_by role.task is.task b open_at.board known.cost (moves_but left_out) offer among in
       let before = lower b known open_at.knows in
       inr (b, from.0, before.0, open_at.board, from.1, before.1, omega (arith, before.2, from.2))
 
   board_of : (offer : Item) → Among offers offer → IsTaskBoard role.task offer.board
   unfolding offers
-  board_of offer among = (offered_board role.task is.task b open_at.board known.cost offer among).0
+  board_of offer among = (offered_board_by role.task is.task b open_at.board known.cost (moves_but left_out) offer among).0
 
   -- what is known after: what was known, the board itself, or an own offer
   IsNew : ℕ → Known → Type 0
@@ -165,7 +191,7 @@ module _ (n : ℕ) (role : Role) (part : PartState) (is : IsRole n role) (keeps 
   unfolding done offers marked
   not_resting busy none = absurd (busy (keeps.resting (sym (all_rest role offers marked).0 ∙ none)).no_board)
 
-  expanded_kept : ¬ HasNothingBelow role.task part.worker (limit_of part.worker.best) → known.cost + role.task.sum b ≤ GREATEST_EXPANDED_COST → ¬ IsOverfull (expansion role part.worker b known) → Keeps n role (with_worker part (expansion role part.worker b known))
+  expanded_kept : ¬ HasNothingBelow role.task part.worker (limit_of part.worker.best) → known.cost + role.task.sum b ≤ GREATEST_EXPANDED_COST → ¬ IsOverfull (expansion_by (moves_but left_out) role part.worker b known) → Keeps n role (with_worker part (expansion_by (moves_but left_out) role part.worker b known))
   unfolding done
   expanded_kept busy low room = worker_kept role part done remembers n is keeps (record {
     shaped = done_shaped low room;
@@ -177,11 +203,27 @@ module _ (n : ℕ) (role : Role) (part : PartState) (is : IsRole n role) (keeps 
     resting = not_resting busy;
   })
 
-pub expanding_kept : ExpandingIsKept
-expanding_kept n role part answer worker is keeps step =
+-- what is left out by a step onward is the move back, at a cost above 0
+back_left_out : (known : Known) (m : Move) → move_back known ≡ Some m → (0 < known.cost) × (m ≡ opposite known.via)
+back_left_out known m out = by_cost (cases_eq known.cost 0)
+  where
+    by_cost : (known.cost ≡ 0) ⊎ (known.cost ≢ 0) → (0 < known.cost) × (m ≡ opposite known.via)
+    by_cost (inl none) = let is : ◌≡◌ {A = Option Move} None (Some m) = sym (cond-true _ _ _ (eq-eqb known.cost 0 none)) ∙ out in cc
+    by_cost (inr some) =
+        let is : Some (opposite known.via) ≡ Some m = sym (cond-false _ _ _ (ne_eqb known.cost 0 some)) ∙ out in
+        let same : opposite known.via ≡ m = cc in
+        (omega (arith, some), sym same)
+
+-- a step that leaves out what may be is kept
+kept_by : (n : ℕ) (role : Role) (part : PartState) (answer : Option Refusal) (worker : WorkerState) (left_out : Known → Option Move) → ((known : Known) (m : Move) → left_out known ≡ Some m → (0 < known.cost) × (m ≡ opposite known.via)) → IsRole n role → Keeps n role part → ExpandStepBy (λ known. moves_but (left_out known)) role (turn part.worker answer worker) → Keeps n role (with_worker part worker)
+kept_by n role part answer worker left_out back is keeps step =
     ⊎_elim (λ (out : IsLeft (turn part.worker answer worker)). subst (λ x. Keeps n role (with_worker part x)) (sym out.1.1) keeps)
-    (λ (done : (answer ≡ None) × Expands role part.worker worker).
+    (λ (done : (answer ≡ None) × ExpandsBy (λ known. moves_but (left_out known)) role part.worker worker).
     let s = done.1 in
     subst (λ x. Keeps n role (with_worker part x)) (sym s.is)
-    (expanded_kept n role part is keeps s.board s.known s.next.opens s.busy (expanded_low role.task part.worker s.board s.known s.busy s.next) s.room))
-    (expand_cases role (turn part.worker answer worker) step)
+    (expanded_kept n role part is keeps s.board s.known s.next.opens (left_out s.known) (back s.known) s.busy (expanded_low role.task part.worker s.board s.known s.busy s.next) s.room))
+    (expand_cases_by (λ known. moves_but (left_out known)) role (turn part.worker answer worker) step)
+
+pub expanding_kept : ExpandingIsKept
+expanding_kept n role part answer worker is keeps (inl step) = kept_by n role part answer worker (λ known. None) (λ known m out. cc) is keeps step
+expanding_kept n role part answer worker is keeps (inr step) = kept_by n role part answer worker move_back back_left_out is keeps step

@@ -1,9 +1,10 @@
 -- Joined parts are a sound world.
-use Rattle.std.proofs.Common.{◌≡◌, ℕ, ◌+◌, ◌≤◌, true, List, length, refl, sym, ap, ◌∙◌, subst, inl, inr, ⊎_elim, arith, Some}
+use Rattle.std.proofs.Common.{◌≡◌, ℕ, ◌+◌, ◌<◌, ◌≤◌, true, List, length, refl, sym, ap, ◌∙◌, subst, inl, inr, ⊎_elim, arith, Some}
 use Rattle.std.specs.Prelude.{Contains, slice_get}
 use Rattle.board.specs.declared.moves.Move.{Move}
 use Rattle.board.specs.Positions.{Position}
 use Rattle.board.specs.Moves.{Moves}
+use Rattle.board.specs.Neighbours.{opposite}
 use Rattle.world_model.specs.declared.parts.Item.{Item}
 use Rattle.world_model.specs.declared.parts.Known.{Known}
 use Rattle.world_model.specs.Books.{BookState}
@@ -12,9 +13,10 @@ use Rattle.world_model.specs.Soundness.{HasPredecessor, IsCovered, IsSound}
 use Rattle.world_model.specs.Workers.{IsTaskBoard, KnowsAs, Lane, WorkerState}
 use Rattle.world_model.specs.Worlds.{IsUnderWay, Knows, WorldState}
 use Rattle.world_model.proofs.ShapeLemmas.{known_owned, moved_task_board}
-use Rattle.thread_model.specs.Parts.{HasCome, HasOrigin, IsMade, IsPassedOn, IsSeenTo, KnowsAtMost, PartState, WasSent}
+use Rattle.thread_model.specs.Parts.{HasCome, HasOrigin, IsMade, IsPassedOn, IsSeenTo, KnowsAtMost, KnowsBefore, LeadsBack, PartState, WasSent}
 use Rattle.thread_model.specs.Joined.{AreParts, Shared, role_in, workers_of, world_with}
 use Rattle.thread_model.specs.Laws.{JoinedPartsAreSound}
+use Rattle.thread_model.proofs.WorkerKept.{led_back}
 use Rattle.thread_model.proofs.JoinedShape.{IsSentTo, came_from, first_role, joined_shaped, lane_from, left_lane, owner_part, part_of, part_shaped, received_lane, sent_came, sent_item, worker_of}
 
 -- what covers an item's board covers it at a greater cost too
@@ -87,6 +89,25 @@ module _ (shared : Shared) (parts : List PartState) (book : BookState) (lanes : 
   seen_covered i part at b cost board (inl own) = covered_in i part at b cost board own.1
   seen_covered i part at b cost board (inr passed) = passed_covered i part at b cost passed
 
+  -- the board before an item that was sent is known to the sender
+  before_covered : (to : ℕ) (item : Item) (b' : Position) (c : ℕ) → IsTaskBoard shared.task item.board → 0 < item.cost → Moves shared.task.rule item.board (opposite item.via) b' c → IsSentTo parts to item → IsCovered (world_with shared parts book lanes) b' (item.cost + c)
+  before_covered to item b' c board later moves (i, part, at, sent) =
+      ⊎_elim
+      (λ (start : (item.board ≡ shared.task.start) × (item.cost ≡ 0)). absurd (omega (arith, later, start.1)))
+      (λ (knows : KnowsBefore (role_in shared i) part.worker item.board item.cost item.via).
+      let there = led_back shared.task.rule item.board item.via knows.0 knows.1 b' c knows.3.0 board.0 knows.4 moves in
+      subst (λ (x : Position). IsCovered (world_with shared parts book lanes) x (item.cost + c)) there
+      (covered_in i part at knows.0 (item.cost + c) knows.3 (knows.2, knows.5, omega (arith, knows.6))))
+      ((are.keep i part at).made to item (inr sent))
+
+  -- so what a move leads back to is covered
+  back_covered : (i : ℕ) (part : PartState) → slice_get parts i ≡ Some part → (b : Position) (known : Known) (m : Move) (b' : Position) (c : ℕ) → IsTaskBoard shared.task b → Moves shared.task.rule b m b' c → LeadsBack part b known m → IsCovered (world_with shared parts book lanes) b' (known.cost + c)
+  back_covered i part at b known m b' c board moves (later, back, (item, come, is, cost, via)) =
+      subst (λ (k : ℕ). IsCovered (world_with shared parts book lanes) b' (k + c)) cost
+      (before_covered i item b' c (subst (IsTaskBoard shared.task) (sym is) board) (omega (arith, later, cost))
+      (subst (λ (x : Position × Move). Moves shared.task.rule x.0 x.1 b' c) (λ t. (sym is t, (back ∙ ap opposite (sym via)) t)) moves)
+      (came_from shared parts lanes are i part at item come))
+
   -- what is known in the world is known in the part
   known_by : (i : ℕ) (b : Position) (known : Known) → Knows (world_with shared parts book lanes) i b known → (part : PartState) × (slice_get parts i ≡ Some part) × KnowsAs part.worker b known
   known_by i b known knows =
@@ -102,7 +123,10 @@ module _ (shared : Shared) (parts : List PartState) (book : BookState) (lanes : 
   successors_covered : (i : ℕ) (b : Position) (known : Known) → Knows (world_with shared parts book lanes) i b known → known.expanded ≡ true → (m : Move) (b' : Position) (c : ℕ) → Moves shared.task.rule b m b' c → IsCovered (world_with shared parts book lanes) b' (known.cost + c)
   successors_covered i b known knows closed m b' c moves =
       let has = known_by i b known knows in
-      seen_covered i has.0 has.1 b' (known.cost + c) (moved_task_board shared.task (first_role shared parts lanes are).task b knows.board m b' c moves) ((are.keep i has.0 has.1).successors b known knows.board has.2 closed m b' c moves)
+      ⊎_elim
+      (λ (seen : IsSeenTo (role_in shared i) has.0 b' (known.cost + c)). seen_covered i has.0 has.1 b' (known.cost + c) (moved_task_board shared.task (first_role shared parts lanes are).task b knows.board m b' c moves) seen)
+      (λ (back : LeadsBack has.0 b known m). back_covered i has.0 has.1 b known m b' c knows.board moves back)
+      ((are.keep i has.0 has.1).successors b known knows.board has.2 closed m b' c moves)
 
   pub joined_sound : IsSound (world_with shared parts book lanes)
   joined_sound = record {

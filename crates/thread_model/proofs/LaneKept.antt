@@ -8,6 +8,7 @@ use Rattle.board.specs.declared.moves.Move.{Move}
 use Rattle.board.specs.Positions.{Position}
 use Rattle.world_model.specs.declared.limits.TheConstants.{PACKET_LIMIT}
 use Rattle.world_model.specs.declared.parts.Item.{Item}
+use Rattle.world_model.specs.declared.parts.Known.{Known}
 use Rattle.world_model.specs.Shapes.{IsItemFor, IsPacketFor}
 use Rattle.world_model.specs.Workers.{Lane, Packet, Role, packet_for}
 use Rattle.world_model.proofs.ListLemmas.{get_set_same, get_set_other, at_set, none_in_empty, some_in, get_below}
@@ -15,7 +16,7 @@ use Rattle.world_model.proofs.ShapeKept.{shaped_same, shaped_sent}
 use Rattle.world_model.proofs.StepsShaped.{some_unsent}
 use Rattle.thread_model.specs.Changes.{with_packet}
 use Rattle.thread_model.specs.Laws.{ReceivingIsKept, SendingIsKept}
-use Rattle.thread_model.specs.Parts.{AreFor, HasCome, HasOrigin, HasUnsent, IsAmong, IsSeenTo, Keeps, KnowsAtMost, PartState, WasSent}
+use Rattle.thread_model.specs.Parts.{AreFor, CameAs, HasCome, HasOrigin, HasUnsent, IsAmong, IsSeenTo, Keeps, KnowsAtMost, LeadsBack, PartState, WasSent}
 
 -- lanes with a packet more at the end of one
 module _ (lanes : List Lane) (at : ℕ) (inside : at < length lanes) (packet : Packet) where
@@ -105,6 +106,10 @@ module _ (n to : ℕ) (role : Role) (part : PartState) (below : to < n) (keeps :
   seen_stays b cost (inr (item, inl unsent, same, low)) = inr (item, unsent_stays (role.owner b) item unsent, same, low)
   seen_stays b cost (inr (item, inr went, same, low)) = inr (item, inr (among_before part.sent to to_inside packet (role.owner b) item went), same, low)
 
+  successor_stays : (b' : Position) (cost : ℕ) (b : Position) (known : Known) (m : Move) → IsSeenTo role part b' cost ⊎ LeadsBack part b known m → IsSeenTo role sender b' cost ⊎ LeadsBack sender b known m
+  successor_stays b' cost b known m (inl seen) = inl (seen_stays b' cost seen)
+  successor_stays b' cost b known m (inr back) = inr back
+
   -- and no item is new
   made_back : (t : ℕ) (item : Item) → HasUnsent sender.worker t item ⊎ WasSent sender t item → HasUnsent part.worker t item ⊎ WasSent part t item
   made_back t item (inl has) =
@@ -125,7 +130,7 @@ module _ (n to : ℕ) (role : Role) (part : PartState) (below : to < n) (keeps :
     ends = (length-set part.sent to _ ∙ keeps.ends.0, keeps.ends.1);
     sent = lanes_for part.sent to to_inside packet role keeps.sent (some_in packet some, keeps.shaped.unsent to packet unsent_there);
     start = keeps.start;
-    successors = λ b known board knows closed m b' c moves. seen_stays b' (known.cost + c) (keeps.successors b known board knows closed m b' c moves);
+    successors = λ b known board knows closed m b' c moves. successor_stays b' (known.cost + c) b known m (keeps.successors b known board knows closed m b' c moves);
     origins = keeps.origins;
     made = λ t item has. keeps.made t item (made_back t item has);
     held = keeps.held;
@@ -153,9 +158,16 @@ module _ (n from : ℕ) (role : Role) (part : PartState) (below : from < n) (kee
       (λ (new : (has.0 ≡ from) × Contains packet item). inr new.1)
       (among_cases part.received from from_inside packet has.0 item has.1)
 
+  came_stays : (b : Position) (cost : ℕ) (via : Move) → CameAs part b cost via → CameAs receiver b cost via
+  came_stays b cost via (item, came, board, same, last) = (item, come_stays item came, board, same, last)
+
   origin_stays : (b : Position) (cost : ℕ) (via : Move) → HasOrigin role part b cost via → HasOrigin role receiver b cost via
   origin_stays b cost via (inl made) = inl made
-  origin_stays b cost via (inr (item, came, board, same, last)) = inr (item, come_stays item came, board, same, last)
+  origin_stays b cost via (inr came) = inr (came_stays b cost via came)
+
+  successor_left : (b' : Position) (cost : ℕ) (b : Position) (known : Known) (m : Move) → IsSeenTo role part b' cost ⊎ LeadsBack part b known m → IsSeenTo role receiver b' cost ⊎ LeadsBack receiver b known m
+  successor_left b' cost b known m (inl seen) = inl seen
+  successor_left b' cost b known m (inr (later, back, came)) = inr (later, back, came_stays b known.cost known.via came)
 
   -- one that is the worker's own is known, or held now
   arrived_known : (item : Item) → HasCome receiver item → IsItemFor role.task role.owner role.me item → KnowsAtMost part.worker item.board item.cost ⊎ Contains packet item
@@ -176,7 +188,7 @@ module _ (n from : ℕ) (role : Role) (part : PartState) (below : from < n) (kee
     ends = (keeps.ends.0, length-set part.received from _ ∙ keeps.ends.1);
     sent = keeps.sent;
     start = keeps.start;
-    successors = keeps.successors;
+    successors = λ b known board knows closed m b' c moves. successor_left b' (known.cost + c) b known m (keeps.successors b known board knows closed m b' c moves);
     origins = λ b known board knows. origin_stays b known.cost known.via (keeps.origins b known board knows);
     made = keeps.made;
     held = λ item has. (from, among_new part.received from from_inside packet item has);

@@ -203,7 +203,7 @@ module _ (w : WorldState) (parts : List PartState) (of : IsOfParts w parts) wher
       kept : (part : PartState) (new : WorkerState) → slice_get parts i ≡ Some part → Expands (role_of w i) part.worker new → Keeps n (role_of w i) (with_worker part new) × StepsAlone (role_of w i) part (with_worker part new)
       kept part new at change =
           let taken = expand_step (role_of w i) part.worker new change in
-          (expanding_kept n (role_of w i) part None new (of.0.roles i part at) (of.0.keep i part at) taken, (None, new, inl taken, refl))
+          (expanding_kept n (role_of w i) part None new (of.0.roles i part at) (of.0.keep i part at) (inl taken), (None, new, inl taken, refl))
 
   settles : (i : ℕ) (w' : WorldState) → IsShaped w' → OwnChange i Settles w w' → StaysJoined w' i
   settles i w' shaped step = own_step i Settles w' kept shaped step

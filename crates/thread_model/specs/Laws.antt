@@ -8,7 +8,7 @@ use Rattle.world_model.specs.Turns.{Turn, turn}
 use Rattle.world_model.specs.Costs.{limit_of}
 use Rattle.world_model.specs.Books.{BookState}
 use Rattle.world_model.specs.Workers.{WorkerState, Lane, Role}
-use Rattle.world_model.specs.WorkerSteps.{ExpandStep, SettleStep}
+use Rattle.world_model.specs.WorkerSteps.{ExpandOnwardStep, ExpandStep, SettleStep}
 use Rattle.world_model.specs.Worlds.{WorldState, role_of}
 use Rattle.world_model.specs.Steps.{Next, IsRun}
 use Rattle.world_model.specs.Openings.{Job, IsJob, idle_worker, first_worker, opening}
@@ -21,13 +21,13 @@ use Rattle.thread_model.specs.Parts.{PartState, IsRole, Keeps}
 use Rattle.thread_model.specs.Changes.{with_worker, DropStep, HoldsOwnLast, Sends, Receives, IsBookStep, IsPartStep, opening_part}
 use Rattle.thread_model.specs.Joined.{Shared, role_in, AreParts, world_with, IsOfParts, opening_parts}
 
--- a part whose worker expands a board keeps what it keeps
+-- a part whose worker expands a board, by all moves or by all but the one back, keeps what it keeps
 abbrev pub ExpandingIsKept : Type 0
 ExpandingIsKept =
     (n : ℕ) (role : Role) (part : PartState) (answer : Option Refusal) (worker : WorkerState)
     → IsRole n role
     → Keeps n role part
-    → ExpandStep role (turn part.worker answer worker)
+    → ExpandStep role (turn part.worker answer worker) ⊎ ExpandOnwardStep role (turn part.worker answer worker)
     → Keeps n role (with_worker part worker)
 
 -- so does one that settles an item which is its own

@@ -3,6 +3,7 @@ use Rattle.std.specs.Prelude.{◌≡◌, ◌⊎◌, ℕ, ◌+◌, ◌≤◌, ◌
 use Rattle.board.specs.declared.moves.Move.{Move}
 use Rattle.board.specs.Positions.{Position}
 use Rattle.board.specs.Moves.{Moves}
+use Rattle.board.specs.Neighbours.{opposite}
 use Rattle.world_model.specs.declared.limits.TheConstants.{WORKER_LIMIT, PACKET_LIMIT}
 use Rattle.world_model.specs.declared.parts.Item.{Item}
 use Rattle.world_model.specs.declared.parts.Known.{Known}
@@ -54,10 +55,17 @@ KnowsBefore role worker b cost via =
 abbrev pub IsMade : Role → WorkerState → Position → ℕ → Move → Type 0
 IsMade role worker b cost via = ((b ≡ role.task.start) × (cost ≡ 0)) ⊎ KnowsBefore role worker b cost via
 
+-- the board came at this cost by this last move, as an item
+abbrev pub CameAs : PartState → Position → ℕ → Move → Type 0
+CameAs part b cost via = (item : Item) × HasCome part item × (item.board ≡ b) × (item.cost ≡ cost) × (item.via ≡ via)
+
 -- the board at this cost is made so, or it came as an item
 abbrev pub HasOrigin : Role → PartState → Position → ℕ → Move → Type 0
-HasOrigin role part b cost via =
-    IsMade role part.worker b cost via ⊎ ((item : Item) × HasCome part item × (item.board ≡ b) × (item.cost ≡ cost) × (item.via ≡ via))
+HasOrigin role part b cost via = IsMade role part.worker b cost via ⊎ CameAs part b cost via
+
+-- The move leads back to where the board came from, as an item at a cost above 0: whoever sent that knows the board before it.
+abbrev pub LeadsBack : PartState → Position → Known → Move → Type 0
+LeadsBack part b known m = (0 < known.cost) × (m ≡ opposite known.via) × CameAs part b known.cost known.via
 
 -- the role is that of one of n workers who share a task, and among whom each board has its owner
 pub record IsRole (n : ℕ) (role : Role) : Type 0 where
@@ -71,8 +79,8 @@ abbrev pub AreFor : Role → ℕ → Lane → Type 0
 AreFor role to lane = (packet : Packet) → Contains lane packet → (1 ≤ length packet) × IsPacketFor role.task role.owner to packet
 
 -- What one of n parts keeps by itself, whatever the others do. All that its worker knows is its own, and what it sends is for those to
--- whom it goes. The start's owner knows the start at 0, and each successor of a closed board is seen to. Each board that is known has its
--- origin, and each item that goes out is made here. What is held came, and what came for this worker is known, or held still. The goal is
+-- whom it goes. The start's owner knows the start at 0, and each successor of a closed board is seen to, but for one to which a move leads
+-- back. Each board that is known has its origin, and each item that goes out is made here. What is held came, and what came for this worker is known, or held still. The goal is
 -- not closed. A worker with an empty purse has nothing to do. Of what comes nothing is assumed: an item that is not for the worker is
 -- foreign.
 pub record Keeps (n : ℕ) (role : Role) (part : PartState) : Type 0 where
@@ -81,7 +89,7 @@ pub record Keeps (n : ℕ) (role : Role) (part : PartState) : Type 0 where
   pub ends : (length part.sent ≡ n) × (length part.received ≡ n)
   pub sent : (to : ℕ) (lane : Lane) → slice_get part.sent to ≡ Some lane → AreFor role to lane
   pub start : role.owner role.task.start ≡ role.me → KnowsAtMost part.worker role.task.start 0
-  pub successors : (b : Position) (known : Known) → IsTaskBoard role.task b → KnowsAs part.worker b known → known.expanded ≡ true → (m : Move) (b' : Position) (c : ℕ) → Moves role.task.rule b m b' c → IsSeenTo role part b' (known.cost + c)
+  pub successors : (b : Position) (known : Known) → IsTaskBoard role.task b → KnowsAs part.worker b known → known.expanded ≡ true → (m : Move) (b' : Position) (c : ℕ) → Moves role.task.rule b m b' c → IsSeenTo role part b' (known.cost + c) ⊎ LeadsBack part b known m
   pub origins : (b : Position) (known : Known) → IsTaskBoard role.task b → KnowsAs part.worker b known → HasOrigin role part b known.cost known.via
   pub made : (to : ℕ) (item : Item) → HasUnsent part.worker to item ⊎ WasSent part to item → IsMade role part.worker item.board item.cost item.via
   pub held : (item : Item) → Contains part.worker.held item → HasCome part item

@@ -1,6 +1,8 @@
 -- Each step is refused, and leaves all as it was, or it is accepted, and changes what it says.
 use Rattle.std.proofs.Common.{◌≡◌, ◌≢◌, ◌⊎◌, ℕ, ◌+◌, ◌-◌, ◌<◌, List, [], ◌∷◌, ◌++◌, length, refl, ap, ◌∙◌, inl, inr, Option, Some, None}
 use Rattle.std.specs.Prelude.{slice_set}
+use Rattle.board.specs.declared.moves.Move.{Move}
+use Rattle.board.specs.Moves.{all_moves}
 use Rattle.board.specs.Positions.{Position}
 use Rattle.world_model.specs.declared.limits.TheConstants.{CREDIT_DRAWN, LANE_LIMIT}
 use Rattle.world_model.specs.declared.parts.Item.{Item}
@@ -12,11 +14,11 @@ use Rattle.world_model.specs.declared.steps.Step.TheVariants.{Expand, Settle, Se
 use Rattle.world_model.specs.BookSteps.{AnnounceStep, AtBook, DrawStep, GrantStep, HaltStep, MayAnnounce, MayGoOn, RestStep, at_book}
 use Rattle.world_model.specs.Books.{BookState, grant_of, stop_of, with_rest}
 use Rattle.world_model.specs.Costs.{limit_of}
-use Rattle.world_model.specs.Expansions.{expansion}
+use Rattle.world_model.specs.Expansions.{expansion_by}
 use Rattle.world_model.specs.Knowledge.{relaxation}
 use Rattle.world_model.specs.Steps.{ByWorker, Ends, Next, OnBook, OnLane, from_to, with_lane}
 use Rattle.world_model.specs.Turns.{IsRefused, Turn, turn}
-use Rattle.world_model.specs.WorkerSteps.{AtLane, DeliverStep, ExpandStep, IsOverfull, SendStep, SettleStep}
+use Rattle.world_model.specs.WorkerSteps.{AtLane, DeliverStep, ExpandStep, ExpandStepBy, IsOverfull, SendStep, SettleStep}
 use Rattle.world_model.specs.Workers.{HasNothingBelow, IsFloor, IsIdle, IsNext, Lane, Packet, Role, WorkerState, packet_for}
 use Rattle.world_model.specs.Worlds.{IsLane, IsWorker, WorldState, role_of}
 use Rattle.world_model.proofs.ChangeLemmas.{changed, unchanged_world, unchanged_lanes}
@@ -32,14 +34,17 @@ Cases it Accepted = IsLeft it ⊎ ((it.answer ≡ None) × Accepted)
 abbrev pub IsRunning : BookState → Type 0
 IsRunning book = ¬ (book.stop ≢ None)
 
-pub record Expands (role : Role) (worker worker' : WorkerState) : Type 0 where
+pub record ExpandsBy (moves_of : Known → List Move) (role : Role) (worker worker' : WorkerState) : Type 0 where
   pub board : Position
   pub known : Known
   pub busy : ¬ HasNothingBelow role.task worker (limit_of worker.best)
   pub left : ¬ (worker.allowance ≡ 0)
   pub next : IsNext role.task worker board known
-  pub room : ¬ IsOverfull (expansion role worker board known)
-  pub is : worker' ≡ expansion role worker board known
+  pub room : ¬ IsOverfull (expansion_by (moves_of known) role worker board known)
+  pub is : worker' ≡ expansion_by (moves_of known) role worker board known
+
+abbrev pub Expands : Role → WorkerState → WorkerState → Type 0
+Expands role worker worker' = ExpandsBy (λ known. all_moves) role worker worker'
 
 pub record Settles (worker worker' : WorkerState) : Type 0 where
   pub front : List Item
@@ -89,12 +94,15 @@ pub record Halts (cause : HaltCause) (x y : AtBook) : Type 0 where
   pub done : ¬ MayGoOn x cause
   pub is : y ≡ at_book x.worker (record x.book { stop = Some (stop_of cause) })
 
+pub expand_cases_by : (moves_of : Known → List Move) (role : Role) (it : Turn WorkerState Refusal) → ExpandStepBy moves_of role it → Cases it (ExpandsBy moves_of role it.before it.after)
+expand_cases_by moves_of role it (inl out) = inl (_, out.1)
+expand_cases_by moves_of role it (inr (busy, inl out)) = inl (_, out.1)
+expand_cases_by moves_of role it (inr (busy, inr (left, (b, known, next, inl out)))) = inl (_, out.1)
+expand_cases_by moves_of role it (inr (busy, inr (left, (b, known, next, inr (room, inl new))))) = inr (new.0, record { board = b; known = known; busy = busy; left = left; next = next; room = room; is = new.1 })
+expand_cases_by moves_of role it (inr (busy, inr (left, (b, known, next, inr (room, inr out))))) = inl (_, out.1)
+
 pub expand_cases : (role : Role) (it : Turn WorkerState Refusal) → ExpandStep role it → Cases it (Expands role it.before it.after)
-expand_cases role it (inl out) = inl (_, out.1)
-expand_cases role it (inr (busy, inl out)) = inl (_, out.1)
-expand_cases role it (inr (busy, inr (left, (b, known, next, inl out)))) = inl (_, out.1)
-expand_cases role it (inr (busy, inr (left, (b, known, next, inr (room, inl new))))) = inr (new.0, record { board = b; known = known; busy = busy; left = left; next = next; room = room; is = new.1 })
-expand_cases role it (inr (busy, inr (left, (b, known, next, inr (room, inr out))))) = inl (_, out.1)
+expand_cases role it step = expand_cases_by (λ known. all_moves) role it step
 
 pub settle_cases : (it : Turn WorkerState Refusal) → SettleStep it → Cases it (Settles it.before it.after)
 settle_cases it (inl out) = inl (_, out.1)

@@ -1,6 +1,8 @@
 -- The four steps that a worker takes without the book: by itself, and with a lane that it is lent.
 use Rattle.std.specs.Prelude.{◌≡◌, ◌≢◌, ◌⊎◌, ℕ, ◌+◌, ◌-◌, ◌^◌, ◌<◌, List, [], ◌∷◌, ◌++◌, length, Any, slice_set}
 use Rattle.memory.specs.declared.OutOfMemory.{OutOfMemory}
+use Rattle.board.specs.declared.moves.Move.{Move}
+use Rattle.board.specs.Moves.{all_moves}
 use Rattle.board.specs.Positions.{Position}
 use Rattle.world_model.specs.declared.limits.TheConstants.{PACKET_LIMIT, LANE_LIMIT}
 use Rattle.world_model.specs.declared.parts.Item.{Item}
@@ -11,7 +13,7 @@ use Rattle.world_model.specs.Turns.{Turn, IsRefused, Becomes, Unless}
 use Rattle.world_model.specs.Costs.{limit_of}
 use Rattle.world_model.specs.Knowledge.{relaxation}
 use Rattle.world_model.specs.Workers.{WorkerState, Packet, Lane, Role, packet_for, HasNothingBelow, IsNext}
-use Rattle.world_model.specs.Expansions.{expansion}
+use Rattle.world_model.specs.Expansions.{expansion_by, moves_but, move_back}
 
 -- a worker, and a lane from it or to it
 pub record AtLane : Type 0 where
@@ -26,15 +28,23 @@ WithMemory it next = next ⊎ ((refused : OutOfMemory) × IsRefused it (Memory r
 abbrev pub IsOverfull : WorkerState → Type 0
 IsOverfull worker = Any (λ packet. PACKET_LIMIT < length packet) worker.unsent
 
--- a board of least cost plus sum, below the limit of the best cost, is expanded
-abbrev pub ExpandStep : Role → Turn WorkerState Refusal → Type 0
-ExpandStep role it =
+-- a board of least cost plus sum, below the limit of the best cost, is expanded, by moves that depend on what is known of it
+abbrev pub ExpandStepBy : (Known → List Move) → Role → Turn WorkerState Refusal → Type 0
+ExpandStepBy moves_of role it =
     let worker = it.before in
     Unless it (HasNothingBelow role.task worker (limit_of worker.best)) NothingBelowLimit (
     Unless it (worker.allowance ≡ 0) NoAllowance (
     (b : Position) × (known : Known) × IsNext role.task worker b known
-    × Unless it (IsOverfull (expansion role worker b known)) NoRoom (
-    WithMemory it (Becomes it (expansion role worker b known)))))
+    × Unless it (IsOverfull (expansion_by (moves_of known) role worker b known)) NoRoom (
+    WithMemory it (Becomes it (expansion_by (moves_of known) role worker b known)))))
+
+-- it is expanded by all moves
+abbrev pub ExpandStep : Role → Turn WorkerState Refusal → Type 0
+ExpandStep role it = ExpandStepBy (λ known. all_moves) role it
+
+-- it is expanded by all moves but the one back
+abbrev pub ExpandOnwardStep : Role → Turn WorkerState Refusal → Type 0
+ExpandOnwardStep role it = ExpandStepBy (λ known. moves_but (move_back known)) role it
 
 -- the last item held is taken out, and its board is relaxed
 abbrev pub SettleStep : Turn WorkerState Refusal → Type 0
