@@ -1,11 +1,10 @@
 -- The move back from a board that is expanded: what it leads to is no news, so it may be left out.
-use Rattle.std.proofs.Common.{Bool, true, false, ◌≡◌, ℕ, ◌+◌, ◌%◌, ◌<◌, ◌≤◌, List, [], ◌∷◌, Option, Some, None, refl, sym, ap, ◌∙◌, subst, ⊎_elim, arith}
-use Rattle.std.specs.Prelude.{IfSome, IsTrue, option_map}
+use Rattle.std.proofs.Common.{true, false, ◌≡◌, ◌≢◌, ℕ, ◌+◌, ◌%◌, ◌<◌, ◌≤◌, [], ◌∷◌, Option, Some, None, refl, sym, ap, ◌∙◌, subst, inl, inr, ⊎_elim, arith}
+use Rattle.std.specs.Prelude.{⊤, IfSome, filter_map, fold, option_map}
 use Rattle.std.specs.FinMap as map
-use Rattle.std.proofs.lemmas.Bool.{cases_Bool, cond-true, cond-false, eq-eqb, le-ltb}
+use Rattle.std.proofs.lemmas.Bool.{cases_Bool, cases_eq, cond-true, cond-false, eq-eqb, le-ltb, ne_eqb}
 use Rattle.board.specs.declared.moves.Move.{Move}
 use Rattle.board.specs.declared.moves.Move.TheVariants.{U, L, R, D}
-use Rattle.board.specs.CostRules.{CostRule}
 use Rattle.board.specs.Equality.{move_eq, moves_Decide}
 use Rattle.board.specs.Keys.{key_of}
 use Rattle.board.specs.Moves.{Moves, successor}
@@ -16,20 +15,29 @@ use Rattle.board.proofs.NeighbourLemmas.{successor_moves}
 use Rattle.closed_table.specs.Tables.{Table}
 use Rattle.offers.specs.Offers.{item_by}
 use Rattle.outcomes.specs.Outcomes.{Task}
-use Rattle.search_lists.specs.declared.lists.Next.{Next}
 use Rattle.successor_sums.specs.Unpacked.{but}
 use Rattle.world_model.specs.declared.parts.Item.{Item}
 use Rattle.world_model.specs.declared.parts.Known.{Known}
-use Rattle.world_model.specs.Expansions.{with_closure, expansion}
+use Rattle.world_model.specs.Expansions.{with_closure, with_successor, expansion, expansion_by, move_back, moves_but}
 use Rattle.world_model.specs.Knowledge.{Knowledge, is_news, relaxation}
-use Rattle.world_model.specs.Workers.{WorkerState, Role, KnowsAs}
+use Rattle.world_model.specs.declared.steps.Refusal.{Refusal}
+use Rattle.world_model.specs.declared.steps.Refusal.TheVariants.{NoRoom}
+use Rattle.world_model.specs.Turns.{Becomes, Turn, Unless, turn}
+use Rattle.world_model.specs.WorkerSteps.{ExpandOnwardStep, ExpandStep, IsOverfull, WithMemory}
+use Rattle.world_model.specs.Workers.{WorkerState, Role, KnowsAs, IsNext}
 use Rattle.world_model.proofs.ExpandLemmas.{all_lower}
 use Rattle.world_model.proofs.TableLemmas.{with_insert}
-use Rattle.worker_core.specs.Expanding.{IsNoNews, taken, role_by}
+use Rattle.worker_core.specs.Expanding.{taken, role_by}
 use Rattle.worker_core.specs.Roles.{WereReached}
-use Rattle.worker_core.proofs.ExpandLemmas.{in_four}
+use Rattle.worker_core.proofs.ExpandLemmas.{in_four, one_first}
 
 -- ---- what is left out
+
+-- What a move that is left out leads to is no news: a board that the worker owns, and knows at no more than it would be met at.
+abbrev IsNoNews : Role → WorkerState → Position → Known → Option Move → Type 0
+IsNoNews role worker b known None = ⊤
+IsNoNews role worker b known (Some back) =
+    (before : Position) × (c : ℕ) × (first : Known) × (successor role.task.rule b back ≡ Some (before, c)) × (role.owner before ≡ role.me) × KnowsAs worker before first × (first.cost ≤ known.cost + c)
 
 -- four moves, each of which may offer an item
 abbrev pub four : Role → WorkerState → (Move → Option Item) → WorkerState
@@ -99,8 +107,23 @@ low_closed worker b known key c first at low =
     (λ new. (record known { expanded = true }, new.1, omega arith))
     (with_insert worker.known (key_of b) key (record known { expanded = true }))
 
+-- three moves are left
+three_taken : (role : Role) (worker : WorkerState) (items : Move → Option Item) (x y z : Move) → fold (with_successor role) worker (filter_map items (x ∷ y ∷ z ∷ [])) ≡ taken role (taken role (taken role worker (items x)) (items y)) (items z)
+three_taken role worker items x y z =
+    one_first role worker (items x) _
+    ∙ one_first role (taken role worker (items x)) (items y) _
+    ∙ one_first role (taken role (taken role worker (items x)) (items y)) (items z) []
+
+-- an expansion by the moves but for one that is left out, if any is
+pub in_four_by : (role : Role) (worker : WorkerState) (b : Position) (known : Known) (left_out : Option Move) → expansion_by (moves_but left_out) role worker b known ≡ four role (with_closure worker b known) (but left_out (item_by role.task.rule b known.cost))
+in_four_by role worker b known None = in_four role worker b known
+in_four_by role worker b known (Some U) = three_taken role (with_closure worker b known) (item_by role.task.rule b known.cost) L R D
+in_four_by role worker b known (Some L) = three_taken role (with_closure worker b known) (item_by role.task.rule b known.cost) U R D
+in_four_by role worker b known (Some R) = three_taken role (with_closure worker b known) (item_by role.task.rule b known.cost) U L D
+in_four_by role worker b known (Some D) = three_taken role (with_closure worker b known) (item_by role.task.rule b known.cost) U L R
+
 -- an expansion, where what is no news is left out
-pub in_four_but : (role : Role) (worker : WorkerState) (b : Position) (known : Known) (left_out : Option Move) → IsNoNews role worker b known left_out → expansion role worker b known ≡ four role (with_closure worker b known) (but left_out (item_by role.task.rule b known.cost))
+in_four_but : (role : Role) (worker : WorkerState) (b : Position) (known : Known) (left_out : Option Move) → IsNoNews role worker b known left_out → expansion role worker b known ≡ four role (with_closure worker b known) (but left_out (item_by role.task.rule b known.cost))
 in_four_but role worker b known None none = in_four role worker b known
 in_four_but role worker b known (Some back) (before, c, first, leads, own, knows, low) =
     in_four role worker b known
@@ -108,13 +131,8 @@ in_four_but role worker b known (Some back) (before, c, first, leads, own, knows
 
 -- ---- the move back
 
--- what is known of the move that is left out
-pub left_out_back : (left_out : Option Move) (alone : Bool) (next : Next) (workers : ℕ) (rule : CostRule) (closed : Table) → IfSome left_out (λ back. IsTrue alone) → IfSome left_out (λ back. 0 < next.cost) → IfSome left_out (λ back. back ≡ opposite next.via) → (IsTrue alone → workers ≡ 1) → (IsTrue alone → WereReached rule closed) → IfSome left_out (λ back. (workers ≡ 1) × WereReached rule closed × (0 < next.cost) × (back ≡ opposite next.via))
-left_out_back None alone next workers rule closed asked later back one reached = tt
-left_out_back (Some move) alone next workers rule closed asked later back one reached = (one asked, reached asked, later, back)
-
 -- where one worker has all boards, and each was reached from a known one, the move back leads to no news
-pub back_is_no_news : (task : Task) (hash : Position → ℕ) (workers me : ℕ) (worker : WorkerState) (closed : Table) (b : Position) (known : Known) (left_out : Option Move) → closed.known ≡ worker.known → IsBoard b → b.grid ≡ task.rule.grid → KnowsAs worker b known → me < workers → IfSome left_out (λ back. (workers ≡ 1) × WereReached task.rule closed × (0 < known.cost) × (back ≡ opposite known.via)) → IsNoNews (role_by task hash workers me) worker b known left_out
+back_is_no_news : (task : Task) (hash : Position → ℕ) (workers me : ℕ) (worker : WorkerState) (closed : Table) (b : Position) (known : Known) (left_out : Option Move) → closed.known ≡ worker.known → IsBoard b → b.grid ≡ task.rule.grid → KnowsAs worker b known → me < workers → IfSome left_out (λ back. (workers ≡ 1) × WereReached task.rule closed × (0 < known.cost) × (back ≡ opposite known.via)) → IsNoNews (role_by task hash workers me) worker b known left_out
 back_is_no_news task hash workers me worker closed b known None same board sides knows within is = tt
 back_is_no_news task hash workers me worker closed b known (Some back) same board sides knows within (alone, reached, later, is) =
     let from = reached b known board sides (ap (λ (m : Knowledge). map.get m (key_of b)) same ∙ knows) later in
@@ -133,3 +151,33 @@ back_is_no_news task hash workers me worker closed b known (Some back) same boar
   where
     of_one : (n k : ℕ) → k < 1 → n % 1 ≡ k
     of_one n k lt = omega (arith, lt)
+
+-- the move back, where there is one, is from a cost above 0
+back_has : (known : Known) (P : Move → Type 0) → (0 < known.cost → P (opposite known.via)) → IfSome (move_back known) P
+back_has known P is =
+    ⊎_elim
+    (λ (none : known.cost ≡ 0). subst (λ (o : Option Move). IfSome o P) (sym (cond-true _ _ _ (eq-eqb known.cost 0 none))) tt)
+    (λ (some : known.cost ≢ 0). subst (λ (o : Option Move). IfSome o P) (sym (cond-false _ _ _ (ne_eqb known.cost 0 some))) (is (omega (arith, some))))
+    (cases_eq known.cost 0)
+
+-- what is left of a step once the worker is known that it makes
+abbrev Leaves : Turn WorkerState Refusal → WorkerState → Type 0
+Leaves it made = Unless it (IsOverfull made) NoRoom (WithMemory it (Becomes it made))
+
+module _ (task : Task) (hash : Position → ℕ) (workers me : ℕ) (worker : WorkerState) (closed : Table) (same : closed.known ≡ worker.known) (sides : task.rule.grid ≡ task.goal.grid) (within : me < workers) (alone : workers ≡ 1) (reached : WereReached task.rule closed) where
+  abbrev role : Role
+  role = role_by task hash workers me
+
+  same_expansion : (b : Position) (known : Known) → IsNext task worker b known → expansion_by (moves_but (move_back known)) role worker b known ≡ expansion role worker b known
+  same_expansion b known next =
+      let no_news =
+      back_is_no_news task hash workers me worker closed b known (move_back known) same next.opens.board.0 (next.opens.board.1 ∙ sym sides) next.opens.knows within
+      (back_has known (λ back. (workers ≡ 1) × WereReached task.rule closed × (0 < known.cost) × (back ≡ opposite known.via)) (λ later. (alone, reached, later, refl))) in
+      in_four_by role worker b known (move_back known) ∙ sym (in_four_but role worker b known (move_back known) no_news)
+
+  -- so one worker expands a board by all moves where it leaves the one back out
+  pub alone_step : (answer : Option Refusal) (worker' : WorkerState) → ExpandOnwardStep role (turn worker answer worker') → ExpandStep role (turn worker answer worker')
+  alone_step answer worker' (inl out) = inl out
+  alone_step answer worker' (inr (busy, inl out)) = inr (busy, inl out)
+  alone_step answer worker' (inr (busy, inr (left, (b, known, next, rest)))) =
+      inr (busy, inr (left, (b, known, next, subst (Leaves (turn worker answer worker')) (same_expansion b known next) rest)))

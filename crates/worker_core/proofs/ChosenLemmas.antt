@@ -1,11 +1,10 @@
 -- The board that is expanded, and what its moves offer.
-use Rattle.std.proofs.Common.{◌≡◌, ℕ, ◌+◌, ◌<◌, ◌≤◌, ◌%◌, Option, Some, None, sym, ap, ◌∙◌, subst, arith}
+use Rattle.std.proofs.Common.{◌≡◌, ℕ, ◌+◌, ◌<◌, ◌≤◌, ◌%◌, Bool, Option, Some, None, sym, ap, ◌∙◌, subst, arith}
 use Rattle.std.specs.Prelude.{IfSome}
 use Rattle.board.specs.declared.costs.TheConstants.{GREATEST_EXPANDED_COST}
 use Rattle.board.specs.declared.moves.Move.{Move}
 use Rattle.board.specs.Grids.{Grid}
 use Rattle.board.specs.Keys.{HasKey}
-use Rattle.board.specs.Neighbours.{opposite}
 use Rattle.board.specs.Positions.{Position}
 use Rattle.closed_table.specs.Tables.{Table}
 use Rattle.open_buckets.specs.declared.open.TheConstants.{GREATEST_F}
@@ -20,30 +19,26 @@ use Rattle.world_model.specs.declared.parts.Known.{Known}
 use Rattle.world_model.specs.Costs.{limit_of}
 use Rattle.world_model.specs.Workers.{WorkerState, Role, HasNothingBelow, IsNext}
 use Rattle.successor_sums.specs.Unpacked.{but}
-use Rattle.worker_core.specs.Expanding.{AddsUpBy, IsNoNews, role_by}
-use Rattle.worker_core.specs.Roles.{IsGuided, WereReached}
-use Rattle.worker_core.proofs.BackLemmas.{back_is_no_news}
+use Rattle.worker_core.specs.Expanding.{AddsUpBy, left_out_if, role_by}
+use Rattle.worker_core.specs.Roles.{IsGuided}
 use Rattle.worker_core.proofs.ExpandLemmas.{is_next, all_add}
 use Rattle.worker_core.proofs.GuideLemmas.{some_below}
 use Rattle.worker_core.proofs.SettleLemmas.{order_with_room}
 use Rattle.worker_core.proofs.TakeLemmas.{guided_same, if_some}
 
 -- the board is to be expanded, and this is what its moves offer to so many workers
-pub record IsChosen (role : Role) (worker : WorkerState) (b : Position) (known : Known) (left_out : Option Move) (offers : Offers) (workers : ℕ) : Type 0 where
+pub record IsChosen (role : Role) (worker : WorkerState) (b : Position) (known : Known) (onward : Bool) (left_out : Option Move) (offers : Offers) (workers : ℕ) : Type 0 where
   pub waits : ¬ HasNothingBelow role.task worker (limit_of worker.best)
   pub at : IsNext role.task worker b known
-  pub no_news : IsNoNews role worker b known left_out
+  pub left_out_is : left_out ≡ left_out_if onward known
   pub offered : AreOffered role.task.sum role.owner (but left_out (item_by role.task.rule b known.cost)) offers
   pub within : OfEach (IsWithin role.task.goal.grid known.cost workers) offers
 
-pub chosen : (task : Task) (guide : Guide) (lists : Lists) (is : IsGuided task guide lists) (worker : WorkerState) (same : lists.closed.known ≡ worker.known) (hash : Position → ℕ) (n workers me : ℕ) (all : n ≡ workers) (limit : ℕ) (limit_is : limit ≡ limit_of worker.best) (next : Next) (first : IsLeastOpen guide lists.closed next) (below : next.f < limit) (b : Position) (grid : Grid) (sides : grid ≡ task.goal.grid) (has : HasKey grid next.key b) (costs : task.rule.grid ≡ task.goal.grid) (there : me < workers) (left_out : Option Move) (back : IfSome left_out (λ back. (workers ≡ 1) × WereReached task.rule lists.closed × (0 < next.cost) × (back ≡ opposite next.via))) (offers : Offers) (offered : AreOffered task.sum (λ p. hash p % n) (but left_out (item_by task.rule b next.cost)) offers) (within : OfEach (IsWithin b.grid next.cost n) offers) → IsChosen (role_by task hash workers me) worker b first.opens.0 left_out offers workers
-chosen task guide lists is worker same hash n workers me all limit limit_is next first below b grid sides has costs there left_out back offers offered within = record {
+pub chosen : (task : Task) (guide : Guide) (lists : Lists) (is : IsGuided task guide lists) (worker : WorkerState) (same : lists.closed.known ≡ worker.known) (hash : Position → ℕ) (n workers me : ℕ) (all : n ≡ workers) (limit : ℕ) (limit_is : limit ≡ limit_of worker.best) (next : Next) (first : IsLeastOpen guide lists.closed next) (below : next.f < limit) (b : Position) (grid : Grid) (sides : grid ≡ task.goal.grid) (has : HasKey grid next.key b) (onward : Bool) (left_out : Option Move) (back : (known : Known) → known.cost ≡ next.cost → known.via ≡ next.via → left_out ≡ left_out_if onward known) (offers : Offers) (offered : AreOffered task.sum (λ p. hash p % n) (but left_out (item_by task.rule b next.cost)) offers) (within : OfEach (IsWithin b.grid next.cost n) offers) → IsChosen (role_by task hash workers me) worker b first.opens.0 onward left_out offers workers
+chosen task guide lists is worker same hash n workers me all limit limit_is next first below b grid sides has onward left_out back offers offered within = record {
   waits = λ none. some_below task guide lists worker same is limit next first below (subst (HasNothingBelow task worker) (sym limit_is) none);
   at = is_next task guide lists worker same is next first b (subst (λ (g : Grid). HasKey g next.key b) sides has);
-  no_news =
-      let at = is_next task guide lists worker same is next first b (subst (λ (g : Grid). HasKey g next.key b) sides has) in
-      back_is_no_news task hash workers me worker lists.closed b first.opens.0 left_out same has.board (has.sides ∙ sides ∙ sym costs) at.opens.knows there
-      (subst (λ (x : ℕ × Move). IfSome left_out (λ back. (workers ≡ 1) × WereReached task.rule lists.closed × (0 < x.0) × (back ≡ opposite x.1))) (λ t. (sym first.opens.2 t, sym first.opens.3 t)) back);
+  left_out_is = back first.opens.0 first.opens.2 first.opens.3;
   offered = subst (λ (x : ℕ × ℕ). AreOffered task.sum (λ p. hash p % x.0) (but left_out (item_by task.rule b x.1)) offers) (λ t. (all t, sym first.opens.2 t)) offered;
   within = subst (λ (x : Grid × (ℕ × ℕ)). OfEach (IsWithin x.0 x.1.0 x.1.1) offers) (λ t. ((has.sides ∙ sides) t, (sym first.opens.2 t, all t))) within;
 }
@@ -75,6 +70,6 @@ pub guided_with_room : (task : Task) (guide : Guide) (old new : Lists) → IsGui
 guided_with_room task guide old new is more = guided_same task guide old new is more.known (order_with_room guide old new more is.order)
 
 -- what is offered adds up
-pub chosen_adds : (role : Role) (guide : Guide) (lists : Lists) (is : IsGuided role.task guide lists) (worker : WorkerState) (b : Position) (known : Known) (left_out : Option Move) (offers : Offers) (n : ℕ) → IsChosen role worker b known left_out offers n → known.cost ≤ GREATEST_EXPANDED_COST → OfEach (AddsUpBy guide) offers
-chosen_adds role guide lists is worker b known left_out offers n it low =
+pub chosen_adds : (role : Role) (guide : Guide) (lists : Lists) (is : IsGuided role.task guide lists) (worker : WorkerState) (b : Position) (known : Known) (onward : Bool) (left_out : Option Move) (offers : Offers) (n : ℕ) → IsChosen role worker b known onward left_out offers n → known.cost ≤ GREATEST_EXPANDED_COST → OfEach (AddsUpBy guide) offers
+chosen_adds role guide lists is worker b known onward left_out offers n it low =
     all_add role.task guide role.owner b known.cost n role.task.goal.grid is.guides it.at.opens.board low left_out offers it.offered it.within

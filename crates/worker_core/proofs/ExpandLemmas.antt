@@ -37,7 +37,7 @@ use Rattle.worker_core.proofs.TakeLemmas.{ready_with_room, if_some}
 
 -- ---- one after the other
 
-one_first : (role : Role) (worker : WorkerState) (item : Option Item) (rest : List Item) → fold (with_successor role) worker (cons_option item rest) ≡ fold (with_successor role) (taken role worker item) rest
+pub one_first : (role : Role) (worker : WorkerState) (item : Option Item) (rest : List Item) → fold (with_successor role) worker (cons_option item rest) ≡ fold (with_successor role) (taken role worker item) rest
 one_first role worker None rest = refl
 one_first role worker (Some item) rest = refl
 

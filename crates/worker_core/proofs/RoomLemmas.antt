@@ -17,12 +17,12 @@ use Rattle.world_model.specs.declared.limits.TheConstants.{PACKET_LIMIT}
 use Rattle.world_model.specs.declared.parts.Item.{Item}
 use Rattle.world_model.specs.declared.parts.Known.{Known}
 use Rattle.world_model.specs.Knowledge.{relaxation}
-use Rattle.world_model.specs.Expansions.{with_closure, expansion}
+use Rattle.world_model.specs.Expansions.{with_closure, expansion_by, moves_but}
 use Rattle.world_model.specs.Workers.{WorkerState, Packet, Role}
 use Rattle.world_model.specs.WorkerSteps.{IsOverfull}
 use Rattle.successor_sums.specs.Unpacked.{but}
-use Rattle.worker_core.specs.Expanding.{IsReady, stock, taken, IsNoNews}
-use Rattle.worker_core.proofs.BackLemmas.{in_four_but}
+use Rattle.worker_core.specs.Expanding.{IsReady, stock, taken}
+use Rattle.worker_core.proofs.BackLemmas.{in_four_by}
 use Rattle.worker_core.proofs.TakeLemmas.{if_some, put_there, put_elsewhere}
 
 -- ---- one item
@@ -93,7 +93,7 @@ few_left me grid lists unsent ready to =
 
 -- ---- an expansion
 
-module _ (role : Role) (worker : WorkerState) (b : Position) (known : Known) (left_out : Option Move) (no_news : IsNoNews role worker b known left_out) (sum : Position → ℕ) (offers : Offers) (offered : AreOffered sum role.owner (but left_out (item_by role.task.rule b known.cost)) offers) (grid : Grid) (n : ℕ) (within : OfEach (IsWithin grid known.cost n) offers) (lists : length worker.unsent ≡ n) where
+module _ (role : Role) (worker : WorkerState) (b : Position) (known : Known) (left_out : Option Move) (sum : Position → ℕ) (offers : Offers) (offered : AreOffered sum role.owner (but left_out (item_by role.task.rule b known.cost)) offers) (grid : Grid) (n : ℕ) (within : OfEach (IsWithin grid known.cost n) offers) (lists : length worker.unsent ≡ n) where
   abbrev items : Move → Option Item
   items = but left_out (item_by role.task.rule b known.cost)
 
@@ -116,11 +116,11 @@ module _ (role : Role) (worker : WorkerState) (b : Position) (known : Known) (le
       (down.0, λ to. let x = up.1 to in let y = left.1 to in let z = right.1 to in let v = down.1 to in omega (arith, x, y, z, v))
 
   -- without room some packet gets too many
-  pub overfull : ¬ HasRoom role.me worker.unsent offers → IsOverfull (expansion role worker b known)
+  pub overfull : ¬ HasRoom role.me worker.unsent offers → IsOverfull (expansion_by (moves_but left_out) role worker b known)
   overfull none =
       subst
       IsOverfull
-      (sym (in_four_but role worker b known left_out no_news))
+      (sym (in_four_by role worker b known left_out))
       (⊎_elim
       (λ some. any_at expanded.unsent some.0 some.1 some.2)
       (λ (all : (to : ℕ) → to < length expanded.unsent → length (get_or expanded.unsent to []) ≤ PACKET_LIMIT).
@@ -128,9 +128,9 @@ module _ (role : Role) (worker : WorkerState) (b : Position) (known : Known) (le
       (full_below (λ to. length (get_or expanded.unsent to [])) (length expanded.unsent)))
 
   -- with room none does
-  pub none_overfull : HasRoom role.me worker.unsent offers → ¬ IsOverfull (expansion role worker b known)
+  pub none_overfull : HasRoom role.me worker.unsent offers → ¬ IsOverfull (expansion_by (moves_but left_out) role worker b known)
   none_overfull room full =
-      let some = at_any expanded.unsent (subst IsOverfull (in_four_but role worker b known left_out no_news) full) in
+      let some = at_any expanded.unsent (subst IsOverfull (in_four_by role worker b known left_out) full) in
       let m = lengths.0 in
       let lt = some.1 in
       let e = lengths.1 some.0 in

@@ -1,9 +1,8 @@
 -- How a worker takes what the moves from a board offer, one after the other.
-use Rattle.std.specs.Prelude.{⊤, ℕ, ◌≡◌, ◌+◌, ◌%◌, ◌<◌, ◌≤◌, List, [], ◌∷◌, length, slice_index_or, Option, Some, None, IfSome}
+use Rattle.std.specs.Prelude.{Bool, true, false, ⊤, ℕ, ◌≡◌, ◌+◌, ◌%◌, ◌<◌, ◌≤◌, List, [], ◌∷◌, length, slice_index_or, Option, Some, None, IfSome}
 use Rattle.board.specs.declared.moves.Move.{Move}
 use Rattle.board.specs.Grids.{Grid}
 use Rattle.board.specs.Keys.{HasKey}
-use Rattle.board.specs.Moves.{successor}
 use Rattle.board.specs.Positions.{Position}
 use Rattle.open_buckets.specs.declared.open.TheConstants.{GREATEST_F}
 use Rattle.open_buckets.specs.OpenLists.{places_at}
@@ -16,8 +15,8 @@ use Rattle.search_lists.specs.Orders.{Guide}
 use Rattle.world_model.specs.declared.limits.TheConstants.{PACKET_LIMIT}
 use Rattle.world_model.specs.declared.parts.Item.{Item}
 use Rattle.world_model.specs.declared.parts.Known.{Known}
-use Rattle.world_model.specs.Expansions.{with_successor}
-use Rattle.world_model.specs.Workers.{WorkerState, Packet, Role, KnowsAs}
+use Rattle.world_model.specs.Expansions.{move_back, with_successor}
+use Rattle.world_model.specs.Workers.{WorkerState, Packet, Role}
 
 -- the worker with one successor more, where there is one
 abbrev pub taken : Role → WorkerState → Option Item → WorkerState
@@ -28,11 +27,10 @@ taken role worker (Some item) = with_successor role worker item
 abbrev pub in_turn : Offers → List (Option Offer)
 in_turn offers = offers.up ∷ offers.left ∷ offers.right ∷ offers.down ∷ []
 
--- What a move that is left out leads to is no news: a board that the worker owns, and knows at no more than it would be met at.
-abbrev pub IsNoNews : Role → WorkerState → Position → Known → Option Move → Type 0
-IsNoNews role worker b known None = ⊤
-IsNoNews role worker b known (Some back) =
-    (before : Position) × (c : ℕ) × (first : Known) × (successor role.task.rule b back ≡ Some (before, c)) × (role.owner before ≡ role.me) × KnowsAs worker before first × (first.cost ≤ known.cost + c)
+-- the move that is left out where a board is expanded that is known so: the one back, where that is asked for
+abbrev pub left_out_if : Bool → Known → Option Move
+left_out_if true known = move_back known
+left_out_if false known = None
 
 -- how many items of what some moves offer go from worker `me` to another, `to`
 abbrev pub all_go : ℕ → ℕ → List (Option Offer) → ℕ

@@ -1,10 +1,9 @@
 //! The step that expands a board.
 
 ghost use Rattle.std.specs.Prelude.{ℕ, ◌≡◌, ◌<◌, ◌≤◌, ◌+◌, [], length, slice_index_or, IfSome, OnOk};
-ghost use Rattle.std.specs.Prelude.{Option, IsTrue};
+ghost use Rattle.std.specs.Prelude.{Option};
 ghost use Rattle.std.specs.FinMap as map;
 ghost use Rattle.board.specs.Keys.{key_of};
-ghost use Rattle.board.specs.Neighbours.{opposite};
 ghost use Rattle.board.specs.Positions.{Position, IsBoard};
 ghost use Rattle.closed_table.specs.Tables.{table_closure};
 ghost use Rattle.open_buckets.specs.OpenLists.{places_at};
@@ -16,12 +15,12 @@ ghost use Rattle.successor_sums.specs.Unpacked.{but};
 ghost use Rattle.search_lists.specs.Orders.{Guide, IsInOrder, IsFirst};
 ghost use Rattle.world_model.specs.declared.limits.TheConstants.{PACKET_LIMIT};
 ghost use Rattle.world_model.specs.declared.parts.Known.{Known};
-ghost use Rattle.world_model.specs.Expansions.{expansion};
+ghost use Rattle.world_model.specs.Expansions.{expansion_by, moves_but};
 ghost use Rattle.world_model.specs.Turns.{turn, refusal_in};
 ghost use Rattle.world_model.specs.Workers.{Role, KnowsAs};
-ghost use Rattle.world_model.specs.WorkerSteps.{ExpandStep};
+ghost use Rattle.world_model.specs.WorkerSteps.{ExpandOnwardStep, ExpandStep, ExpandStepBy};
 ghost use Rattle.worker_core.specs.Expanding.{IsReady, stock, AddsUpBy, in_turn, role_by};
-ghost use Rattle.worker_core.specs.Expanding.{IsNoNews};
+ghost use Rattle.worker_core.specs.Expanding.{left_out_if};
 ghost use Rattle.worker_core.specs.Roles.{IsGuided, WereReached, task_of};
 ghost use Rattle.worker_core.specs.Workers.{state_of, packets_of};
 
@@ -78,8 +77,41 @@ impl<C: Counting> Worker<C> {
         self.expand_one(alloc, me, goal, weights, bound, owners, false)
     }
 
-    /// Expands a board as `expand` does, where there is no other worker. The move back, to the board
-    /// before the last move, is left out: that board is known, and cheaper.
+    /// Expands a board as `expand` does, but leaves the move back out, to the board before the last
+    /// move, where the board's cost is above 0. Who made that cost known knows the board before.
+    pub fn expand_onward<S: Spread>(
+        &mut self,
+        alloc: Global,
+        me: usize,
+        goal: &Board,
+        weights: &Weights,
+        bound: &Bound,
+        owners: &S,
+    ) -> Result<(), Refusal>
+        requires rule { weights.now.grid ≡ goal.now.grid }
+        requires sides { bound.now.split.grid ≡ goal.now.grid }
+        requires there { me < length self.old.unsent.items }
+        requires few { (to : ℕ)
+            → length (slice_index_or (packets_of self.old.unsent.items) to []) ≤ PACKET_LIMIT }
+        requires guided { (start : Position) × (guide : Guide)
+            × IsGuided (task_of start goal.now weights.now bound.now) guide self.old.lists }
+        ensures step { (start : Position)
+            → ExpandOnwardStep (role_by (task_of start goal.now weights.now bound.now)
+            (S.hash_of owners.now) (length self.old.unsent.items) me)
+            (turn (state_of self.old) (refusal_in result) (state_of self.new)) }
+        ensures order { (start : Position) (guide : Guide)
+            → IsGuided (task_of start goal.now weights.now bound.now) guide self.old.lists
+            → IsGuided (task_of start goal.now weights.now bound.now) guide self.new.lists }
+        ensures few { (to : ℕ)
+            → length (slice_index_or (packets_of self.new.unsent.items) to []) ≤ PACKET_LIMIT }
+        ensures workers { length self.new.unsent.items ≡ length self.old.unsent.items }
+        ensures granted { self.new.allowance.granted ≡ self.old.allowance.granted }
+    {
+        self.expand_one(alloc, me, goal, weights, bound, owners, true)
+    }
+
+    /// Expands a board as `expand` does, where there is no other worker. The move back is left out
+    /// here too: the board before the last move is known, and cheaper.
     pub fn expand_alone<S: Spread>(
         &mut self,
         alloc: Global,
@@ -110,10 +142,10 @@ impl<C: Counting> Worker<C> {
         ensures workers { length self.new.unsent.items ≡ length self.old.unsent.items }
         ensures granted { self.new.allowance.granted ≡ self.old.allowance.granted }
     {
-        self.expand_one(alloc, me, goal, weights, bound, owners, true)
+        self.expand_onward(alloc, me, goal, weights, bound, owners)
     }
 
-    // Expands a board, and leaves the move back out where this is the only worker.
+    // Expands a board, by all moves or by all but the one back.
     fn expand_one<S: Spread>(
         &mut self,
         alloc: Global,
@@ -122,19 +154,18 @@ impl<C: Counting> Worker<C> {
         weights: &Weights,
         bound: &Bound,
         owners: &S,
-        alone: bool,
+        onward: bool,
     ) -> Result<(), Refusal>
         requires rule { weights.now.grid ≡ goal.now.grid }
         requires sides { bound.now.split.grid ≡ goal.now.grid }
         requires there { me < length self.old.unsent.items }
-        requires alone { IsTrue alone → length self.old.unsent.items ≡ 1 }
-        requires reached { IsTrue alone → WereReached weights.now self.old.lists.closed }
         requires few { (to : ℕ)
             → length (slice_index_or (packets_of self.old.unsent.items) to []) ≤ PACKET_LIMIT }
         requires guided { (start : Position) × (guide : Guide)
             × IsGuided (task_of start goal.now weights.now bound.now) guide self.old.lists }
         ensures step { (start : Position)
-            → ExpandStep (role_by (task_of start goal.now weights.now bound.now)
+            → ExpandStepBy (λ known. moves_but (left_out_if onward known))
+            (role_by (task_of start goal.now weights.now bound.now)
             (S.hash_of owners.now) (length self.old.unsent.items) me)
             (turn (state_of self.old) (refusal_in result) (state_of self.new)) }
         ensures order { (start : Position) (guide : Guide)
@@ -159,7 +190,7 @@ impl<C: Counting> Worker<C> {
             bound,
             owners,
             self.unsent.len(),
-            move_left_out(next, alone),
+            move_left_out(next, onward),
         );
         if !has_room(&self.unsent, me, &offers) {
             return Err(Refusal::NoRoom);
@@ -182,9 +213,9 @@ impl<C: Counting> Worker<C> {
         ensures state { (role : Role) (sum : Position → ℕ) (b : Position) (known : Known)
             (left_out : Option Move) → role.me ≡ me → IsBoard b → b.grid ≡ goal.now.grid
             → key_of b ≡ next.key → KnowsAs (state_of self.old) b known
-            → IsNoNews role (state_of self.old) b known left_out
             → AreOffered sum role.owner (but left_out (item_by role.task.rule b known.cost)) offers
-            → state_of self.new ≡ expansion role (state_of self.old) b known }
+            → state_of self.new
+            ≡ expansion_by (moves_but left_out) role (state_of self.old) b known }
         ensures guided { (task : Task) (guide : Guide) → task.goal ≡ goal.now
             → OfEach (AddsUpBy guide) offers
             → IsGuided task guide self.old.lists → IsGuided task guide self.new.lists }
@@ -203,14 +234,13 @@ impl<C: Counting> Worker<C> {
     }
 }
 
-// The move from a board that is left out: the one back, where that is asked for and the board is
-// not the start.
-fn move_left_out(next: Next, alone: bool) -> Option<Move>
-    ensures alone { IfSome result (λ back. IsTrue alone) }
-    ensures later { IfSome result (λ back. 0 < next.cost) }
-    ensures back { IfSome result (λ back. back ≡ opposite next.via) }
+// The move from a board that is left out: the one back, where that is asked for and the cost of
+// the board is above 0.
+fn move_left_out(next: Next, onward: bool) -> Option<Move>
+    ensures { (known : Known) → known.cost ≡ next.cost → known.via ≡ next.via
+        → result ≡ left_out_if onward known }
 {
-    if !alone {
+    if !onward {
         return None;
     }
     if next.cost == 0 {

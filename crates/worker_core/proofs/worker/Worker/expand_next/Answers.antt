@@ -9,7 +9,7 @@ use Rattle.successor_sums.specs.Unpacked.{but}
 use Rattle.world_model.specs.Workers.{WorkerState}
 use Rattle.worker_core.specs.Expanding.{IsReady, stock, taken}
 use Rattle.worker_core.specs.Workers.{state_of, packets_of}
-use Rattle.worker_core.proofs.BackLemmas.{in_four_but}
+use Rattle.worker_core.proofs.BackLemmas.{in_four_by}
 use Rattle.worker_core.proofs.ExpandLemmas.{item_board_but, ready_closed, one_spent}
 use Rattle.worker_core.proofs.RoomLemmas.{few_left}
 use Rattle.worker_core.proofs.TakeLemmas.{guided_closed}
@@ -72,7 +72,7 @@ take-requires-4-after_bounds g c κs within =
 
 -- src/expanding.rt:91:5
 pub returns-clause-state : goal.returns-clause-state
-returns-clause-state g c = λ role sum b known left_out me board sides packed at no_news offered.
+returns-clause-state g c = λ role sum b known left_out me board sides packed at offered.
     let worker = state_of c.args.self.now in
     let old = c.args.self.now.allowance in
     let item = but left_out (item_by role.task.rule b known.cost) in
@@ -85,7 +85,7 @@ returns-clause-state g c = λ role sum b known left_out me board sides packed at
     let s2 = c.take-2.ensures.state role sum (item L) me offered.left (boards L) ∙ ap (λ (w : WorkerState). taken role w (item L)) s1 in
     let s3 = c.take-3.ensures.state role sum (item R) me offered.right (boards R) ∙ ap (λ (w : WorkerState). taken role w (item R)) s2 in
     let s4 = c.take-4.ensures.state role sum (item D) me offered.down (boards D) ∙ ap (λ (w : WorkerState). taken role w (item D)) s3 in
-    s4 ∙ sym (in_four_but role worker b known left_out no_news)
+    s4 ∙ sym (in_four_by role worker b known left_out)
 
 -- src/expanding.rt:91:5
 pub returns-clause-guided : goal.returns-clause-guided

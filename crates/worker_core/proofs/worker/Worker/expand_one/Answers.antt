@@ -1,19 +1,20 @@
-use Rattle.std.proofs.Common.{rules, ◌≡◌, List, length, refl, sym, ap, ◌∙◌, subst, inl, inr, arith}
+use Rattle.std.proofs.Common.{rules, ◌≡◌, Option, List, length, refl, sym, ap, ◌∙◌, subst, inl, inr, arith}
 use Rattle.std.proofs.lemmas.List.{length-map}
 use Rattle.std.specs.FinMap as map
+use Rattle.board.specs.declared.moves.Move.{Move}
 use Rattle.board.specs.Keys.{key_of}
 use Rattle.closed_table.specs.Tables.{Table}
 use Rattle.offers.specs.Room.{HasRoom}
 use Rattle.world_model.specs.Costs.{limit_of}
 use Rattle.world_model.specs.Knowledge.{Knowledge}
-use Rattle.world_model.specs.Expansions.{expansion}
+use Rattle.world_model.specs.Expansions.{expansion_by, moves_but}
+use Rattle.world_model.specs.WorkerSteps.{IsOverfull}
 use Rattle.world_model.specs.Workers.{HasNothingBelow}
 use Rattle.search_lists.specs.Lists.{Lists}
-use Rattle.worker_core.specs.Expanding.{IsReady, stock, in_turn, IsNoNews, role_by}
+use Rattle.worker_core.specs.Expanding.{IsReady, stock, in_turn, role_by}
 use Rattle.worker_core.specs.Roles.{IsGuided, task_of}
 use Rattle.worker_core.specs.Workers.{state_of, packets_of}
 use Rattle.worker_core.proofs.ChosenLemmas.{chosen, chosen_adds, cost_low, all_low, guided_by_next, guided_with_room}
-use Rattle.worker_core.proofs.BackLemmas.{left_out_back}
 use Rattle.worker_core.proofs.ExpandLemmas.{ready_for, restarted}
 use Rattle.worker_core.proofs.GuideLemmas.{none_below, some_below}
 use Rattle.worker_core.proofs.PacketLemmas.{Items}
@@ -61,12 +62,12 @@ returns-then-not-has_room-clause-step g c = λ start.
     let b = c.of_key-unpacked.result in
     let known = first.opens.0 in
     let offers = c.offers_of-offers.result in
-    let it = chosen task guide lists is worker refl hash c.len.result workers c.args.me (c.len.ensures ∙ c.args.self.now.unsent.ok.0) c.limit.result c.limit.ensures next first c.in-Some.ensures.below b c.shape.result c.shape.ensures.value c.of_key-unpacked.ensures c.requires.rule c.requires.there c.move_left_out.result (left_out_back c.move_left_out.result c.args.alone next workers task.rule lists.closed c.move_left_out.ensures.alone c.move_left_out.ensures.later c.move_left_out.ensures.back c.requires.alone c.requires.reached) offers c.offers_of-offers.ensures.offered c.offers_of-offers.ensures.within in
+    let it = chosen task guide lists is worker refl hash c.len.result workers c.args.me (c.len.ensures ∙ c.args.self.now.unsent.ok.0) c.limit.result c.limit.ensures next first c.in-Some.ensures.below b c.shape.result c.shape.ensures.value c.of_key-unpacked.ensures c.args.onward c.move_left_out.result c.move_left_out.ensures offers c.offers_of-offers.ensures.offered c.offers_of-offers.ensures.within in
     let all : length worker.unsent ≡ workers = length-map c.args.self.now.unsent.items (λ v. v.items) in
     let some : worker.allowance ≡ 0 → ⊥ = λ none. c.if-left-eq0.false (c.left.ensures.value ∙ none) in
     let none : ¬ HasRoom c.args.me worker.unsent offers = λ room. (let wrong = c.if-not-has_room.ensures.1 (subst (λ (xs : List Items). HasRoom c.args.me (packets_of xs) offers) (sym c.deref.ensures.value) room) in cc) in
-    let full = overfull role worker b known c.move_left_out.result it.no_news task.sum offers it.offered c.args.goal.now.grid workers it.within all none in
-    inr (it.waits, inr (some, (b, known, it.at, inl (full, (refl, ap (λ (t : Table). record worker { known = t.known }) c.next.ensures.closed)))))
+    let full = overfull role worker b known c.move_left_out.result task.sum offers it.offered c.args.goal.now.grid workers it.within all none in
+    inr (it.waits, inr (some, (b, known, it.at, inl (subst (λ (o : Option Move). IsOverfull (expansion_by (moves_but o) role worker b known)) it.left_out_is full, (refl, ap (λ (t : Table). record worker { known = t.known }) c.next.ensures.closed)))))
 
 -- src/expanding.rt:81:13
 pub returns-then-not-has_room-clause-order : goal.returns-then-not-has_room-clause-order
@@ -97,13 +98,13 @@ returns-in-Err-clause-step g c = λ start.
     let b = c.of_key-unpacked.result in
     let known = first.opens.0 in
     let offers = c.offers_of-offers.result in
-    let it = chosen task guide lists is worker refl hash c.len.result workers c.args.me (c.len.ensures ∙ c.args.self.now.unsent.ok.0) c.limit.result c.limit.ensures next first c.in-Some.ensures.below b c.shape.result c.shape.ensures.value c.of_key-unpacked.ensures c.requires.rule c.requires.there c.move_left_out.result (left_out_back c.move_left_out.result c.args.alone next workers task.rule lists.closed c.move_left_out.ensures.alone c.move_left_out.ensures.later c.move_left_out.ensures.back c.requires.alone c.requires.reached) offers c.offers_of-offers.ensures.offered c.offers_of-offers.ensures.within in
+    let it = chosen task guide lists is worker refl hash c.len.result workers c.args.me (c.len.ensures ∙ c.args.self.now.unsent.ok.0) c.limit.result c.limit.ensures next first c.in-Some.ensures.below b c.shape.result c.shape.ensures.value c.of_key-unpacked.ensures c.args.onward c.move_left_out.result c.move_left_out.ensures offers c.offers_of-offers.ensures.offered c.offers_of-offers.ensures.within in
     let all : length worker.unsent ≡ workers = length-map c.args.self.now.unsent.items (λ v. v.items) in
     let room = subst (λ (xs : List Items). HasRoom c.args.me (packets_of xs) offers) c.deref.ensures.value (c.has_room.ensures.0 (search rules)) in
     let some : worker.allowance ≡ 0 → ⊥ = λ none. c.if-left-eq0.false (c.left.ensures.value ∙ none) in
-    let fits = none_overfull role worker b known c.move_left_out.result it.no_news task.sum offers it.offered c.args.goal.now.grid workers it.within all room in
+    let fits = none_overfull role worker b known c.move_left_out.result task.sum offers it.offered c.args.goal.now.grid workers it.within all room in
     let same = c.make_places.ensures.same.known ∙ ap (λ (t : Table). t.known) c.next.ensures.closed in
-    inr (it.waits, inr (some, (b, known, it.at, inr (fits, inr (c.in-Err.refused, (refl, ap (λ (m : Knowledge). record worker { known = m }) same))))))
+    inr (it.waits, inr (some, (b, known, it.at, inr (subst (λ (o : Option Move). ¬ IsOverfull (expansion_by (moves_but o) role worker b known)) it.left_out_is fits, inr (c.in-Err.refused, (refl, ap (λ (m : Knowledge). record worker { known = m }) same))))))
 
 -- src/expanding.rt:84:13
 pub returns-in-Err-clause-order : goal.returns-in-Err-clause-order
@@ -128,7 +129,7 @@ expand_next-requires-clause-ready g c κs within =
     let b = c.of_key-unpacked.result in
     let known = first.opens.0 in
     let offers = c.offers_of-offers.result in
-    let it = chosen task guide lists is worker refl hash c.len.result workers c.args.me (c.len.ensures ∙ c.args.self.now.unsent.ok.0) c.limit.result c.limit.ensures next first c.in-Some.ensures.below b c.shape.result c.shape.ensures.value c.of_key-unpacked.ensures c.requires.rule c.requires.there c.move_left_out.result (left_out_back c.move_left_out.result c.args.alone next workers task.rule lists.closed c.move_left_out.ensures.alone c.move_left_out.ensures.later c.move_left_out.ensures.back c.requires.alone c.requires.reached) offers c.offers_of-offers.ensures.offered c.offers_of-offers.ensures.within in
+    let it = chosen task guide lists is worker refl hash c.len.result workers c.args.me (c.len.ensures ∙ c.args.self.now.unsent.ok.0) c.limit.result c.limit.ensures next first c.in-Some.ensures.below b c.shape.result c.shape.ensures.value c.of_key-unpacked.ensures c.args.onward c.move_left_out.result c.move_left_out.ensures offers c.offers_of-offers.ensures.offered c.offers_of-offers.ensures.within in
     let all : length worker.unsent ≡ workers = length-map c.args.self.now.unsent.items (λ v. v.items) in
     let room = subst (λ (xs : List Items). HasRoom c.args.me (packets_of xs) offers) c.deref.ensures.value (c.has_room.ensures.0 (search rules)) in
     subst (λ (made : Lists). IsReady c.args.me c.args.goal.now.grid (stock made worker.unsent) (in_turn offers)) (sym c.read_ahead.ensures) (ready_for c.args.me c.args.goal.now.grid known.cost workers c.make_places.new.lists worker.unsent offers room it.within all c.in_default-make_places.ensures.boards c.in_default-make_places.ensures.places)
@@ -149,16 +150,17 @@ returns-clause-step g c = λ start.
     let b = c.of_key-unpacked.result in
     let known = first.opens.0 in
     let offers = c.offers_of-offers.result in
-    let it = chosen task guide lists is worker refl hash c.len.result workers c.args.me (c.len.ensures ∙ c.args.self.now.unsent.ok.0) c.limit.result c.limit.ensures next first c.in-Some.ensures.below b c.shape.result c.shape.ensures.value c.of_key-unpacked.ensures c.requires.rule c.requires.there c.move_left_out.result (left_out_back c.move_left_out.result c.args.alone next workers task.rule lists.closed c.move_left_out.ensures.alone c.move_left_out.ensures.later c.move_left_out.ensures.back c.requires.alone c.requires.reached) offers c.offers_of-offers.ensures.offered c.offers_of-offers.ensures.within in
+    let it = chosen task guide lists is worker refl hash c.len.result workers c.args.me (c.len.ensures ∙ c.args.self.now.unsent.ok.0) c.limit.result c.limit.ensures next first c.in-Some.ensures.below b c.shape.result c.shape.ensures.value c.of_key-unpacked.ensures c.args.onward c.move_left_out.result c.move_left_out.ensures offers c.offers_of-offers.ensures.offered c.offers_of-offers.ensures.within in
     let all : length worker.unsent ≡ workers = length-map c.args.self.now.unsent.items (λ v. v.items) in
     let room = subst (λ (xs : List Items). HasRoom c.args.me (packets_of xs) offers) c.deref.ensures.value (c.has_room.ensures.0 (search rules)) in
     let some : worker.allowance ≡ 0 → ⊥ = λ none. c.if-left-eq0.false (c.left.ensures.value ∙ none) in
-    let fits = none_overfull role worker b known c.move_left_out.result it.no_news task.sum offers it.offered c.args.goal.now.grid workers it.within all room in
+    let fits = none_overfull role worker b known c.move_left_out.result task.sum offers it.offered c.args.goal.now.grid workers it.within all room in
     let same = ap (λ (made : Lists). made.closed.known) c.read_ahead.ensures ∙ c.make_places.ensures.same.known ∙ ap (λ (t : Table). t.known) c.next.ensures.closed in
     let knows = ap (λ (m : Knowledge). map.get m (key_of b)) same ∙ it.at.opens.knows in
-    let no_news = subst (λ (m : Knowledge). IsNoNews role (record worker { known = m }) b known c.move_left_out.result) (sym same) it.no_news in
-    let done = c.expand_next.ensures.state role task.sum b known c.move_left_out.result refl it.at.opens.board.0 it.at.opens.board.1 c.of_key-unpacked.ensures.packed knows no_news it.offered in
-    inr (it.waits, inr (some, (b, known, it.at, inr (fits, inl (refl, done ∙ ap (λ (m : Knowledge). expansion role (record worker { known = m }) b known) same)))))
+    let done = c.expand_next.ensures.state role task.sum b known c.move_left_out.result refl it.at.opens.board.0 it.at.opens.board.1 c.of_key-unpacked.ensures.packed knows it.offered in
+    let made = done ∙ ap (λ (m : Knowledge). expansion_by (moves_but c.move_left_out.result) role (record worker { known = m }) b known) same in
+    let both = subst (λ (o : Option Move). (¬ IsOverfull (expansion_by (moves_but o) role worker b known)) × (state_of c.expand_next.new.self ≡ expansion_by (moves_but o) role worker b known)) it.left_out_is (fits, made) in
+    inr (it.waits, inr (some, (b, known, it.at, inr (both.0, inl (refl, both.1)))))
 
 -- src/expanding.rt:41:5
 pub returns-clause-order : goal.returns-clause-order
@@ -174,10 +176,10 @@ returns-clause-order g c = λ start guide is.
     let b = c.of_key-unpacked.result in
     let known = first.opens.0 in
     let offers = c.offers_of-offers.result in
-    let it = chosen task guide lists is worker refl hash c.len.result workers c.args.me (c.len.ensures ∙ c.args.self.now.unsent.ok.0) c.limit.result c.limit.ensures next first c.in-Some.ensures.below b c.shape.result c.shape.ensures.value c.of_key-unpacked.ensures c.requires.rule c.requires.there c.move_left_out.result (left_out_back c.move_left_out.result c.args.alone next workers task.rule lists.closed c.move_left_out.ensures.alone c.move_left_out.ensures.later c.move_left_out.ensures.back c.requires.alone c.requires.reached) offers c.offers_of-offers.ensures.offered c.offers_of-offers.ensures.within in
+    let it = chosen task guide lists is worker refl hash c.len.result workers c.args.me (c.len.ensures ∙ c.args.self.now.unsent.ok.0) c.limit.result c.limit.ensures next first c.in-Some.ensures.below b c.shape.result c.shape.ensures.value c.of_key-unpacked.ensures c.args.onward c.move_left_out.result c.move_left_out.ensures offers c.offers_of-offers.ensures.offered c.offers_of-offers.ensures.within in
     let all : length worker.unsent ≡ workers = length-map c.args.self.now.unsent.items (λ v. v.items) in
     let low = cost_low guide lists.closed next c.limit.result c.args.self.now.best first c.in-Some.ensures.below c.limit.ensures in
     let cost = first.opens.2 in
-    let adds = chosen_adds role guide lists is worker b known c.move_left_out.result offers workers it (omega (arith, cost, low)) in
+    let adds = chosen_adds role guide lists is worker b known c.args.onward c.move_left_out.result offers workers it (omega (arith, cost, low)) in
     let made = subst (IsGuided task guide) (sym c.read_ahead.ensures) (guided_with_room task guide c.next.new.self c.make_places.new.lists (guided_by_next task guide lists c.next.new.self is c.next.ensures.closed (c.next.ensures.order guide)) c.make_places.ensures.same) in
     c.expand_next.ensures.guided task guide refl adds made
