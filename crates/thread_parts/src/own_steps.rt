@@ -4,7 +4,7 @@ ghost use Rattle.std.specs.Prelude.{◌≡◌, ◌<◌, ◌%◌, IsTrue, IsFalse
 ghost use Rattle.thread_model.specs.Changes.{with_worker};
 ghost use Rattle.world_model.specs.Shapes.{IsItemFor};
 ghost use Rattle.world_model.specs.Turns.{turn, refusal_in};
-ghost use Rattle.world_model.specs.WorkerSteps.{ExpandStep};
+ghost use Rattle.world_model.specs.WorkerSteps.{ExpandOnwardStep};
 ghost use Rattle.hda_run.specs.Problems.{task_in};
 ghost use Rattle.worker_core.specs.Workers.{state_of};
 ghost use Rattle.thread_parts.specs.Parts.{part_state, role_of, Holds, IsKept};
@@ -20,11 +20,13 @@ use thread_model::laws::steps_are_kept;
 use world_model::{Item, Refusal};
 
 impl<'a, S: Spread, C: Tokens> Part<'a, S, C> {
-    /// Expands a board of least cost plus sum. Refusals: S1 no board may be expanded below the
-    /// limit, S2 no allowance is left, S3 a packet has no room, S8 memory was refused.
+    /// Expands a board of least cost plus sum by all moves but the one back: whoever made its cost
+    /// known, this worker or the one that sent it, knows the board before. Refusals: S1 no board may
+    /// be expanded below the limit, S2 no allowance is left, S3 a packet has no room, S8 memory was
+    /// refused.
     pub fn expand(&mut self, alloc: Global) -> Result<(), Refusal>
         requires { Holds S.hash_of C.workers self.old }
-        ensures step { ExpandStep (role_of S.hash_of C.workers self.old)
+        ensures step { ExpandOnwardStep (role_of S.hash_of C.workers self.old)
             (turn (state_of self.old.worker) (refusal_in result) (state_of self.new.worker)) }
         ensures rest { part_state self.new
             ≡ with_worker (part_state self.old) (state_of self.new.worker) }
@@ -36,7 +38,7 @@ impl<'a, S: Spread, C: Tokens> Part<'a, S, C> {
         let me = self.me;
         let owners = self.owners;
         self.worker
-            .expand(alloc, me, job.goal(), job.weights(), job.bound(), owners)
+            .expand_onward(alloc, me, job.goal(), job.weights(), job.bound(), owners)
     }
 
     /// Takes the last held item out: drops it where it is foreign, and else relaxes its board.
