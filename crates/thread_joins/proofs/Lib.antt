@@ -5,3 +5,4 @@ pub mod WorldLemmas
 pub mod LaneLemmas
 pub mod LookLemmas
 pub mod OutcomeLemmas
+pub mod LawLemmas

@@ -3,3 +3,4 @@ pub mod Lanes
 pub mod Joints
 pub mod Worlds
 pub mod Threads
+pub mod Laws

@@ -5,6 +5,7 @@
 mod apart;
 mod counting;
 mod ending;
+pub mod laws;
 mod looks;
 mod lowest;
 mod outcome;

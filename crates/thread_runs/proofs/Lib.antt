@@ -1,3 +1,4 @@
 -- Lemmas.
 pub mod OpeningLemmas
 pub mod WholeLemmas
+pub mod LawLemmas

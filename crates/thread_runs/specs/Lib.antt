@@ -1,2 +1,3 @@
 -- Runs by threads.
 pub mod Solved
+pub mod Laws

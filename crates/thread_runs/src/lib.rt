@@ -3,6 +3,7 @@
 //! job alone.
 #![tactic(auto)]
 
+pub mod laws;
 mod ledgers;
 mod opening;
 mod solving;

@@ -1,0 +1,5 @@
+use Rattle.thread_joins.proofs.LawLemmas.{have_owners}
+use Rattle.thread_joins.proofs.laws.boards_have_owners.Goals as goal
+
+pub returns : goal.returns
+returns c = have_owners

@@ -1,0 +1,34 @@
+-- The laws of joined worlds. Each is the contract of a function that does nothing.
+use Rattle.std.specs.Prelude.{ℕ, ◌≡◌, ◌+◌, ◌*◌, ◌≤◌, ◌<◌, length, Some}
+use Rattle.board.specs.Positions.{Position}
+use Rattle.world_model.specs.declared.limits.TheConstants.{GREATEST_GRANT}
+use Rattle.world_model.specs.declared.parts.Item.{Item}
+use Rattle.world_model.specs.declared.steps.Stop.TheVariants.{Quiet, Limit}
+use Rattle.world_model.specs.Credit.{expansion_count, packet_count, purse_total}
+use Rattle.world_model.specs.Openings.{Job}
+use Rattle.world_model.specs.Worlds.{WorldState, IsUnderWay}
+use Rattle.thread_joins.specs.Threads.{IsJoined}
+
+-- each board of the job is owned by one of the workers of the joined world, of which there are no more than the job has
+abbrev pub BoardsHaveOwners : Type 0
+BoardsHaveOwners = (job : Job) (w : WorldState) (b : Position) → IsJoined job w → (job.owner b < length w.workers) × (length w.workers ≤ job.count)
+
+-- a joined world has expanded no more boards than its book allows
+abbrev pub LimitsAreKept : Type 0
+LimitsAreKept = (job : Job) (w : WorldState) → IsJoined job w → expansion_count w ≤ w.book.limit
+
+-- where it was halted for the limit, its book has granted all of that, and its workers have expanded it but for one grant for each
+abbrev pub LimitsAreSpent : Type 0
+LimitsAreSpent =
+    (job : Job) (w : WorldState)
+    → IsJoined job w
+    → w.book.stop ≡ Some Limit
+    → (w.book.granted ≡ w.book.limit) × (w.book.limit ≤ expansion_count w + GREATEST_GRANT * length w.workers)
+
+-- where it is quiet, no purse has anything, and no packet is in a lane
+abbrev pub QuietHasNoCredit : Type 0
+QuietHasNoCredit = (job : Job) (w : WorldState) → IsJoined job w → w.book.stop ≡ Some Quiet → purse_total w + packet_count w ≡ 0
+
+-- nor is an item under way to any worker: none is held, unsent, or in a lane
+abbrev pub QuietIsStill : Type 0
+QuietIsStill = (job : Job) (w : WorldState) → IsJoined job w → w.book.stop ≡ Some Quiet → (to : ℕ) (item : Item) → ¬ IsUnderWay w to item

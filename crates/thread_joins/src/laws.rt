@@ -1,0 +1,22 @@
+//! The laws of joined worlds: each is the contract of a function that does nothing.
+
+ghost use Rattle.thread_joins.specs.Laws.{BoardsHaveOwners, LimitsAreKept, LimitsAreSpent};
+ghost use Rattle.thread_joins.specs.Laws.{QuietHasNoCredit, QuietIsStill};
+
+/// Each board of a job is owned by one of the workers of its joined world, and these are no more
+/// than the job has.
+pub fn boards_have_owners()
+    ensures { BoardsHaveOwners }
+{}
+
+/// A joined world expanded no more than the limit, and where it was halted for that, nearly all.
+pub fn limits_are_kept()
+    ensures kept { LimitsAreKept }
+    ensures spent { LimitsAreSpent }
+{}
+
+/// In a joined world that is quiet no credit is left, and nothing is under way.
+pub fn quiet_is_at_rest()
+    ensures credit { QuietHasNoCredit }
+    ensures still { QuietIsStill }
+{}

@@ -1,0 +1,48 @@
+-- The laws of what so many workers answer. Each is the contract of a function that does nothing.
+use Rattle.std.specs.Prelude.{ℕ, ◌≡◌, ◌⊎◌, ◌≤◌, Option, Vec}
+use Rattle.std.specs.declared.alloc.Global.{Global}
+use Rattle.memory.specs.declared.OutOfMemory.{OutOfMemory}
+use Rattle.board.specs.declared.moves.Move.{Move}
+use Rattle.board.specs.Positions.{Position}
+use Rattle.outcomes.specs.declared.outcome.Cause.{Cause}
+use Rattle.outcomes.specs.declared.outcome.Cause.TheVariants.{Limit, Cost, Memory}
+use Rattle.outcomes.specs.declared.outcome.Want.TheVariants.{Refused}
+use Rattle.outcomes.specs.declared.outcome.Ending.{Ending}
+use Rattle.outcomes.specs.declared.outcome.Ending.TheVariants as ending
+use Rattle.outcomes.specs.declared.outcome.Outcome.{Outcome}
+use Rattle.outcomes.specs.declared.outcome.Outcome.TheVariants as outcome
+use Rattle.outcomes.specs.Endings.{without_rows}
+use Rattle.world_model.specs.Credit.{expansion_count}
+use Rattle.world_model.specs.Outcomes.{IsGiven}
+use Rattle.world_model.specs.Worlds.{WorldState}
+use Rattle.hda_run.specs.Alone.{IsByOne, EndsByOne}
+use Rattle.hda_run.specs.Problems.{Problem}
+use Rattle.thread_runs.specs.Solved.{IsSolved, IsEnded, HasWholeRun, EndsWholeRun}
+
+-- the cause is the limit, or that each plan costs more than a run may reach, or that memory was refused
+abbrev pub IsLimitCostOrMemory : Cause → Type 0
+IsLimitCostOrMemory cause = (cause ≡ Limit) ⊎ (cause ≡ Cost) ⊎ ((refused : OutOfMemory) × (cause ≡ Memory (Refused refused)))
+
+-- the bounds of runs that stopped by themselves have one of these causes
+abbrev pub WholeRunsSayWhy : Type 0
+WholeRunsSayWhy = (bound : ℕ) (best : Option (ℕ × Vec Move Global)) (cause : Cause) → HasWholeRun (outcome.Bounded bound best cause) → IsLimitCostOrMemory cause
+
+-- so it is without rows
+abbrev pub WholeEndsSayWhy : Type 0
+WholeEndsSayWhy = (bound : ℕ) (best : Option (ℕ × Vec Move Global)) (cause : Cause) → EndsWholeRun (ending.Bounded bound best cause) → IsLimitCostOrMemory cause
+
+module _ {S : Type 0} (hash_of : S → Position → ℕ) where
+  -- what is solved by one worker is solved by it alone
+  abbrev pub OneSolvesAlone : Type 0
+  OneSolvesAlone = (p : Problem) (owners : S) (it : Outcome) → IsSolved hash_of p owners 1 it → IsByOne hash_of p owners it
+
+  abbrev pub OneEndsAlone : Type 0
+  OneEndsAlone = (p : Problem) (owners : S) (it : Ending) → IsEnded hash_of p owners 1 it → EndsByOne hash_of p owners it
+
+  -- what is solved ends so, but for its rows
+  abbrev pub SolvedRunsEnd : Type 0
+  SolvedRunsEnd = (p : Problem) (owners : S) (n : ℕ) (it : Outcome) → IsSolved hash_of p owners n it → IsEnded hash_of p owners n (without_rows it)
+
+  -- the world that gives what is solved has expanded no more boards than the problem's limit
+  abbrev pub LimitsAreKept : Type 0
+  LimitsAreKept = (p : Problem) (owners : S) (n : ℕ) (it : Outcome) → IsSolved hash_of p owners n it → (w : WorldState) × IsGiven w it × (expansion_count w ≤ p.limit)
