@@ -1,2 +1,4 @@
-pub mod ProgramLemmas
+pub mod FitLemmas
+pub mod EndLemmas
+pub mod TruthLemmas
 pub mod LawLemmas

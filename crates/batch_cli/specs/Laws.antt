@@ -4,8 +4,10 @@ use Rattle.byte_streams.specs.Streams.{SourceState, SinkState, Change}
 use Rattle.batch_lines.specs.Lines.{lines_of}
 use Rattle.batch_runs.specs.Meanings.{IsSettled}
 use Rattle.batch_runs.specs.Headline.{TellsTheTruth}
-use Rattle.batch_cli.specs.declared.program.Ending.{Ending}
-use Rattle.batch_cli.specs.Programs.{Tells, message_of, IsDefaultSetup, IsTrue}
+use Rattle.batch_cli.specs.declared.endings.Ending.{Ending}
+use Rattle.batch_cli.specs.Endings.{Tells, message_of}
+use Rattle.batch_cli.specs.Setups.{IsDefaultSetup}
+use Rattle.batch_cli.specs.Headline.{IsTrue}
 use Rattle.batch_runs.specs.Setups.{SetupState}
 use Rattle.setup_runs.specs.Solving.{rules_of}
 

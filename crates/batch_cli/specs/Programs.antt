@@ -1,109 +1,104 @@
--- The program: how it ends, what it writes of that, and its status.
-use Rattle.std.specs.Prelude.{ℕ, ◌≡◌, ◌<◌, ◌≢◌, ◌⊎◌, ◌-◌, ◌^◌, false, List, [], ◌∷◌, ◌++◌, map, Result, Ok, Err, codes}
+-- What the program does for words, and how it ends.
+use Rattle.std.specs.Prelude.{ℕ, ◌≡◌, ◌⊎◌, List, Result, Ok, Err, string_bytes}
 use Rattle.byte_streams.specs.Streams.{SourceState, SinkState, Change, from_to}
-use Rattle.byte_streams.specs.Sink.{Puts, PutsBeginning, Flushes}
+use Rattle.byte_streams.specs.Sink.{Writes, Flushes}
 use Rattle.byte_streams.specs.declared.sink.WriteFailed.{WriteFailed}
-use Rattle.board.specs.Grids.{Grid}
-use Rattle.board.specs.Positions.{goal_of}
-use Rattle.board.specs.CostRules.{unit_rule}
+use Rattle.memory.specs.declared.OutOfMemory.{OutOfMemory}
+use Rattle.clap.specs.Words.{Text}
 use Rattle.batch_runs.specs.declared.batch.Summary.{Summary}
 use Rattle.batch_runs.specs.declared.faults.LinesFault.{LinesFault}
-use Rattle.batch_runs.specs.declared.faults.LinesFault.TheVariants as lines
-use Rattle.batch_cli.specs.declared.faults.BatchFault.TheVariants.{Read, Write, Memory, GroupsMemory, CertificateRead, CertificateMemory, CertificateWrite}
-use Rattle.batch_cli.specs.declared.program.Ending.{Ending}
-use Rattle.batch_cli.specs.declared.program.Ending.TheVariants.{Usage, NoMemory, Ran, Faulted}
-use Rattle.batch_cli.specs.Faults.{of_lines}
-use Rattle.batch_runs.specs.Batches.{Rules, ReportsLines, status_of_counts}
-use Rattle.batch_runs.specs.Headline.{WritesTruth, BeginsTruth}
+use Rattle.batch_runs.specs.Batches.{ReportsLines}
 use Rattle.batch_runs.specs.Setups.{SetupState}
-use Rattle.batch_runs.specs.declared.setup.SpreadKind.TheVariants.{Zobrist}
-use Rattle.memory.specs.declared.OutOfMemory.{OutOfMemory}
-use Rattle.table_sets.specs.Built.{AreTrueTables}
+use Rattle.certificate_runs.specs.declared.faults.CertifyFault.{CertifyFault}
+use Rattle.certificate_runs.specs.declared.faults.CheckFault.{CheckFault}
+use Rattle.certificate_runs.specs.Certifying.{Replies}
+use Rattle.certificate_runs.specs.Checking.{Checks}
+use Rattle.replay_runs.specs.Replays.{Replays}
+use Rattle.replay_runs.specs.Openings.{setup_jobs}
 use Rattle.setup_runs.specs.Solving.{rules_of}
+use Rattle.command_line.specs.declared.faults.NoRequest.{NoRequest}
+use Rattle.command_line.specs.declared.requests.Options.{Options}
+use Rattle.command_line.specs.declared.requests.Request.{Request}
+use Rattle.command_line.specs.declared.requests.Request.TheVariants.{Solve, Certify, Check, Replay, Help, Version}
+use Rattle.command_line.specs.Requests.{WordsAsk, WordsFail}
+use Rattle.batch_cli.specs.declared.faults.BatchFault.{BatchFault}
+use Rattle.batch_cli.specs.declared.faults.BatchFault.TheVariants.{Write}
+use Rattle.batch_cli.specs.declared.endings.Ending.{Ending}
+use Rattle.batch_cli.specs.declared.endings.Ending.TheVariants.{Refused, NoMemory, Ran, Answered, Shown, Faulted}
+use Rattle.batch_cli.specs.Faults.{of_lines, of_certify, of_check}
+use Rattle.batch_cli.specs.Setups.{IsSetupOf}
 
--- 3 by 3
-abbrev pub small_grid : Grid
-small_grid = record { rows = 3; cols = 3 }
+-- nothing was read or written
+abbrev pub IsUnused : Change SourceState → Change SinkState → Type 0
+IsUnused source sink = (source.after ≡ source.before) × (sink.after ≡ sink.before)
 
--- Korf's goal, unit cost, and two tables with the value of each view: of the tiles 1 to 4, and of 5 to 8; without a limit, for one worker
-pub record IsDefaultSetup (setup : SetupState) : Type 0 where
-  pub goal : setup.goal ≡ goal_of small_grid
-  pub rule : setup.rule ≡ unit_rule small_grid
-  pub groups : map (λ g. g.tiles) setup.tables.split.groups ≡ (1 ∷ 2 ∷ 3 ∷ 4 ∷ []) ∷ (5 ∷ 6 ∷ 7 ∷ 8 ∷ []) ∷ []
-  pub tables : AreTrueTables setup.tables.split.groups setup.rule setup.goal setup.tables.lookups
-  pub limit : setup.limit ≡ 2 ^ 64 - 1
-  pub workers : setup.workers ≡ 1
-  pub spread : setup.spread ≡ Zobrist
+-- ---- runs
 
--- 0 where each line is optimal or unsolvable, 1 where some line is bounded or refused, 2 for the words, 3 for streams that failed, 4 for want of memory
-abbrev pub status_of : Ending → ℕ
-status_of Usage = 2
-status_of NoMemory = 4
-status_of (Ran counts) = status_of_counts counts
-status_of (Faulted Read) = 3
-status_of (Faulted Write) = 3
-status_of (Faulted (Memory lacking)) = 4
-status_of (Faulted (GroupsMemory refused)) = 4
-status_of (Faulted CertificateRead) = 3
-status_of (Faulted (CertificateMemory refused)) = 4
-status_of (Faulted CertificateWrite) = 3
+-- how the program ends after a run: well, by what the run answers, or by the run's fault
+abbrev pub ending_of : {A E : Type 0} → (A → Ending) → (E → BatchFault) → Result A E → Ending
+ending_of well early (Ok answer) = well answer
+ending_of well early (Err fault) = Faulted (early fault)
 
--- a line for standard error
-abbrev pub line_of : List ℕ → List ℕ
-line_of text = text ++ 10 ∷ []
+-- boards of a setup are solved, and reported line by line
+abbrev pub Solves : Change SourceState → SetupState → Change SinkState → Ending → Type 0
+Solves source setup sink ending = (result : Result Summary LinesFault) × ReportsLines (rules_of setup) source sink result × (ending ≡ ending_of Ran of_lines result)
 
-abbrev pub message_of : Ending → List ℕ
-message_of Usage = line_of (codes "usage: tilesolve, with lines of an id and the tiles of a 3 by 3 board on standard input")
-message_of NoMemory = line_of (codes "tilesolve: memory")
-message_of (Ran counts) = []
-message_of (Faulted Read) = line_of (codes "tilesolve: B1")
-message_of (Faulted Write) = line_of (codes "tilesolve: B2")
-message_of (Faulted (Memory lacking)) = line_of (codes "tilesolve: B3")
-message_of (Faulted (GroupsMemory refused)) = line_of (codes "tilesolve: B3")
-message_of (Faulted CertificateRead) = line_of (codes "tilesolve: F6")
-message_of (Faulted (CertificateMemory refused)) = line_of (codes "tilesolve: F7")
-message_of (Faulted CertificateWrite) = line_of (codes "tilesolve: F8")
+-- the first board is solved, and its certificate is written
+abbrev pub Certifies : Change SourceState → SetupState → Change SinkState → Ending → Type 0
+Certifies source setup sink ending = (result : Result ℕ CertifyFault) × Replies setup.tables.split (rules_of setup) source sink result × (ending ≡ ending_of Answered of_certify result)
 
--- the message was written, or a beginning of it where the stream has failed; and the status is answered
-pub record Tells (errors : Change SinkState) (ending : Ending) (status : ℕ) : Type 0 where
-  pub told : status ≡ status_of ending
-  pub begun : PutsBeginning errors (message_of ending)
-  pub whole : errors.after.has_failed ≡ false → Puts errors (message_of ending)
+-- a certificate is checked
+abbrev pub Judges : Change SourceState → Change SinkState → Ending → Type 0
+Judges source sink ending = (result : Result ℕ CheckFault) × Checks source sink result × (ending ≡ ending_of Answered of_check result)
 
--- the first fault of a run over lines and of the flush behind it
-abbrev pub first_fault : Result Summary LinesFault → Result (Unit {0}) WriteFailed → Result Summary LinesFault
-first_fault (Ok counts) (Ok done) = Ok counts
-first_fault (Ok counts) (Err failed) = Err lines.Write
-first_fault (Err fault) flushed = Err fault
+-- steps are taken one by one
+abbrev pub TakesSteps : Change SourceState → SetupState → Change SinkState → Ending → Type 0
+TakesSteps source setup sink ending = (result : Result ℕ LinesFault) × Replays (setup_jobs setup) source sink result × (ending ≡ ending_of Answered of_lines result)
 
--- How a batch of the program ends: its run over the lines, as that ends, and then the flush of the sink; the first fault decides.
-pub record EndsRun (rules : Rules) (source : Change SourceState) (sink : Change SinkState) (result : Result Summary LinesFault) : Type 0 where
+-- a text is written
+abbrev pub Shows : List ℕ → Change SinkState → Ending → Type 0
+Shows text sink ending = (result : Result (Unit {0}) WriteFailed) × Writes sink text result × (ending ≡ ending_of (λ done. Shown) (λ failed. Write) result)
+
+-- ---- and the flush behind them
+
+-- how the program ends after the flush behind a run: the first fault decides
+abbrev pub after_flush : Ending → Result (Unit {0}) WriteFailed → Ending
+after_flush ending (Ok done) = ending
+after_flush (Faulted fault) (Err failed) = Faulted fault
+after_flush _ (Err failed) = Faulted Write
+
+-- the sink is flushed
+abbrev pub FlushesBehind : Ending → Change SinkState → Ending → Type 0
+FlushesBehind ran sink ending = (flushed : Result (Unit {0}) WriteFailed) × Flushes sink flushed × (ending ≡ after_flush ran flushed)
+
+-- a run, and then the flush of the sink
+pub record EndsRun (runs : Change SinkState → Ending → Type 0) (sink : Change SinkState) (ending : Ending) : Type 0 where
   pub between : SinkState
-  pub ran : Result Summary LinesFault
-  pub flushed : Result (Unit {0}) WriteFailed
-  pub lines : ReportsLines rules source (from_to sink.before between) ran
-  pub flush : Flushes (from_to between sink.after) flushed
-  pub first : result ≡ first_fault ran flushed
-
--- how the program ends after a run over lines
-abbrev pub ending_of : Result Summary LinesFault → Ending
-ending_of (Ok counts) = Ran counts
-ending_of (Err fault) = Faulted (of_lines fault)
-
--- such a run for a default setup
-abbrev pub EndsBatch : Change SourceState → Change SinkState → Ending → Type 0
-EndsBatch source sink ending =
-    (setup : SetupState) × IsDefaultSetup setup × (run : Result Summary LinesFault) × EndsRun (rules_of setup) source sink run × (ending ≡ ending_of run)
+  pub ran : Ending
+  pub run : runs (from_to sink.before between) ran
+  pub flush : FlushesBehind ran (from_to between sink.after) ending
 
 -- a growth was refused for the tables, before anything was read or written
 abbrev pub LacksTables : Change SourceState → Change SinkState → Ending → Type 0
-LacksTables source sink ending = OutOfMemory × (source.after ≡ source.before) × (sink.after ≡ sink.before) × (ending ≡ NoMemory)
+LacksTables source sink ending = OutOfMemory × IsUnused source sink × (ending ≡ NoMemory)
 
--- how the program ends: with words by its usage, without words by such a run, or for want of memory before it
-abbrev pub EndsBy : {Word : Type 0} → List Word → Change SourceState → Change SinkState → Ending → Type 0
-EndsBy words source sink ending = ((words ≡ []) × (EndsBatch source sink ending ⊎ LacksTables source sink ending)) ⊎ ((words ≢ []) × (ending ≡ Usage))
+-- such a run of a setup that the options say, or want of memory for its tables
+abbrev pub EndsSetup : Options → (SetupState → Change SinkState → Ending → Type 0) → Change SourceState → Change SinkState → Ending → Type 0
+EndsSetup o runs source sink ending = ((setup : SetupState) × IsSetupOf o setup × EndsRun (runs setup) sink ending) ⊎ LacksTables source sink ending
 
--- For some default setup a beginning was written of an output that tells the truth of the lines that were read, and with the status 0 or 1 all of one that tells it of all lines; with 0 none of them is bounded or refused.
-abbrev pub IsTrue : ℕ → Change SourceState → Change SinkState → Type 0
-IsTrue status source sink =
-    (setup : SetupState) × IsDefaultSetup setup × BeginsTruth (rules_of setup) source sink × (status < 2 → WritesTruth (rules_of setup) source sink status)
+-- ---- words
+
+-- how the program ends for what words ask for
+abbrev pub EndsRequest : Request → Change SourceState → Change SinkState → Ending → Type 0
+EndsRequest (Solve o) source sink ending = EndsSetup o (Solves source) source sink ending
+EndsRequest (Certify o) source sink ending = EndsSetup o (Certifies source) source sink ending
+EndsRequest Check source sink ending = EndsRun (Judges source) sink ending
+EndsRequest (Replay o) source sink ending = EndsSetup o (TakesSteps source) source sink ending
+EndsRequest (Help text) source sink ending = (source.after ≡ source.before) × EndsRun (Shows (string_bytes text)) sink ending
+EndsRequest (Version text) source sink ending = (source.after ≡ source.before) × EndsRun (Shows (string_bytes text)) sink ending
+
+-- How the program ends: as what the words ask for ends; or the words ask for nothing, and nothing is read or written.
+abbrev pub EndsBy : List Text → Change SourceState → Change SinkState → Ending → Type 0
+EndsBy words source sink ending =
+    ((request : Request) × WordsAsk words request × EndsRequest request source sink ending)
+    ⊎ ((refusal : NoRequest) × WordsFail words refusal × IsUnused source sink × (ending ≡ Refused refusal))

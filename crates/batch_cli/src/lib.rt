@@ -2,19 +2,23 @@
 //! checked, and runs replayed step by step.
 #![tactic(auto)]
 
+mod endings;
 mod faults;
 pub mod laws;
 mod program;
+mod setups;
 
 pub use batch_lines::{
     Entry, EntryFault, INPUT_LIMIT, LINE_LIMIT, Line, LineKind, LineReader, read_entry,
 };
 pub use batch_runs::{LinesFault, Ruled, Setup, SpreadKind, Summary, run_lines};
 pub use certificate_runs::{CertifyFault, CheckFault, certify_first, run_check};
+pub use command_line::NoRequest;
+pub use endings::Ending;
 pub use faults::BatchFault;
 pub use hda_run::{Free, Gate, Kind};
 pub use outcomes::{Cause, Outcome, SolveFault, Want, Why};
-pub use program::{Ending, run_program};
+pub use program::run_program;
 pub use replay_runs::{Opener, Run, replay_lines, run_replay};
 pub use reports::{
     NoReport, accepted_report, outcome_report, refused_certificate_report, refused_report,

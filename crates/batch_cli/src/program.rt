@@ -1,97 +1,44 @@
 //! The program over any streams.
 
-ghost use Rattle.std.specs.Prelude.{◌≡◌, ◌≢◌, ◌⊎◌, [], IfOk};
+ghost use Rattle.std.specs.Prelude.{◌≡◌, ◌⊎◌, [], Err, map, string_bytes};
 ghost use Rattle.byte_streams.specs.Streams.{change};
-ghost use Rattle.batch_cli.specs.declared.program.Ending.{Ending};
-ghost use Rattle.batch_cli.specs.Programs.{status_of, message_of};
-ghost use Rattle.batch_cli.specs.Programs.{IsDefaultSetup, Tells, IsTrue, EndsBy, EndsRun};
+ghost use Rattle.byte_streams.specs.Sink.{Writes};
+ghost use Rattle.byte_streams.specs.declared.sink.WriteFailed.{WriteFailed};
 ghost use Rattle.batch_runs.specs.Batches.{HasFailed};
-ghost use Rattle.setup_runs.specs.Solving.{rules_of};
+ghost use Rattle.certificate.specs.Certificates.{AreNamedCosts};
+ghost use Rattle.batch_cli.specs.declared.endings.Ending.{Ending};
+ghost use Rattle.batch_cli.specs.Endings.{Tells, HasNotBegun};
+ghost use Rattle.batch_cli.specs.Setups.{AreFit, IsFit};
+ghost use Rattle.batch_cli.specs.Programs.{Solves, Certifies, Judges, TakesSteps, Shows};
+ghost use Rattle.batch_cli.specs.Programs.{FlushesBehind, EndsRun, EndsSetup, EndsRequest, EndsBy};
+ghost use Rattle.batch_cli.specs.Programs.{after_flush};
+ghost use Rattle.batch_cli.specs.Headline.{IsTrue, IsTrueBy};
 
+use crate::endings::Ending;
 use crate::faults::BatchFault;
-use batch_runs::{LinesFault, Setup, Summary};
-use board::{Board, Shape, Weights};
-use byte_streams::{Sink, Source};
+use crate::setups::setup_of;
+use batch_runs::Setup;
+use byte_streams::{Sink, Source, WriteFailed};
+use certificate_runs::run_check;
+use command_line::{Options, Request, read_words};
 use hda_run::Free;
 use memory::OutOfMemory;
-use option_texts::default_groups;
-use setup_runs::run_batch;
+use replay_runs::run_replay;
+use setup_runs::{run_batch, run_cert};
 use std::alloc::Global;
 use std::sync::Wait;
 use std::thread::Threads;
-use table_sets::build_bound;
-
-/// How the program ends.
-#[derive(Clone, Copy, Debug, PartialEq, Eq)]
-pub enum Ending {
-    /// It was given words that it does not know.
-    Usage,
-    /// There was no memory for the words, the streams' buffers or the tables.
-    NoMemory,
-    /// All lines were answered or refused.
-    Ran(Summary),
-    /// The run ended early.
-    Faulted(BatchFault),
-}
-
-impl Ending {
-    /// The exit status: 0 where each line is optimal or unsolvable, 1 where some line is bounded or
-    /// refused, 2 for words, 3 for a stream that failed, 4 for want of memory.
-    pub fn status(self) -> u8
-        ensures { result ≡ status_of self }
-    {
-        match self {
-            Ending::Usage => 2,
-            Ending::NoMemory => 4,
-            Ending::Ran(counts) if counts.bounded == 0 && counts.refused == 0 => 0,
-            Ending::Ran(_) => 1,
-            Ending::Faulted(
-                BatchFault::Memory(_)
-                | BatchFault::GroupsMemory(_)
-                | BatchFault::CertificateMemory(_),
-            ) => 4,
-            Ending::Faulted(_) => 3,
-        }
-    }
-
-    /// What is written of it to standard error: nothing or one line.
-    pub fn message(self) -> &'static str
-        ensures { result.now ≡ message_of self }
-    {
-        match self {
-            Ending::Usage => {
-                "usage: tilesolve, with lines of an id and the tiles of a 3 by 3 board on standard \
-                 input\n"
-            }
-            Ending::NoMemory => "tilesolve: memory\n",
-            Ending::Ran(_) => "",
-            Ending::Faulted(BatchFault::Read) => "tilesolve: B1\n",
-            Ending::Faulted(BatchFault::Write) => "tilesolve: B2\n",
-            Ending::Faulted(BatchFault::Memory(_) | BatchFault::GroupsMemory(_)) => {
-                "tilesolve: B3\n"
-            }
-            Ending::Faulted(BatchFault::CertificateRead) => "tilesolve: F6\n",
-            Ending::Faulted(BatchFault::CertificateMemory(_)) => "tilesolve: F7\n",
-            Ending::Faulted(BatchFault::CertificateWrite) => "tilesolve: F8\n",
-        }
-    }
-
-    /// Writes the message, or a beginning of it where it cannot be written, and answers the status.
-    pub fn tell<E: Sink>(self, errors: &mut E) -> u8
-        ensures { Tells (change E.state errors.old errors.new) self result }
-    {
-        let _ = errors.put(self.message().as_bytes());
-        self.status()
-    }
-}
 
 /// Runs the program over any streams, and answers its exit status. The words are those after the
 /// program's name.
 ///
-/// Without words it builds the tables of the groups `1,2,3,4/5,6,7,8`, reports the lines of the
-/// source to the sink, for 3 by 3 boards at unit cost with Korf's goal, and flushes the sink. What
-/// is written tells the truth: so says `IsTrue`. Where there is no memory for the tables, nothing
-/// is read or written.
+/// What the words ask for is done, and the sink is flushed: boards are solved or steps replayed with
+/// tables that are built once, a certificate is written or checked, or a text of help is written. No
+/// words at all mean `solve --rows 3 --cols 3`: 3 by 3 boards at unit cost with Korf's goal, and the
+/// tables of the groups `1,2,3,4/5,6,7,8`.
+///
+/// What is written tells the truth: so say `IsTrueBy`, and `IsTrue` where there are no words. Where
+/// the words ask for nothing, or there is no memory for the tables, nothing is read or written.
 pub fn run_program<R: Threads + Wait + Sync, S: Source, K: Sink, E: Sink>(
     rt: &R,
     alloc: Global,
@@ -101,59 +48,257 @@ pub fn run_program<R: Threads + Wait + Sync, S: Source, K: Sink, E: Sink>(
     errors: &mut E,
 ) -> u8
     ensures ended { (ending : Ending) × Tells (change E.state errors.old errors.new) ending result
-        × EndsBy words.now (change S.state source.old source.new)
-        (change K.state sink.old sink.new) ending }
+        × EndsBy (map string_bytes words.now) (change S.state source.old source.new)
+        (change K.state sink.old sink.new) ending
+        × (HasNotBegun ending → (source.new ≡ source.old) × (sink.new ≡ sink.old)) }
+    ensures truth { IsTrueBy (map string_bytes words.now) result
+        (change S.state source.old source.new) (change K.state sink.old sink.new) }
     ensures batch { words.now ≡ [] → ((K.is_flushed sink.new ⊎ HasFailed (K.state sink.new))
         × IsTrue result (change S.state source.old source.new) (change K.state sink.old sink.new))
         ⊎ (OutOfMemory × (result ≡ 4) × (source.new ≡ source.old) × (sink.new ≡ sink.old)) }
-    ensures unused { words.now ≢ [] → (source.new ≡ source.old) × (sink.new ≡ sink.old) }
+    ensures flushed { (K.is_flushed sink.new ⊎ HasFailed (K.state sink.new))
+        ⊎ ((source.new ≡ source.old) × (sink.new ≡ sink.old)) }
 {
-    if !words.is_empty() {
-        return Ending::Usage.tell(errors);
-    }
-    let setup = match default_setup(rt, alloc) {
-        Ok(setup) => setup,
-        Err(_) => return Ending::NoMemory.tell(errors),
-    };
-    match run(rt, alloc, source, sink, &setup) {
-        Ok(counts) => Ending::Ran(counts).tell(errors),
-        Err(fault) => Ending::Faulted(BatchFault::from(fault)).tell(errors),
+    let ending = end_program(rt, alloc, words, source, sink);
+    ending.tell(errors)
+}
+
+// Does what the words ask for, and answers how the program ends.
+fn end_program<R: Threads + Wait + Sync, S: Source, K: Sink>(
+    rt: &R,
+    alloc: Global,
+    words: &[String],
+    source: &mut S,
+    sink: &mut K,
+) -> Ending
+    ensures ended { EndsBy (map string_bytes words.now) (change S.state source.old source.new)
+        (change K.state sink.old sink.new) result }
+    ensures flushed { (K.is_flushed sink.new ⊎ HasFailed (K.state sink.new))
+        ⊎ HasNotBegun result }
+    ensures unused { HasNotBegun result → (source.new ≡ source.old) × (sink.new ≡ sink.old) }
+{
+    match read_words(alloc, words) {
+        Ok(request) => end_request(rt, alloc, request, source, sink),
+        Err(refusal) => Ending::Refused(refusal),
     }
 }
 
-// Reports the lines of the source, and flushes the sink. The first fault decides how it ends.
-fn run<R: Threads + Wait + Sync, S: Source, K: Sink>(
+// Does what is asked for.
+fn end_request<R: Threads + Wait + Sync, S: Source, K: Sink>(
+    rt: &R,
+    alloc: Global,
+    request: Request,
+    source: &mut S,
+    sink: &mut K,
+) -> Ending
+    requires { IsFit request }
+    ensures ended { EndsRequest request (change S.state source.old source.new)
+        (change K.state sink.old sink.new) result }
+    ensures flushed { (K.is_flushed sink.new ⊎ HasFailed (K.state sink.new))
+        ⊎ HasNotBegun result }
+    ensures unused { HasNotBegun result → (source.new ≡ source.old) × (sink.new ≡ sink.old) }
+{
+    match request {
+        Request::Solve(options) => solve(rt, alloc, options, source, sink),
+        Request::Certify(options) => certify(rt, alloc, options, source, sink),
+        Request::Check => check(rt, alloc, source, sink),
+        Request::Replay(options) => replay(rt, alloc, options, source, sink),
+        Request::Help(text) | Request::Version(text) => show(sink, text.as_str()),
+    }
+}
+
+// Solves the boards of the source.
+fn solve<R: Threads + Wait + Sync, S: Source, K: Sink>(
+    rt: &R,
+    alloc: Global,
+    options: Options,
+    source: &mut S,
+    sink: &mut K,
+) -> Ending
+    requires { AreFit options }
+    ensures ended { EndsSetup options (Solves (change S.state source.old source.new))
+        (change S.state source.old source.new) (change K.state sink.old sink.new) result }
+    ensures flushed { (K.is_flushed sink.new ⊎ HasFailed (K.state sink.new))
+        ⊎ HasNotBegun result }
+    ensures unused { HasNotBegun result → (source.new ≡ source.old) × (sink.new ≡ sink.old) }
+{
+    let Ok(setup) = setup_of(rt, alloc, options) else {
+        return Ending::NoMemory;
+    };
+    let ending = solve_with(rt, alloc, &setup, source, sink);
+    flush_behind(sink, ending)
+}
+
+// The same with a setup, but for the flush.
+fn solve_with<R: Threads + Wait + Sync, S: Source, K: Sink>(
+    rt: &R,
+    alloc: Global,
+    setup: &Setup,
+    source: &mut S,
+    sink: &mut K,
+) -> Ending
+    ensures { Solves (change S.state source.old source.new) setup.now
+        (change K.state sink.old sink.new) result }
+{
+    match run_batch(rt, alloc, source, sink, setup, &Free) {
+        Ok(counts) => Ending::Ran(counts),
+        Err(fault) => Ending::Faulted(BatchFault::from(fault)),
+    }
+}
+
+// Solves the first board of the source, and writes its certificate.
+fn certify<R: Threads + Wait + Sync, S: Source, K: Sink>(
+    rt: &R,
+    alloc: Global,
+    options: Options,
+    source: &mut S,
+    sink: &mut K,
+) -> Ending
+    requires { AreFit options }
+    ensures ended { EndsSetup options (Certifies (change S.state source.old source.new))
+        (change S.state source.old source.new) (change K.state sink.old sink.new) result }
+    ensures flushed { (K.is_flushed sink.new ⊎ HasFailed (K.state sink.new))
+        ⊎ HasNotBegun result }
+    ensures unused { HasNotBegun result → (source.new ≡ source.old) × (sink.new ≡ sink.old) }
+{
+    let Ok(setup) = setup_of(rt, alloc, options) else {
+        return Ending::NoMemory;
+    };
+    let ending = certify_with(rt, alloc, &setup, source, sink);
+    flush_behind(sink, ending)
+}
+
+// The same with a setup, but for the flush.
+fn certify_with<R: Threads + Wait + Sync, S: Source, K: Sink>(
+    rt: &R,
+    alloc: Global,
+    setup: &Setup,
+    source: &mut S,
+    sink: &mut K,
+) -> Ending
+    requires { AreNamedCosts setup.now.goal.grid setup.now.rule }
+    ensures { Certifies (change S.state source.old source.new) setup.now
+        (change K.state sink.old sink.new) result }
+{
+    match run_cert(rt, alloc, source, sink, setup, &Free) {
+        Ok(status) => Ending::Answered(status),
+        Err(fault) => Ending::Faulted(BatchFault::from(fault)),
+    }
+}
+
+// Checks the certificate of the source.
+fn check<R: Threads + Sync, S: Source, K: Sink>(
     rt: &R,
     alloc: Global,
     source: &mut S,
     sink: &mut K,
-    setup: &Setup,
-) -> Result<Summary, LinesFault>
-    ensures ended { EndsRun (rules_of setup.now) (change S.state source.old source.new)
+) -> Ending
+    ensures ended { EndsRun (Judges (change S.state source.old source.new))
         (change K.state sink.old sink.new) result }
     ensures flushed { K.is_flushed sink.new ⊎ HasFailed (K.state sink.new) }
 {
-    let counts = match run_batch(rt, alloc, source, sink, setup, &Free) {
-        Ok(counts) => counts,
-        Err(fault) => {
-            let _ = sink.flush();
-            return Err(fault);
-        }
-    };
-    let Ok(()) = sink.flush() else {
-        return Err(LinesFault::Write);
-    };
-    Ok(counts)
+    let ending = judge(rt, alloc, source, sink);
+    flush_behind(sink, ending)
 }
 
-// 3 by 3, Korf's goal, unit cost, and the tables of the default groups.
-fn default_setup(rt: &(impl Threads + Sync), alloc: Global) -> Result<Setup, OutOfMemory>
-    ensures { IfOk result IsDefaultSetup }
+// The same, but for the flush.
+fn judge<R: Threads + Sync, S: Source, K: Sink>(
+    rt: &R,
+    alloc: Global,
+    source: &mut S,
+    sink: &mut K,
+) -> Ending
+    ensures { Judges (change S.state source.old source.new) (change K.state sink.old sink.new)
+        result }
 {
-    let shape = Shape::new(3, 3).unwrap();
-    let goal = Board::goal(shape);
-    let weights = Weights::unit(shape);
-    let groups = default_groups(alloc, shape)?;
-    let bound = build_bound(rt, alloc, groups, &goal, &weights)?;
-    Ok(Setup::new(alloc, goal, weights).bound(bound))
+    match run_check(rt, alloc, source, sink) {
+        Ok(status) => Ending::Answered(status),
+        Err(fault) => Ending::Faulted(BatchFault::from(fault)),
+    }
+}
+
+// Replays the steps of the source.
+fn replay<R: Threads + Sync, S: Source, K: Sink>(
+    rt: &R,
+    alloc: Global,
+    options: Options,
+    source: &mut S,
+    sink: &mut K,
+) -> Ending
+    requires { AreFit options }
+    ensures ended { EndsSetup options (TakesSteps (change S.state source.old source.new))
+        (change S.state source.old source.new) (change K.state sink.old sink.new) result }
+    ensures flushed { (K.is_flushed sink.new ⊎ HasFailed (K.state sink.new))
+        ⊎ HasNotBegun result }
+    ensures unused { HasNotBegun result → (source.new ≡ source.old) × (sink.new ≡ sink.old) }
+{
+    let Ok(setup) = setup_of(rt, alloc, options) else {
+        return Ending::NoMemory;
+    };
+    let ending = replay_with(rt, alloc, &setup, source, sink);
+    flush_behind(sink, ending)
+}
+
+// The same with a setup, but for the flush.
+fn replay_with<R: Threads + Sync, S: Source, K: Sink>(
+    rt: &R,
+    alloc: Global,
+    setup: &Setup,
+    source: &mut S,
+    sink: &mut K,
+) -> Ending
+    ensures { TakesSteps (change S.state source.old source.new) setup.now
+        (change K.state sink.old sink.new) result }
+{
+    match run_replay(rt, alloc, source, sink, setup) {
+        Ok(status) => Ending::Answered(status),
+        Err(fault) => Ending::Faulted(BatchFault::from(fault)),
+    }
+}
+
+// Writes a text of help.
+fn show<K: Sink>(sink: &mut K, text: &str) -> Ending
+    ensures ended { EndsRun (Shows text.now) (change K.state sink.old sink.new) result }
+    ensures flushed { K.is_flushed sink.new ⊎ HasFailed (K.state sink.new) }
+{
+    let ending = put_text(sink, text);
+    flush_behind(sink, ending)
+}
+
+// The same, but for the flush.
+fn put_text<K: Sink>(sink: &mut K, text: &str) -> Ending
+    ensures { Shows text.now (change K.state sink.old sink.new) result }
+{
+    match write_text(sink, text) {
+        Ok(()) => Ending::Shown,
+        Err(_) => Ending::Faulted(BatchFault::Write),
+    }
+}
+
+// Writes a text, whole or a beginning.
+fn write_text<K: Sink>(sink: &mut K, text: &str) -> Result<(), WriteFailed>
+    ensures { Writes (change K.state sink.old sink.new) text.now result }
+{
+    sink.put(text.as_bytes())
+}
+
+// Flushes the sink behind a run, and answers how the program ends: the first fault decides.
+fn flush_behind<K: Sink>(sink: &mut K, ending: Ending) -> Ending
+    ensures ended { FlushesBehind ending (change K.state sink.old sink.new) result }
+    ensures flushed { K.is_flushed sink.new ⊎ HasFailed (K.state sink.new) }
+{
+    match sink.flush() {
+        Ok(()) => ending,
+        Err(_) => unflushed(ending),
+    }
+}
+
+// How the program ends where what a run has written cannot be passed on.
+fn unflushed(ending: Ending) -> Ending
+    ensures { (failed : WriteFailed) → result ≡ after_flush ending (Err failed) }
+{
+    match ending {
+        Ending::Faulted(fault) => Ending::Faulted(fault),
+        _ => Ending::Faulted(BatchFault::Write),
+    }
 }

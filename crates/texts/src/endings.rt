@@ -12,7 +12,7 @@ pub fn print(rt: &impl Print, refused: OutOfMemory) -> io::Result<()> {
         Ending::Ran(counted(1, 1, 0, 0)),
         Ending::Ran(counted(1, 1, 1, 0)),
         Ending::Ran(counted(1, 1, 0, 1)),
-        Ending::Usage,
+        Ending::NoTexts,
         Ending::NoMemory,
         Ending::Faulted(BatchFault::Read),
         Ending::Faulted(BatchFault::Write),

@@ -13,7 +13,7 @@ use std::rt::Env;
 // memory.
 fn read_words(rt: &(impl Env + AllocGlobal)) -> Result<Vec<String>, Ending> {
     let Ok(words) = env::args(rt) else {
-        return Err(Ending::Usage);
+        return Err(Ending::NoTexts);
     };
     match words.skip(1).collect(rt.alloc()) {
         Ok(words) => Ok(words),

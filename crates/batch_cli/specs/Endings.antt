@@ -1,0 +1,60 @@
+-- How the program ends: its status, and what it writes of that to standard error.
+use Rattle.std.specs.Prelude.{ℕ, ◌≡◌, false, List, [], ◌∷◌, ◌++◌, codes, ⊤}
+use Rattle.byte_streams.specs.Streams.{SinkState, Change}
+use Rattle.byte_streams.specs.Sink.{Puts, PutsBeginning}
+use Rattle.batch_runs.specs.Batches.{status_of_counts}
+use Rattle.command_line.specs.Faults.{refusal_status, refusal_message}
+use Rattle.batch_cli.specs.declared.faults.BatchFault.TheVariants.{Read, Write, Memory, GroupsMemory, CertificateRead, CertificateMemory, CertificateWrite}
+use Rattle.batch_cli.specs.declared.endings.Ending.{Ending}
+use Rattle.batch_cli.specs.declared.endings.Ending.TheVariants.{NoTexts, Refused, NoMemory, Ran, Answered, Shown, Faulted}
+
+-- 0 where each line is optimal or unsolvable, and for a text; 1 where some line is bounded or refused; what a run over one line, one certificate or one replay answers; 2 for the words; 3 for streams that failed; 4 for want of memory
+abbrev pub status_of : Ending → ℕ
+status_of NoTexts = 2
+status_of (Refused refusal) = refusal_status refusal
+status_of NoMemory = 4
+status_of (Ran counts) = status_of_counts counts
+status_of (Answered status) = status
+status_of Shown = 0
+status_of (Faulted Read) = 3
+status_of (Faulted Write) = 3
+status_of (Faulted (Memory lacking)) = 4
+status_of (Faulted (GroupsMemory refused)) = 4
+status_of (Faulted CertificateRead) = 3
+status_of (Faulted (CertificateMemory refused)) = 4
+status_of (Faulted CertificateWrite) = 3
+
+-- a line for standard error
+abbrev pub line_of : List ℕ → List ℕ
+line_of text = text ++ 10 ∷ []
+
+abbrev pub message_of : Ending → List ℕ
+message_of NoTexts = line_of (codes "error: invalid UTF-8 was detected in one or more arguments")
+message_of (Refused refusal) = refusal_message refusal
+message_of NoMemory = line_of (codes "tilesolve: memory")
+message_of (Ran counts) = []
+message_of (Answered status) = []
+message_of Shown = []
+message_of (Faulted Read) = line_of (codes "tilesolve: B1")
+message_of (Faulted Write) = line_of (codes "tilesolve: B2")
+message_of (Faulted (Memory lacking)) = line_of (codes "tilesolve: B3")
+message_of (Faulted (GroupsMemory refused)) = line_of (codes "tilesolve: B3")
+message_of (Faulted CertificateRead) = line_of (codes "tilesolve: F6")
+message_of (Faulted (CertificateMemory refused)) = line_of (codes "tilesolve: F7")
+message_of (Faulted CertificateWrite) = line_of (codes "tilesolve: F8")
+
+-- the message was written, or a beginning of it where the stream has failed; and the status is answered
+pub record Tells (errors : Change SinkState) (ending : Ending) (status : ℕ) : Type 0 where
+  pub told : status ≡ status_of ending
+  pub begun : PutsBeginning errors (message_of ending)
+  pub whole : errors.after.has_failed ≡ false → Puts errors (message_of ending)
+
+-- the ending comes before anything is read or written: the words are at fault, or there is no memory
+abbrev pub HasNotBegun : Ending → Type 0
+HasNotBegun NoTexts = ⊤
+HasNotBegun (Refused refusal) = ⊤
+HasNotBegun NoMemory = ⊤
+HasNotBegun (Ran counts) = ⊥
+HasNotBegun (Answered status) = ⊥
+HasNotBegun Shown = ⊥
+HasNotBegun (Faulted fault) = ⊥

@@ -1,0 +1,58 @@
+-- What a reader of the program's output may believe.
+use Rattle.std.specs.Prelude.{ℕ, ◌≡◌, ◌<◌, ◌⊎◌, List, [], Ok, IfSome, string_bytes}
+use Rattle.byte_streams.specs.Streams.{SourceState, SinkState, Change}
+use Rattle.byte_streams.specs.Sink.{Puts}
+use Rattle.memory.specs.declared.OutOfMemory.{OutOfMemory}
+use Rattle.clap.specs.Words.{Text}
+use Rattle.board.specs.Plans.{Leads, IsLeast}
+use Rattle.certificate.specs.Certificates.{Statement}
+use Rattle.certificate.specs.Readings.{certificate}
+use Rattle.batch_runs.specs.Headline.{WritesTruth, BeginsTruth}
+use Rattle.batch_runs.specs.Setups.{SetupState}
+use Rattle.certificate_runs.specs.Headline.{WritesAnswer, WritesVerdict, IsRefusedBy}
+use Rattle.replay_runs.specs.Replays.{Jobs, PassesAll, WritesRefusal, WritesPlay}
+use Rattle.replay_runs.specs.Openings.{setup_jobs}
+use Rattle.setup_runs.specs.Solving.{rules_of}
+use Rattle.command_line.specs.declared.faults.NoRequest.{NoRequest}
+use Rattle.command_line.specs.declared.requests.Request.{Request}
+use Rattle.command_line.specs.declared.requests.Request.TheVariants.{Solve, Certify, Check, Replay, Help, Version}
+use Rattle.command_line.specs.Faults.{refusal_status}
+use Rattle.command_line.specs.Requests.{WordsAsk, WordsFail}
+use Rattle.batch_cli.specs.Setups.{IsSetupOf, IsDefaultSetup}
+use Rattle.batch_cli.specs.Programs.{IsUnused}
+
+-- For some default setup a beginning was written of an output that tells the truth of the lines that were read, and with the status 0 or 1 all of one that tells it of all lines; with 0 none of them is bounded or refused.
+abbrev pub IsTrue : ℕ → Change SourceState → Change SinkState → Type 0
+IsTrue status source sink =
+    (setup : SetupState) × IsDefaultSetup setup × BeginsTruth (rules_of setup) source sink × (status < 2 → WritesTruth (rules_of setup) source sink status)
+
+-- the input is a certificate, whose plan leads from its start to its goal at its cost, and no plan costs less
+abbrev pub StatesLeastCost : List ℕ → Type 0
+StatesLeastCost input =
+    (c : Statement) × (certificate input ≡ Ok (c, [])) × Leads c.costs c.start c.plan c.goal c.cost × IsLeast c.costs c.start c.goal c.cost
+
+-- a true verdict on the input was written with the status 0 or 5; with 0 it states a least cost, with 5 it is refused
+pub record JudgesTruly (status : ℕ) (sink : Change SinkState) (input : List ℕ) : Type 0 where
+  pub verdict : (status ≡ 0) ⊎ (status ≡ 5) → WritesVerdict sink input
+  pub accepted : status ≡ 0 → StatesLeastCost input
+  pub refused : status ≡ 5 → (code : List ℕ) × IsRefusedBy input code
+
+-- the answers to a board line and to the lines of steps behind it were written, as the status says
+abbrev pub WritesReplay : Jobs → Change SourceState → Change SinkState → ℕ → Type 0
+WritesReplay jobs source sink status = PassesAll source sink status ⊎ WritesRefusal jobs source sink status ⊎ WritesPlay jobs source sink status
+
+-- What is written for what words ask for is true. Of boards it is so as of those without words, for a setup that the options say; of a certificate, a verdict, a replay and a text where the run ends well.
+abbrev pub IsTrueOf : Request → ℕ → Change SourceState → Change SinkState → Type 0
+IsTrueOf (Solve o) status source sink =
+    (setup : SetupState) × IsSetupOf o setup × BeginsTruth (rules_of setup) source sink × (status < 2 → WritesTruth (rules_of setup) source sink status)
+IsTrueOf (Certify o) status source sink = (setup : SetupState) × IsSetupOf o setup × (status < 2 → WritesAnswer setup.tables.split (rules_of setup) source sink)
+IsTrueOf Check status source sink = IfSome source.before.left (JudgesTruly status sink)
+IsTrueOf (Replay o) status source sink = (setup : SetupState) × IsSetupOf o setup × (status < 2 → WritesReplay (setup_jobs setup) source sink status)
+IsTrueOf (Help text) status source sink = status ≡ 0 → Puts sink (string_bytes text)
+IsTrueOf (Version text) status source sink = status ≡ 0 → Puts sink (string_bytes text)
+
+-- what words ask for is answered truly, or memory was refused for its tables; or the words ask for nothing, as the status says. Where nothing is answered, nothing is read or written.
+abbrev pub IsTrueBy : List Text → ℕ → Change SourceState → Change SinkState → Type 0
+IsTrueBy words status source sink =
+    ((request : Request) × WordsAsk words request × (IsTrueOf request status source sink ⊎ (OutOfMemory × (status ≡ 4) × IsUnused source sink)))
+    ⊎ ((refusal : NoRequest) × WordsFail words refusal × (status ≡ refusal_status refusal) × IsUnused source sink)
