@@ -3,6 +3,7 @@ pub mod WaysLemmas
 pub mod MaskLemmas
 pub mod CellLemmas
 pub mod SightLemmas
+pub mod PlaceLemmas
 pub mod ViewMoveLemmas
 pub mod GroupLemmas
 pub mod FaultLemmas

@@ -9,7 +9,7 @@ use Rattle.board.specs.Keys.{Precedes}
 use Rattle.board.specs.Moves.{Moves}
 use Rattle.pattern_index.specs.Ranks.{ways, IsListing, rank_of}
 use Rattle.pattern_index.specs.Views.{Sight, IsView, Abstraction, ViewMoves, ViewLeads, view_of}
-use Rattle.pattern_index.specs.Selections.{Selection, IsSelection, IsGroup, rank_in, size_of, sight_successor}
+use Rattle.pattern_index.specs.Selections.{Selection, IsSelection, IsGroup, rank_in, size_of, place_in, folded_size_of, sight_successor}
 
 -- n!, the numbers from 1 to n multiplied
 abbrev pub factorial : ℕ → ℕ
@@ -52,6 +52,15 @@ ViewRanksDiffer = (g : Selection) (v w : Sight) → IsView g.grid g.tiles v → 
 -- each number below a group's size is the rank of one of its views
 abbrev pub ViewRanksFill : Type 0
 ViewRanksFill = (g : Selection) (k : ℕ) → IsSelection g → k < size_of g → (v : Sight) × IsView g.grid g.tiles v × (rank_in g.grid v ≡ k)
+
+-- the place of a group's view is below the group's folded size
+abbrev pub PlacesAreBelow : Type 0
+PlacesAreBelow = (g : Selection) (v : Sight) → IsView g.grid g.tiles v → place_in g.grid v < folded_size_of g
+
+-- views of a group have one place exactly where they show the tiles on the same cells
+abbrev pub PlacesDiffer : Type 0
+PlacesDiffer =
+    (g : Selection) (v w : Sight) → IsView g.grid g.tiles v → IsView g.grid g.tiles w → (place_in g.grid v ≡ place_in g.grid w) ↔ (v.cells ≡ w.cells)
 
 -- what a group sees of a board, its abstraction, is a view
 abbrev pub BoardsHaveViews : Type 0

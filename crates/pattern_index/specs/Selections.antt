@@ -39,6 +39,14 @@ pub record IsSelection (g : Selection) : Type 0 where
 abbrev pub rank_in : Grid → Sight → ℕ
 rank_in grid v = rank_of (cell_count grid) (v.blank ∷ v.cells)
 
+-- in how many ways the group's tiles can stand, wherever the blank is: the ways to list a cell for each tile, all different
+abbrev pub folded_size_of : Selection → ℕ
+folded_size_of g = ways (cell_count g.grid) (length g.tiles)
+
+-- the place of a view: the rank of the tiles' cells, without the blank's
+abbrev pub place_in : Grid → Sight → ℕ
+place_in grid v = rank_of (cell_count grid) v.cells
+
 -- the puzzle with all tiles but the group's left out
 abbrev pub abstraction_of : Selection → CostRule → Abstraction
 abstraction_of g rule = record { grid = g.grid; rule = rule; tiles = g.tiles }

@@ -10,6 +10,7 @@ ghost use Rattle.pattern_index.specs.Views.{weight_on};
 ghost use Rattle.pattern_index.specs.Ranks.{ways};
 ghost use Rattle.pattern_index.specs.Selections.{Selection, IsTile, IsGroup, IsSelection};
 ghost use Rattle.pattern_index.specs.Selections.{size_of, rank_in, abstraction_of};
+ghost use Rattle.pattern_index.specs.Selections.{folded_size_of, place_in};
 ghost use Rattle.pattern_index.specs.Selections.{sight_successor};
 ghost use Rattle.pattern_index.specs.Laws.{factorial};
 ghost use Rattle.pattern_index.specs.Faults.{IsFirstFault};
@@ -133,6 +134,18 @@ impl Group {
         self.size
     }
 
+    /// In how many ways its tiles can stand, wherever the blank is: N! / (N - k)! for k tiles and N
+    /// cells.
+    pub fn folded_size(&self) -> usize
+        ensures value { result ≡ folded_size_of self.now }
+        ensures quotient { result ≡ factorial (cell_count self.now.grid)
+            / factorial (cell_count self.now.grid - length self.now.tiles) }
+        ensures low { 1 ≤ result }
+        ensures high { result ≤ MAX_SIZE }
+    {
+        self.size() / (self.shape().cells() - self.tiles().len())
+    }
+
     /// What it sees of a board: the board's abstraction for the group.
     pub fn view(&self, board: &Board) -> View
         requires { board.now.grid ≡ self.now.grid }
@@ -150,6 +163,16 @@ impl Group {
         ensures high { result < MAX_SIZE }
     {
         rank_cells(self.shape().cells(), view.cells())
+    }
+
+    /// The place of the tiles' cells, the blank's left out, among all ways in which the tiles can
+    /// stand, in lexicographic order.
+    pub fn place(&self, view: &View) -> usize
+        requires { IsView self.now.grid self.now.tiles view.now }
+        ensures value { result ≡ place_in self.now.grid view.now }
+        ensures below { result < folded_size_of self.now }
+    {
+        rank_cells(self.shape().cells(), &view.cells()[1..])
     }
 
     /// The place of what it sees of a board, by the cell of each of the board's numbers

@@ -4,6 +4,7 @@ ghost use Rattle.std.specs.Prelude.{◌≡◌, ◌^◌};
 ghost use Rattle.pattern_index.specs.Laws.{WaysAreFactorials, RanksAreBelow, RanksDiffer};
 ghost use Rattle.pattern_index.specs.Laws.{RanksFill, RanksAreInOrder, GroupsAreSmall};
 ghost use Rattle.pattern_index.specs.Laws.{ViewRanksAreBelow, ViewRanksDiffer, ViewRanksFill};
+ghost use Rattle.pattern_index.specs.Laws.{PlacesAreBelow, PlacesDiffer};
 ghost use Rattle.pattern_index.specs.Laws.{BoardsHaveViews, MovesAreViewMoves};
 ghost use Rattle.pattern_index.specs.Laws.{SuccessorsAreViewMoves, ViewMovesKeepViews};
 ghost use Rattle.pattern_index.specs.Laws.{ViewMovesAreTakenBack};
@@ -36,6 +37,13 @@ pub fn views_are_ranked()
     ensures below { ViewRanksAreBelow }
     ensures differ { ViewRanksDiffer }
     ensures fill { ViewRanksFill }
+{}
+
+/// The place of a view is below the group's folded size, and views share one exactly where they show
+/// the tiles on the same cells.
+pub fn places_are_ranked()
+    ensures below { PlacesAreBelow }
+    ensures differ { PlacesDiffer }
 {}
 
 /// What a group sees of a board, its abstraction, is a view.
