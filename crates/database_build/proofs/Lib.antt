@@ -1,3 +1,4 @@
 pub mod BucketLemmas
 pub mod ReachLemmas
 pub mod PotentialLemmas
+pub mod FoldLemmas

@@ -7,6 +7,7 @@ use Rattle.pattern_index.specs.Views.{Sight, IsView, Abstraction, ViewLeads, vie
 use Rattle.pattern_index.specs.Selections.{IsSelection}
 use Rattle.database_build.specs.Values.{IsValue, IsPotential}
 use Rattle.database_build.specs.Tables.{Lookup, HoldsValues, value_in}
+use Rattle.database_build.specs.Folds.{Fold, IsFoldedValue, IsFoldOf, folded_in}
 
 -- a view has one value
 abbrev pub ValuesAreDetermined : Type 0
@@ -31,3 +32,25 @@ PotentialsAreLowerBounds =
     → IsView goal.grid tiles v
     → ViewLeads (record { grid = goal.grid; rule = rule; tiles = tiles }) v plan (view_of tiles goal) j
     → value v ≤ j
+
+-- a folded value is never above the value of a view that shows the tiles on the same cells
+abbrev pub FoldedValuesAreLow : Type 0
+FoldedValuesAreLow =
+    (table : Lookup) (fold : Fold) (v w : Sight)
+    → IsFoldOf table fold
+    → IsView table.selection.grid table.selection.tiles v
+    → IsView table.selection.grid table.selection.tiles w
+    → w.cells ≡ v.cells
+    → folded_in fold v ≤ value_in table w
+
+-- a folded value is that of one of these views
+abbrev pub FoldedValuesAreReached : Type 0
+FoldedValuesAreReached =
+    (table : Lookup) (fold : Fold) (v : Sight)
+    → IsFoldOf table fold
+    → IsView table.selection.grid table.selection.tiles v
+    → (w : Sight) × IsView table.selection.grid table.selection.tiles w × (w.cells ≡ v.cells) × (value_in table w ≡ folded_in fold v)
+
+-- a view has one folded value in a table
+abbrev pub FoldedValuesAreDetermined : Type 0
+FoldedValuesAreDetermined = (table : Lookup) (v : Sight) (n k : ℕ) → IsFoldedValue table v n → IsFoldedValue table v k → n ≡ k

@@ -3,6 +3,8 @@
 ghost use Rattle.std.specs.Prelude.{◌≡◌};
 ghost use Rattle.database_build.specs.Laws.{ValuesAreDetermined, ValuesArePotentials};
 ghost use Rattle.database_build.specs.Laws.{PotentialsAreLowerBounds};
+ghost use Rattle.database_build.specs.Laws.{FoldedValuesAreLow, FoldedValuesAreReached};
+ghost use Rattle.database_build.specs.Laws.{FoldedValuesAreDetermined};
 
 use crate::table::NO_VALUE;
 
@@ -24,4 +26,12 @@ pub fn values_are_potentials()
 /// A potential is admissible: never above the cost of a view plan to the goal's view.
 pub fn potentials_are_lower_bounds()
     ensures { PotentialsAreLowerBounds }
+{}
+
+/// A folded value is never above the value of a view that shows the tiles on the same cells, and it
+/// is that of one of them; a view has one.
+pub fn folded_values_are_least()
+    ensures low { FoldedValuesAreLow }
+    ensures reached { FoldedValuesAreReached }
+    ensures one { FoldedValuesAreDetermined }
 {}

@@ -8,6 +8,7 @@
 mod buckets;
 mod building;
 mod faults;
+mod folding;
 pub mod laws;
 mod potential;
 mod search;
@@ -15,5 +16,6 @@ mod table;
 
 pub use building::build;
 pub use faults::TableFault;
+pub use folding::{Folded, fold};
 pub use potential::is_potential;
 pub use table::{NO_VALUE, Table};

@@ -1,0 +1,25 @@
+-- Folded tables: for each way in which a group's tiles can stand, the least value over the blank's places.
+use Rattle.std.specs.Prelude.{ℕ, ◌≡◌, ◌≤◌, List, length, slice_index}
+use Rattle.pattern_index.specs.Views.{Sight, IsView}
+use Rattle.pattern_index.specs.Selections.{Selection, place_in, folded_size_of}
+use Rattle.database_build.specs.Tables.{Lookup, value_in}
+
+-- A group, and an entry for each way in which its tiles can stand, by place.
+pub record Fold : Type 0 where
+  pub selection : Selection
+  pub least : List ℕ
+
+-- the entry of the cells on which a view shows the tiles
+abbrev pub folded_in : Fold → Sight → ℕ
+folded_in fold v = slice_index fold.least (place_in fold.selection.grid v)
+
+-- n is the least entry of the views that show the tiles on the same cells as v, wherever the blank is
+pub record IsFoldedValue (table : Lookup) (v : Sight) (n : ℕ) : Type 0 where
+  pub reached : (w : Sight) × IsView table.selection.grid table.selection.tiles w × (w.cells ≡ v.cells) × (value_in table w ≡ n)
+  pub none_below : (w : Sight) → IsView table.selection.grid table.selection.tiles w → w.cells ≡ v.cells → n ≤ value_in table w
+
+-- the entries are the folded values of a table
+pub record IsFoldOf (table : Lookup) (fold : Fold) : Type 0 where
+  pub selection : fold.selection ≡ table.selection
+  pub size : length fold.least ≡ folded_size_of table.selection
+  pub least : (v : Sight) → IsView table.selection.grid table.selection.tiles v → IsFoldedValue table v (folded_in fold v)
