@@ -6,6 +6,8 @@
 #[cfg(test)]
 mod faults;
 #[cfg(test)]
+mod folds;
+#[cfg(test)]
 mod groups;
 #[cfg(test)]
 mod sums;

@@ -1,0 +1,85 @@
+//! Folded tables that were worked by hand.
+
+ghost use Rattle.std.specs.Prelude.{◌≡◌};
+
+use board::{Board, Shape, Weights};
+use database_build::{Folded, NO_VALUE, Table, build, fold};
+use pattern_index::Group;
+use std::alloc::Global;
+use std::test::Fail;
+
+// Boards of 2 by 2 with tile 1 on cells 0, 1, 2 and 3.
+const TILE_ONE_ON: [[u8; 4]; 4] = [[1, 0, 2, 3], [0, 1, 2, 3], [0, 2, 1, 3], [0, 2, 3, 1]];
+
+// Values of tile 1 on 2 by 2 by rank, and the least ones by the tile's cell. The blank is on cell 0
+// in the first three, with the tile on 1, 2, 3; on cell 1 in the next three, with the tile on 0, 2,
+// 3; and so on.
+const FOLDS: [([u16; 12], [u16; 4]); 4] = [
+    // The built ones at unit cost.
+    ([0, 2, 1, 1, 2, 1, 1, 0, 1, 1, 0, 2], [1, 0, 2, 1]),
+    // The blank is on cells 2, 3, 0 and 2 in the least ones.
+    ([9, 2, 7, 6, 5, 4, 3, 8, 1, 12, 0, 10], [3, 0, 2, 1]),
+    // It is on cells 3, 0, 1 and 1.
+    ([4, 8, 9, 7, 6, 5, 8, 5, 6, 3, 9, 7], [3, 4, 6, 5]),
+    ([NO_VALUE; 12], [NO_VALUE; 4]),
+];
+
+// The folded table that is built of some tiles.
+fn built_fold(alloc: Global, goal: &Board, weights: &Weights, tiles: &[u8]) -> Result<Folded, Fail>
+    requires { weights.now.grid ≡ goal.now.grid }
+{
+    let group = Group::new(goal.shape(), tiles)?;
+    let table = build(alloc, &group, goal, weights)?;
+    Ok(fold(alloc, table)?)
+}
+
+// Whether a folded table has this value of a board.
+fn has_value(folded: &Folded, board: &Board, value: u16) -> bool {
+    if board.shape() != folded.group().shape() {
+        return false;
+    }
+    let view = folded.group().view(board);
+    folded.value(&view) == value
+}
+
+#[test]
+fn folds_of_stored_values(rt: HostRuntime) -> Result<(), Fail> {
+    let shape = Shape::new(2, 2)?;
+    let group = Group::new(shape, &[1])?;
+    for (row, (values, least)) in FOLDS.iter().enumerate() {
+        let table = Table::from_values(&group, Vec::from_slice(rt.alloc(), values)?)?;
+        let folded = fold(rt.alloc(), table)?;
+        assert!(rt; folded.size() == 4 && *folded.group() == group, "row {row}");
+        for cell in 0..4 {
+            let board = Board::from_tiles(shape, &TILE_ONE_ON[cell])?;
+            assert!(rt;
+                has_value(&folded, &board, least[cell]),
+                "row {row}, cell {cell}"
+            );
+        }
+    }
+    Ok(())
+}
+
+// No view plan leads from the board's view to the goal's, but one does with the blank elsewhere.
+#[test]
+fn no_value_is_folded_away(rt: HostRuntime) -> Result<(), Fail> {
+    let shape = Shape::new(2, 2)?;
+    let goal = Board::from_tiles(shape, &[0, 1, 2, 3])?;
+    let board = Board::from_tiles(shape, &[3, 1, 2, 0])?;
+    let group = Group::new(shape, &[1, 2])?;
+    let table = build(rt.alloc(), &group, &goal, &Weights::unit(shape))?;
+    assert!(rt; table.value(&group.view(&board)) == NO_VALUE);
+    let folded = fold(rt.alloc(), table)?;
+    assert!(rt; has_value(&folded, &board, 0) && folded.size() == 12);
+    Ok(())
+}
+
+#[test]
+fn size_of_four_tiles(rt: HostRuntime) -> Result<(), Fail> {
+    let shape = Shape::new(3, 3)?;
+    let goal = Board::goal(shape);
+    let folded = built_fold(rt.alloc(), &goal, &Weights::unit(shape), &[1, 2, 3, 4])?;
+    assert!(rt; folded.size() == 3_024 && has_value(&folded, &goal, 0));
+    Ok(())
+}
