@@ -1,8 +1,10 @@
 -- The laws of steps: that each has one answer and leaves one world, and what it leaves alone.
-use Rattle.std.specs.Prelude.{◌≡◌, ◌≢◌, ◌↔◌, ⊤, ℕ, ◌<◌, ◌+◌, true, List, [], ◌∷◌, ◌++◌, All, Option, Some, None, slice_get}
+use Rattle.std.specs.Prelude.{◌≡◌, ◌≢◌, ◌↔◌, ⊤, ℕ, ◌<◌, ◌+◌, true, List, [], ◌∷◌, ◌++◌, All, Contains, Option, Some, None, slice_get}
 use Rattle.memory.specs.declared.OutOfMemory.{OutOfMemory}
 use Rattle.board.specs.declared.moves.Move.{Move}
-use Rattle.board.specs.Positions.{Position}
+use Rattle.board.specs.CostRules.{CostRule}
+use Rattle.board.specs.Moves.{Moves}
+use Rattle.board.specs.Positions.{IsBoard, Position}
 use Rattle.world_model.specs.declared.parts.Known.{Known}
 use Rattle.world_model.specs.declared.steps.Refusal.{Refusal}
 use Rattle.world_model.specs.declared.steps.Refusal.TheVariants.{NoRoom, Memory}
@@ -11,6 +13,7 @@ use Rattle.world_model.specs.declared.steps.Step.TheVariants.{Expand, Settle, Se
 use Rattle.world_model.specs.Turns.{Turn, turn}
 use Rattle.world_model.specs.Costs.{IsNotBelow, limit_of}
 use Rattle.world_model.specs.Workers.{WorkerState, Role, Lane, KnowsAs, IsOpen, IsNext, IsFloor}
+use Rattle.world_model.specs.Expansions.{move_back, moves_but}
 use Rattle.world_model.specs.Books.{BookState}
 use Rattle.world_model.specs.WorkerSteps.{ExpandStep}
 use Rattle.world_model.specs.Worlds.{WorldState, IsWorker, IsLane}
@@ -103,6 +106,21 @@ LeastIsExpanded =
     → KnowsAs it.after b after
     → after.expanded ≡ true
     → IsNext role.task it.before b before × (before.cost + role.task.sum b < limit_of it.before.best) × (it.answer ≡ None)
+
+-- of all moves one is left out, if any is
+abbrev pub OneMoveIsLeftOut : Type 0
+OneMoveIsLeftOut = (out : Option Move) (m : Move) → Contains (moves_but out) m ↔ (out ≢ Some m)
+
+-- the move back leads to the board before the last move; at cost 0 there is none
+abbrev pub MovesBackLeadBack : Type 0
+MovesBackLeadBack =
+    (known : Known)
+    → (known.cost ≡ 0 → move_back known ≡ None)
+    × ((rule : CostRule) (before b : Position) (c : ℕ)
+    → 0 < known.cost
+    → IsBoard before
+    → Moves rule before known.via b c
+    → (back : Move) × (move_back known ≡ Some back) × Moves rule b back before c)
 
 -- a step leaves each other worker, and the floor of each, as it was
 abbrev pub OthersAreLeft : Type 0
