@@ -46,7 +46,7 @@ top_app =
 -- the program with its subcommands
 abbrev pub program_app : Choices → Choices → App
 program_app costs spreads =
-    let solve = with_rule (puzzle_app costs spreads (codes "solve")) (flag_rule (codes "cert")) in
+    let solve = with_rule (with_rule (puzzle_app costs spreads (codes "solve")) (flag_rule (codes "cert"))) (flag_rule (codes "progress")) in
     with_subcommand (with_subcommand (with_subcommand top_app solve.top) (new_app (codes "check")).top) (puzzle_app costs spreads (codes "replay")).top
 
 -- the words that `--cost` and `--spread` may have

@@ -1,5 +1,5 @@
 -- What the words of a command line ask for.
-use Rattle.std.specs.Prelude.{ℕ, ◌≡◌, ◌≢◌, ◌≤◌, ◌⊎◌, ◌-◌, ◌^◌, List, [], ◌∷◌, Option, Some, None, codes, option_map, map, ⊤}
+use Rattle.std.specs.Prelude.{ℕ, ◌≡◌, ◌≢◌, ◌≤◌, ◌⊎◌, ◌↔◌, ◌-◌, ◌^◌, false, IsTrue, List, [], ◌∷◌, Option, Some, None, codes, option_map, map, ⊤}
 use Rattle.std.specs.Str.Parse.{digits_value, without_leading_plus}
 use Rattle.clap.specs.Words.{Text, Row, App, Kinds, IsAmong, first_of, one_of, fault_of, subcommand_of}
 use Rattle.clap.specs.declared.error.kind.ErrorKind.{ErrorKind}
@@ -48,6 +48,10 @@ abbrev pub rule_of_costs : Costs → Grid → CostRule
 rule_of_costs Unit grid = unit_rule grid
 rule_of_costs Face grid = face_rule grid
 
+-- an option without a value is there
+abbrev pub IsSet : List Row → Text → Type 0
+IsSet rows id = first_of id rows ≡ Some (codes "true")
+
 -- the shape that the rows and columns say
 pub record HasShape (rows : List Row) (grid : Grid) : Type 0 where
   pub tall : HasNumber rows (codes "rows") grid.rows
@@ -68,6 +72,7 @@ pub record AreValues (rows : List Row) (v : Values) : Type 0 where
   pub workers : HasWorkers rows v.workers
   pub spread : first_of (codes "spread") rows ≡ Some (spread_text v.spread)
   pub limit : HasNumber rows (codes "limit") v.limit
+  pub progress : IsTrue v.progress ↔ IsSet rows (codes "progress")
 
 -- the goal that a text says, and where there is no text Korf's
 abbrev pub IsGoalSaid : Grid → Option Text → Position → Type 0
@@ -98,6 +103,7 @@ pub record AreOptions (rows : List Row) (o : Options) : Type 0 where
   pub workers : HasWorkers rows o.workers
   pub spread : first_of (codes "spread") rows ≡ Some (spread_text o.spread)
   pub limit : HasNumber rows (codes "limit") o.limit
+  pub progress : IsTrue o.progress ↔ IsSet rows (codes "progress")
 
 -- why they say nothing: the fault of the goal's text; or where that has none, the fault of the groups' text; and memory may be refused
 abbrev pub OptionsFail : List Row → NoRequest → Type 0
@@ -137,7 +143,7 @@ TextFails faults (Goal fault) = ⊥
 TextFails faults (Groups fault) = ⊥
 TextFails faults Memory = ⊤
 
--- without words: boards of 3 by 3 at unit cost with Korf's goal and the default groups, by one worker without a limit
+-- without words: boards of 3 by 3 at unit cost with Korf's goal and the default groups, by one worker without a limit, and nothing told of progress
 pub record AreDefaults (o : Options) : Type 0 where
   pub goal : o.goal ≡ goal_of (record { rows = 3; cols = 3 })
   pub costs : o.costs ≡ Unit
@@ -145,6 +151,7 @@ pub record AreDefaults (o : Options) : Type 0 where
   pub workers : o.workers ≡ 1
   pub spread : o.spread ≡ Zobrist
   pub limit : o.limit ≡ 2 ^ 64 - 1
+  pub progress : o.progress ≡ false
 
 abbrev pub AsksDefaults : Request → Type 0
 AsksDefaults (Solve o) = AreDefaults o

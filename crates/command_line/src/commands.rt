@@ -26,7 +26,8 @@ pub(crate) fn program<'a>(
         .about(help::SOLVE)
         .long_about(help::SOLVE_LONG)
         .after_help(help::SOLVE_AFTER)
-        .arg(flag(alloc, "cert", help::CERT))?;
+        .arg(flag(alloc, "cert", help::CERT))?
+        .arg(flag(alloc, "progress", help::PROGRESS))?;
     let check = Command::new(alloc, "check")
         .about(help::CHECK)
         .long_about(help::CHECK_LONG)

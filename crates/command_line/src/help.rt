@@ -153,3 +153,7 @@ pub(crate) const LIMIT: &str = "Boards that are expanded at most for a line, 0 o
 
 /// The option `--cert`.
 pub(crate) const CERT: &str = "Writes the certificate of the first board in place of reports";
+
+/// The option `--progress`.
+pub(crate) const PROGRESS: &str =
+    "Tells on standard error, at each million, how many boards were expanded so far";

@@ -7,7 +7,7 @@ ghost use Rattle.command_line.specs.Requests.{IsGoalSaid, IsGoalFault, AreGroups
 
 use crate::faults::NoRequest;
 use crate::requests::{Options, Request};
-use crate::values::{Values, has_cert, values_in};
+use crate::values::{Values, is_set, values_in};
 use board::{Board, Shape, TilesFault};
 use clap::ArgMatches;
 use option_texts::{GroupsFault, default_groups, read_goal, read_groups};
@@ -44,7 +44,7 @@ fn solve_in(alloc: Global, matches: &ArgMatches<'_>) -> Result<Request, NoReques
         Ok(options) => options,
         Err(refusal) => return Err(refusal),
     };
-    if has_cert(matches) {
+    if is_set(matches, "cert") {
         return Ok(Request::Certify(options));
     }
     Ok(Request::Solve(options))
@@ -73,6 +73,7 @@ fn options_in(alloc: Global, matches: &ArgMatches<'_>) -> Result<Options, NoRequ
         workers: values.workers,
         spread: values.spread,
         limit: values.limit,
+        progress: values.progress,
     })
 }
 

@@ -59,6 +59,8 @@ pub struct Options {
     pub spread: SpreadKind,
     /// The most boards that are expanded for one line.
     pub limit: u64,
+    /// Whether it is told, while boards are solved, how many were expanded.
+    pub progress: bool,
 }
 
 /// What words ask for.
@@ -111,6 +113,7 @@ fn default_options(alloc: Global) -> Result<Options, OutOfMemory>
         workers: 1,
         spread: SpreadKind::Zobrist,
         limit: u64::MAX,
+        progress: false,
     })
 }
 

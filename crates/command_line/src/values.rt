@@ -20,6 +20,7 @@ pub(crate) struct Values<'a> {
     pub workers: u8,
     pub spread: SpreadKind,
     pub limit: u64,
+    pub progress: bool,
 }
 
 // What the values of the options say. Nothing is said only where a value isn't what the parser
@@ -40,15 +41,16 @@ pub(crate) fn values_in<'a>(matches: &ArgMatches<'a>) -> Option<Values<'a>>
         workers,
         spread,
         limit,
+        progress: is_set(matches, "progress"),
     })
 }
 
-// Whether a certificate is asked for.
-pub(crate) fn has_cert(matches: &ArgMatches<'_>) -> bool
+// Whether the option without a value is there.
+pub(crate) fn is_set(matches: &ArgMatches<'_>, id: &str) -> bool
     ensures { IsTrue result
-        ↔ (first_of (codes "cert") (rows_of (found_of matches.now)) ≡ Some (codes "true")) }
+        ↔ (first_of id.now (rows_of (found_of matches.now)) ≡ Some (codes "true")) }
 {
-    match matches.get_str("cert") {
+    match matches.get_str(id) {
         Some(text) => text == "true",
         None => false,
     }

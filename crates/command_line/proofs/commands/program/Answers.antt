@@ -13,8 +13,10 @@ pub returns-clause-app : goal.returns-clause-app
 returns-clause-app c =
     let solve_texts = ap app_of_fields c.after_help.ensures ∙ ap app_of_fields c.long_about.ensures ∙ ap app_of_fields c.about.ensures ∙ c.in_ok-puzzle.ensures.app in
     let solve_globals = ap globals c.after_help.ensures ∙ ap globals c.long_about.ensures ∙ ap globals c.about.ensures ∙ c.in_ok-puzzle.ensures.local in
-    let solve = adds_rule _ _ _ c.in_ok-solve.ensures c.flag.ensures.local solve_texts c.flag.ensures.rule in
-    let solve_local = stays_local _ _ _ c.in_ok-solve.ensures c.flag.ensures.local solve_globals in
+    let with_cert = adds_rule _ _ _ c.in_ok-arg.ensures c.flag.ensures.local solve_texts c.flag.ensures.rule in
+    let cert_local = stays_local _ _ _ c.in_ok-arg.ensures c.flag.ensures.local solve_globals in
+    let solve = adds_rule _ _ _ c.in_ok-solve.ensures c.flag-2.ensures.local with_cert c.flag-2.ensures.rule in
+    let solve_local = stays_local _ _ _ c.in_ok-solve.ensures c.flag-2.ensures.local cert_local in
     let check = ap app_of_fields c.after_help-check.ensures ∙ ap app_of_fields c.long_about-2.ensures ∙ ap app_of_fields c.about-2.ensures ∙ c.new.ensures.app in
     let check_local = ap globals c.after_help-check.ensures ∙ ap globals c.long_about-2.ensures ∙ ap globals c.about-2.ensures ∙ c.new.ensures.local in
     let replay = ap app_of_fields c.after_help-replay.ensures ∙ ap app_of_fields c.long_about-3.ensures ∙ ap app_of_fields c.about-3.ensures ∙ c.in_ok-puzzle-2.ensures.app in

@@ -14,4 +14,5 @@ returns c =
       workers = c.in_ok-workers.ensures;
       spread = c.in_ok-spread.ensures;
       limit = c.in_ok-limit.ensures;
+      progress = c.is_set.ensures;
     }
