@@ -6,6 +6,7 @@ mod endings;
 mod faults;
 pub mod laws;
 mod program;
+mod progress;
 mod setups;
 
 pub use batch_lines::{
@@ -18,7 +19,7 @@ pub use endings::Ending;
 pub use faults::BatchFault;
 pub use hda_run::{Free, Gate, Kind};
 pub use outcomes::{Cause, Outcome, SolveFault, Want, Why};
-pub use program::run_program;
+pub use program::{run_program, run_with_progress};
 pub use replay_runs::{Opener, Run, replay_lines, run_replay};
 pub use reports::{
     NoReport, accepted_report, outcome_report, refused_certificate_report, refused_report,

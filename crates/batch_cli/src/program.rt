@@ -16,12 +16,13 @@ ghost use Rattle.batch_cli.specs.Headline.{IsTrue, IsTrueBy};
 
 use crate::endings::Ending;
 use crate::faults::BatchFault;
+use crate::progress::WhereAsked;
 use crate::setups::setup_of;
 use batch_runs::Setup;
 use byte_streams::{Sink, Source, WriteFailed};
 use certificate_runs::run_check;
 use command_line::{Options, Request, read_words};
-use hda_run::Free;
+use hda_run::{Free, Gate};
 use memory::OutOfMemory;
 use replay_runs::run_replay;
 use setup_runs::{run_batch, run_cert};
@@ -59,17 +60,44 @@ pub fn run_program<R: Threads + Wait + Sync, S: Source, K: Sink, E: Sink>(
     ensures flushed { (K.is_flushed sink.new ⊎ HasFailed (K.state sink.new))
         ⊎ ((source.new ≡ source.old) × (sink.new ≡ sink.old)) }
 {
-    let ending = end_program(rt, alloc, words, source, sink);
-    ending.tell(errors)
+    run_with_progress(rt, alloc, words, source, sink, errors, &Free)
 }
 
-// Does what the words ask for, and answers how the program ends.
-fn end_program<R: Threads + Wait + Sync, S: Source, K: Sink>(
+/// Runs the program as `run_program` does, and passes the gate after each step of the search where
+/// the words ask for progress; else it passes none.
+pub fn run_with_progress<R: Threads + Wait + Sync, S: Source, K: Sink, E: Sink, G: Gate + Sync>(
     rt: &R,
     alloc: Global,
     words: &[String],
     source: &mut S,
     sink: &mut K,
+    errors: &mut E,
+    gate: &G,
+) -> u8
+    ensures ended { (ending : Ending) × Tells (change E.state errors.old errors.new) ending result
+        × EndsBy (map string_bytes words.now) (change S.state source.old source.new)
+        (change K.state sink.old sink.new) ending
+        × (HasNotBegun ending → (source.new ≡ source.old) × (sink.new ≡ sink.old)) }
+    ensures truth { IsTrueBy (map string_bytes words.now) result
+        (change S.state source.old source.new) (change K.state sink.old sink.new) }
+    ensures batch { words.now ≡ [] → ((K.is_flushed sink.new ⊎ HasFailed (K.state sink.new))
+        × IsTrue result (change S.state source.old source.new) (change K.state sink.old sink.new))
+        ⊎ (OutOfMemory × (result ≡ 4) × (source.new ≡ source.old) × (sink.new ≡ sink.old)) }
+    ensures flushed { (K.is_flushed sink.new ⊎ HasFailed (K.state sink.new))
+        ⊎ ((source.new ≡ source.old) × (sink.new ≡ sink.old)) }
+{
+    let ending = end_program(rt, alloc, words, source, sink, gate);
+    ending.tell(errors)
+}
+
+// Does what the words ask for, and answers how the program ends.
+fn end_program<R: Threads + Wait + Sync, S: Source, K: Sink, G: Gate + Sync>(
+    rt: &R,
+    alloc: Global,
+    words: &[String],
+    source: &mut S,
+    sink: &mut K,
+    gate: &G,
 ) -> Ending
     ensures ended { EndsBy (map string_bytes words.now) (change S.state source.old source.new)
         (change K.state sink.old sink.new) result }
@@ -78,18 +106,19 @@ fn end_program<R: Threads + Wait + Sync, S: Source, K: Sink>(
     ensures unused { HasNotBegun result → (source.new ≡ source.old) × (sink.new ≡ sink.old) }
 {
     match read_words(alloc, words) {
-        Ok(request) => end_request(rt, alloc, request, source, sink),
+        Ok(request) => end_request(rt, alloc, request, source, sink, gate),
         Err(refusal) => Ending::Refused(refusal),
     }
 }
 
 // Does what is asked for.
-fn end_request<R: Threads + Wait + Sync, S: Source, K: Sink>(
+fn end_request<R: Threads + Wait + Sync, S: Source, K: Sink, G: Gate + Sync>(
     rt: &R,
     alloc: Global,
     request: Request,
     source: &mut S,
     sink: &mut K,
+    gate: &G,
 ) -> Ending
     requires { IsFit request }
     ensures ended { EndsRequest request (change S.state source.old source.new)
@@ -99,8 +128,8 @@ fn end_request<R: Threads + Wait + Sync, S: Source, K: Sink>(
     ensures unused { HasNotBegun result → (source.new ≡ source.old) × (sink.new ≡ sink.old) }
 {
     match request {
-        Request::Solve(options) => solve(rt, alloc, options, source, sink),
-        Request::Certify(options) => certify(rt, alloc, options, source, sink),
+        Request::Solve(options) => solve(rt, alloc, options, source, sink, gate),
+        Request::Certify(options) => certify(rt, alloc, options, source, sink, gate),
         Request::Check => check(rt, alloc, source, sink),
         Request::Replay(options) => replay(rt, alloc, options, source, sink),
         Request::Help(text) | Request::Version(text) => show(sink, text.as_str()),
@@ -108,12 +137,13 @@ fn end_request<R: Threads + Wait + Sync, S: Source, K: Sink>(
 }
 
 // Solves the boards of the source.
-fn solve<R: Threads + Wait + Sync, S: Source, K: Sink>(
+fn solve<R: Threads + Wait + Sync, S: Source, K: Sink, G: Gate + Sync>(
     rt: &R,
     alloc: Global,
     options: Options,
     source: &mut S,
     sink: &mut K,
+    gate: &G,
 ) -> Ending
     requires { AreFit options }
     ensures ended { EndsSetup options (Solves (change S.state source.old source.new))
@@ -122,37 +152,43 @@ fn solve<R: Threads + Wait + Sync, S: Source, K: Sink>(
         ⊎ HasNotBegun result }
     ensures unused { HasNotBegun result → (source.new ≡ source.old) × (sink.new ≡ sink.old) }
 {
+    let gate = WhereAsked {
+        gate,
+        is_asked: options.progress,
+    };
     let Ok(setup) = setup_of(rt, alloc, options) else {
         return Ending::NoMemory;
     };
-    let ending = solve_with(rt, alloc, &setup, source, sink);
+    let ending = solve_with(rt, alloc, &setup, source, sink, &gate);
     flush_behind(sink, ending)
 }
 
 // The same with a setup, but for the flush.
-fn solve_with<R: Threads + Wait + Sync, S: Source, K: Sink>(
+fn solve_with<R: Threads + Wait + Sync, S: Source, K: Sink, G: Gate + Sync>(
     rt: &R,
     alloc: Global,
     setup: &Setup,
     source: &mut S,
     sink: &mut K,
+    gate: &G,
 ) -> Ending
     ensures { Solves (change S.state source.old source.new) setup.now
         (change K.state sink.old sink.new) result }
 {
-    match run_batch(rt, alloc, source, sink, setup, &Free) {
+    match run_batch(rt, alloc, source, sink, setup, gate) {
         Ok(counts) => Ending::Ran(counts),
         Err(fault) => Ending::Faulted(BatchFault::from(fault)),
     }
 }
 
 // Solves the first board of the source, and writes its certificate.
-fn certify<R: Threads + Wait + Sync, S: Source, K: Sink>(
+fn certify<R: Threads + Wait + Sync, S: Source, K: Sink, G: Gate + Sync>(
     rt: &R,
     alloc: Global,
     options: Options,
     source: &mut S,
     sink: &mut K,
+    gate: &G,
 ) -> Ending
     requires { AreFit options }
     ensures ended { EndsSetup options (Certifies (change S.state source.old source.new))
@@ -161,26 +197,31 @@ fn certify<R: Threads + Wait + Sync, S: Source, K: Sink>(
         ⊎ HasNotBegun result }
     ensures unused { HasNotBegun result → (source.new ≡ source.old) × (sink.new ≡ sink.old) }
 {
+    let gate = WhereAsked {
+        gate,
+        is_asked: options.progress,
+    };
     let Ok(setup) = setup_of(rt, alloc, options) else {
         return Ending::NoMemory;
     };
-    let ending = certify_with(rt, alloc, &setup, source, sink);
+    let ending = certify_with(rt, alloc, &setup, source, sink, &gate);
     flush_behind(sink, ending)
 }
 
 // The same with a setup, but for the flush.
-fn certify_with<R: Threads + Wait + Sync, S: Source, K: Sink>(
+fn certify_with<R: Threads + Wait + Sync, S: Source, K: Sink, G: Gate + Sync>(
     rt: &R,
     alloc: Global,
     setup: &Setup,
     source: &mut S,
     sink: &mut K,
+    gate: &G,
 ) -> Ending
     requires { AreNamedCosts setup.now.goal.grid setup.now.rule }
     ensures { Certifies (change S.state source.old source.new) setup.now
         (change K.state sink.old sink.new) result }
 {
-    match run_cert(rt, alloc, source, sink, setup, &Free) {
+    match run_cert(rt, alloc, source, sink, setup, gate) {
         Ok(status) => Ending::Answered(status),
         Err(fault) => Ending::Faulted(BatchFault::from(fault)),
     }

@@ -29,6 +29,7 @@ pub(crate) fn setup_of(
         workers,
         spread,
         limit,
+        progress: _,
     } = options;
     let weights = costs.weights(goal.shape());
     let bound = build_bound(rt, alloc, groups, &goal, &weights)?;

@@ -1,5 +1,5 @@
 -- From an outcome to a certificate, and from a reply to what is written.
-use Rattle.std.proofs.Common.{◌≡◌, ◌≢◌, ℕ, suc, ◌+◌, ◌<◌, ◌^◌, List, [], ◌∷◌, None, Some, Result, Ok, Err, Vec, All, AllPairs, length, codes, refl, sym, ap, subst, ◌∙◌, inl, inr, arith}
+use Rattle.std.proofs.Common.{◌≡◌, ◌≢◌, ◌⊎◌, OnOk, ℕ, suc, ◌+◌, ◌<◌, ◌^◌, List, [], ◌∷◌, None, Some, Result, Ok, Err, Vec, All, AllPairs, length, codes, refl, sym, ap, subst, ◌∙◌, inl, inr, arith}
 use Rattle.std.specs.List.{AllByRecursion}
 use Rattle.std.proofs.lemmas.List.Elements.{recursion_from_All}
 use Rattle.byte_streams.specs.Streams.{SourceState, SinkState, Change}
@@ -30,7 +30,7 @@ use Rattle.batch_lines.specs.declared.lines.LineKind.TheVariants.{PassedOver, Wi
 use Rattle.certificate.specs.Certificates.{Statement, AreNamedCosts, IsBoardOf, IsCertificate}
 use Rattle.certificate.proofs.RisingLemmas.{rise, rows_fit}
 use Rattle.batch_runs.specs.Batches.Answer.{refused, answered}
-use Rattle.batch_runs.specs.Batches.{no_lines, with_outcome, status_of_counts}
+use Rattle.batch_runs.specs.Batches.{HasFailed, no_lines, with_outcome, status_of_counts}
 use Rattle.reports.specs.Readings.{AreSmall}
 use Rattle.reports.specs.Reports.{outcome_data, report_text}
 use Rattle.outcomes.specs.declared.outcome.Ending.{Ending}
@@ -159,3 +159,8 @@ certificate_of setup b cost plan rows c goal there guides small start answers sa
   least = subst (λ (d : Statement). IsLeast d.costs d.start d.goal d.cost) (sym same) answers.1;
   proved = subst (λ (d : Statement). (tables : Tables) → AreBuiltFor d tables → IsProved d tables) (sym same) (proved_by setup b cost plan rows goal there guides small start answers);
 }
+
+-- a reply that is put is passed on where its status is answered; else the sink has failed
+pub is_passed_on : {Flushed Same : Type 0} (sink : Change SinkState) (reply : Reply) (result : Result ℕ CertifyFault) → PutsReply sink reply result → OnOk result Flushed → Flushed ⊎ Same ⊎ HasFailed sink.after
+is_passed_on sink reply (Ok status) puts last = inl last
+is_passed_on sink reply (Err fault) puts last = inr (inr puts.0.1)

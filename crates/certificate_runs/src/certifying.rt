@@ -1,16 +1,18 @@
 //! A line in, a certificate out.
 
-ghost use Rattle.std.specs.Prelude.{ℕ, ◌≡◌, ◌≢◌, ◌≤◌, [], All, Some, None, IfOk, IfErr, OnErr, slice_index};
+ghost use Rattle.std.specs.Prelude.{ℕ, ◌≡◌, ◌≢◌, ◌≤◌, ◌⊎◌, [], All, Some, None, IfOk, IfErr, OnOk, OnErr, slice_index};
 ghost use Rattle.database_build.specs.declared.table.TheConstants.{NO_VALUE};
 ghost use Rattle.byte_streams.specs.Streams.{change};
+ghost use Rattle.byte_streams.specs.Sink.{Writes};
 ghost use Rattle.outcomes.specs.declared.outcome.Outcome.TheVariants.{Optimal};
 ghost use Rattle.outcomes.specs.Outcomes.{Answers};
 ghost use Rattle.outcomes.specs.Endings.{without_rows};
 ghost use Rattle.reports.specs.declared.report.NoReport.{NoReport};
 ghost use Rattle.batch_lines.specs.declared.lines.LineKind.TheVariants.{PassedOver, Within};
 ghost use Rattle.certificate.specs.Certificates.{AreNamedCosts, IsBoardOf};
+ghost use Rattle.certificate.specs.Spellings.{spelling};
 ghost use Rattle.certificate_runs.specs.declared.faults.CertifyFault.{CertifyFault};
-ghost use Rattle.batch_runs.specs.Batches.{Rules, no_lines, with_outcome, status_of_counts};
+ghost use Rattle.batch_runs.specs.Batches.{HasFailed, Rules, no_lines, with_outcome, status_of_counts};
 ghost use Rattle.batch_runs.specs.Setups.{task_of};
 ghost use Rattle.certificate_runs.specs.Certifying.{Replies, SeeksFirst, PutsReply};
 ghost use Rattle.certificate_runs.specs.Headline.{IsTrueAnswer};
@@ -23,8 +25,8 @@ use batch_lines::{EntryFault, Line, LineKind, LineReader, read_entry};
 use batch_runs::{Ruled, Setup};
 use board::laws::keys_are_in_order;
 use board::{Board, Move};
-use byte_streams::{ReadFailed, Sink, Source};
-use certificate::{Certificate, Parts, write};
+use byte_streams::{ReadFailed, Sink, Source, WriteFailed};
+use certificate::{Certificate, Parts, WriteFault, write};
 use database_build::Table;
 use memory::OutOfMemory;
 use outcomes::{Ending, Outcome, SolveFault};
@@ -40,7 +42,7 @@ use std::alloc::Global;
 ///
 /// Answers the status: 0 for a certificate, for a board without a plan, and where no line is to be
 /// answered; 1 for a bound and for a line that is refused. Nothing is written where reading fails
-/// or memory is wanting. Nothing is flushed.
+/// or memory is wanting. What is written is flushed; where the flush fails, so has the write.
 ///
 /// What is written tells the truth: so says the clause `truth`, in words of what a reader sees.
 pub fn certify_first<
@@ -65,6 +67,8 @@ pub fn certify_first<
         (change S.state source.old source.new) (change K.state sink.old sink.new) result }
     ensures truth { IsTrueAnswer setup.now.tables.split (A.rules asked.now)
         (change S.state source.old source.new) (change K.state sink.old sink.new) result }
+    ensures flushed { K.is_flushed sink.new ⊎ (sink.new ≡ sink.old)
+        ⊎ HasFailed (K.state sink.new) }
 {
     reply_to_first(alloc, source, sink, setup, asked, &prover)
 }
@@ -83,8 +87,10 @@ fn reply_to_first<S: Source, K: Sink, A: Ruled, F: Fn(&Board) -> Result<Outcome,
     requires callable { (start : _) → start.now.grid ≡ setup.now.goal.grid → F.pre prover.now start }
     requires gives { (start result : _) → start.now.grid ≡ setup.now.goal.grid
         → F.post prover.now start result → MayProve (A.rules asked.now) start.now result }
-    ensures { Replies setup.now.tables.split (A.rules asked.now)
+    ensures replies { Replies setup.now.tables.split (A.rules asked.now)
         (change S.state source.old source.new) (change K.state sink.old sink.new) result }
+    ensures flushed { K.is_flushed sink.new ⊎ (sink.new ≡ sink.old)
+        ⊎ HasFailed (K.state sink.new) }
 {
     let mut reader = LineReader::new();
     match find_line(source, &mut reader) {
@@ -287,18 +293,40 @@ fn tell_values(values: &[u16])
     let _ = values;
 }
 
-// Writes a reply, and answers its status.
+// Writes a reply, passes it on, and answers its status.
 fn put_reply<K: Sink>(sink: &mut K, reply: &Reply) -> Result<u8, CertifyFault>
-    ensures { PutsReply (change K.state sink.old sink.new) reply.now result }
+    ensures puts { PutsReply (change K.state sink.old sink.new) reply.now result }
+    ensures last { OnOk result (K.is_flushed sink.new) }
 {
     match reply {
-        Reply::Certified(certificate) => match write(sink, certificate) {
+        Reply::Certified(certificate) => match put_certificate(sink, certificate) {
             Ok(()) => Ok(0),
             Err(_) => Err(CertifyFault::CertificateWrite),
         },
-        Reply::Reported(text, status) => match sink.put(text.as_str().as_bytes()) {
+        Reply::Reported(text, status) => match put_report(sink, text.as_str()) {
             Ok(()) => Ok(*status),
             Err(_) => Err(CertifyFault::Write),
         },
     }
+}
+
+// Writes a certificate and passes it on.
+fn put_certificate<K: Sink>(sink: &mut K, certificate: &Certificate) -> Result<(), WriteFault>
+    ensures writes { Writes (change K.state sink.old sink.new) (spelling certificate.now) result }
+    ensures last { OnOk result (K.is_flushed sink.new) }
+{
+    write(sink, certificate)?;
+    match sink.flush() {
+        Ok(()) => Ok(()),
+        Err(_) => Err(WriteFault::Failed),
+    }
+}
+
+// Writes a report and passes it on.
+fn put_report<K: Sink>(sink: &mut K, text: &str) -> Result<(), WriteFailed>
+    ensures writes { Writes (change K.state sink.old sink.new) text.now result }
+    ensures last { OnOk result (K.is_flushed sink.new) }
+{
+    sink.put(text.as_bytes())?;
+    sink.flush()
 }

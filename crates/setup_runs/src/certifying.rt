@@ -1,8 +1,9 @@
 //! Certificates of a setup's boards.
 
-ghost use Rattle.std.specs.Prelude.{◌≡◌, ◌%◌};
+ghost use Rattle.std.specs.Prelude.{◌≡◌, ◌⊎◌, ◌%◌};
 ghost use Rattle.board.specs.Positions.{Position};
 ghost use Rattle.byte_streams.specs.Streams.{change};
+ghost use Rattle.batch_runs.specs.Batches.{HasFailed};
 ghost use Rattle.batch_runs.specs.Setups.{hash_by};
 ghost use Rattle.certificate.specs.Certificates.{AreNamedCosts};
 ghost use Rattle.certificate_runs.specs.Certifying.{Replies, MayProve};
@@ -75,7 +76,7 @@ fn prove_spread<R: Threads + Wait + Sync, S: Spread + Drop + Sync, G: Gate + Syn
 ///
 /// Answers the status: 0 for a certificate, for a board without a plan, and where no line is to be
 /// answered; 1 for a bound and for a line that is refused. Nothing is written where reading fails
-/// or memory is wanting. Nothing is flushed.
+/// or memory is wanting. What is written is flushed; where the flush fails, so has the write.
 ///
 /// What is written tells the truth: so says the clause `truth`, in words of what a reader sees.
 pub fn run_cert<R: Threads + Wait + Sync, S: Source, K: Sink, G: Gate + Sync>(
@@ -91,6 +92,8 @@ pub fn run_cert<R: Threads + Wait + Sync, S: Source, K: Sink, G: Gate + Sync>(
         (change S.state source.old source.new) (change K.state sink.old sink.new) result }
     ensures truth { IsTrueAnswer setup.now.tables.split (rules_of setup.now)
         (change S.state source.old source.new) (change K.state sink.old sink.new) result }
+    ensures flushed { K.is_flushed sink.new ⊎ (sink.new ≡ sink.old)
+        ⊎ HasFailed (K.state sink.new) }
 {
     let guided = Guided { setup };
     let prove = |start: &Board| -> Result<Outcome, OutOfMemory>

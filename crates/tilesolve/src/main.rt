@@ -1,13 +1,44 @@
-//! The program `tilesolve`: boards on standard input, reports on standard output.
+//! The program `tilesolve`: by its words boards are solved, a certificate is written or checked, or
+//! steps are replayed, from standard input to standard output.
 #![tactic(auto)]
 
-use batch_cli::{Ending, run_program};
+use batch_cli::{Ending, Gate, Kind, run_with_progress};
 use byte_streams::{ByteSink, ByteSource};
 use std::alloc::Global;
 use std::env;
 use std::io::{BufReader, BufWriter};
 use std::process::ExitCode;
 use std::rt::Env;
+use std::sync::atomic::{AtomicU64, Ordering};
+
+// How many boards are expanded from one line of progress to the next.
+const STRIDE: u64 = 1_000_000;
+
+// Tells on standard error how many boards were expanded so far, of all lines and by all workers.
+struct Progress<'a, R> {
+    rt: &'a R,
+    expanded: AtomicU64,
+}
+
+impl<R: Eprint> Gate for Progress<'_, R> {
+    fn pass(&self, _worker: usize, kind: Kind) {
+        if kind != Kind::Expand {
+            return;
+        }
+        let expanded = self
+            .expanded
+            .fetch_add(1, Ordering::Relaxed)
+            .wrapping_add(1);
+        if expanded % STRIDE == 0 {
+            tell(self.rt, expanded);
+        }
+    }
+}
+
+// Writes a line of progress; where it can't be written the run goes on.
+fn tell(rt: &impl Eprint, expanded: u64) {
+    let _ = eprintln!(rt; "tilesolve: {expanded} boards expanded");
+}
 
 // The words after the program's name, or how the program ends where they are no texts or find no
 // memory.
@@ -36,12 +67,17 @@ fn main(rt: HostRuntime) -> ExitCode {
     };
     let mut source = ByteSource::new(reader);
     let mut sink = ByteSink::new(writer);
-    ExitCode::from(run_program(
+    let progress = Progress {
+        rt: &rt,
+        expanded: AtomicU64::new(0),
+    };
+    ExitCode::from(run_with_progress(
         &rt,
         alloc,
         words.as_slice(),
         &mut source,
         &mut sink,
         &mut errors,
+        &progress,
     ))
 }
