@@ -18,7 +18,7 @@ _tilesolve() {
     tilesolve | */tilesolve) words='solve check replay --help --version' ;;
     *)
         case ${COMP_WORDS[1]} in
-        solve) words="$options --cert --help" ;;
+        solve) words="$options --cert --progress --help" ;;
         replay) words="$options --help" ;;
         check) words='--help' ;;
         esac

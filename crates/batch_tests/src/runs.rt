@@ -232,10 +232,16 @@ impl Case {
         written.len().saturating_add(flushes)
     }
 
-    // How many it makes in all: the program flushes once more.
+    // How many it makes in all: a certificate, or the report in its place, is flushed behind its
+    // last byte, and the program flushes once more.
     fn calls(&self) -> usize {
-        let last = (self.run == Run::Program) as usize;
-        self.calls_for(self.output).saturating_add(last)
+        let flushes_last = match self.run {
+            Run::Program => true,
+            Run::Certify => !self.output.is_empty(),
+            _ => false,
+        };
+        self.calls_for(self.output)
+            .saturating_add(flushes_last as usize)
     }
 
     // What is written where the write or flush after so many others fails.
