@@ -15,6 +15,7 @@ use std::sync::atomic::{AtomicU64, Ordering};
 const STRIDE: u64 = 1_000_000;
 
 // Tells on standard error how many boards were expanded so far, of all lines and by all workers.
+#[derive(Drop)]
 struct Progress<'a, R> {
     rt: &'a R,
     expanded: AtomicU64,

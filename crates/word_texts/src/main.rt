@@ -92,8 +92,13 @@ fn print_options(rt: &impl Print, name: &str, options: &Options) -> io::Result<(
         SpreadKind::Zobrist => "zobrist",
         SpreadKind::Blank => "blank",
     };
+    let progress = if options.progress {
+        ", with progress"
+    } else {
+        ""
+    };
     println!(rt;
-        ", workers {}, spread {spread}, limit {}",
+        ", workers {}, spread {spread}, limit {}{progress}",
         options.workers, options.limit
     )
 }
