@@ -1,0 +1,150 @@
+//! The rows: who judges, and what is answered.
+
+ghost use Rattle.std.specs.Prelude.{◌≡◌, IfSome};
+ghost use Rattle.certificate.specs.Certificates.{AreNamedCosts};
+ghost use Rattle.lower_bound.specs.Tables.{ArePotentials};
+
+use crate::judging::{Problem, checked_answer, verdict_on_plan};
+use board::{Board, Shape, Weights};
+use lower_bound::Bound;
+use std::alloc::Global;
+use std::io::{self, ErrorKind, Print};
+use std::sync::Wait;
+use std::thread::Threads;
+use worker_trials::bound_of;
+
+// Thirty-one moves from the goal.
+const START: [u8; 9] = [8, 0, 6, 5, 4, 7, 2, 3, 1];
+
+// Another goal of the same class.
+const OTHER_GOAL: [u8; 9] = [1, 2, 0, 3, 4, 5, 6, 7, 8];
+
+// The groups whose tables guide the search.
+const GROUPS: [&[u8]; 2] = [&[1, 2, 3, 4], &[5, 6, 7, 8]];
+
+// Groups of which the second differs.
+const OTHER_GROUPS: [&[u8]; 2] = [&[1, 2, 3, 4], &[5, 6, 7]];
+
+// How many workers solve it.
+const WORKERS: [usize; 3] = [1, 2, 16];
+
+// Whose tables the checker has.
+#[derive(Clone, Copy)]
+enum Judge {
+    Own,
+    OfOtherGroups,
+    OfNoGroups,
+    OfAnotherGoal,
+    OfFaceCosts,
+}
+
+impl Judge {
+    const ALL: [Judge; 5] = [
+        Judge::Own,
+        Judge::OfOtherGroups,
+        Judge::OfNoGroups,
+        Judge::OfAnotherGoal,
+        Judge::OfFaceCosts,
+    ];
+
+    // The words for them.
+    fn words(self) -> &'static str {
+        match self {
+            Judge::Own => "the search's tables, built anew",
+            Judge::OfOtherGroups => "tables of other groups",
+            Judge::OfNoGroups => "no tables",
+            Judge::OfAnotherGoal => "tables for another goal",
+            Judge::OfFaceCosts => "tables for face costs",
+        }
+    }
+}
+
+/// Prints for each judge what so many workers answer, and what the checker says of a plan that was
+/// found without it.
+pub fn print_rows<R: Threads + Wait + Print + AllocGlobal + Sync>(rt: &R) -> io::Result<()> {
+    let Some(problem) = problem(Costs::Unit) else {
+        return Err(ErrorKind::InvalidData.into());
+    };
+    let Some(bound) = bound_of(rt.alloc(), &problem.goal, &problem.weights, &GROUPS) else {
+        return Err(ErrorKind::OutOfMemory.into());
+    };
+    for judge in Judge::ALL {
+        print_judge(rt, &problem, &bound, judge)?;
+    }
+    Ok(())
+}
+
+fn print_judge<R: Threads + Wait + Print + AllocGlobal + Sync>(
+    rt: &R,
+    problem: &Problem,
+    bound: &Bound,
+    judge: Judge,
+) -> io::Result<()>
+    requires potentials { ArePotentials problem.now.weights problem.now.goal bound.now }
+    requires named { AreNamedCosts problem.now.goal.grid problem.now.weights }
+{
+    let Some(tables) = tables_of(rt.alloc(), judge) else {
+        return Err(ErrorKind::OutOfMemory.into());
+    };
+    let verdict = verdict_on_plan(rt.alloc(), problem, bound, &tables);
+    println!(rt; "# {}: {verdict:?}", judge.words())?;
+    for workers in WORKERS {
+        let answer = checked_answer(rt, rt.alloc(), problem, bound, workers, &tables);
+        println!(rt; "workers {workers}: {answer:?}")?;
+    }
+    rt.println("")
+}
+
+// What moves cost.
+#[derive(Clone, Copy)]
+enum Costs {
+    Unit,
+    Face,
+}
+
+// The board and its goal at these costs.
+fn problem(costs: Costs) -> Option<Problem>
+    ensures sides { IfSome result (λ p. p.weights.grid ≡ p.goal.grid) }
+    ensures named { IfSome result (λ p. AreNamedCosts p.goal.grid p.weights) }
+{
+    let shape = Shape::new(3, 3).ok()?;
+    let start = Board::from_tiles(shape, &START).ok()?;
+    Some(Problem {
+        start,
+        goal: Board::goal(shape),
+        weights: weights_of(costs, shape),
+    })
+}
+
+// What the moves of boards of this shape cost.
+fn weights_of(costs: Costs, shape: Shape) -> Weights
+    ensures sides { result.grid ≡ shape }
+    ensures named { AreNamedCosts shape result }
+{
+    match costs {
+        Costs::Unit => Weights::unit(shape),
+        Costs::Face => Weights::face(shape),
+    }
+}
+
+// The tables of a judge, or None where memory was refused.
+fn tables_of(alloc: Global, judge: Judge) -> Option<Bound> {
+    let unit = problem(Costs::Unit)?;
+    match judge {
+        Judge::Own => bound_of(alloc, &unit.goal, &unit.weights, &GROUPS),
+        Judge::OfOtherGroups => bound_of(alloc, &unit.goal, &unit.weights, &OTHER_GROUPS),
+        Judge::OfNoGroups => bound_of(alloc, &unit.goal, &unit.weights, &[]),
+        Judge::OfAnotherGoal => tables_for_another_goal(alloc),
+        Judge::OfFaceCosts => {
+            let face = problem(Costs::Face)?;
+            bound_of(alloc, &face.goal, &face.weights, &GROUPS)
+        }
+    }
+}
+
+// The tables of the same groups for another goal.
+fn tables_for_another_goal(alloc: Global) -> Option<Bound> {
+    let shape = Shape::new(3, 3).ok()?;
+    let goal = Board::from_tiles(shape, &OTHER_GOAL).ok()?;
+    bound_of(alloc, &goal, &Weights::unit(shape), &GROUPS)
+}
