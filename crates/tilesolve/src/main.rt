@@ -1,5 +1,7 @@
-//! The program `tilesolve`: by its words boards are solved, a certificate is written or checked, or
-//! steps are replayed, from standard input to standard output.
+//! The program `tilesolve`. By its words it reports a plan of least cost for each board (`solve`),
+//! writes the certificate of the first board's plan (`solve --cert`), checks a certificate
+//! (`check`), or takes the steps of a search one by one (`replay`); boards, certificates and steps
+//! are read from standard input, and what is answered goes to standard output.
 #![tactic(auto)]
 
 use batch_cli::{Ending, Gate, Kind, run_with_progress};
