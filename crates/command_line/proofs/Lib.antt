@@ -1,5 +1,6 @@
 mod CommandLemmas
 mod ParseLemmas
 mod ReadLemmas
+mod RunLemmas
 mod SimpleLemmas
 mod WordLemmas

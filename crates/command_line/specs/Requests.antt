@@ -125,10 +125,10 @@ AsksRun (Some p) (Replay o) = (p.0 ≡ codes "replay") × AreOptions p.1 o
 AsksRun (Some p) (Help text) = ⊥
 AsksRun (Some p) (Version text) = ⊥
 
--- why the values of a subcommand's options ask for no run
+-- why the values of a subcommand's options ask for no run; `check`, which has no options, always asks for its own
 abbrev pub RunFails : Option (Text × List Row) → NoRequest → Type 0
 RunFails None refusal = refusal ≡ Memory
-RunFails (Some p) refusal = OptionsFail p.1 refusal
+RunFails (Some p) refusal = (p.0 ≢ codes "check") × OptionsFail p.1 refusal
 
 -- a text that a parse with these faults asks for
 abbrev pub AsksText : Kinds → Request → Type 0

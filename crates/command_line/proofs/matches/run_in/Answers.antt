@@ -1,13 +1,9 @@
-use Rattle.std.proofs.Common.{Option, Some, None, List, refl}
-use Rattle.clap.specs.Words.{Text, Row, subcommand_rows_of}
-use Rattle.command_line.specs.Requests.{RunFails}
-use Rattle.command_line.specs.declared.faults.NoRequest.TheVariants.{Memory}
+use Rattle.std.proofs.Common.{sym, ◌∙◌}
+use Rattle.std.proofs.lemmas.Bool.{true≢false}
+use Rattle.clap.specs.Words.{subcommand_rows_of}
+use Rattle.command_line.proofs.RunLemmas.{memory_fails, names_agree}
 use Rattle.command_line.proofs.matches.run_in.Goals as goal
 
--- memory may be refused, whatever the subcommand is
-memory_fails : (subcommand : Option (Text × List Row)) → RunFails subcommand Memory
-memory_fails None = refl
-memory_fails (Some p) = tt
-
 pub returns-clause-refusal : goal.returns-clause-refusal
-returns-clause-refusal c = memory_fails (subcommand_rows_of c.args.matches.now)
+returns-clause-refusal c =
+    memory_fails (subcommand_rows_of c.args.matches.now) (λ is. true≢false (sym (c.subcommand_matches-3.ensures.found.1 (sym (names_agree c.args.matches.now) ∙ is)) ∙ sym c.if-is_some.ensures))
