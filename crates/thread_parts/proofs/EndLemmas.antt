@@ -1,10 +1,11 @@
 -- What a step on one end makes of a list of ends.
 use Rattle.std.proofs.Common.{◌≡◌, ◌⊎◌, ℕ, zero, suc, ◌<◌, List, [], ◌∷◌, ◌++◌, length, map, get_or, set, Option, Some, sym, ap, ◌∙◌, inl, inr, arith}
-use Rattle.std.specs.Prelude.{slice_get, unwrap_or, OnOk, OnErr, Result, Ok, Err}
+use Rattle.std.specs.Prelude.{slice_get, slice_index_or, unwrap_or, OnOk, OnErr, Result, Ok, Err}
 use Rattle.std.specs.Vec.{with_item}
 use Rattle.std.proofs.Math.Seq.{map-set_same}
 use Rattle.std.proofs.lemmas.List.{map-set}
-use Rattle.rings.specs.Rings.{SendingEnd, ReceivingEnd, TakesIn, GivesOut, Looks, sent_lanes, received_lanes}
+use Rattle.std.proofs.lemmas.Option.{get_or_from_slice_get}
+use Rattle.rings.specs.Rings.{SendingEnd, ReceivingEnd, TakesIn, GivesOut, Looks, sent_lanes, received_lanes, left_lanes}
 use Rattle.thread_model.specs.Changes.{with_packet, Sends, Receives}
 use Rattle.thread_parts.specs.declared.part.Part.{Part}
 use Rattle.thread_parts.specs.Parts.{IsKept, face_of, part_state}
@@ -28,6 +29,10 @@ packet_added lane_of ends at end end' packet there here more =
 -- what the end has not changed stands as it was
 pub all_same : {X Y : Type 0} (f : X → Y) (ends : List X) (at : ℕ) (end end' : X) → end ≡ get_or ends at end → f end' ≡ f end → map f (set ends at end') ≡ map f ends
 all_same f ends at end end' here same = map-set_same f ends at end' end (same ∙ ap f here)
+
+-- what an end has seen and not taken
+pub left_at : (ends : List ReceivingEnd) (at : ℕ) (end : ReceivingEnd) → at < length ends → end ≡ get_or ends at end → slice_index_or (left_lanes ends) at [] ≡ end.left
+left_at ends at end there here = get_or_from_slice_get (left_lanes ends) at end.left [] (seen_at (λ (e : ReceivingEnd). e.left) ends at end there here)
 
 -- what holds of an answer
 pub answered : {T F A B : Type 0} (answer : Result T F) → OnOk answer A → OnErr answer B → A ⊎ B

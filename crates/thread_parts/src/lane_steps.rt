@@ -1,6 +1,8 @@
 //! The two steps on rings.
 
-ghost use Rattle.std.specs.Prelude.{◌<◌};
+ghost use Rattle.std.specs.Prelude.{◌≡◌, ◌<◌, [], IsErrOf, slice_index_or};
+ghost use Rattle.rings.specs.Rings.{left_lanes};
+ghost use Rattle.world_model.specs.declared.steps.Refusal.{Refusal};
 ghost use Rattle.world_model.specs.Turns.{turn, refusal_in};
 ghost use Rattle.thread_parts.specs.Parts.{part_state, Holds, IsKept};
 ghost use Rattle.thread_parts.specs.Steps.{SendByRing, DeliverByRing};
@@ -29,12 +31,14 @@ impl<'a, S: Spread, C: Tokens> Part<'a, S, C> {
 
     /// Takes the first packet out of the ring from worker `from`: its items are held, and the purse
     /// gets its 1. Refusals: S7 something is held, S16 the purse is too great, S5 the ring is
-    /// empty.
+    /// empty: it has seen no packet there that it hasn't taken.
     pub fn deliver(&mut self, from: usize) -> Result<(), Refusal>
         requires holds { Holds S.hash_of C.workers self.old }
         requires there { from < C.workers }
         ensures step { DeliverByRing from (turn (part_state self.old) (refusal_in result)
             (part_state self.new)) }
+        ensures seen { IsErrOf result Refusal.RingEmpty
+            → slice_index_or (left_lanes self.old.ins.items) from [] ≡ [] }
         ensures holds { Holds S.hash_of C.workers self.new }
         ensures kept { IsKept self.old self.new }
     {

@@ -1,10 +1,11 @@
-use Rattle.std.proofs.Common.{◌<◌, ◌≡◌, [], length, inl, inr, refl, sym, subst, arith}
+use Rattle.std.proofs.Common.{◌<◌, ◌≡◌, [], length, inl, inr, refl, sym, subst, ◌∙◌, arith}
 use Rattle.std.proofs.lemmas.Result.{on_ok_weaker, on_err_weaker}
 use Rattle.thread_model.specs.Parts.{Keeps}
 use Rattle.thread_parts.specs.Parts.{part_state, role_of}
-use Rattle.thread_parts.proofs.EndLemmas.{answered, receives, none_received, in_kept, with_in}
-use Rattle.thread_parts.proofs.RingLemmas.{at_empty, deliver_by_ring}
+use Rattle.thread_parts.proofs.EndLemmas.{answered, receives, none_received, in_kept, with_in, left_at}
+use Rattle.thread_parts.proofs.RingLemmas.{at_empty, deliver_by_ring, none_seen}
 use Rattle.thread_parts.proofs.PartLemmas.{in_count, holds_after}
+use Rattle.worker_core.specs.Workers.{state_of}
 use Rattle.thread_parts.proofs.part.Part.deliver.Goals as goal
 
 pub returns-clause-step : goal.returns-clause-step
@@ -45,3 +46,13 @@ returns-clause-kept g c =
       | inr same ↦ same.0.0
     ] in
     in_kept c.args.self.now c.args.from c.deliver.new.self c.index_mut-lane.result.now c.deliver.new.lane c.index_mut-lane.ensures.value ring
+
+pub returns-clause-seen : goal.returns-clause-seen
+returns-clause-seen g c refused =
+    let old = c.args.self.now in
+    let from = c.args.from in
+    let end = c.index_mut-lane.result.now in
+    let count = in_count g.S.Spread.hash_of g.C.Tokens.workers old c.requires.holds in
+    let there : from < length old.ins.items = omega (arith, count, c.requires.there) in
+    left_at old.ins.items from end there c.index_mut-lane.ensures.value
+    ∙ none_seen c.deliver.result end c.deliver.new.lane (state_of old.worker) (state_of c.deliver.new.self) c.deliver.ensures.refused c.deliver.ensures.step refused
