@@ -1,91 +1,102 @@
-//! All boards of 2 by 2.
+//! All boards of small shapes that a plan leads from.
 
 ghost use Rattle.std.specs.Prelude.{◌≡◌};
 ghost use Rattle.lower_bound.specs.Tables.{ArePotentials};
 
-use crate::solving::{Division, Problem, costs_of};
 use board::{Board, Shape, Weights};
 use breadth_first::least_costs;
+use hda_run::Free;
 use lower_bound::Bound;
 use std::alloc::Global;
 use std::io::{self, ErrorKind, Print};
 use std::sync::Wait;
 use std::thread::Threads;
+use thread_trials::{Answer, Division, Problem, Team, answer_with_rows, answer_without_rows};
 use worker_trials::bound_of;
 
-// How many boards a plan leads from, and of how many of them more workers find the cost that one
-// worker finds, with rows and without.
+// How many boards a plan leads from, and of how many of them the least cost is found, with rows that
+// the checker accepts and without rows.
 #[derive(Clone, Copy)]
 struct Count {
     plans: u64,
-    same: u64,
+    right: u64,
 }
 
-/// Prints of how many boards so many workers find the cost that one finds.
+/// Prints of how many boards of 2 by 2, and of 2 by 3, so many workers find the least cost.
 pub fn print_counts<R: Threads + Wait + Print + AllocGlobal + Sync>(rt: &R) -> io::Result<()> {
-    println!(rt; "# All boards of 2 by 2 at unit cost")?;
-    for workers in [2, 3] {
-        print_count(rt, workers, Division::ByBlank)?;
-        print_count(rt, workers, Division::ByHash)?;
+    for (cols, workers) in [(2, 2), (2, 3), (3, 3)] {
+        let Ok(shape) = Shape::new(2, cols) else {
+            return Err(ErrorKind::InvalidData.into());
+        };
+        println!(rt; "# All boards of 2 by {cols}, workers {workers}")?;
+        for division in Division::ALL {
+            let team = Team { workers, division };
+            print_count(rt, "unit", Weights::unit(shape), team)?;
+            print_count(rt, "face", Weights::face(shape), team)?;
+        }
+        rt.println("")?;
     }
     Ok(())
 }
 
 fn print_count<R: Threads + Wait + Print + AllocGlobal + Sync>(
     rt: &R,
-    workers: usize,
-    division: Division,
+    name: &str,
+    weights: Weights,
+    team: Team,
 ) -> io::Result<()> {
-    let Some(count) = count_boards(rt, rt.alloc(), workers, division) else {
-        return Err(ErrorKind::InvalidData.into());
+    let goal = Board::goal(weights.shape());
+    let Some(Count { plans, right }) = count_boards(rt, rt.alloc(), goal, weights, team) else {
+        return Err(ErrorKind::OutOfMemory.into());
     };
-    let Count { plans, same } = count;
-    let word = division.word();
-    println!(rt; "workers {workers}, by the {word}: {same} of {plans} costs are those of 1 worker")
+    let word = team.division.word();
+    println!(rt; "at {name} cost, by the {word}: {right} of {plans} costs are the least")
 }
 
 // Counts the boards, or None where memory was refused.
 fn count_boards<R: Threads + Wait + Sync>(
     rt: &R,
     alloc: Global,
-    workers: usize,
-    division: Division,
-) -> Option<Count> {
-    let shape = Shape::new(2, 2).ok()?;
-    let goal = Board::goal(shape);
-    let weights = Weights::unit(shape);
+    goal: Board,
+    weights: Weights,
+    team: Team,
+) -> Option<Count>
+    requires { weights.grid ≡ goal.grid }
+{
     let bound = bound_of(alloc, &goal, &weights, &[])?;
     let boards = least_costs(alloc, &goal, &weights).ok()?;
-    let mut count = Count { plans: 0, same: 0 };
+    let mut count = Count { plans: 0, right: 0 };
     for (start, least) in boards.as_slice() {
         let problem = Problem {
             start: *start,
             goal,
             weights,
+            limit: u64::MAX,
         };
-        if least.is_some() {
-            count_board(&mut count, rt, alloc, &problem, &bound, workers, division)?;
+        if let Some(cost) = least {
+            count_board(&mut count, rt, alloc, &problem, &bound, team, *cost);
         }
     }
     Some(count)
 }
 
+// Counts a board that has a plan of this cost, and none of a lower one.
 fn count_board<R: Threads + Wait + Sync>(
     count: &mut Count,
     rt: &R,
     alloc: Global,
     problem: &Problem,
     bound: &Bound,
-    workers: usize,
-    division: Division,
-) -> Option<()>
+    team: Team,
+    cost: u32,
+)
     requires { ArePotentials problem.now.weights problem.now.goal bound.now }
 {
-    let alone = costs_of(rt, alloc, problem, bound, 1, division)?;
-    let many = costs_of(rt, alloc, problem, bound, workers, division)?;
+    let due = Answer::Plan(cost);
+    let with_rows = answer_with_rows(rt, alloc, problem, bound, team, &Free);
+    let without_rows = answer_without_rows(rt, alloc, problem, bound, team, &Free);
     count.plans = count.plans.saturating_add(1);
-    if many == alone && alone.0.is_some() && alone.0 == alone.1 {
-        count.same = count.same.saturating_add(1);
+    if with_rows == due && without_rows == due {
+        count.right = count.right.saturating_add(1);
     }
-    Some(())
 }
