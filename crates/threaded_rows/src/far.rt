@@ -14,10 +14,13 @@ const START: [u8; 9] = [8, 0, 6, 5, 4, 7, 2, 3, 1];
 
 const COST: u32 = 31;
 
-// How many workers solve it.
-const WORKERS: [usize; 6] = [1, 2, 3, 4, 8, 16];
+// How many workers solve it without tables.
+const WORKERS: [usize; 4] = [1, 2, 3, 16];
 
-// So often each count of workers solves it by each spread.
+// The groups whose tables guide the other runs.
+const GROUPS: [&[u8]; 2] = [&[1, 2, 3, 4], &[5, 6, 7, 8]];
+
+// So often each count of workers solves it by each spread with these tables.
 const RUNS: u64 = 5;
 
 // How many runs found the cost: with rows that the checker accepts, and without rows.
@@ -29,31 +32,45 @@ struct Count {
 
 /// Prints how many runs of so many workers find the cost, by both spreads.
 pub fn print_counts<R: Threads + Wait + Print + AllocGlobal + Sync>(rt: &R) -> io::Result<()> {
-    println!(rt; "# {START:?} at unit cost, {RUNS} runs each")?;
+    println!(rt; "# {START:?} at unit cost, without tables")?;
     for workers in WORKERS {
-        for division in Division::ALL {
-            print_count(rt, Team { workers, division })?;
-        }
+        print_both(rt, workers, &[], 1)?;
+    }
+    println!(rt; "# The same with tables, {RUNS} runs each")?;
+    for workers in 1..17 {
+        print_both(rt, workers, &GROUPS, RUNS)?;
     }
     rt.println("")
 }
 
-fn print_count<R: Threads + Wait + Print + AllocGlobal + Sync>(
+// The same of these workers, whom tables of these groups guide, in so many runs.
+fn print_both<R: Threads + Wait + Print + AllocGlobal + Sync>(
     rt: &R,
-    team: Team,
+    workers: usize,
+    groups: &[&[u8]],
+    runs: u64,
 ) -> io::Result<()> {
-    let Some(Count { proved, found }) = count_runs(rt, rt.alloc(), team) else {
-        return Err(ErrorKind::OutOfMemory.into());
-    };
-    let Team { workers, division } = team;
-    let word = division.word();
-    println!(rt;
-        "workers {workers}, by the {word}: cost {COST} {proved} times with a certificate, {found} times without rows"
-    )
+    for division in Division::ALL {
+        let team = Team { workers, division };
+        let Some(Count { proved, found }) = count_runs(rt, rt.alloc(), team, groups, runs) else {
+            return Err(ErrorKind::OutOfMemory.into());
+        };
+        println!(rt;
+            "workers {workers}, by the {}: cost {COST} with a certificate {proved}, without rows {found}",
+            division.word()
+        )?;
+    }
+    Ok(())
 }
 
 // Counts the runs that find the cost, or None where memory was refused for the board's bound.
-fn count_runs<R: Threads + Wait + Sync>(rt: &R, alloc: Global, team: Team) -> Option<Count> {
+fn count_runs<R: Threads + Wait + Sync>(
+    rt: &R,
+    alloc: Global,
+    team: Team,
+    groups: &[&[u8]],
+    runs: u64,
+) -> Option<Count> {
     let shape = Shape::new(3, 3).ok()?;
     let problem = Problem {
         start: Board::from_tiles(shape, &START).ok()?,
@@ -61,12 +78,12 @@ fn count_runs<R: Threads + Wait + Sync>(rt: &R, alloc: Global, team: Team) -> Op
         weights: Weights::unit(shape),
         limit: u64::MAX,
     };
-    let bound = bound_of(alloc, &problem.goal, &problem.weights, &[])?;
+    let bound = bound_of(alloc, &problem.goal, &problem.weights, groups)?;
     let mut count = Count {
         proved: 0,
         found: 0,
     };
-    for _ in 0..RUNS {
+    for _ in 0..runs {
         if answer_with_rows(rt, alloc, &problem, &bound, team, &Free) == Answer::Plan(COST) {
             count.proved = count.proved.saturating_add(1);
         }
