@@ -4,7 +4,7 @@
 //!     thread_walks SEED COUNT    so many boards, drawn by this seed
 //!
 //! Without words it solves six boards. The exit status is 1 where an answer differs from that of one
-//! worker, and 2 for other words.
+//! worker, or memory was refused, and 2 for other words.
 #![tactic(auto)]
 
 mod drawing;
