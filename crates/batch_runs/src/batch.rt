@@ -132,7 +132,7 @@ fn report_all<S: Source, K: Sink, A: Ruled, F: Fn(&Board) -> Result<Ending, OutO
                     Ok(report) => report,
                     Err(lacking) => return Err(LinesFault::Memory(lacking)),
                 };
-                let Ok(()) = send(sink, report.0.as_str()) else {
+                let Ok(()) = send_report(sink, report.0.as_str()) else {
                     return Err(LinesFault::Write);
                 };
                 summary = report.1;
@@ -141,8 +141,8 @@ fn report_all<S: Source, K: Sink, A: Ruled, F: Fn(&Board) -> Result<Ending, OutO
     }
 }
 
-// Writes a report, and passes it on at once, so that who waits for it has it.
-fn send<K: Sink>(sink: &mut K, text: &str) -> Result<(), WriteFailed>
+/// Writes a report, and passes it on at once, so that who waits for it has it.
+pub fn send_report<K: Sink>(sink: &mut K, text: &str) -> Result<(), WriteFailed>
     ensures writes { Writes (change K.state sink.old sink.new) text.now result }
     ensures last { OnOk result (K.is_flushed sink.new) }
 {

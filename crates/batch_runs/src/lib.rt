@@ -7,6 +7,6 @@ mod faults;
 pub mod laws;
 mod setup;
 
-pub use batch::{Ruled, Summary, run_lines};
+pub use batch::{Ruled, Summary, run_lines, send_report};
 pub use faults::LinesFault;
 pub use setup::{Setup, SpreadKind};

@@ -1,11 +1,7 @@
 -- From an outcome to a certificate, and from a reply to what is written.
-use Rattle.std.proofs.Common.{◌≡◌, ◌≢◌, ◌⊎◌, OnOk, ℕ, suc, ◌+◌, ◌<◌, ◌^◌, List, [], ◌∷◌, None, Some, Result, Ok, Err, Vec, All, AllPairs, length, codes, refl, sym, ap, subst, ◌∙◌, inl, inr, arith}
-use Rattle.std.specs.List.{AllByRecursion}
-use Rattle.std.proofs.lemmas.List.Elements.{recursion_from_All}
+use Rattle.std.proofs.Common.{◌≡◌, ◌≢◌, ◌⊎◌, OnOk, ℕ, ◌+◌, ◌<◌, ◌^◌, List, None, Some, Result, Ok, Err, Vec, All, length, codes, refl, sym, ap, subst, ◌∙◌, inl, inr, arith}
 use Rattle.byte_streams.specs.Streams.{SourceState, SinkState, Change}
-use Rattle.board.specs.Grids.{Grid}
 use Rattle.board.specs.Positions.{Position, IsBoard}
-use Rattle.board.specs.Keys.{key_of}
 use Rattle.board.specs.Laws.{KeysAreInOrder}
 use Rattle.board.specs.Plans.{Leads, IsLeast}
 use Rattle.pattern_index.specs.Splits.{Split, IsSplit}
@@ -16,7 +12,7 @@ use Rattle.certificate_runs.specs.Built.{AreBuiltFor, HasSmallEntries}
 use Rattle.certificate_check.proofs.SumLemmas.{proved_above}
 use Rattle.certificate_runs.proofs.TableLemmas.{AreTrue, sums_below, true_potentials}
 use Rattle.reports.specs.declared.report.NoReport.{NoReport}
-use Rattle.outcomes.specs.Outcomes.{Task, AreRowsOf, Answers}
+use Rattle.outcomes.specs.Outcomes.{Answers}
 use Rattle.outcomes.specs.declared.outcome.Outcome.TheVariants.{Optimal}
 use Rattle.board.specs.declared.moves.Move.{Move}
 use Rattle.std.specs.declared.alloc.Global.{Global}

@@ -1,15 +1,13 @@
 -- Rows that prove a cost with the sums of potentials prove it with those of the tables that are built for their groups.
-use Rattle.std.proofs.Common.{◌≡◌, ℕ, ◌+◌, ◌<◌, ◌≤◌, List, [], ◌∷◌, map, length, drop, get_or, sym, ap, ◌∙◌, subst, inl, inr, ⊎_elim, arith}
+use Rattle.std.proofs.Common.{◌≡◌, ℕ, ◌<◌, ◌≤◌, List, [], ◌∷◌, map, length, drop, get_or, sym, ap, ◌∙◌, subst, ⊎_elim, arith}
 use Rattle.std.specs.Prelude.{All}
 use Rattle.std.specs.List.{AllByRecursion}
 use Rattle.std.proofs.lemmas.Bool.{cases_lt}
-use Rattle.std.proofs.lemmas.List.Elements.{recursion_from_All, All-contains}
+use Rattle.std.proofs.lemmas.List.Elements.{recursion_from_All}
 use Rattle.std.proofs.lemmas.List.Sums.{sum_by-cons}
 use Rattle.board.specs.Grids.{Grid}
 use Rattle.board.specs.Positions.{Position, IsBoard}
 use Rattle.board.specs.CostRules.{CostRule}
-use Rattle.board.specs.Rows.{HasRow, Proves}
-use Rattle.board.proofs.MoveLemmas.{moved_board}
 use Rattle.pattern_index.specs.Views.{IsView, ViewLeads, view_of}
 use Rattle.pattern_index.specs.Selections.{Selection, IsGroup, IsSelection, rank_in}
 use Rattle.pattern_index.specs.Splits.{Split}

@@ -22,10 +22,10 @@ ghost use Rattle.certificate_runs.specs.Built.{HasSmallEntries};
 
 use crate::faults::CertifyFault;
 use batch_lines::{EntryFault, Line, LineKind, LineReader, read_entry};
-use batch_runs::{Ruled, Setup};
+use batch_runs::{Ruled, Setup, send_report};
 use board::laws::keys_are_in_order;
 use board::{Board, Move};
-use byte_streams::{ReadFailed, Sink, Source, WriteFailed};
+use byte_streams::{ReadFailed, Sink, Source};
 use certificate::{Certificate, Parts, WriteFault, write};
 use database_build::Table;
 use memory::OutOfMemory;
@@ -303,7 +303,7 @@ fn put_reply<K: Sink>(sink: &mut K, reply: &Reply) -> Result<u8, CertifyFault>
             Ok(()) => Ok(0),
             Err(_) => Err(CertifyFault::CertificateWrite),
         },
-        Reply::Reported(text, status) => match put_report(sink, text.as_str()) {
+        Reply::Reported(text, status) => match send_report(sink, text.as_str()) {
             Ok(()) => Ok(*status),
             Err(_) => Err(CertifyFault::Write),
         },
@@ -320,13 +320,4 @@ fn put_certificate<K: Sink>(sink: &mut K, certificate: &Certificate) -> Result<(
         Ok(()) => Ok(()),
         Err(_) => Err(WriteFault::Failed),
     }
-}
-
-// Writes a report and passes it on.
-fn put_report<K: Sink>(sink: &mut K, text: &str) -> Result<(), WriteFailed>
-    ensures writes { Writes (change K.state sink.old sink.new) text.now result }
-    ensures last { OnOk result (K.is_flushed sink.new) }
-{
-    sink.put(text.as_bytes())?;
-    sink.flush()
 }

@@ -1,15 +1,17 @@
 -- What joined worlds are.
-use Rattle.std.proofs.Common.{◌≡◌, ◌⊎◌, ℕ, suc, ◌+◌, ◌<◌, List, [], ◌∷◌, length, refl, ◌∙◌, subst, inl, inr, arith, Some}
+use Rattle.std.proofs.Common.{◌≡◌, ℕ, suc, ◌+◌, ◌<◌, List, [], ◌∷◌, length, refl, sym, ◌∙◌, subst, inl, inr, arith, Some}
 use Rattle.std.specs.Prelude.{All, slice_get, sum_by}
 use Rattle.std.proofs.lemmas.List.Sums.{sum_by-cons}
 use Rattle.std.proofs.lemmas.Option.{slice_get_within, get_or_from_slice_get}
+use Rattle.board.specs.Rows.{IsLowerBound}
+use Rattle.outcomes.specs.Outcomes.{Task, Answers}
 use Rattle.world_model.specs.declared.parts.Item.{Item}
 use Rattle.world_model.specs.Workers.{Lane, WorkerState}
 use Rattle.world_model.specs.Worlds.{IsUnderWay, LiesIn, WorldState}
 use Rattle.world_model.proofs.ListLemmas.{part_le, none_in_empty}
-use Rattle.thread_joins.specs.Threads.{IsJoined}
+use Rattle.world_model.proofs.OutcomeLemmas.{outcomes_answer}
 use Rattle.thread_joins.specs.Worlds.{AreAtRest}
-use Rattle.thread_joins.specs.Laws.{BoardsHaveOwners, LimitsAreKept, LimitsAreSpent, QuietHasNoCredit, QuietIsStill}
+use Rattle.thread_joins.specs.Laws.{BoardsHaveOwners, JoinedWorldsAnswer, LimitsAreKept, LimitsAreSpent, NoListStopsThreads, QuietHasNoCredit, QuietIsStill}
 
 pub have_owners : BoardsHaveOwners
 have_owners job w b joined = (
@@ -62,3 +64,11 @@ module _ (w : WorldState) (rest : AreAtRest w) where
 
 pub still : QuietIsStill
 still job w joined quiet to item under_way = none_under_way w (joined.at_quiet quiet) to item under_way
+
+pub joined_answers : JoinedWorldsAnswer
+joined_answers job w outcome joined bound given =
+    let below : IsLowerBound w.task.rule w.task.sum w.task.goal = subst (λ (t : Task). IsLowerBound t.rule t.sum t.goal) (sym joined.task) bound in
+    subst (λ (t : Task). Answers t outcome) joined.task (outcomes_answer w outcome joined.shaped joined.sound below given)
+
+pub no_list_stops : NoListStopsThreads
+no_list_stops job w joined = joined.no_list

@@ -1,12 +1,11 @@
 -- The outcome of joined workers.
-use Rattle.std.proofs.Common.{◌≡◌, ℕ, ◌+◌, ◌*◌, ◌<◌, ◌≤◌, List, length, Vec, Option, Some, None, refl, sym, ap, ◌∙◌, subst, arith}
+use Rattle.std.proofs.Common.{◌≡◌, ℕ, ◌+◌, ◌*◌, ◌≤◌, List, length, Vec, Some, sym, ap, ◌∙◌, subst, arith}
 use Rattle.std.specs.Prelude.{◌%◌, ◌≢◌, sum_by}
 use Rattle.std.proofs.lemmas.List.{length-map}
 use Rattle.std.specs.declared.alloc.Global.{Global}
 use Rattle.board.specs.CostRules.{CostRule}
 use Rattle.board.specs.Positions.{Position}
 use Rattle.lower_bound.specs.Tables.{Tables}
-use Rattle.outcomes.specs.Outcomes.{Task}
 use Rattle.outcomes.specs.declared.outcome.Want.TheVariants.{Stated}
 use Rattle.rings.specs.Rings.{ReceivingEnd}
 use Rattle.world_model.specs.declared.limits.TheConstants.{GREATEST_GRANT}

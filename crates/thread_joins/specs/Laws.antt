@@ -1,11 +1,16 @@
 -- The laws of joined worlds. Each is the contract of a function that does nothing.
-use Rattle.std.specs.Prelude.{ℕ, ◌≡◌, ◌+◌, ◌*◌, ◌≤◌, ◌<◌, length, Some}
+use Rattle.std.specs.Prelude.{ℕ, ◌≡◌, ◌≢◌, ◌+◌, ◌*◌, ◌≤◌, ◌<◌, length, Some}
 use Rattle.board.specs.Positions.{Position}
+use Rattle.board.specs.Rows.{IsLowerBound}
+use Rattle.outcomes.specs.declared.outcome.Outcome.{Outcome}
+use Rattle.outcomes.specs.declared.outcome.Want.TheVariants.{Stated}
+use Rattle.outcomes.specs.Outcomes.{Answers}
 use Rattle.world_model.specs.declared.limits.TheConstants.{GREATEST_GRANT}
 use Rattle.world_model.specs.declared.parts.Item.{Item}
-use Rattle.world_model.specs.declared.steps.Stop.TheVariants.{Quiet, Limit}
+use Rattle.world_model.specs.declared.steps.Stop.TheVariants.{Quiet, Limit, Memory}
 use Rattle.world_model.specs.Credit.{expansion_count, packet_count, purse_total}
 use Rattle.world_model.specs.Openings.{Job}
+use Rattle.world_model.specs.Outcomes.{IsGiven}
 use Rattle.world_model.specs.Worlds.{WorldState, IsUnderWay}
 use Rattle.thread_joins.specs.Threads.{IsJoined}
 
@@ -32,3 +37,16 @@ QuietHasNoCredit = (job : Job) (w : WorldState) → IsJoined job w → w.book.st
 -- nor is an item under way to any worker: none is held, unsent, or in a lane
 abbrev pub QuietIsStill : Type 0
 QuietIsStill = (job : Job) (w : WorldState) → IsJoined job w → w.book.stop ≡ Some Quiet → (to : ℕ) (item : Item) → ¬ IsUnderWay w to item
+
+-- what a joined world gives answers the job, where its sums are lower bounds
+abbrev pub JoinedWorldsAnswer : Type 0
+JoinedWorldsAnswer =
+    (job : Job) (w : WorldState) (outcome : Outcome)
+    → IsJoined job w
+    → IsLowerBound job.task.rule job.task.sum job.task.goal
+    → IsGiven w outcome
+    → Answers job.task outcome
+
+-- no list of steps stopped it
+abbrev pub NoListStopsThreads : Type 0
+NoListStopsThreads = (job : Job) (w : WorldState) → IsJoined job w → w.book.stop ≢ Some (Memory Stated)

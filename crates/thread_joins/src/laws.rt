@@ -2,6 +2,7 @@
 
 ghost use Rattle.thread_joins.specs.Laws.{BoardsHaveOwners, LimitsAreKept, LimitsAreSpent};
 ghost use Rattle.thread_joins.specs.Laws.{QuietHasNoCredit, QuietIsStill};
+ghost use Rattle.thread_joins.specs.Laws.{JoinedWorldsAnswer, NoListStopsThreads};
 
 /// Each board of a job is owned by one of the workers of its joined world, and these are no more
 /// than the job has.
@@ -19,4 +20,10 @@ pub fn limits_are_kept()
 pub fn quiet_is_at_rest()
     ensures credit { QuietHasNoCredit }
     ensures still { QuietIsStill }
+{}
+
+/// What a joined world gives answers its job, and no list of steps stopped it.
+pub fn joined_worlds_answer()
+    ensures answers { JoinedWorldsAnswer }
+    ensures no_list { NoListStopsThreads }
 {}

@@ -10,6 +10,7 @@
 #![tactic(auto)]
 
 mod calls;
+mod checking;
 
 use calls::{CALLS, Call, Verdict, make};
 use std::alloc::Global;
@@ -26,6 +27,10 @@ fn tell<R: Print + Eprint + AllocGlobal + Threads + Wait + Sync>(rt: &R, call: &
     match make(rt, rt.alloc(), call) {
         Verdict::Whole => {
             let _ = println!(rt; "{name} whole");
+            0
+        }
+        Verdict::Cost => {
+            let _ = println!(rt; "{name} bounded by its cost");
             0
         }
         Verdict::Refused => {

@@ -16,8 +16,8 @@ lines-init g c =
       flushed = inr refl;
     })
 
-pub returns-in_default-send-clause-reports : goal.returns-in_default-send-clause-reports
-returns-in_default-send-clause-reports g c =
+pub returns-in_default-send_report-clause-reports : goal.returns-in_default-send_report-clause-reports
+returns-in_default-send_report-clause-reports g c =
     let allowed = g.A.Ruled.rules c.args.asked.now in
     let source = g.S.Source.state in
     let sink = g.K.Sink.state in
@@ -26,8 +26,8 @@ returns-in_default-send-clause-reports g c =
     let text : c.as_str.result.now ≡ answer_text c.in-Some.line.number report.0 = c.as_str.ensures.value ∙ report.2 in
     let next : IsNext allowed (from_to (source c.lines.source) (source c.next_line.new.source)) c.lines.reader.lines c.in-Some.line.number report.0 =
     record { line = read.0; kind = c.in-Some.line.kind; kept = c.next_line.new.self.kept; taken = read.1; judged = read.2; number = read.3; small = search rules; is = report.1 } in
-    let sent = rw text at c.in_default-send.ensures.writes in
-    (reports_part allowed (source c.args.source.now) (source c.lines.source) (source c.next_line.new.source) (sink c.args.sink.now) (sink c.lines.sink) (sink c.send.new.sink) c.lines.reader.lines c.in-Some.line.number c.lines.summary report.0 c.lines.invariant.running next sent.0, read.7.0.1, sent.1)
+    let sent = rw text at c.in_default-send_report.ensures.writes in
+    (reports_part allowed (source c.args.source.now) (source c.lines.source) (source c.next_line.new.source) (sink c.args.sink.now) (sink c.lines.sink) (sink c.send_report.new.sink) c.lines.reader.lines c.in-Some.line.number c.lines.summary report.0 c.lines.invariant.running next sent.0, read.7.0.1, sent.1)
 
 pub lines-preserved : goal.lines-preserved
 lines-preserved g c =
@@ -39,13 +39,13 @@ lines-preserved g c =
     let text : c.as_str.result.now ≡ answer_text c.in-Some.line.number report.0 = c.as_str.ensures.value ∙ report.2 in
     let next : IsNext allowed (from_to (source c.lines.source) (source c.next_line.new.source)) c.lines.reader.lines c.in-Some.line.number report.0 =
     record { line = read.0; kind = c.in-Some.line.kind; kept = c.next_line.new.self.kept; taken = read.1; judged = read.2; number = read.3; small = search rules; is = report.1 } in
-    let sent = rw text at c.in-Ok-send.ensures.writes in
+    let sent = rw text at c.in-Ok-send_report.ensures.writes in
     record {
       running = rw (read.4, report.3)
-          (IsRunning-more allowed (source c.args.source.now) (source c.lines.source) (source c.next_line.new.source) (sink c.args.sink.now) (sink c.lines.sink) (sink c.send.new.sink) c.lines.reader.lines c.in-Some.line.number c.lines.summary report.0 c.lines.invariant.running next sent.0);
+          (IsRunning-more allowed (source c.args.source.now) (source c.lines.source) (source c.next_line.new.source) (sink c.args.sink.now) (sink c.lines.sink) (sink c.send_report.new.sink) c.lines.reader.lines c.in-Some.line.number c.lines.summary report.0 c.lines.invariant.running next sent.0);
       taken = CountsKnown-more (source c.args.source.now).left (source c.lines.source).left (source c.next_line.new.source).left 0 c.lines.reader.taken c.next_line.new.self.taken c.lines.invariant.taken read.6;
       unfailed = sent.1.1 ∙ sym sent.1.0 ∙ c.lines.invariant.unfailed;
-      flushed = inl c.in-Ok-send.ensures.last;
+      flushed = inl c.in-Ok-send_report.ensures.last;
     }
 
 pub lines-preserved-in-PassedOver : goal.lines-preserved-in-PassedOver

@@ -1,4 +1,4 @@
-use Rattle.std.proofs.Common.{rules, ◌≡◌, sym}
+use Rattle.std.proofs.Common.{rules, sym}
 use Rattle.std.specs.Prelude.{IsTrue}
 use Rattle.thread_joins.proofs.OutcomeLemmas.{world_same}
 use Rattle.thread_joins.proofs.ending.ending_if_kept.Goals as goal

@@ -1,5 +1,5 @@
-use Rattle.std.proofs.Common.{rules, arith, ◌≡◌, ◌≢◌, ℕ, ◌+◌, ◌*◌, ◌≤◌, List, Some, length, ap, sym, ◌∙◌, subst, refl}
-use Rattle.std.specs.Prelude.{sum_by, IfSome}
+use Rattle.std.proofs.Common.{arith, ◌≡◌, ◌≢◌, ℕ, ◌+◌, ◌*◌, ◌≤◌, List, Some, length, ap, sym, ◌∙◌, subst, refl}
+use Rattle.std.specs.Prelude.{sum_by}
 use Rattle.std.specs.Vec.{with_items}
 use Rattle.std.proofs.lemmas.List.{length-map, with_items_is}
 use Rattle.std.proofs.lemmas.Option.{IfSome_then}
@@ -7,7 +7,6 @@ use Rattle.outcomes.specs.declared.outcome.Ending.{Ending}
 use Rattle.outcomes.specs.declared.outcome.Want.TheVariants.{Stated}
 use Rattle.world_model.specs.declared.limits.TheConstants.{GREATEST_GRANT}
 use Rattle.world_model.specs.declared.steps.Stop.TheVariants.{Limit, Memory}
-use Rattle.world_model.specs.Books.{BookState}
 use Rattle.world_model.specs.Quiet.{IsKept}
 use Rattle.world_model.specs.Workers.{WorkerState}
 use Rattle.world_model.specs.Worlds.{WorldState}

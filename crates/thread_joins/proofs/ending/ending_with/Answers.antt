@@ -1,4 +1,4 @@
-use Rattle.std.proofs.Common.{◌≡◌, ℕ, List, sym, ap, ◌∙◌, subst}
+use Rattle.std.proofs.Common.{sym, ap, ◌∙◌, subst}
 use Rattle.lower_bound.specs.Bounds.{sum_of}
 use Rattle.lower_bound.specs.Tables.{Tables, parts_of}
 use Rattle.outcomes.specs.Outcomes.{Task}
