@@ -1,7 +1,8 @@
 -- What faults leave.
-use Rattle.std.proofs.Common.{refl}
+use Rattle.std.proofs.Common.{inl, inr, Ok, Err, refl}
 use Rattle.batch_runs.specs.Batches.{Rules}
-use Rattle.certificate_runs.specs.Laws.{OtherFaultsLeaveTheSink, OtherFaultsWriteNoVerdict}
+use Rattle.certificate.specs.declared.faults.ReadFault.TheVariants.{Format, Failed, NoMemory}
+use Rattle.certificate_runs.specs.Laws.{LeastPlansAreCertified, OtherFaultsLeaveTheSink, OtherFaultsWriteNoVerdict, VerdictsAreOnWhatWasRead, WantsAreForVerdicts}
 use Rattle.certificate_runs.specs.declared.faults.CertifyFault.TheVariants as certify
 use Rattle.certificate_runs.specs.declared.faults.CheckFault.TheVariants as check
 
@@ -17,3 +18,18 @@ no_verdict source sink check.CertificateRead other checks = checks.2.1
 no_verdict source sink (check.CertificateMemory refused) other checks = checks.2.1
 no_verdict source sink check.Write other checks = absurd (other refl)
 no_verdict source sink (check.Memory lacking) other checks = checks.2.1
+
+pub certified : LeastPlansAreCertified
+certified id cost plan none = none
+
+pub on_what_was_read : VerdictsAreOnWhatWasRead
+on_what_was_read (Ok c) output verdict = inl (c, refl)
+on_what_was_read (Err (Format fault)) output verdict = inr (fault, refl)
+on_what_was_read (Err Failed) output verdict = absurd verdict
+on_what_was_read (Err (NoMemory refused)) output verdict = absurd verdict
+
+pub for_verdicts : WantsAreForVerdicts
+for_verdicts (Ok c) sink lacking ends = inl (c, refl)
+for_verdicts (Err (Format fault)) sink lacking ends = inr (fault, refl)
+for_verdicts (Err Failed) sink lacking ends = absurd ends.0
+for_verdicts (Err (NoMemory refused)) sink lacking ends = absurd ends.0

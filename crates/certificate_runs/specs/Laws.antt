@@ -1,12 +1,22 @@
 -- The laws of the definitions. Each is the contract of a function that does nothing.
-use Rattle.std.specs.Prelude.{ℕ, ◌≡◌, ◌≢◌, List, [], Err}
+use Rattle.std.specs.Prelude.{ℕ, ◌≡◌, ◌≢◌, ◌⊎◌, List, [], Result, Ok, Err, Vec}
+use Rattle.std.specs.declared.alloc.Global.{Global}
+use Rattle.reports.specs.declared.report.NoReport.{NoReport}
+use Rattle.board.specs.declared.moves.Move.{Move}
+use Rattle.outcomes.specs.declared.outcome.Ending.TheVariants.{Optimal}
 use Rattle.byte_streams.specs.Streams.{SourceState, SinkState, Change}
 use Rattle.batch_runs.specs.Batches.{Rules}
+use Rattle.batch_runs.specs.Batches.Answer.{answered}
 use Rattle.batch_runs.specs.Meanings.{questions}
 use Rattle.pattern_index.specs.Splits.{Split}
 use Rattle.certificate_runs.specs.Headline.{AnswersFirst}
-use Rattle.certificate_runs.specs.Certifying.{Replies}
-use Rattle.certificate_runs.specs.Checking.{Checks}
+use Rattle.certificate.specs.Certificates.{Statement}
+use Rattle.certificate.specs.declared.faults.FormatFault.{FormatFault}
+use Rattle.certificate.specs.declared.faults.ReadFault.{ReadFault}
+use Rattle.certificate.specs.declared.faults.ReadFault.TheVariants.{Format}
+use Rattle.certificate_runs.specs.Outputs.{Output}
+use Rattle.certificate_runs.specs.Certifying.{Replies, IsNotOptimal}
+use Rattle.certificate_runs.specs.Checking.{Checks, EndsCheck, IsVerdict}
 use Rattle.certificate_runs.specs.declared.faults.CertifyFault.{CertifyFault}
 use Rattle.certificate_runs.specs.declared.faults.CertifyFault.TheVariants as certify
 use Rattle.certificate_runs.specs.declared.faults.CheckFault.{CheckFault}
@@ -24,3 +34,19 @@ OtherFaultsWriteNoVerdict = (source : Change SourceState) (sink : Change SinkSta
 -- where nothing is written for lines, none of them asks for an answer
 abbrev pub SilenceIsUnasked : Rules → Type 0
 SilenceIsUnasked rules = (split : Split) (lines : List (List ℕ)) → AnswersFirst split rules lines [] → questions 1 lines ≡ []
+
+-- no answer that names a least plan is reported: its certificate is written
+abbrev pub LeastPlansAreCertified : Type 0
+LeastPlansAreCertified = (id : List ℕ) (cost : ℕ) (plan : Vec Move Global) → ¬ IsNotOptimal (answered id (Optimal cost plan))
+
+-- a certificate was read, or a fault of the bytes
+abbrev pub IsReadOrFaulty : Result Statement ReadFault → Type 0
+IsReadOrFaulty read = ((c : Statement) × (read ≡ Ok c)) ⊎ ((fault : FormatFault) × (read ≡ Err (Format fault)))
+
+-- a verdict is given on these alone
+abbrev pub VerdictsAreOnWhatWasRead : Type 0
+VerdictsAreOnWhatWasRead = (read : Result Statement ReadFault) (output : Output) → IsVerdict read output → IsReadOrFaulty read
+
+-- and memory is wanting for a verdict on these alone
+abbrev pub WantsAreForVerdicts : Type 0
+WantsAreForVerdicts = (read : Result Statement ReadFault) (sink : Change SinkState) (lacking : NoReport) → EndsCheck read sink (Err (check.Memory lacking)) → IsReadOrFaulty read

@@ -1,7 +1,8 @@
 //! The laws of the definitions: each is the contract of a function that does nothing.
 
 ghost use Rattle.certificate_runs.specs.Laws.{OtherFaultsLeaveTheSink, OtherFaultsWriteNoVerdict};
-ghost use Rattle.certificate_runs.specs.Laws.{SilenceIsUnasked};
+ghost use Rattle.certificate_runs.specs.Laws.{SilenceIsUnasked, LeastPlansAreCertified};
+ghost use Rattle.certificate_runs.specs.Laws.{VerdictsAreOnWhatWasRead, WantsAreForVerdicts};
 
 use batch_runs::Ruled;
 
@@ -23,3 +24,15 @@ pub fn silence_is_unasked<A: Ruled>(asked: &A)
 {
     let _ = asked;
 }
+
+/// No report names a least plan: of such an answer the certificate is written.
+pub fn least_plans_are_certified()
+    ensures { LeastPlansAreCertified }
+{}
+
+/// A verdict is given, or memory is wanting for one, only where a certificate was read or a fault
+/// of the bytes.
+pub fn verdicts_are_on_what_was_read()
+    ensures verdicts { VerdictsAreOnWhatWasRead }
+    ensures wants { WantsAreForVerdicts }
+{}
