@@ -16,6 +16,14 @@ abbrev pub MessagesAreWhole : Type 0
 MessagesAreWhole =
     (errors : Change SinkState) (ending : Ending) (status : ℕ) (held : List ℕ) → errors.before.contents ≡ Some held → errors.after.has_failed ≡ false → Tells errors ending status → errors.after.contents ≡ Some (held ++ message_of ending)
 
+-- whatever becomes of the stream, what is written there is a beginning of the message
+abbrev pub MessagesAreBegun : Type 0
+MessagesAreBegun =
+    (errors : Change SinkState) (ending : Ending) (status : ℕ) (held : List ℕ)
+    → errors.before.contents ≡ Some held
+    → Tells errors ending status
+    → (sent unsent : List ℕ) × (message_of ending ≡ sent ++ unsent) × (errors.after.contents ≡ Some (held ++ sent))
+
 -- where the input is known and the output was empty, what the sink holds after the status 0 or 1 tells the truth of all of the input's lines, for some default setup; and after 0 none of them is bounded or refused
 abbrev pub OutputsTellTheTruth : Type 0
 OutputsTellTheTruth =

@@ -1,5 +1,5 @@
 -- What joined worlds are.
-use Rattle.std.proofs.Common.{◌≡◌, ℕ, suc, ◌+◌, ◌<◌, List, [], ◌∷◌, length, refl, sym, ◌∙◌, subst, inl, inr, arith, Some}
+use Rattle.std.proofs.Common.{◌≡◌, ℕ, suc, ◌+◌, List, [], ◌∷◌, length, refl, sym, ◌∙◌, subst, inl, inr, arith, Some}
 use Rattle.std.specs.Prelude.{All, slice_get, sum_by}
 use Rattle.std.proofs.lemmas.List.Sums.{sum_by-cons}
 use Rattle.std.proofs.lemmas.Option.{slice_get_within, get_or_from_slice_get}
@@ -14,10 +14,7 @@ use Rattle.thread_joins.specs.Worlds.{AreAtRest}
 use Rattle.thread_joins.specs.Laws.{BoardsHaveOwners, JoinedWorldsAnswer, LimitsAreKept, LimitsAreSpent, NoListStopsThreads, QuietHasNoCredit, QuietIsStill}
 
 pub have_owners : BoardsHaveOwners
-have_owners job w b joined = (
-  subst (λ (k : ℕ). k < length w.workers) (joined.owners b) (joined.shaped.owners b),
-  let n = joined.count in omega (arith, n),
-)
+have_owners job w b joined = (joined.owners b, joined.shaped.owners b, joined.count)
 
 pub limits_kept : LimitsAreKept
 limits_kept job w joined = let l = joined.limit in let within = joined.within_limit in omega (arith, l, within)

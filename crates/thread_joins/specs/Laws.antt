@@ -14,9 +14,9 @@ use Rattle.world_model.specs.Outcomes.{IsGiven}
 use Rattle.world_model.specs.Worlds.{WorldState, IsUnderWay}
 use Rattle.thread_joins.specs.Threads.{IsJoined}
 
--- each board of the job is owned by one of the workers of the joined world, of which there are no more than the job has
+-- each board is owned in the joined world by whom the job says, one of its workers, of which there are as many as the job has
 abbrev pub BoardsHaveOwners : Type 0
-BoardsHaveOwners = (job : Job) (w : WorldState) (b : Position) → IsJoined job w → (job.owner b < length w.workers) × (length w.workers ≤ job.count)
+BoardsHaveOwners = (job : Job) (w : WorldState) (b : Position) → IsJoined job w → (w.owner b ≡ job.owner b) × (w.owner b < length w.workers) × (length w.workers ≡ job.count)
 
 -- a joined world has expanded no more boards than its book allows
 abbrev pub LimitsAreKept : Type 0

@@ -4,8 +4,8 @@ ghost use Rattle.thread_joins.specs.Laws.{BoardsHaveOwners, LimitsAreKept, Limit
 ghost use Rattle.thread_joins.specs.Laws.{QuietHasNoCredit, QuietIsStill};
 ghost use Rattle.thread_joins.specs.Laws.{JoinedWorldsAnswer, NoListStopsThreads};
 
-/// Each board of a job is owned by one of the workers of its joined world, and these are no more
-/// than the job has.
+/// Each board is owned in a joined world by whom the job says, one of as many workers as the job
+/// has.
 pub fn boards_have_owners()
     ensures { BoardsHaveOwners }
 {}

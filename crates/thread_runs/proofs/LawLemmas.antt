@@ -1,5 +1,5 @@
 -- What so many workers answer.
-use Rattle.std.proofs.Common.{◌≡◌, ◌⊎◌, ℕ, refl, inl, inr, arith}
+use Rattle.std.proofs.Common.{ℕ, refl, inl, inr, arith}
 use Rattle.board.specs.Positions.{Position}
 use Rattle.outcomes.specs.declared.outcome.Cause.{Cause}
 use Rattle.outcomes.specs.declared.outcome.Cause.TheVariants.{Limit, Memory, Start, Cost, Cut}
@@ -12,7 +12,7 @@ use Rattle.world_model.specs.Worlds.{WorldState}
 use Rattle.world_ends.specs.Endings.{EndsIn}
 use Rattle.world_ends.proofs.LawLemmas.{rows_alone}
 use Rattle.thread_runs.specs.Solved.{IsOfWholeRun}
-use Rattle.thread_runs.specs.Laws.{IsLimitCostOrMemory, WholeRunsSayWhy, WholeEndsSayWhy, OneSolvesAlone, OneEndsAlone, SolvedRunsEnd, LimitsAreKept}
+use Rattle.thread_runs.specs.Laws.{IsLimitCostOrMemory, WholeRunsSayWhy, WholeEndsSayWhy, OneSolvesAlone, OneEndsAlone, SolvedRunsEnd, LimitsAreKept, ThreadsAreAsAsked, EndsAreAsAsked}
 
 named : (cause : Cause) → IsOfWholeRun cause → IsLimitCostOrMemory cause
 named Limit whole = inl refl
@@ -50,3 +50,9 @@ module _ {S : Type 0} (hash_of : S → Position → ℕ) where
   pub limits_kept : LimitsAreKept hash_of
   limits_kept p owners n it (inl (several, (w, joined, kept, given))) = (w, given, joined.within_limit)
   limits_kept p owners n it (inr (w, run, given)) = (w, given, run.within_limit)
+
+  pub as_asked : ThreadsAreAsAsked hash_of
+  as_asked p owners n it (w, joined, kept, given) = (w, given, joined.count, joined.owners)
+
+  pub ends_as_asked : EndsAreAsAsked hash_of
+  ends_as_asked p owners n it (w, joined, kept, ends) = (w, ends, joined.count, joined.owners)

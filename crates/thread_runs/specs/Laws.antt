@@ -1,5 +1,5 @@
 -- The laws of what so many workers answer. Each is the contract of a function that does nothing.
-use Rattle.std.specs.Prelude.{ℕ, ◌≡◌, ◌⊎◌, ◌≤◌, Option, Vec}
+use Rattle.std.specs.Prelude.{ℕ, ◌≡◌, ◌⊎◌, ◌%◌, ◌≤◌, Option, Vec, length}
 use Rattle.std.specs.declared.alloc.Global.{Global}
 use Rattle.memory.specs.declared.OutOfMemory.{OutOfMemory}
 use Rattle.board.specs.declared.moves.Move.{Move}
@@ -15,8 +15,10 @@ use Rattle.outcomes.specs.Endings.{without_rows}
 use Rattle.world_model.specs.Credit.{expansion_count}
 use Rattle.world_model.specs.Outcomes.{IsGiven}
 use Rattle.world_model.specs.Worlds.{WorldState}
+use Rattle.world_ends.specs.Endings.{EndsIn}
 use Rattle.hda_run.specs.Alone.{IsByOne, EndsByOne}
 use Rattle.hda_run.specs.Problems.{Problem}
+use Rattle.thread_joins.specs.Threads.{IsByThreads, EndsByThreads}
 use Rattle.thread_runs.specs.Solved.{IsSolved, IsEnded, HasWholeRun, EndsWholeRun}
 
 -- the cause is the limit, or that each plan costs more than a run may reach, or that memory was refused
@@ -46,3 +48,13 @@ module _ {S : Type 0} (hash_of : S → Position → ℕ) where
   -- the world that gives what is solved has expanded no more boards than the problem's limit
   abbrev pub LimitsAreKept : Type 0
   LimitsAreKept = (p : Problem) (owners : S) (n : ℕ) (it : Outcome) → IsSolved hash_of p owners n it → (w : WorldState) × IsGiven w it × (expansion_count w ≤ p.limit)
+
+  -- the world that gives what is solved by threads has as many workers as were asked for, and each board is owned in it by whom the owners say
+  abbrev pub ThreadsAreAsAsked : Type 0
+  ThreadsAreAsAsked =
+      (p : Problem) (owners : S) (n : ℕ) (it : Outcome) → IsByThreads hash_of p owners n it → (w : WorldState) × IsGiven w it × (length w.workers ≡ n) × ((b : Position) → w.owner b ≡ hash_of owners b % n)
+
+  -- so it is without rows
+  abbrev pub EndsAreAsAsked : Type 0
+  EndsAreAsAsked =
+      (p : Problem) (owners : S) (n : ℕ) (it : Ending) → EndsByThreads hash_of p owners n it → (w : WorldState) × EndsIn w it × (length w.workers ≡ n) × ((b : Position) → w.owner b ≡ hash_of owners b % n)
