@@ -1,2 +1,5 @@
 pub mod BoundLemmas
 pub mod TableLemmas
+pub mod FoldedLemmas
+pub mod MovedLemmas
+pub mod PartLemmas

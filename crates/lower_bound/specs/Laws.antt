@@ -1,10 +1,15 @@
 -- The laws of sums. Each is the contract of a function that does nothing.
-use Rattle.std.specs.Prelude.{◌≡◌, List}
-use Rattle.board.specs.Positions.{Position}
+use Rattle.std.specs.Prelude.{ℕ, ◌≡◌, List, get_or}
+use Rattle.board.specs.declared.moves.Move.{Move}
+use Rattle.board.specs.Positions.{Position, IsBoard, blank_of}
 use Rattle.board.specs.CostRules.{CostRule}
+use Rattle.board.specs.Moves.{Moves}
 use Rattle.board.specs.Rows.{IsLowerBound}
+use Rattle.pattern_index.specs.Splits.{Split, IsSplit}
+use Rattle.database_build.specs.Folds.{Fold}
 use Rattle.lower_bound.specs.Bounds.{Part, IsBound, sum_of}
 use Rattle.lower_bound.specs.Tables.{Tables, IsTables, ArePotentials, parts_of}
+use Rattle.lower_bound.specs.Folded.{AreFoldsOf, AreFoldedPotentials, IsBefore, folded_parts}
 
 -- a sum of potentials of groups that share no tile is admissible: never above the cost of a plan
 abbrev pub SumsAreLowerBounds : Type 0
@@ -18,3 +23,17 @@ TablesAreLowerBounds =
     → goal.grid ≡ tables.split.grid
     → ArePotentials rule goal tables
     → IsLowerBound rule (sum_of (parts_of tables)) goal
+
+-- where each table of a partition of the goal's grid was folded from a potential, their sum is never above the cost of a plan
+abbrev pub FoldedSumsAreLowerBounds : Type 0
+FoldedSumsAreLowerBounds =
+    (rule : CostRule) (goal : Position) (split : Split) (folds : List Fold)
+    → IsSplit split
+    → goal.grid ≡ split.grid
+    → AreFoldsOf split.groups folds
+    → AreFoldedPotentials rule goal folds
+    → IsLowerBound rule (sum_of (folded_parts folds)) goal
+
+-- a move leaves each tile but one where it stood: all but that which stood where the blank is after it
+abbrev pub MovesMoveOneTile : Type 0
+MovesMoveOneTile = (rule : CostRule) (b : Position) (m : Move) (b' : Position) (c : ℕ) → IsBoard b → Moves rule b m b' c → IsBefore b b' (get_or b.tiles (blank_of b') 0)

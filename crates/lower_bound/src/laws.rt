@@ -2,6 +2,7 @@
 
 ghost use Rattle.std.specs.Prelude.{◌≡◌, ◌*◌};
 ghost use Rattle.lower_bound.specs.Laws.{SumsAreLowerBounds, TablesAreLowerBounds};
+ghost use Rattle.lower_bound.specs.Laws.{FoldedSumsAreLowerBounds, MovesMoveOneTile};
 
 use crate::bound::GREATEST_SUM;
 use database_build::NO_VALUE;
@@ -15,4 +16,14 @@ pub fn greatest_sum_is_of_24_values()
 pub fn sums_are_lower_bounds()
     ensures parts { SumsAreLowerBounds }
     ensures tables { TablesAreLowerBounds }
+{}
+
+/// So is a sum of folded values, where each table was folded from a potential.
+pub fn folded_sums_are_lower_bounds()
+    ensures { FoldedSumsAreLowerBounds }
+{}
+
+/// A move leaves each tile but one where it stood.
+pub fn moves_move_one_tile()
+    ensures { MovesMoveOneTile }
 {}

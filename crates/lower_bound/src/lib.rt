@@ -5,7 +5,9 @@
 mod bound;
 mod faults;
 pub mod laws;
+mod parts;
 
 pub use bound::{Bound, GREATEST_SUM};
 pub use database_build::{TableFault, is_potential};
 pub use faults::PatternFault;
+pub use parts::Parts;

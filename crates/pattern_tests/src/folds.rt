@@ -83,3 +83,34 @@ fn size_of_four_tiles(rt: HostRuntime) -> Result<(), Fail> {
     assert!(rt; folded.size() == 3_024 && has_value(&folded, &goal, 0));
     Ok(())
 }
+
+// How many steps a tile of 3 by 3 goes from one cell to another.
+fn steps_between(from: usize, to: usize) -> Option<u32> {
+    let rows = (from / 3).abs_diff(to / 3);
+    let cols = (from % 3).abs_diff(to % 3);
+    u32::try_from(rows.checked_add(cols)?).ok()
+}
+
+// A tile alone goes to its cell by the shortest way, and each step costs its weight.
+#[test]
+fn one_tile_goes_straight(rt: HostRuntime) -> Result<(), Fail> {
+    let shape = Shape::new(3, 3)?;
+    let goal = Board::goal(shape);
+    for weights in [Weights::unit(shape), Weights::face(shape)] {
+        for tile in 1..9 {
+            let folded = built_fold(rt.alloc(), &goal, &weights, &[tile])?;
+            for cell in 0..9 {
+                let mut tiles = [0, 1, 2, 3, 4, 5, 6, 7, 8];
+                tiles.swap(tile as usize, cell);
+                let board = Board::from_tiles(shape, &tiles)?;
+                let steps = steps_between(cell, tile as usize).ok_or("few steps")?;
+                let cost = steps.checked_mul(weights.of(tile)).ok_or("a low cost")?;
+                assert!(rt;
+                    has_value(&folded, &board, u16::try_from(cost)?),
+                    "tile {tile} on cell {cell}"
+                );
+            }
+        }
+    }
+    Ok(())
+}

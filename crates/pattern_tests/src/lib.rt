@@ -9,6 +9,7 @@ mod faults;
 mod folds;
 #[cfg(test)]
 mod groups;
+mod parts;
 #[cfg(test)]
 mod sums;
 #[cfg(test)]

@@ -1,0 +1,5 @@
+use Rattle.lower_bound.proofs.MovedLemmas.{moves_one}
+use Rattle.lower_bound.proofs.laws.moves_move_one_tile.Goals as goal
+
+pub returns : goal.returns
+returns c = moves_one
