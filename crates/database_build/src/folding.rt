@@ -47,6 +47,14 @@ impl Folded {
         self.least[self.group.place(view)]
     }
 
+    /// Its values, by the places of the tiles.
+    pub fn values(&self) -> &[u16]
+        ensures value { result.now ≡ self.now.least }
+        ensures size { length self.now.least ≡ folded_size_of self.now.selection }
+    {
+        &self.least
+    }
+
     /// How many values it has: N! / (N - k)! for k tiles and N cells.
     pub fn size(&self) -> usize
         ensures value { result ≡ folded_size_of self.now.selection }

@@ -1,5 +1,6 @@
 -- Why sums of folded values are lower bounds.
-use Rattle.std.proofs.Common.{◌≡◌, ◌≤◌, List, [], ◌∷◌, map, refl, sym, ap, ◌∙◌, subst, arith}
+use Rattle.std.proofs.Common.{◌≡◌, ◌≤◌, List, [], ◌∷◌, ◌++◌, map, refl, sym, ap, ◌∙◌, subst, arith}
+use Rattle.std.specs.Prelude.{All, sum_by}
 use Rattle.std.specs.List.{AllByRecursion}
 use Rattle.std.proofs.lemmas.List.Elements.{recursion_from_All, All-from_recursion}
 use Rattle.std.proofs.lemmas.List.Sums.{sum_by-cons}
@@ -13,11 +14,11 @@ use Rattle.database_build.specs.Values.{IsPotential}
 use Rattle.database_build.specs.Tables.{Lookup, value_in}
 use Rattle.database_build.specs.Folds.{Fold, IsFoldOf, folded_in}
 use Rattle.lower_bound.specs.Bounds.{Part, sum_of}
-use Rattle.lower_bound.specs.Tables.{Tables, IsTables, ArePotentials, part_of}
-use Rattle.lower_bound.specs.Folded.{AreFoldsOf, IsFoldedPotential, part_folded}
+use Rattle.lower_bound.specs.Tables.{part_of}
+use Rattle.lower_bound.specs.Folded.{AreFolded, AreFoldsOf, IsFoldedPotential, folded_parts, part_folded, value_for}
 use Rattle.lower_bound.specs.Laws.{FoldedSumsAreLowerBounds}
 use Rattle.lower_bound.proofs.BoundLemmas.{led_grid}
-use Rattle.lower_bound.proofs.TableLemmas.{tables_are_bounds}
+use Rattle.lower_bound.proofs.WholeLemmas.{whole_bound}
 
 -- a group of the grid of boards
 abbrev Fits : Grid → Selection → Type 0
@@ -71,10 +72,42 @@ pub folded_sums_below : FoldedSumsAreLowerBounds
 folded_sums_below rule goal split folds is same each slow b board plan k leads =
     let groups : AllByRecursion (λ g. Fits split.grid g) split.groups = recursion_from_All (λ g. Fits split.grid g) split.groups (λ i d i_in. (is.groups i d i_in, is.of_grid i d i_in)) in
     let made = whole_of rule goal split.grid folds (of_folds (λ g. Fits split.grid g) split.groups folds each groups) (recursion_from_All (λ fold. IsFoldedPotential rule goal fold) folds slow) in
-    let tables : Tables = record { split = split; lookups = made.lookups } in
-    let sound : IsTables tables = record { partition = is; one_each = made.selections ∙ each } in
-    let potentials : ArePotentials rule goal tables = All-from_recursion (λ table. IsPotential rule table.selection.tiles goal (value_in table)) made.lookups made.potentials in
+    let potentials = All-from_recursion (λ table. IsPotential rule table.selection.tiles goal (value_in table)) made.lookups made.potentials in
     let grid : b.grid ≡ split.grid = sym (led_grid rule b plan goal k leads) ∙ same in
     let low = made.low b board grid in
-    let bound = tables_are_bounds rule goal tables sound same potentials b board plan k leads in
+    let bound = whole_bound rule goal split made.lookups is (made.selections ∙ each) same potentials b board plan k leads in
     omega arith
+
+-- what folded tables say of a board adds up to its sum
+pub folds_sum : (folds : List Fold) (b : Position) → sum_by (value_for b) folds ≡ sum_of (folded_parts folds) b
+folds_sum [] b = refl
+folds_sum (fold ∷ folds) b =
+    let rest = folds_sum folds b in
+    let first = sum_by-cons (value_for b) fold folds in
+    let first' = sum_by-cons (λ (p : Part). p.value (view_of p.tiles b)) (part_folded fold) (folded_parts folds) in
+    omega arith
+
+-- one more table is folded
+pub folded_more : (tables : List Lookup) (folds : List Fold) (table : Lookup) (fold : Fold) → AreFolded tables folds → IsFoldOf table fold → AreFolded (tables ++ table ∷ []) (folds ++ fold ∷ [])
+folded_more [] [] table fold is one = (one, tt)
+folded_more [] (f ∷ folds) table fold is one = absurd is
+folded_more (t ∷ tables) [] table fold is one = absurd is
+folded_more (t ∷ tables) (f ∷ folds) table fold is one = (is.0, folded_more tables folds table fold is.1 one)
+
+-- folded tables have the groups of the tables
+pub folded_groups : (tables : List Lookup) (folds : List Fold) → AreFolded tables folds → map (λ (fold : Fold). fold.selection) folds ≡ map (λ (table : Lookup). table.selection) tables
+folded_groups [] [] is = refl
+folded_groups [] (f ∷ folds) is = absurd is
+folded_groups (t ∷ tables) [] is = absurd is
+folded_groups (t ∷ tables) (f ∷ folds) is = let rest = folded_groups tables folds is.1 in λ i. is.0.selection i ∷ rest i
+
+-- tables that are folded from potentials
+fold_potentials : (rule : CostRule) (goal : Position) (tables : List Lookup) (folds : List Fold) → AreFolded tables folds → AllByRecursion (λ table. IsPotential rule table.selection.tiles goal (value_in table)) tables → AllByRecursion (λ fold. IsFoldedPotential rule goal fold) folds
+fold_potentials rule goal [] [] is all = tt
+fold_potentials rule goal [] (f ∷ folds) is all = absurd is
+fold_potentials rule goal (t ∷ tables) [] is all = absurd is
+fold_potentials rule goal (t ∷ tables) (f ∷ folds) is all = ((t, is.0, all.0), fold_potentials rule goal tables folds is.1 all.1)
+
+pub folds_of_potentials : (rule : CostRule) (goal : Position) (tables : List Lookup) (folds : List Fold) → AreFolded tables folds → All (λ table. IsPotential rule table.selection.tiles goal (value_in table)) tables → All (λ fold. IsFoldedPotential rule goal fold) folds
+folds_of_potentials rule goal tables folds is all =
+    All-from_recursion (λ fold. IsFoldedPotential rule goal fold) folds (fold_potentials rule goal tables folds is (recursion_from_All (λ table. IsPotential rule table.selection.tiles goal (value_in table)) tables all))

@@ -1,5 +1,6 @@
 pub mod BoundLemmas
-pub mod TableLemmas
+pub mod WholeLemmas
 pub mod FoldedLemmas
+pub mod TableLemmas
 pub mod MovedLemmas
 pub mod PartLemmas

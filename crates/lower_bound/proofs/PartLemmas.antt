@@ -37,7 +37,7 @@ same_places before b tile (x ∷ xs) is all without =
     λ j. here j ∷ rest j
 
 -- so a folded value of a group without the tile stays
-value_stays : (before b : Position) (tile : ℕ) (fold : Fold) → IsBefore before b tile → AllByRecursion (IsTile b.grid) fold.selection.tiles → ¬ Contains fold.selection.tiles tile → value_for before fold ≡ value_for b fold
+pub value_stays : (before b : Position) (tile : ℕ) (fold : Fold) → IsBefore before b tile → AllByRecursion (IsTile b.grid) fold.selection.tiles → ¬ Contains fold.selection.tiles tile → value_for before fold ≡ value_for b fold
 value_stays before b tile fold is all without =
     ap (λ (cells : List ℕ). slice_index fold.least (rank_of (cell_count fold.selection.grid) cells)) (same_places before b tile fold.selection.tiles is all without)
 

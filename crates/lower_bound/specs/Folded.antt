@@ -1,9 +1,9 @@
 -- Folded tables for the groups of a partition, and what they say of a board, group by group.
-use Rattle.std.specs.Prelude.{ℕ, ◌≡◌, ◌≢◌, ◌<◌, List, map, All}
+use Rattle.std.specs.Prelude.{ℕ, ◌≡◌, ◌≢◌, ◌<◌, List, [], ◌∷◌, length, map, get_or, slice_index, All, Contains, ⊤}
 use Rattle.board.specs.Grids.{cell_count}
 use Rattle.board.specs.Positions.{Position, cell_of}
 use Rattle.board.specs.CostRules.{CostRule}
-use Rattle.pattern_index.specs.Views.{view_of}
+use Rattle.pattern_index.specs.Views.{view_at, view_of}
 use Rattle.pattern_index.specs.Selections.{Selection}
 use Rattle.database_build.specs.Values.{IsPotential}
 use Rattle.database_build.specs.Tables.{Lookup, value_in}
@@ -34,6 +34,13 @@ IsFoldedPotential rule goal fold = (table : Lookup) × IsFoldOf table fold × Is
 abbrev pub AreFoldedPotentials : CostRule → Position → List Fold → Type 0
 AreFoldedPotentials rule goal folds = All (λ fold. IsFoldedPotential rule goal fold) folds
 
+-- each folded table is that of the table at its place
+abbrev pub AreFolded : List Lookup → List Fold → Type 0
+AreFolded [] [] = ⊤
+AreFolded (table ∷ tables) (fold ∷ folds) = IsFoldOf table fold × AreFolded tables folds
+AreFolded [] (fold ∷ folds) = ⊥
+AreFolded (table ∷ tables) [] = ⊥
+
 -- the values of a board, one for each part
 abbrev pub values_of : List Part → Position → List ℕ
 values_of parts b = map (λ part. part.value (view_of part.tiles b)) parts
@@ -41,3 +48,12 @@ values_of parts b = map (λ part. part.value (view_of part.tiles b)) parts
 -- all tiles but this one stand on the board where they stood on the one before
 abbrev pub IsBefore : Position → Position → ℕ → Type 0
 IsBefore before b tile = (number : ℕ) → 0 < number → number < cell_count b.grid → number ≢ tile → cell_of before number ≡ cell_of b number
+
+-- what a folded table says of a board, by the cell of each of its numbers
+abbrev pub value_by : List ℕ → Fold → ℕ
+value_by cells fold = folded_in fold (view_at fold.selection.tiles cells)
+
+-- there is a value for each folded table, and it is that of these cells where the table's group doesn't have the tile
+pub record AreAsBefore (cells : List ℕ) (tile : ℕ) (folds : List Fold) (values : List ℕ) : Type 0 where
+  pub one_each : length values ≡ length folds
+  pub same : (i : ℕ) (d : Fold) → i < length folds → ¬ Contains (get_or folds i d).selection.tiles tile → slice_index values i ≡ value_by cells (get_or folds i d)

@@ -1,5 +1,5 @@
 -- The laws of sums. Each is the contract of a function that does nothing.
-use Rattle.std.specs.Prelude.{ℕ, ◌≡◌, List, get_or}
+use Rattle.std.specs.Prelude.{ℕ, ◌≡◌, List, get_or, sum}
 use Rattle.board.specs.declared.moves.Move.{Move}
 use Rattle.board.specs.Positions.{Position, IsBoard, blank_of}
 use Rattle.board.specs.CostRules.{CostRule}
@@ -9,7 +9,7 @@ use Rattle.pattern_index.specs.Splits.{Split, IsSplit}
 use Rattle.database_build.specs.Folds.{Fold}
 use Rattle.lower_bound.specs.Bounds.{Part, IsBound, sum_of}
 use Rattle.lower_bound.specs.Tables.{Tables, IsTables, ArePotentials, parts_of}
-use Rattle.lower_bound.specs.Folded.{AreFoldsOf, AreFoldedPotentials, IsBefore, folded_parts}
+use Rattle.lower_bound.specs.Folded.{AreFoldsOf, AreFoldedPotentials, IsBefore, folded_parts, values_of}
 
 -- a sum of potentials of groups that share no tile is admissible: never above the cost of a plan
 abbrev pub SumsAreLowerBounds : Type 0
@@ -37,3 +37,7 @@ FoldedSumsAreLowerBounds =
 -- a move leaves each tile but one where it stood: all but that which stood where the blank is after it
 abbrev pub MovesMoveOneTile : Type 0
 MovesMoveOneTile = (rule : CostRule) (b : Position) (m : Move) (b' : Position) (c : ℕ) → IsBoard b → Moves rule b m b' c → IsBefore b b' (get_or b.tiles (blank_of b') 0)
+
+-- the values of a board, added up, are its sum
+abbrev pub ValuesAddUp : Type 0
+ValuesAddUp = (parts : List Part) (b : Position) → sum (values_of parts b) ≡ sum_of parts b

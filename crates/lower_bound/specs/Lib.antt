@@ -1,5 +1,7 @@
 pub mod Bounds
-pub mod Tables
 pub mod Folded
+pub mod Tables
+pub mod Held
+pub mod Lists
 pub mod Faults
 pub mod Laws

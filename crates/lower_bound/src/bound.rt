@@ -1,6 +1,6 @@
-//! Tables for the groups of a partition, whose values are added.
+//! Tables for the groups of a partition, whole or folded, whose values are added.
 
-ghost use Rattle.std.specs.Prelude.{◌≡◌, ◌↔◌, ◌*◌, ◌<◌, ◌≤◌, length, slice_get, All, Some, sum_by};
+ghost use Rattle.std.specs.Prelude.{◌≡◌, ◌↔◌, ◌*◌, ◌<◌, ◌≤◌, [], length, slice_get, All, Some, sum_by};
 ghost use Rattle.std.specs.Prelude.{IsTrue, IsOk, IsErrOf, IfOk, MatchOption};
 ghost use Rattle.board.specs.Positions.{Position};
 ghost use Rattle.board.specs.CostRules.{CostRule};
@@ -9,31 +9,54 @@ ghost use Rattle.pattern_index.specs.Views.{view_of};
 ghost use Rattle.database_build.specs.Tables.{value_in};
 ghost use Rattle.database_build.specs.declared.faults.TableFault.{TableFault};
 ghost use Rattle.lower_bound.specs.Bounds.{sum_of};
-ghost use Rattle.lower_bound.specs.Tables.{IsTables, AreTablesOf, ArePotentials, parts_of};
+ghost use Rattle.lower_bound.specs.Folded.{AreFoldsOf, AreFolded, IsBefore, value_for, values_of};
+ghost use Rattle.lower_bound.specs.Tables.{IsTables, AreTablesOf, ArePotentials, AreWhole};
+ghost use Rattle.lower_bound.specs.Tables.{parts_of};
+ghost use Rattle.lower_bound.specs.Lists.{AreListed, IsFoldedBound};
 
+use crate::parts::{MOST_GROUPS, Parts};
 use board::Board;
-use database_build::{NO_VALUE, Table, TableFault};
+use database_build::{Folded, NO_VALUE, Table, TableFault, fold};
+use memory::{OutOfMemory, push, with_capacity};
 use pattern_index::{Group, Partition};
+use std::alloc::Global;
 use std::marker::Model;
 
 /// The greatest sum: `NO_VALUE` of each of 24 groups, the most that a partition may have.
 pub const GREATEST_SUM: u32 = 1_572_840;
 
-/// A partition, and a table for each of its groups.
+/// A partition, and a table for each of its groups: all whole, or all folded.
 #[derive(Debug, Drop)]
 pub struct Bound {
     partition: Partition,
-    tables: Vec<Table>,
+    held: Held,
+}
+
+// The tables that a bound holds.
+#[derive(Debug, Drop)]
+enum Held {
+    Whole(Vec<Table>),
+    Folded(Vec<Folded>),
+}
+
+/// The tables of a bound, one for each group and in their order.
+#[derive(Clone, Copy, Debug)]
+pub enum TableList<'a> {
+    /// They are whole.
+    Whole(&'a [Table]),
+    /// They are folded.
+    Folded(&'a [Folded]),
 }
 
 impl Model for Bound {
     ghost use Rattle.lower_bound.specs.Tables.{Tables, IsTables};
+    ghost use Rattle.lower_bound.specs.Held.{tables_in};
 
     ghost Value = { Tables };
 
-    ghost view = { λ b. record { split = b.partition; lookups = b.tables.items } };
+    ghost view = { λ b. tables_in b.partition b.held };
 
-    ghost invariant = { λ b. IsTables (record { split = b.partition; lookups = b.tables.items }) };
+    ghost invariant = { λ b. IsTables (tables_in b.partition b.held) };
 }
 
 impl Bound {
@@ -42,19 +65,58 @@ impl Bound {
     pub fn new(partition: Partition, tables: Vec<Table>) -> Result<Self, TableFault>
         ensures accepted { IsOk result ↔ AreTablesOf partition.groups tables.items }
         ensures value { IfOk result
-            (λ b. b ≡ record { split = partition; lookups = tables.items }) }
+            (λ b. b ≡ record { split = partition; lookups = tables.items; folds = [] }) }
         ensures fault { (fault : TableFault) → IsErrOf result fault
             ↔ ((fault ≡ TableFault.WrongCount) × (¬ AreTablesOf partition.groups tables.items)) }
     {
         if !are_tables_of(partition.groups(), &tables) {
             return Err(TableFault::WrongCount);
         }
-        Ok(Bound { partition, tables })
+        Ok(Bound {
+            partition,
+            held: Held::Whole(tables),
+        })
+    }
+
+    /// The bound of a partition by these folded tables; or E11 as `new` answers it.
+    pub fn of_folded(partition: Partition, folds: Vec<Folded>) -> Result<Self, TableFault>
+        ensures accepted { IsOk result ↔ AreFoldsOf partition.groups folds.items }
+        ensures value { IfOk result
+            (λ b. b ≡ record { split = partition; lookups = []; folds = folds.items }) }
+        ensures fault { (fault : TableFault) → IsErrOf result fault
+            ↔ ((fault ≡ TableFault.WrongCount) × (¬ AreFoldsOf partition.groups folds.items)) }
+    {
+        if !are_folds_of(partition.groups(), &folds) {
+            return Err(TableFault::WrongCount);
+        }
+        Ok(Bound {
+            partition,
+            held: Held::Folded(folds),
+        })
+    }
+
+    /// The bound by the same tables, folded: each whole one is given back when it was folded.
+    /// Where they are potentials, or were folded from such, so are the folded ones. An error is
+    /// answered only where memory was refused.
+    pub fn folded(self, alloc: Global) -> Result<Self, OutOfMemory>
+        ensures folded { IfOk result (IsFoldedBound self) }
+        ensures potentials { (rule : CostRule) (goal : Position) →
+            ArePotentials rule goal self → IfOk result (ArePotentials rule goal) }
+    {
+        let Bound { partition, held } = self;
+        let folds = match held {
+            Held::Whole(tables) => fold_all(alloc, tables)?,
+            Held::Folded(folds) => folds,
+        };
+        Ok(Bound {
+            partition,
+            held: Held::Folded(folds),
+        })
     }
 
     /// The sum of a board: the values of its views, added over the groups. Where each table is a
-    /// potential for a goal and weights, no plan from the board to that goal costs less: the sum is
-    /// an admissible heuristic.
+    /// potential for a goal and weights, or was folded from one, no plan from the board to that
+    /// goal costs less: the sum is an admissible heuristic.
     pub fn of(&self, board: &Board) -> u32
         requires { board.now.grid ≡ self.now.split.grid }
         ensures value { result ≡ sum_of (parts_of self.now) board.now }
@@ -64,7 +126,45 @@ impl Bound {
     {
         // What the last clause needs of the board, that it is one, is told by this call.
         let _ = board.shape();
-        sum_values(&self.tables, board)
+        match &self.held {
+            Held::Whole(tables) => sum_values(tables, board),
+            Held::Folded(folds) => sum_folded(folds, board),
+        }
+    }
+
+    /// The values of a board by folded tables, one for each group.
+    pub fn parts(&self, board: &Board) -> Parts
+        requires grid { board.now.grid ≡ self.now.split.grid }
+        requires folded { self.now.lookups ≡ [] }
+        ensures { result ≡ values_of (parts_of self.now) board.now }
+    {
+        Parts::of(self.folds(), board)
+    }
+
+    /// The values of a board by folded tables, where these are those of the board before a tile
+    /// moved. Only the group of that tile is looked up.
+    pub fn parts_after(&self, parts: &Parts, board: &Board, tile: u8) -> Parts
+        requires grid { board.now.grid ≡ self.now.split.grid }
+        requires folded { self.now.lookups ≡ [] }
+        requires before { (before : Position) × IsBefore before board.now tile
+            × (parts.now ≡ values_of (parts_of self.now) before) }
+        ensures { result ≡ values_of (parts_of self.now) board.now }
+    {
+        parts.after(self.folds(), board, tile)
+    }
+
+    // Its folded tables, where none is whole.
+    fn folds(&self) -> &[Folded]
+        requires { self.now.lookups ≡ [] }
+        ensures value { result.now ≡ self.now.folds }
+        ensures grids { All (λ fold. fold.selection.grid ≡ self.now.split.grid) result.now }
+        ensures few { length result.now ≤ MOST_GROUPS }
+    {
+        match &self.held {
+            // There is no group then.
+            Held::Whole(_) => &[],
+            Held::Folded(folds) => folds,
+        }
     }
 
     /// Its partition, which has a group for each table.
@@ -75,20 +175,27 @@ impl Bound {
         &self.partition
     }
 
-    /// Its tables, one for each group of the partition and in their order.
-    pub fn tables(&self) -> &[Table]
-        ensures value { result.now ≡ self.now.lookups }
+    /// Its tables.
+    pub fn tables(&self) -> TableList<'_>
+        ensures value { AreListed self.now result }
         ensures tables { IsTables self.now }
     {
-        &self.tables
+        match &self.held {
+            Held::Whole(tables) => TableList::Whole(tables),
+            Held::Folded(folds) => TableList::Folded(folds),
+        }
     }
 
-    /// The table of a group, by the group's place in the partition.
+    /// The table of a group, by the group's place in the partition; None where it is folded.
     pub fn table(&self, i: usize) -> Option<&Table>
-        requires { i < length self.now.lookups }
-        ensures { MatchOption result ⊥ (λ table. slice_get self.now.lookups i ≡ Some table.now) }
+        requires { i < length self.now.split.groups }
+        ensures { MatchOption result (self.now.lookups ≡ [])
+            (λ table. slice_get self.now.lookups i ≡ Some table.now) }
     {
-        self.tables.get(i)
+        match &self.held {
+            Held::Whole(tables) => tables.get(i),
+            Held::Folded(_) => None,
+        }
     }
 }
 
@@ -108,6 +215,35 @@ fn are_tables_of(groups: &[Group], tables: &[Table]) -> bool
     true
 }
 
+// Whether there is a folded table for each group, in order.
+fn are_folds_of(groups: &[Group], folds: &[Folded]) -> bool
+    ensures { IsTrue result ↔ AreFoldsOf groups.now folds.now }
+{
+    if folds.len() != groups.len() {
+        return false;
+    }
+    'tables: for i in 0..folds.len() {
+        let same = *folds[i].group() == groups[i];
+        if !same {
+            return false;
+        }
+    }
+    true
+}
+
+// The tables folded, each given back then.
+fn fold_all(alloc: Global, tables: Vec<Table>) -> Result<Vec<Folded>, OutOfMemory>
+    requires { length tables.items ≤ 24 }
+    ensures { IfOk result (λ folds. AreFolded tables.items folds.items) }
+{
+    let mut folds = with_capacity(alloc, tables.len())?;
+    'whole: for table in tables {
+        let folded = fold(alloc, table)?;
+        push(&mut folds, folded)?;
+    }
+    Ok(folds)
+}
+
 // Adds what tables say of a board.
 fn sum_values(tables: &[Table], board: &Board) -> u32
     requires few { length tables.now ≤ 24 }
@@ -120,6 +256,21 @@ fn sum_values(tables: &[Table], board: &Board) -> u32
     'tables: for table in tables {
         let view = table.group().view(board);
         sum += u32::from(table.value(&view));
+    }
+    sum
+}
+
+// Adds what folded tables say of a board.
+fn sum_folded(folds: &[Folded], board: &Board) -> u32
+    requires few { length folds.now ≤ 24 }
+    requires grid { All (λ fold. fold.selection.grid ≡ board.now.grid) folds.now }
+    ensures value { result ≡ sum_by (value_for board.now) folds.now }
+    ensures high { result ≤ NO_VALUE * length folds.now }
+{
+    let mut sum = 0;
+    'tables: for fold in folds {
+        let view = fold.group().view(board);
+        sum += u32::from(fold.value(&view));
     }
     sum
 }

@@ -2,7 +2,7 @@
 
 ghost use Rattle.std.specs.Prelude.{◌≡◌, ◌*◌};
 ghost use Rattle.lower_bound.specs.Laws.{SumsAreLowerBounds, TablesAreLowerBounds};
-ghost use Rattle.lower_bound.specs.Laws.{FoldedSumsAreLowerBounds, MovesMoveOneTile};
+ghost use Rattle.lower_bound.specs.Laws.{FoldedSumsAreLowerBounds, MovesMoveOneTile, ValuesAddUp};
 
 use crate::bound::GREATEST_SUM;
 use database_build::NO_VALUE;
@@ -26,4 +26,9 @@ pub fn folded_sums_are_lower_bounds()
 /// A move leaves each tile but one where it stood.
 pub fn moves_move_one_tile()
     ensures { MovesMoveOneTile }
+{}
+
+/// The values of a board, added up, are its sum.
+pub fn values_add_up()
+    ensures { ValuesAddUp }
 {}

@@ -7,7 +7,7 @@ mod faults;
 pub mod laws;
 mod parts;
 
-pub use bound::{Bound, GREATEST_SUM};
+pub use bound::{Bound, GREATEST_SUM, TableList};
 pub use database_build::{TableFault, is_potential};
 pub use faults::PatternFault;
 pub use parts::Parts;

@@ -1,9 +1,11 @@
 //! The values of the groups of a board, one by one.
 
-ghost use Rattle.std.specs.Prelude.{ℕ, ◌≡◌, ◌*◌, ◌≤◌, ◌↔◌, length, map, sum, All, IsTrue, Contains};
+ghost use Rattle.std.specs.Prelude.{ℕ, ◌≡◌, ◌*◌, ◌≤◌, ◌↔◌, length, map, sum, sum_by, All, IsTrue, Contains};
 ghost use Rattle.board.specs.Positions.{Position};
+ghost use Rattle.pattern_index.specs.Views.{IsView, view_at};
 ghost use Rattle.pattern_index.specs.Selections.{IsSelection};
 ghost use Rattle.lower_bound.specs.Folded.{folded_parts, values_of, value_for, IsBefore};
+ghost use Rattle.lower_bound.specs.Folded.{value_by, AreAsBefore};
 
 use crate::bound::GREATEST_SUM;
 use board::Board;
@@ -11,7 +13,7 @@ use database_build::{Folded, NO_VALUE};
 use std::marker::Model;
 
 // The most groups that a partition may have.
-const MOST_GROUPS: usize = 24;
+pub(crate) const MOST_GROUPS: usize = 24;
 
 /// What folded tables say of a board: a value for each of their groups. A move changes one of them
 /// at most, that of the group of the tile that it moves.
@@ -66,6 +68,44 @@ impl Parts {
         }
     }
 
+    /// The values of a board, by the cell of each of its numbers (`cells_of`): as `of`, without
+    /// making a view.
+    pub fn at(folds: &[Folded], cells: &[u8; 25]) -> Self
+        requires few { length folds.now ≤ MOST_GROUPS }
+        requires views { All (λ fold. IsView fold.selection.grid fold.selection.tiles
+            (view_at fold.selection.tiles cells.now)) folds.now }
+        ensures { result ≡ map (value_by cells.now) folds.now }
+    {
+        let mut values = [0; MOST_GROUPS];
+        'tables: for i in 0..folds.len() {
+            values[i] = value_by(&folds[i], cells);
+        }
+        let count = folds.len() as u8;
+        Parts { count, values }
+    }
+
+    /// The sum of the values of a board, by the cell of each of its numbers, where these are those
+    /// of the board before a tile moved. Only the group of that tile is looked up.
+    pub fn sum_after(&self, folds: &[Folded], cells: &[u8; 25], tile: u8) -> u32
+        requires views { All (λ fold. IsView fold.selection.grid fold.selection.tiles
+            (view_at fold.selection.tiles cells.now)) folds.now }
+        requires others { AreAsBefore cells.now tile folds.now self.now }
+        ensures value { result ≡ sum_by (value_by cells.now) folds.now }
+        ensures high { result ≤ GREATEST_SUM }
+    {
+        let mut total = 0;
+        'tables: for i in 0..folds.len() {
+            let moved = has_tile(&folds[i], tile);
+            let value = if moved {
+                value_by(&folds[i], cells)
+            } else {
+                self.values[i]
+            };
+            total += u32::from(value);
+        }
+        total
+    }
+
     /// Their sum.
     pub fn sum(&self) -> u32
         ensures value { result ≡ sum self.now }
@@ -117,4 +157,13 @@ fn value_for(fold: &Folded, board: &Board) -> u16
 {
     let view = fold.group().view(board);
     fold.value(&view)
+}
+
+// What a folded table says of a board, by the cell of each of its numbers.
+fn value_by(fold: &Folded, cells: &[u8; 25]) -> u16
+    requires { IsView fold.now.selection.grid fold.now.selection.tiles
+        (view_at fold.now.selection.tiles cells.now) }
+    ensures { result ≡ value_by cells.now fold.now }
+{
+    fold.values()[fold.group().place_at(cells)]
 }

@@ -52,6 +52,29 @@ pub(crate) fn rank_numbers(count: usize, tiles: &[u8], cells: &[u8; 25]) -> usiz
     rank
 }
 
+// The rank of the cells of some tiles, of so many cells, by a list of the cell of each number: as
+// `rank_cells`, without a list of these cells.
+pub(crate) fn rank_tiles(count: usize, tiles: &[u8], cells: &[u8; 25]) -> usize
+    requires few { count ≤ 25 }
+    requires tiles { All (λ tile. tile < 25) tiles.now }
+    requires listing { IsListing count (map (slice_index cells.now) tiles.now) }
+    requires fits { length tiles.now ≤ count }
+    requires small { ways count (length tiles.now) ≤ MAX_SIZE }
+    ensures { result ≡ rank_of count (map (slice_index cells.now) tiles.now) }
+{
+    let mut rank = 0;
+    let mut free = count;
+    let mut seen = 0;
+    'tiles: for tile in tiles {
+        let cell = cells[*tile as usize];
+        let digit = cell as usize - bits_below(seen, cell);
+        rank = rank * free + digit;
+        seen = with_bit(seen, cell);
+        free -= 1;
+    }
+    rank
+}
+
 // How many bits of the mask are below a cell's.
 fn bits_below(mask: u32, cell: u8) -> usize
     requires { cell < 32 }

@@ -16,7 +16,7 @@ ghost use Rattle.pattern_index.specs.Laws.{factorial};
 ghost use Rattle.pattern_index.specs.Faults.{IsFirstFault};
 ghost use Rattle.pattern_index.specs.declared.faults.GroupFault.{GroupFault};
 
-use crate::cells::{rank_cells, rank_numbers};
+use crate::cells::{rank_cells, rank_numbers, rank_tiles};
 use crate::faults::GroupFault;
 use crate::view::View;
 use board::{Board, Move, Shape, Weights};
@@ -184,6 +184,17 @@ impl Group {
         ensures high { result < MAX_SIZE }
     {
         rank_numbers(self.shape().cells(), self.tiles(), cells)
+    }
+
+    /// The place of the tiles' cells, by the cell of each of a board's numbers (`cells_of`): as
+    /// `place` of the view, without making one.
+    pub fn place_at(&self, cells: &[u8; 25]) -> usize
+        requires { IsView self.now.grid self.now.tiles (view_at self.now.tiles cells.now) }
+        ensures value { result ≡ place_in self.now.grid (view_at self.now.tiles cells.now) }
+        ensures below { result < folded_size_of self.now }
+        ensures high { result < MAX_SIZE }
+    {
+        rank_tiles(self.shape().cells(), self.tiles(), cells)
     }
 
     /// The view at a place.

@@ -1,0 +1,38 @@
+use Rattle.std.proofs.Common.{rules, ◌≡◌, map, refl, ap, ◌∙◌, subst, inr, Vec, Global}
+use Rattle.database_build.specs.Folds.{Fold}
+use Rattle.lower_bound.specs.Folded.{AreFoldsOf}
+use Rattle.lower_bound.specs.Tables.{IsTables}
+use Rattle.lower_bound.specs.Held.{tables_in}
+use Rattle.lower_bound.specs.declared.bound.Held.{Held}
+use Rattle.lower_bound.specs.declared.bound.Held.TheVariants.{Whole, Folded}
+use Rattle.lower_bound.proofs.FoldedLemmas.{folded_groups}
+use Rattle.lower_bound.proofs.TableLemmas.{whole_each, folded_each, folded_potentials}
+use Rattle.lower_bound.proofs.bound.Bound.folded.Goals as goal
+use Rattle.lower_bound.proofs.bound.Bound.folded.Goals.{in-Whole+in_ok-folds-in-Whole, in-Folded}
+
+pub invariant_of-result : goal.invariant_of-result
+invariant_of-result c = record {
+  partition = c.self.invariant.partition;
+  one_each = inr (each, refl);
+}
+  where
+    there : (held : Held) → c.self.inside.held ≡ held → IsTables (tables_in c.self.inside.partition held)
+    there held is = subst (λ (h : Held). IsTables (tables_in c.self.inside.partition h)) is c.self.invariant
+
+    each : AreFoldsOf c.self.inside.partition.groups c.match-held.folds.items
+    each = elim c.match-held.branch [
+      | in-Whole+in_ok-folds-in-Whole w ↦
+          ap (λ (folds : Vec Fold Global). map (λ (fold : Fold). fold.selection) folds.items) w.folds-is
+          ∙ folded_groups w.in-Whole.tables.items w.in_ok-folds-in-Whole.folds.items w.in_ok-folds-in-Whole.ensures
+          ∙ whole_each (tables_in c.self.inside.partition (Whole w.in-Whole.tables)) (there (Whole w.in-Whole.tables) w.in-Whole.is) refl
+      | in-Folded w ↦
+          ap (λ (folds : Vec Fold Global). map (λ (fold : Fold). fold.selection) folds.items) w.folds-is
+          ∙ folded_each (tables_in c.self.inside.partition (Folded w.in-Folded.folds)) (there (Folded w.in-Folded.folds) w.in-Folded.is) refl
+    ]
+
+pub returns-clause-folded : goal.returns-clause-folded
+returns-clause-folded c = search rules
+
+pub returns-clause-potentials : goal.returns-clause-potentials
+returns-clause-potentials c = λ rule goal potentials.
+    folded_potentials rule goal c.args.self (tables_in c.self.inside.partition (Folded c.match-held.folds)) (subst IsTables c.self.view_is c.self.invariant) (returns-clause-folded c) potentials
