@@ -18,6 +18,7 @@ use Rattle.board.proofs.KeyLemmas.{key_of-lt}
 use Rattle.board.proofs.NeighbourLemmas.{cells_above}
 use Rattle.board.proofs.MoveLemmas.{cell_of-exchange, exchange_board, other_cell, cell_below}
 use Rattle.board.proofs.StepLemmas.{blank_stands, tile_above, tile_below}
+use Rattle.lower_bound.specs.Folded.{IsBefore}
 use Rattle.successor_sums.specs.Unpacked.{AreCellsOf, IsUnpacked}
 use Rattle.successor_sums.specs.declared.unpacked.UnpackedBoard.TheInside.{Inside}
 use Rattle.successor_sums.proofs.KeyLemmas.{moved_key}
@@ -72,6 +73,16 @@ cells_after b cells to board of few to_below other = record {
         (cases_eq number 0))
         (cases_eq number (get_or b.tiles to 0))
 
+-- each number but the blank's and that of the tile moved stays where it was
+others_stay : (b : Position) (to : ℕ) → IsBoard b → to < cell_count b.grid → to ≢ blank_of b → IsBefore b (blank_exchange b to) (get_or b.tiles to 0)
+others_stay b to board to_below other number some low ne =
+    let stands = blank_stands b board in
+    let found = has_cell b board number low in
+    let not_zero : number ≢ 0 = λ zero_is. absurd (omega (arith, some, zero_is)) in
+    let off_blank : cell_of b number ≢ blank_of b = λ s. not_zero (sym found.1 ∙ ap (λ (k : ℕ). get_or b.tiles k 0) s ∙ stands.1) in
+    let off_to : cell_of b number ≢ to = λ s. ne (sym found.1 ∙ ap (λ (k : ℕ). get_or b.tiles k 0) s) in
+    sym (cell_of-exchange b (blank_of b) to board stands.0 to_below number low ∙ across_other (blank_of b) to (cell_of b number) off_blank off_to)
+
 -- ---- what lies in memory
 
 pub few_cells : (grid : Grid) → IsShape grid → cell_count grid ≤ 25
@@ -98,6 +109,7 @@ pub record IsLedTo (inside : Inside) (to tile : ℕ) : Type 0 where
   pub key_fits : key_of (blank_exchange inside.board to) < 2 ^ 125
   pub board : IsBoard (blank_exchange inside.board to)
   pub cells : AreCellsOf (blank_exchange inside.board to) (set (set inside.cells 0 to) tile (slice_index inside.cells 0))
+  pub others : IsBefore inside.board (blank_exchange inside.board to) tile
 
 module _ (inside : Inside) (grid : Grid) (m : Move) (to : ℕ) (unpacked : IsUnpacked inside) (same : grid ≡ inside.board.grid) (lies : LiesTowards grid m (slice_index inside.cells 0) to) where
   abbrev b : Position
@@ -141,6 +153,7 @@ module _ (inside : Inside) (grid : Grid) (m : Move) (to : ℕ) (unpacked : IsUnp
         key_fits = fits;
         board = after;
         cells = subst (λ (x : ℕ). AreCellsOf (blank_exchange b to) (set (set inside.cells 0 to) (get_or b.tiles to 0) x)) (sym blank) (cells_after b inside.cells to unpacked.board unpacked.cells few below other);
+        others = others_stay b to unpacked.board below other;
       }
 
   pub led_to : (tile : ℕ) → slice_get inside.board.tiles to ≡ Some tile → IsLedTo inside to tile

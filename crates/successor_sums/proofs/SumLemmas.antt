@@ -1,8 +1,9 @@
 -- The sum of a board, by the cell of each number.
 use Rattle.std.proofs.Common.{true, false, ⊎_elim, ◌≡◌, ℕ, ◌<◌, List, [], ◌∷◌, Option, None, Some, map, length, get_or, take, drop, refl, sym, ap, ◌∙◌, subst, arith}
-use Rattle.std.specs.Prelude.{All, slice_index, sum_by, option_map, IfSome, MatchOption}
+use Rattle.std.specs.Prelude.{All, slice_index, sum, sum_by, option_map, IfSome, MatchOption}
 use Rattle.std.specs.List.{AllByRecursion}
 use Rattle.std.proofs.lemmas.Bool.{cases_Bool, cond-true, cond-false}
+use Rattle.std.proofs.lemmas.List.{length-map, get_or-map}
 use Rattle.std.proofs.lemmas.List.Elements.{All-weaker, recursion_from_All}
 use Rattle.std.proofs.lemmas.List.Sums.{sum_by-cons}
 use Rattle.board.specs.declared.moves.Move.{Move}
@@ -14,19 +15,24 @@ use Rattle.board.specs.Moves.{blank_exchange, successor, successor_at}
 use Rattle.board.specs.Keys.{HasKey}
 use Rattle.board.proofs.NeighbourLemmas.{cells_above}
 use Rattle.pattern_index.specs.Views.{Sight, IsView, view_of, view_at}
-use Rattle.pattern_index.specs.Selections.{IsSelection, IsTile, IsGroup, rank_in}
+use Rattle.pattern_index.specs.Selections.{Selection, IsTile, IsGroup, rank_in}
 use Rattle.pattern_index.proofs.StorageLemmas.{looked_up}
 use Rattle.pattern_index.proofs.ViewMoveLemmas.{board_view}
 use Rattle.database_build.specs.Tables.{Lookup, value_in}
-use Rattle.lower_bound.specs.Bounds.{sum_of}
-use Rattle.lower_bound.specs.Tables.{Tables, IsTables, parts_of}
-use Rattle.lower_bound.proofs.TableLemmas.{of_tables, table_grids, tables_sum}
-use Rattle.successor_sums.specs.Ranks.{sum_at}
-use Rattle.successor_sums.specs.Unpacked.{told_of, is_left_out, but, AreCellsOf, IsReached, told_by}
+use Rattle.database_build.specs.Folds.{Fold, folded_in}
+use Rattle.lower_bound.specs.Bounds.{Part, sum_of}
+use Rattle.lower_bound.specs.Folded.{AreAsBefore, IsBefore, value_by, value_for}
+use Rattle.lower_bound.specs.Tables.{Tables, IsTables, AreWhole, parts_of}
+use Rattle.lower_bound.proofs.WholeLemmas.{tables_sum}
+use Rattle.lower_bound.proofs.FoldedLemmas.{folds_sum}
+use Rattle.lower_bound.proofs.PartLemmas.{value_stays}
+use Rattle.lower_bound.proofs.TableLemmas.{each_lookup, each_fold, table_grids, fold_grids, whole_parts, all_folded_parts}
+use Rattle.successor_sums.specs.Ranks.{sum_at, sum_by_cells}
+use Rattle.successor_sums.specs.Unpacked.{told_of, is_left_out, but, AreCellsOf, IsNextTo, IsReached, SeesViews, told_by}
 use Rattle.successor_sums.specs.declared.unpacked.Reached.{Reached}
 
 -- the values at the ranks of views are those of the views
-sum_at-views : (lookups : List Lookup) (ranks : List ℕ) (view : Lookup → Sight) → take (length lookups) ranks ≡ map (λ table. rank_in table.selection.grid (view table)) lookups → sum_at lookups ranks ≡ sum_by (λ table. value_in table (view table)) lookups
+pub sum_at-views : (lookups : List Lookup) (ranks : List ℕ) (view : Lookup → Sight) → take (length lookups) ranks ≡ map (λ table. rank_in table.selection.grid (view table)) lookups → sum_at lookups ranks ≡ sum_by (λ table. value_in table (view table)) lookups
 sum_at-views [] ranks view are = refl
 sum_at-views (table ∷ lookups) [] view are = absurd (none are)
   where
@@ -46,57 +52,126 @@ seen_at b cells tiles board of group =
     let some = cells_above b.grid board.sides in
     λ i. record { blank = of.are 0 some i; cells = looked_up b cells tiles of.are low i }
 
-module _ (tables : Tables) (b : Position) (cells : List ℕ) (is : IsTables tables) (board : IsBoard b) (same : tables.split.grid ≡ b.grid) (of : AreCellsOf b cells) where
-  groups : All (λ table. IsGroup b.grid table.selection.tiles) tables.lookups
-  groups k d k_in =
-      let g = (of_tables (λ h. IsSelection h) tables.split.groups tables.lookups is.one_each is.partition.groups k d k_in).group in
-      let at = table_grids tables is k d k_in in
-      subst (λ (grid : Grid). IsGroup grid (get_or tables.lookups k d).selection.tiles) (at ∙ same) g
+-- so what it sees is a view
+view_there : (b : Position) (cells : List ℕ) (g : Selection) → IsBoard b → AreCellsOf b cells → g.grid ≡ b.grid → IsGroup b.grid g.tiles → IsView g.grid g.tiles (view_at g.tiles cells)
+view_there b cells g board of same group =
+    subst (λ (grid : Grid). IsView grid g.tiles (view_at g.tiles cells)) (sym same)
+    (subst (λ (v : Sight). IsView b.grid g.tiles v) (sym (seen_at b cells g.tiles board of group)) (board_view g.tiles b board group))
 
-  seen : All (λ table. view_at table.selection.tiles cells ≡ view_of table.selection.tiles b) tables.lookups
-  seen k d k_in = seen_at b cells (get_or tables.lookups k d).selection.tiles board of (groups k d k_in)
+-- numbers added up are the sum over what they are of
+pub sum-mapped : {X : Type 0} (f : X → ℕ) (xs : List X) → sum (map f xs) ≡ sum_by f xs
+sum-mapped f [] = refl
+sum-mapped {X = X} f (x ∷ xs) =
+    let rest = sum-mapped f xs in
+    let one = sum_by-cons f x xs in
+    let other = sum_by-cons (λ (n : ℕ). n) (f x) (map f xs) in
+    omega arith
+
+-- sums of what is the same
+same_sums : {X : Type 0} (f g : X → ℕ) (xs : List X) → AllByRecursion (λ x. f x ≡ g x) xs → sum_by f xs ≡ sum_by g xs
+same_sums f g [] all = refl
+same_sums {X = X} f g (x ∷ xs) all =
+    let rest = same_sums f g xs all.1 in
+    let here = all.0 in
+    let one = sum_by-cons f x xs in
+    let other = sum_by-cons g x xs in
+    omega arith
+
+module _ (tables : Tables) (b : Position) (cells : List ℕ) (is : IsTables tables) (board : IsBoard b) (same : tables.split.grid ≡ b.grid) (of : AreCellsOf b cells) where
+  -- the groups, those of the whole tables and those of the folded ones
+  groups : All (λ g. IsGroup b.grid g.tiles) tables.split.groups
+  groups k d k_in = subst (λ (grid : Grid). IsGroup grid (get_or tables.split.groups k d).tiles) (is.partition.of_grid k d k_in ∙ same) (is.partition.groups k d k_in).group
+
+  whole_groups : All (λ table. IsGroup b.grid table.selection.tiles) tables.lookups
+  whole_groups = each_lookup (λ g. IsGroup b.grid g.tiles) tables is groups
+
+  folded_groups : All (λ fold. IsGroup b.grid fold.selection.tiles) tables.folds
+  folded_groups = each_fold (λ g. IsGroup b.grid g.tiles) tables is groups
 
   -- what each group sees is a view
   pub views_at : All (λ table. IsView table.selection.grid table.selection.tiles (view_at table.selection.tiles cells)) tables.lookups
-  views_at k d k_in =
-      let ts : List ℕ = (get_or tables.lookups k d).selection.tiles in
-      let at = table_grids tables is k d k_in in
-      let view = board_view ts b board (groups k d k_in) in
-      subst (λ (grid : Grid). IsView grid ts (view_at ts cells)) (sym (at ∙ same))
-      (subst (λ (v : Sight). IsView b.grid ts v) (sym (seen k d k_in)) view)
+  views_at k d k_in = view_there b cells (get_or tables.lookups k d).selection board of (table_grids tables is k d k_in ∙ same) (whole_groups k d k_in)
 
-  -- the ranks are those of the views of the board
-  pub ranks_are : map (λ table. rank_in table.selection.grid (view_at table.selection.tiles cells)) tables.lookups ≡ map (λ table. rank_in table.selection.grid (view_of table.selection.tiles b)) tables.lookups
-  ranks_are = same_map tables.lookups (recursion_from_All (λ (table : Lookup). view_at table.selection.tiles cells ≡ view_of table.selection.tiles b) tables.lookups seen)
-    where
-      same_map : (lookups : List Lookup) → AllByRecursion (λ table. view_at table.selection.tiles cells ≡ view_of table.selection.tiles b) lookups → map (λ table. rank_in table.selection.grid (view_at table.selection.tiles cells)) lookups ≡ map (λ table. rank_in table.selection.grid (view_of table.selection.tiles b)) lookups
-      same_map [] all = refl
-      same_map (table ∷ lookups) all = λ i. rank_in table.selection.grid (all.0 i) ∷ same_map lookups all.1 i
+  pub fold_views_at : All (λ fold. IsView fold.selection.grid fold.selection.tiles (view_at fold.selection.tiles cells)) tables.folds
+  fold_views_at k d k_in = view_there b cells (get_or tables.folds k d).selection board of (fold_grids tables is k d k_in ∙ same) (folded_groups k d k_in)
 
--- the values at the ranks of a board add up to its sum
-pub sum_is : (tables : Tables) (b : Position) (ranks : List ℕ) → take (length tables.lookups) ranks ≡ map (λ table. rank_in table.selection.grid (view_of table.selection.tiles b)) tables.lookups → sum_at tables.lookups ranks ≡ sum_of (parts_of tables) b
-sum_is tables b ranks are = sum_at-views tables.lookups ranks (λ table. view_of table.selection.tiles b) are ∙ tables_sum tables.lookups b
+  -- what the tables say adds up to the sum of the board
+  pub whole_sum : AreWhole tables → sum_by_cells tables.lookups cells ≡ sum_of (parts_of tables) b
+  whole_sum whole =
+      same_sums (λ table. value_in table (view_at table.selection.tiles cells)) (λ table. value_in table (view_of table.selection.tiles b)) tables.lookups
+      (recursion_from_All (λ (table : Lookup). value_in table (view_at table.selection.tiles cells) ≡ value_in table (view_of table.selection.tiles b)) tables.lookups
+      (λ k d k_in. ap (value_in (get_or tables.lookups k d)) (seen_at b cells (get_or tables.lookups k d).selection.tiles board of (whole_groups k d k_in))))
+      ∙ tables_sum tables.lookups b
+      ∙ ap (λ (ps : List Part). sum_of ps b) (sym (whole_parts tables whole))
+
+  said : All (λ fold. value_by cells fold ≡ value_for b fold) tables.folds
+  said k d k_in = ap (folded_in (get_or tables.folds k d)) (seen_at b cells (get_or tables.folds k d).selection.tiles board of (folded_groups k d k_in))
+
+  pub folded_sum : tables.lookups ≡ [] → sum_by (value_by cells) tables.folds ≡ sum_of (parts_of tables) b
+  folded_sum folded =
+      same_sums (value_by cells) (value_for b) tables.folds (recursion_from_All (λ (fold : Fold). value_by cells fold ≡ value_for b fold) tables.folds said)
+      ∙ folds_sum tables.folds b
+      ∙ ap (λ (ps : List Part). sum_of ps b) (sym (all_folded_parts tables folded))
+
+-- the values of a board are those of the one after a tile moved, but for the group of that tile
+pub as_before : (tables : Tables) (b x : Position) (cells cells' : List ℕ) (tile : ℕ) → IsTables tables → IsBoard b → IsBoard x → x.grid ≡ b.grid → tables.split.grid ≡ b.grid → AreCellsOf b cells → AreCellsOf x cells' → IsBefore b x tile → AreAsBefore cells' tile tables.folds (map (value_by cells) tables.folds)
+as_before tables b x cells cells' tile is board board' grid same of of' before = record {
+  one_each = length-map tables.folds (value_by cells);
+  same = λ i d i_in without.
+      get_or-map (value_by cells) tables.folds i d 0 i_in
+      ∙ said tables b cells is board same of i d i_in
+      ∙ value_stays b x tile (get_or tables.folds i d) before
+      (recursion_from_All (λ t. IsTile x.grid t) (get_or tables.folds i d).selection.tiles (folded_groups tables x cells' is board' (same ∙ sym grid) of' i d i_in).tiles) without
+      ∙ sym (said tables x cells' is board' (same ∙ sym grid) of' i d i_in);
+}
+
+-- ---- what was reached
+
+module _ (tables : Tables) (b : Position) (is : IsTables tables) (same : tables.split.grid ≡ b.grid) (rule : CostRule) (m : Move) where
+  -- its groups see views
+  pub sees_whole : (reached : Option Reached) → IfSome reached (IsReached rule b m) → SeesViews tables.lookups reached
+  sees_whole None none = tt
+  sees_whole (Some r) at = views_at tables (blank_exchange b at.to) r.cells is at.board same at.cells
+
+  -- and it is next to the board
+  pub next_to : (cells : List ℕ) (reached : Option Reached) → IsBoard b → AreCellsOf b cells → IfSome reached (IsReached rule b m) → IsNextTo tables.folds (map (value_by cells) tables.folds) reached
+  next_to cells None board of none = tt
+  next_to cells (Some r) board of at = (
+    fold_views_at tables (blank_exchange b at.to) r.cells is at.board same at.cells,
+    as_before tables b (blank_exchange b at.to) cells r.cells r.tile is board at.board refl same of at.cells at.others,
+  )
 
 -- ---- what is told of a successor
 
+-- the sums by the cells of boards are theirs
+abbrev pub SumsUp : Grid → List Part → (List ℕ → ℕ) → Type 0
+SumsUp grid parts sum = (x : Position) (cells : List ℕ) → IsBoard x → x.grid ≡ grid → AreCellsOf x cells → sum cells ≡ sum_of parts x
+
+pub whole_sums : (tables : Tables) (grid : Grid) → IsTables tables → tables.split.grid ≡ grid → AreWhole tables → SumsUp grid (parts_of tables) (sum_by_cells tables.lookups)
+whole_sums tables grid is same whole x cells board at of = whole_sum tables x cells is board (same ∙ sym at) of whole
+
+pub folded_sums : (tables : Tables) (grid : Grid) → IsTables tables → tables.split.grid ≡ grid → tables.lookups ≡ [] → SumsUp grid (parts_of tables) (λ cells. sum_by (value_by cells) tables.folds)
+folded_sums tables grid is same folded x cells board at of = folded_sum tables x cells is board (same ∙ sym at) of folded
+
 -- what is looked up is what the definition tells
-pub told_is : (rule : CostRule) (tables : Tables) (b : Position) (m : Move) (ranks : List ℕ) (reached : Option Reached) → MatchOption reached (neighbour b.grid m (blank_of b) ≡ None) (IsReached rule tables.lookups b m ranks) → option_map (told_by tables.lookups ranks) reached ≡ option_map (told_of (parts_of tables) b) (successor rule b m)
-told_is rule tables b m ranks None none = ap (λ (o : Option ℕ). option_map (told_of (parts_of tables) b) (option_map (successor_at rule b) o)) (sym none)
-told_is rule tables b m ranks (Some r) is =
+told_is : (rule : CostRule) (parts : List Part) (b : Position) (m : Move) (sum : List ℕ → ℕ) (reached : Option Reached) → SumsUp b.grid parts sum → MatchOption reached (neighbour b.grid m (blank_of b) ≡ None) (IsReached rule b m) → option_map (told_by sum) reached ≡ option_map (told_of parts b) (successor rule b m)
+told_is rule parts b m sum None sums none = ap (λ (o : Option ℕ). option_map (told_of parts b) (option_map (successor_at rule b) o)) (sym none)
+told_is rule parts b m sum (Some r) sums is =
     let cell : r.cell ≡ blank_of (blank_exchange b is.to) = is.cell ∙ sym is.blank in
     let tile : r.tile ≡ slice_index b.tiles (blank_of (blank_exchange b is.to)) = is.tile ∙ sym (ap (slice_index b.tiles) is.blank) in
-    (λ i. Some (record { key = is.key i; tile = tile i; cell = cell i; cost = is.cost i; sum = sum_is tables (blank_exchange b is.to) ranks is.ranks i }))
-    ∙ ap (λ (o : Option ℕ). option_map (told_of (parts_of tables) b) (option_map (successor_at rule b) o)) (sym is.found)
+    let all = sums (blank_exchange b is.to) r.cells is.board refl is.cells in
+    (λ i. Some (record { key = is.key i; tile = tile i; cell = cell i; cost = is.cost i; sum = all i }))
+    ∙ ap (λ (o : Option ℕ). option_map (told_of parts b) (option_map (successor_at rule b) o)) (sym is.found)
 
 -- and what the definition tells but for one move that is left out
-pub told_but : (left_out : Option Move) (rule : CostRule) (tables : Tables) (b : Position) (m : Move) (ranks : List ℕ) (reached : Option Reached) → (is_left_out left_out m ≡ true → reached ≡ None) → (is_left_out left_out m ≡ false → MatchOption reached (neighbour b.grid m (blank_of b) ≡ None) (IsReached rule tables.lookups b m ranks)) → option_map (told_by tables.lookups ranks) reached ≡ but left_out (λ k. option_map (told_of (parts_of tables) b) (successor rule b k)) m
-told_but left_out rule tables b m ranks reached out kept =
+pub told_but : (left_out : Option Move) (rule : CostRule) (parts : List Part) (b : Position) (m : Move) (sum : List ℕ → ℕ) (reached : Option Reached) → SumsUp b.grid parts sum → (is_left_out left_out m ≡ true → reached ≡ None) → (is_left_out left_out m ≡ false → MatchOption reached (neighbour b.grid m (blank_of b) ≡ None) (IsReached rule b m)) → option_map (told_by sum) reached ≡ but left_out (λ k. option_map (told_of parts b) (successor rule b k)) m
+told_but left_out rule parts b m sum reached sums out kept =
     ⊎_elim
-    (λ (yes_out : is_left_out left_out m ≡ true). ap (option_map (told_by tables.lookups ranks)) (out yes_out) ∙ sym (cond-true _ _ _ yes_out))
-    (λ (stays : is_left_out left_out m ≡ false). told_is rule tables b m ranks reached (kept stays) ∙ sym (cond-false _ _ _ stays))
+    (λ (yes_out : is_left_out left_out m ≡ true). ap (option_map (told_by sum)) (out yes_out) ∙ sym (cond-true _ _ _ yes_out))
+    (λ (stays : is_left_out left_out m ≡ false). told_is rule parts b m sum reached sums (kept stays) ∙ sym (cond-false _ _ _ stays))
     (cases_Bool (is_left_out left_out m))
 
 -- its key is that of a board
-pub told_key : (rule : CostRule) (lookups : List Lookup) (b : Position) (m : Move) (ranks : List ℕ) (reached : Option Reached) → IfSome reached (IsReached rule lookups b m ranks) → IfSome (option_map (told_by lookups ranks) reached) (λ s. (x : Position) × HasKey b.grid s.key x)
-told_key rule lookups b m ranks None none = tt
-told_key rule lookups b m ranks (Some r) is = (blank_exchange b is.to, record { board = is.board; sides = refl; packed = sym is.key })
+pub told_key : (rule : CostRule) (b : Position) (m : Move) (sum : List ℕ → ℕ) (reached : Option Reached) → IfSome reached (IsReached rule b m) → IfSome (option_map (told_by sum) reached) (λ s. (x : Position) × HasKey b.grid s.key x)
+told_key rule b m sum None none = tt
+told_key rule b m sum (Some r) is = (blank_exchange b is.to, record { board = is.board; sides = refl; packed = sym is.key })

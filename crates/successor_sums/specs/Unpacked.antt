@@ -1,5 +1,5 @@
 -- Boards with the cell of each number beside the numbers, and what is told of their successors.
-use Rattle.std.specs.Prelude.{Bool, false, if◌then◌else◌, None, ℕ, ◌≡◌, ◌≤◌, ◌<◌, List, length, map, take, slice_index, Option, Some, option_map}
+use Rattle.std.specs.Prelude.{Bool, false, if◌then◌else◌, None, ℕ, ◌≡◌, ◌≤◌, ◌<◌, List, All, length, map, slice_index, Option, Some, IfSome, option_map}
 use Rattle.board.specs.declared.moves.Move.{Move}
 use Rattle.board.specs.Equality.{move_eq}
 use Rattle.board.specs.Grids.{cell_count}
@@ -8,11 +8,11 @@ use Rattle.board.specs.CostRules.{CostRule, weight_of}
 use Rattle.board.specs.Keys.{key_of}
 use Rattle.board.specs.Neighbours.{neighbour}
 use Rattle.board.specs.Moves.{all_moves, blank_exchange, successor}
-use Rattle.pattern_index.specs.Views.{view_of}
-use Rattle.pattern_index.specs.Selections.{rank_in}
+use Rattle.pattern_index.specs.Views.{IsView, view_at}
 use Rattle.database_build.specs.Tables.{Lookup}
+use Rattle.database_build.specs.Folds.{Fold}
 use Rattle.lower_bound.specs.Bounds.{Part, sum_of}
-use Rattle.successor_sums.specs.Ranks.{AreRanks, sum_at}
+use Rattle.lower_bound.specs.Folded.{AreAsBefore, IsBefore}
 use Rattle.successor_sums.specs.declared.unpacked.Successor.{Successor}
 use Rattle.successor_sums.specs.declared.unpacked.Reached.{Reached}
 use Rattle.successor_sums.specs.declared.unpacked.UnpackedBoard.TheInside.{Inside}
@@ -54,13 +54,15 @@ pub record IsUnpacked (inside : Inside) : Type 0 where
 
 -- ---- where a move leads to, before the sum is known
 
--- what is kept of the board after the blank goes to its neighbour in the direction m, and its ranks
-pub record IsReached (rule : CostRule) (lookups : List Lookup) (b : Position) (m : Move) (kept : List ℕ) (reached : Reached) : Type 0 where
+-- what is kept of the board after the blank goes to its neighbour in the direction m
+pub record IsReached (rule : CostRule) (b : Position) (m : Move) (reached : Reached) : Type 0 where
   pub to : ℕ
   pub found : neighbour b.grid m (blank_of b) ≡ Some to
   pub below : to < cell_count b.grid
   pub board : IsBoard (blank_exchange b to)
   pub blank : blank_of (blank_exchange b to) ≡ to
+  pub cells : AreCellsOf (blank_exchange b to) reached.cells
+  pub others : IsBefore b (blank_exchange b to) reached.tile
   pub cell : reached.cell ≡ to
   pub tile : reached.tile ≡ slice_index b.tiles to
   pub tile_some : 0 < reached.tile
@@ -69,9 +71,16 @@ pub record IsReached (rule : CostRule) (lookups : List Lookup) (b : Position) (m
   pub cost : reached.cost ≡ weight_of rule (slice_index b.tiles to)
   pub low : 1 ≤ reached.cost
   pub high : reached.cost ≤ 255
-  pub ranks : take (length lookups) kept ≡ map (λ table. rank_in table.selection.grid (view_of table.selection.tiles (blank_exchange b to))) lookups
-  pub within : AreRanks lookups kept
 
--- the successor that is told by the values at the ranks
-abbrev pub told_by : List Lookup → List ℕ → Reached → Successor
-told_by lookups ranks reached = record { key = reached.key; tile = reached.tile; cell = reached.cell; cost = reached.cost; sum = sum_at lookups ranks }
+-- the successor, with its sum by the cell of each number
+abbrev pub told_by : (List ℕ → ℕ) → Reached → Successor
+told_by sum reached = record { key = reached.key; tile = reached.tile; cell = reached.cell; cost = reached.cost; sum = sum reached.cells }
+
+-- each table's group sees a view, by the cells of what was reached
+abbrev pub SeesViews : List Lookup → Option Reached → Type 0
+SeesViews lookups reached = IfSome reached (λ r. All (λ table. IsView table.selection.grid table.selection.tiles (view_at table.selection.tiles r.cells)) lookups)
+
+-- so does that of each folded table, and these values are those of the board before the tile moved
+abbrev pub IsNextTo : List Fold → List ℕ → Option Reached → Type 0
+IsNextTo folds values reached =
+    IfSome reached (λ r. All (λ fold. IsView fold.selection.grid fold.selection.tiles (view_at fold.selection.tiles r.cells)) folds × AreAsBefore r.cells r.tile folds values)

@@ -1,23 +1,25 @@
 //! A board taken apart, and what its successors are told by.
 
-ghost use Rattle.std.specs.Prelude.{ℕ, ◌≡◌, ◌*◌, ◌^◌, ◌<◌, ◌≤◌, length, All, IfSome, None};
-ghost use Rattle.std.specs.Prelude.{MatchOption, option_map, true, false, Some};
+ghost use Rattle.std.specs.Prelude.{ℕ, ◌≡◌, ◌*◌, ◌^◌, ◌<◌, ◌≤◌, [], ◌∷◌, length, map, All, IfSome, None};
+ghost use Rattle.std.specs.Prelude.{MatchOption, option_map, sum_by, true, false, Some};
 ghost use Rattle.board.specs.Grids.{cell_count};
 ghost use Rattle.board.specs.Positions.{Position, IsBoard, blank_of};
 ghost use Rattle.board.specs.CostRules.{CostRule};
 ghost use Rattle.board.specs.Neighbours.{neighbour};
 ghost use Rattle.board.specs.Keys.{key_of, HasKey};
 ghost use Rattle.board.specs.Plans.{NothingBelow};
+ghost use Rattle.pattern_index.specs.Views.{IsView, view_at};
 ghost use Rattle.lower_bound.specs.Bounds.{sum_of};
+ghost use Rattle.lower_bound.specs.Folded.{value_by};
 ghost use Rattle.lower_bound.specs.Tables.{ArePotentials, parts_of};
-ghost use Rattle.successor_sums.specs.Ranks.{AreRanks};
+ghost use Rattle.successor_sums.specs.Ranks.{AreRanksOf, sum_by_cells};
 ghost use Rattle.successor_sums.specs.Unpacked.{successors_of, is_left_out, successors_but};
-ghost use Rattle.successor_sums.specs.Unpacked.{IsReached, told_by};
+ghost use Rattle.successor_sums.specs.Unpacked.{IsReached, SeesViews, IsNextTo, told_by};
 
 use crate::ranks::{MOST_TABLES, sum_ranks, write_ranks};
 use board::{Board, Move, Shape, Weights};
-use database_build::Table;
-use lower_bound::{Bound, GREATEST_SUM};
+use database_build::{Folded, Table};
+use lower_bound::{Bound, GREATEST_SUM, Parts, TableList};
 use pattern_index::cells_of;
 use std::marker::Model;
 
@@ -37,13 +39,14 @@ pub struct Successor {
     pub sum: u32,
 }
 
-// What is kept of a successor, beside its ranks, until its sum is known.
+// What is kept of a successor until its sum is known: with the cell of each number.
 #[derive(Clone, Copy, Debug)]
 struct Reached {
     key: u128,
     cell: usize,
     tile: u8,
     cost: u32,
+    cells: [u8; 25],
 }
 
 /// A board taken apart: its key, the tile on each cell, and the cell of each tile.
@@ -119,10 +122,10 @@ impl UnpackedBoard {
         ensures nothing_below { (rule : CostRule) (goal : Position) →
             ArePotentials rule goal bound.now → NothingBelow rule self.now goal result }
     {
-        let tables = bound.tables();
-        let mut ranks = [0; MOST_TABLES];
-        write_ranks(tables, &self.cells, &mut ranks);
-        sum_ranks(tables, &ranks)
+        match bound.tables() {
+            TableList::Whole(tables) => sum_at_cells(tables, &self.cells),
+            TableList::Folded(folds) => Parts::at(folds, &self.cells).sum(),
+        }
     }
 
     /// What is told of its successors, by the four moves in the order of `Move::ALL`: None where
@@ -146,8 +149,9 @@ impl UnpackedBoard {
 
     /// The same, but for one move that is left out, if any is: of that nothing is told.
     ///
-    /// All ranks are made before the first value is read, so that the reads, each of which may miss
-    /// the cache, go on side by side.
+    /// All ranks in whole tables are made before the first value is read, so that the reads, each
+    /// of which may miss the cache, go on side by side. Of folded tables only that of the tile that
+    /// is moved is read anew.
     pub fn successors_but(
         &self,
         left_out: Option<Move>,
@@ -168,21 +172,17 @@ impl UnpackedBoard {
             (λ told. IfSome told (λ s. (1 ≤ s.cost) × (s.cost ≤ 255))) result }
         ensures sums { All (λ told. IfSome told (λ s. s.sum ≤ GREATEST_SUM)) result }
     {
-        let mut up_ranks = [0; MOST_TABLES];
-        let up = self.reach_but(left_out, Move::U, weights, bound, &mut up_ranks);
-        let mut left_ranks = [0; MOST_TABLES];
-        let left = self.reach_but(left_out, Move::L, weights, bound, &mut left_ranks);
-        let mut right_ranks = [0; MOST_TABLES];
-        let right = self.reach_but(left_out, Move::R, weights, bound, &mut right_ranks);
-        let mut down_ranks = [0; MOST_TABLES];
-        let down = self.reach_but(left_out, Move::D, weights, bound, &mut down_ranks);
-        let tables = bound.tables();
-        [
-            look_up(tables, &up, &up_ranks),
-            look_up(tables, &left, &left_ranks),
-            look_up(tables, &right, &right_ranks),
-            look_up(tables, &down, &down_ranks),
-        ]
+        let up = self.reach_but(left_out, Move::U, weights);
+        let left = self.reach_but(left_out, Move::L, weights);
+        let right = self.reach_but(left_out, Move::R, weights);
+        let down = self.reach_but(left_out, Move::D, weights);
+        match bound.tables() {
+            TableList::Whole(tables) => by_tables(tables, &up, &left, &right, &down),
+            TableList::Folded(folds) => {
+                let parts = Parts::at(folds, &self.cells);
+                by_folds(folds, &parts, &up, &left, &right, &down)
+            }
+        }
     }
 
     // What is kept of the successor by a move, unless the move is left out.
@@ -191,37 +191,26 @@ impl UnpackedBoard {
         left_out: Option<Move>,
         direction: Move,
         weights: &Weights,
-        bound: &Bound,
-        ranks: &mut [u32; MOST_TABLES],
     ) -> Option<Reached>
-        requires rule { weights.now.grid ≡ self.now.grid }
-        requires bound { bound.now.split.grid ≡ self.now.grid }
+        requires { weights.now.grid ≡ self.now.grid }
         ensures out { is_left_out left_out direction ≡ true → result ≡ None }
         ensures kept { is_left_out left_out direction ≡ false → MatchOption result
             (neighbour self.now.grid direction (blank_of self.now) ≡ None)
-            (IsReached weights.now bound.now.lookups self.now direction ranks.new) }
-        ensures reached { IfSome result
-            (IsReached weights.now bound.now.lookups self.now direction ranks.new) }
+            (IsReached weights.now self.now direction) }
+        ensures reached { IfSome result (IsReached weights.now self.now direction) }
     {
         if leaves_out(left_out, direction) {
             return None;
         }
-        self.reach(direction, weights, bound, ranks)
+        self.reach(direction, weights)
     }
 
-    // What is kept of the successor by a move until its sum is known, and writes its ranks. Its key
-    // is this board's, with the tile's digit taken from one place to another.
-    fn reach(
-        &self,
-        direction: Move,
-        weights: &Weights,
-        bound: &Bound,
-        ranks: &mut [u32; MOST_TABLES],
-    ) -> Option<Reached>
-        requires rule { weights.now.grid ≡ self.now.grid }
-        requires bound { bound.now.split.grid ≡ self.now.grid }
+    // What is kept of the successor by a move until its sum is known. Its key is this board's, with
+    // the tile's digit taken from one place to another.
+    fn reach(&self, direction: Move, weights: &Weights) -> Option<Reached>
+        requires { weights.now.grid ≡ self.now.grid }
         ensures { MatchOption result (neighbour self.now.grid direction (blank_of self.now) ≡ None)
-            (IsReached weights.now bound.now.lookups self.now direction ranks.new) }
+            (IsReached weights.now self.now direction) }
     {
         let shape = self.board.shape();
         let from = self.cells[0];
@@ -233,12 +222,12 @@ impl UnpackedBoard {
         let last = shape.cells() - 1;
         let key = self.key - digit_at(tile, last - to) + digit_at(tile, last - from as usize);
         let cost = weights.of(tile);
-        write_ranks(bound.tables(), &cells, ranks);
         Some(Reached {
             key,
             tile,
             cell: to,
             cost,
+            cells,
         })
     }
 }
@@ -253,6 +242,61 @@ fn leaves_out(left_out: Option<Move>, direction: Move) -> bool
     back == direction
 }
 
+// What whole tables say of a board, by the cell of each number, added up.
+fn sum_at_cells(tables: &[Table], cells: &[u8; 25]) -> u32
+    requires few { length tables.now ≤ MOST_TABLES }
+    requires views { All (λ table. IsView table.selection.grid table.selection.tiles
+        (view_at table.selection.tiles cells.now)) tables.now }
+    ensures value { result ≡ sum_by_cells tables.now cells.now }
+    ensures high { result ≤ GREATEST_SUM }
+{
+    let mut ranks = [0; MOST_TABLES];
+    write_ranks(tables, cells, &mut ranks);
+    sum_ranks(tables, &ranks)
+}
+
+// The successors, by whole tables.
+fn by_tables(
+    tables: &[Table],
+    up: &Option<Reached>,
+    left: &Option<Reached>,
+    right: &Option<Reached>,
+    down: &Option<Reached>,
+) -> [Option<Successor>; 4]
+    requires few { length tables.now ≤ MOST_TABLES }
+    requires up { SeesViews tables.now up.now }
+    requires left { SeesViews tables.now left.now }
+    requires right { SeesViews tables.now right.now }
+    requires down { SeesViews tables.now down.now }
+    ensures value { result ≡ map (option_map (told_by (sum_by_cells tables.now)))
+        (up.now ∷ left.now ∷ right.now ∷ down.now ∷ []) }
+    ensures high { All (λ told. IfSome told (λ s. s.sum ≤ GREATEST_SUM)) result }
+{
+    let up_ranks = ranks_of(tables, up);
+    let left_ranks = ranks_of(tables, left);
+    let right_ranks = ranks_of(tables, right);
+    let down_ranks = ranks_of(tables, down);
+    [
+        look_up(tables, up, &up_ranks),
+        look_up(tables, left, &left_ranks),
+        look_up(tables, right, &right_ranks),
+        look_up(tables, down, &down_ranks),
+    ]
+}
+
+// The ranks of what the groups see of a successor, if there is one.
+fn ranks_of(tables: &[Table], reached: &Option<Reached>) -> [u32; MOST_TABLES]
+    requires few { length tables.now ≤ MOST_TABLES }
+    requires views { SeesViews tables.now reached.now }
+    ensures { IfSome reached.now (λ r. AreRanksOf tables.now r.cells result) }
+{
+    let mut ranks = [0; MOST_TABLES];
+    if let Some(found) = reached {
+        write_ranks(tables, &found.cells, &mut ranks);
+    }
+    ranks
+}
+
 // The successor, by the values that stand at its ranks.
 fn look_up(
     tables: &[Table],
@@ -260,20 +304,68 @@ fn look_up(
     ranks: &[u32; MOST_TABLES],
 ) -> Option<Successor>
     requires few { length tables.now ≤ MOST_TABLES }
-    requires within { IfSome reached.now (λ r. AreRanks tables.now ranks.now) }
-    ensures value { result ≡ option_map (told_by tables.now ranks.now) reached.now }
+    requires ranks { IfSome reached.now (λ r. AreRanksOf tables.now r.cells ranks.now) }
+    ensures value { result ≡ option_map (told_by (sum_by_cells tables.now)) reached.now }
     ensures high { IfSome result (λ s. s.sum ≤ GREATEST_SUM) }
 {
     let Some(found) = reached else {
         return None;
     };
-    Some(Successor {
+    let sum = sum_ranks(tables, ranks);
+    Some(with_sum(found, sum))
+}
+
+// The successors, by folded tables: from the values of the board before.
+fn by_folds(
+    folds: &[Folded],
+    parts: &Parts,
+    up: &Option<Reached>,
+    left: &Option<Reached>,
+    right: &Option<Reached>,
+    down: &Option<Reached>,
+) -> [Option<Successor>; 4]
+    requires up { IsNextTo folds.now parts.now up.now }
+    requires left { IsNextTo folds.now parts.now left.now }
+    requires right { IsNextTo folds.now parts.now right.now }
+    requires down { IsNextTo folds.now parts.now down.now }
+    ensures value { result
+        ≡ map (option_map (told_by (λ cells. sum_by (value_by cells) folds.now)))
+        (up.now ∷ left.now ∷ right.now ∷ down.now ∷ []) }
+    ensures high { All (λ told. IfSome told (λ s. s.sum ≤ GREATEST_SUM)) result }
+{
+    [
+        by_parts(folds, parts, up),
+        by_parts(folds, parts, left),
+        by_parts(folds, parts, right),
+        by_parts(folds, parts, down),
+    ]
+}
+
+// The successor, by folded tables: from the values of the board before.
+fn by_parts(folds: &[Folded], parts: &Parts, reached: &Option<Reached>) -> Option<Successor>
+    requires { IsNextTo folds.now parts.now reached.now }
+    ensures value { result
+        ≡ option_map (told_by (λ cells. sum_by (value_by cells) folds.now)) reached.now }
+    ensures high { IfSome result (λ s. s.sum ≤ GREATEST_SUM) }
+{
+    let Some(found) = reached else {
+        return None;
+    };
+    let sum = parts.sum_after(folds, &found.cells, found.tile);
+    Some(with_sum(found, sum))
+}
+
+// What is told of a successor, with its sum.
+fn with_sum(found: &Reached, sum: u32) -> Successor
+    ensures { result ≡ told_by (λ cells. sum) found.now }
+{
+    Successor {
         key: found.key,
         tile: found.tile,
         cell: found.cell,
         cost: found.cost,
-        sum: sum_ranks(tables, ranks),
-    })
+        sum,
+    }
 }
 
 // A tile as the digit of a key that has so many digits behind it.

@@ -1,5 +1,5 @@
-use Rattle.std.proofs.Common.{◌≡◌, ◌-◌, ◌+◌, ◌*◌, ◌^◌, ◌<◌, ℕ, List, Some, length, map, set, take, refl, sym, ap, ◌∙◌, subst, arith}
-use Rattle.std.specs.Prelude.{All, slice_index}
+use Rattle.std.proofs.Common.{◌≡◌, ◌-◌, ◌+◌, ◌*◌, ◌^◌, ◌<◌, ℕ, Some, set, refl, sym, ap, ◌∙◌, subst, arith}
+use Rattle.std.specs.Prelude.{slice_index}
 use Rattle.board.specs.Grids.{cell_count}
 use Rattle.board.specs.Neighbours.{neighbour}
 use Rattle.board.specs.Positions.{Position, blank_of}
@@ -7,13 +7,8 @@ use Rattle.board.specs.CostRules.{weight_of}
 use Rattle.board.specs.Keys.{key_of}
 use Rattle.board.specs.Moves.{blank_exchange}
 use Rattle.board.proofs.MoveLemmas.{blank_after}
-use Rattle.pattern_index.specs.Views.{IsView, view_at}
-use Rattle.pattern_index.specs.Selections.{rank_in}
-use Rattle.database_build.specs.Tables.{Lookup}
-use Rattle.successor_sums.specs.Ranks.{AreRanks}
 use Rattle.successor_sums.specs.Unpacked.{IsReached}
 use Rattle.successor_sums.proofs.MoveLemmas.{blank_below, below, led_to}
-use Rattle.successor_sums.proofs.SumLemmas.{views_at, ranks_are}
 use Rattle.successor_sums.proofs.unpacked.UnpackedBoard.reach.Goals as goal
 
 pub neighbour-requires : goal.neighbour-requires
@@ -60,33 +55,23 @@ of-cost-requires-clause-tile c =
     let led = led_to c.self.inside c.shape-shape.result c.args.direction c.in_ok-to.to c.self.invariant c.shape-shape.ensures.value ((c.neighbour.ensures.towards c.in_ok-to.to).0 c.in_ok-to.was) c.tile-tile.result c.tile-tile.ensures.value in
     led.tile_some
 
-pub write_ranks-requires-clause-views : goal.write_ranks-requires-clause-views
-write_ranks-requires-clause-views c =
-    let led = led_to c.self.inside c.shape-shape.result c.args.direction c.in_ok-to.to c.self.invariant c.shape-shape.ensures.value ((c.neighbour.ensures.towards c.in_ok-to.to).0 c.in_ok-to.was) c.tile-tile.result c.tile-tile.ensures.value in
-    let same = c.requires.bound ∙ ap (λ (p : Position). p.grid) (sym c.self.view_is) in
-    let cells : List ℕ = set (set c.self.inside.cells 0 c.in_ok-to.to) c.tile-tile.result (slice_index c.self.inside.cells 0) in
-    subst (λ (ls : List Lookup). All (λ table. IsView table.selection.grid table.selection.tiles (view_at table.selection.tiles cells)) ls) (sym c.tables.ensures.value)
-    (views_at c.args.bound.now (blank_exchange c.self.inside.board c.in_ok-to.to) cells c.tables.ensures.tables led.board same led.cells)
-
 pub returns : goal.returns
 returns c =
     let led = led_to c.self.inside c.shape-shape.result c.args.direction c.in_ok-to.to c.self.invariant c.shape-shape.ensures.value ((c.neighbour.ensures.towards c.in_ok-to.to).0 c.in_ok-to.was) c.tile-tile.result c.tile-tile.ensures.value in
-    let same = c.requires.bound ∙ ap (λ (p : Position). p.grid) (sym c.self.view_is) in
-    let cells : List ℕ = set (set c.self.inside.cells 0 c.in_ok-to.to) c.tile-tile.result (slice_index c.self.inside.cells 0) in
     let count : c.cells-last.result ≡ cell_count c.self.inside.board.grid = c.cells-last.ensures.value ∙ ap cell_count c.shape-shape.ensures.value in
     let from = c.digit_at.ensures ∙ ap (λ (n : ℕ). c.tile-tile.result * 32 ^ (n - 1 - c.in_ok-to.to)) count in
     let to = c.digit_at-2.ensures ∙ ap (λ (n : ℕ). c.tile-tile.result * 32 ^ (n - 1 - slice_index c.self.inside.cells 0)) count in
     let found : neighbour c.self.inside.board.grid c.args.direction (blank_of c.self.inside.board) ≡ Some c.in_ok-to.to =
     (λ i. neighbour (sym c.shape-shape.ensures.value i) c.args.direction (sym led.blank i)) ∙ sym c.neighbour.ensures.value ∙ c.in_ok-to.was in
-    let ranks : take (length c.args.bound.now.lookups) c.write_ranks.new.ranks ≡ map (λ table. rank_in table.selection.grid (view_at table.selection.tiles cells)) c.args.bound.now.lookups =
-    subst (λ (ls : List Lookup). take (length ls) c.write_ranks.new.ranks ≡ map (λ table. rank_in table.selection.grid (view_at table.selection.tiles cells)) ls) c.tables.ensures.value c.write_ranks.ensures.value in
-    subst (λ (p : Position). IsReached c.args.weights.now c.args.bound.now.lookups p c.args.direction c.write_ranks.new.ranks (record { key = c.self.inside.key - c.digit_at.result + c.digit_at-2.result; tile = c.tile-tile.result; cell = c.in_ok-to.to; cost = c.of-cost.result })) c.self.view_is
+    subst (λ (p : Position). IsReached c.args.weights.now p c.args.direction (record { key = c.self.inside.key - c.digit_at.result + c.digit_at-2.result; tile = c.tile-tile.result; cell = c.in_ok-to.to; cost = c.of-cost.result; cells = set (set c.self.inside.cells 0 c.in_ok-to.to) c.tile-tile.result (slice_index c.self.inside.cells 0) })) c.self.view_is
     (record {
       to = c.in_ok-to.to;
       found = found;
       below = led.below;
       board = led.board;
       blank = blank_after c.self.inside.board c.self.invariant.board c.in_ok-to.to led.below;
+      cells = led.cells;
+      others = led.others;
       cell = refl;
       tile = sym led.tile_is;
       tile_some = led.tile_some;
@@ -95,6 +80,4 @@ returns c =
       cost = c.of-cost.ensures.value ∙ ap (weight_of c.args.weights.now) (sym led.tile_is);
       low = c.of-cost.ensures.low;
       high = c.of-cost.ensures.high;
-      ranks = ranks ∙ ranks_are c.args.bound.now (blank_exchange c.self.inside.board c.in_ok-to.to) cells c.tables.ensures.tables led.board same led.cells;
-      within = subst (λ (ls : List Lookup). AreRanks ls c.write_ranks.new.ranks) c.tables.ensures.value c.write_ranks.ensures.within;
     })
