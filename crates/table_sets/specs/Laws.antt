@@ -1,11 +1,11 @@
--- The law of built tables. It is the contract of a function that does nothing.
-use Rattle.std.specs.Prelude.{◌≡◌}
+-- The laws of built tables. Each is the contract of a function that does nothing.
+use Rattle.std.specs.Prelude.{◌≡◌, ◌≤◌}
 use Rattle.board.specs.Positions.{Position, IsBoard}
 use Rattle.board.specs.CostRules.{CostRule}
 use Rattle.pattern_index.specs.Splits.{Split, IsSplit}
 use Rattle.lower_bound.specs.Bounds.{sum_of}
 use Rattle.lower_bound.specs.Tables.{Tables, parts_of}
-use Rattle.table_sets.specs.Built.{AreBuilt}
+use Rattle.table_sets.specs.Built.{AreBuilt, AreBuiltFolded}
 
 -- tables of the same groups, for the same goal and costs, give each board the same sum
 abbrev pub SumsAreDetermined : Type 0
@@ -18,3 +18,27 @@ SumsAreDetermined =
     → IsBoard b
     → b.grid ≡ split.grid
     → sum_of (parts_of one) b ≡ sum_of (parts_of other) b
+
+-- so do folded ones
+abbrev pub FoldedSumsAreDetermined : Type 0
+FoldedSumsAreDetermined =
+    (split : Split) (rule : CostRule) (goal : Position) (one other : Tables)
+    → IsSplit split
+    → AreBuiltFolded split rule goal one
+    → AreBuiltFolded split rule goal other
+    → (b : Position)
+    → IsBoard b
+    → b.grid ≡ split.grid
+    → sum_of (parts_of one) b ≡ sum_of (parts_of other) b
+
+-- and their sum is no greater than that of whole ones
+abbrev pub FoldedSumsAreNoGreater : Type 0
+FoldedSumsAreNoGreater =
+    (split : Split) (rule : CostRule) (goal : Position) (whole folded : Tables)
+    → IsSplit split
+    → AreBuilt split rule goal whole
+    → AreBuiltFolded split rule goal folded
+    → (b : Position)
+    → IsBoard b
+    → b.grid ≡ split.grid
+    → sum_of (parts_of folded) b ≤ sum_of (parts_of whole) b

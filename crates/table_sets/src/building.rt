@@ -1,13 +1,14 @@
-//! Tables are built, group by group or side by side.
+//! Tables are built, group by group or side by side, and are kept whole or folded.
 
 ghost use Rattle.std.specs.Prelude.{◌≡◌, ◌<◌, ◌≤◌, All, length, sum_by, IfOk, IsSome};
 ghost use Rattle.std.specs.Prelude.{MatchOption, map, Some, Ok};
 ghost use Rattle.pattern_index.specs.Selections.{size_of};
 ghost use Rattle.lower_bound.specs.Tables.{ArePotentials};
-ghost use Rattle.table_sets.specs.Built.{AreBuilt, AreTrueTables, IsTrueTableAt, FitAll};
+ghost use Rattle.table_sets.specs.Built.{AreBuilt, AreBuiltFolded, AreEach, IsEachAt, FitAll};
 
+use crate::group_tables::GroupTable;
 use board::{Board, Weights};
-use database_build::{Table, build};
+use database_build::{Folded, Table};
 use lower_bound::Bound;
 use memory::{OutOfMemory, push, with_capacity};
 use pattern_index::{Group, Partition};
@@ -19,8 +20,8 @@ use std::thread::Threads;
 /// would pay for the threads and for the memory of several searches at once.
 const PARALLEL_VIEWS: usize = 1_000_000;
 
-/// Where a thread leaves the table that it built, or that memory was refused for it. None before.
-type Place = Option<Result<Table, OutOfMemory>>;
+/// Where a thread leaves what it built, or that memory was refused for it. None before.
+type Place<T> = Option<Result<T, OutOfMemory>>;
 
 /// The bound of these groups by tables that are built for this goal and these weights: a table for
 /// each group, in the order of the groups, with the value of each of its views. So its sums are
@@ -44,21 +45,46 @@ pub fn build_bound(
     // What holds of every partition and of every board is told by these calls.
     let _ = groups.shape();
     let _ = goal.shape();
-    let tables = build_tables(rt, alloc, groups.groups(), goal, weights)?;
+    let tables: Vec<Table> = build_each(rt, alloc, groups.groups(), goal, weights)?;
     Ok(Bound::new(groups, tables).unwrap())
 }
 
+/// The same bound, folded: for each group, in their order, a folded table, folded from the table
+/// with the value of each of the group's views. So its sums are admissible, though they are not
+/// consistent.
+///
+/// Each table is given back as soon as it was folded. So besides the folded ones there is at most
+/// one table for each thread at a time, with what its search needs.
+pub fn build_folded_bound(
+    rt: &(impl Threads + Sync),
+    alloc: Global,
+    groups: Partition,
+    goal: &Board,
+    weights: &Weights,
+) -> Result<Bound, OutOfMemory>
+    requires goal { goal.now.grid ≡ groups.grid }
+    requires weights { weights.now.grid ≡ groups.grid }
+    ensures built { IfOk result (AreBuiltFolded groups weights.now goal.now) }
+    ensures potentials { IfOk result (ArePotentials weights.now goal.now) }
+{
+    let _ = groups.shape();
+    let _ = goal.shape();
+    let folds: Vec<Folded> = build_each(rt, alloc, groups.groups(), goal, weights)?;
+    Ok(Bound::of_folded(groups, folds).unwrap())
+}
+
 // A table for each of these groups, in their order.
-fn build_tables(
+fn build_each<T: GroupTable + Send>(
     rt: &(impl Threads + Sync),
     alloc: Global,
     groups: &[Group],
     goal: &Board,
     weights: &Weights,
-) -> Result<Vec<Table>, OutOfMemory>
+) -> Result<Vec<T>, OutOfMemory>
     requires few { length groups.now ≤ 24 }
     requires fit { FitAll groups.now weights.now goal.now }
-    ensures { IfOk result (λ tables. AreTrueTables groups.now weights.now goal.now tables.items) }
+    ensures { IfOk result
+        (λ tables. AreEach (T.is_true weights.now goal.now) groups.now tables.items) }
 {
     if count_views(groups) < PARALLEL_VIEWS {
         return build_one_after_the_other(alloc, groups, goal, weights);
@@ -79,53 +105,55 @@ fn count_views(groups: &[Group]) -> usize
 }
 
 // The tables, built by this thread.
-fn build_one_after_the_other(
+fn build_one_after_the_other<T: GroupTable>(
     alloc: Global,
     groups: &[Group],
     goal: &Board,
     weights: &Weights,
-) -> Result<Vec<Table>, OutOfMemory>
+) -> Result<Vec<T>, OutOfMemory>
     requires { FitAll groups.now weights.now goal.now }
-    ensures { IfOk result (λ tables. AreTrueTables groups.now weights.now goal.now tables.items) }
+    ensures { IfOk result
+        (λ tables. AreEach (T.is_true weights.now goal.now) groups.now tables.items) }
 {
     let mut tables = Vec::new(alloc);
     'groups: for group in groups {
-        let table = build(alloc, group, goal, weights)?;
+        let table = T::build_for(alloc, group, goal, weights)?;
         push(&mut tables, table)?;
     }
     Ok(tables)
 }
 
 // The tables, built by a thread for each processor, or for each group where these are fewer.
-fn build_side_by_side(
+fn build_side_by_side<T: GroupTable + Send>(
     rt: &(impl Threads + Sync),
     alloc: Global,
     groups: &[Group],
     goal: &Board,
     weights: &Weights,
-) -> Result<Vec<Table>, OutOfMemory>
+) -> Result<Vec<T>, OutOfMemory>
     requires few { length groups.now ≤ 24 }
     requires fit { FitAll groups.now weights.now goal.now }
-    ensures { IfOk result (λ tables. AreTrueTables groups.now weights.now goal.now tables.items) }
+    ensures { IfOk result
+        (λ tables. AreEach (T.is_true weights.now goal.now) groups.now tables.items) }
 {
     let mut places = empty_places(alloc, groups.len())?;
     par_for_each_mut(
         rt,
         places.as_mut_slice(),
-        |i: usize, place: &mut Place|
+        |i: usize, place: &mut Place<T>|
             requires within { i < length groups.now }
             requires fit { FitAll groups.now weights.now goal.now }
             ensures { MatchOption place.new ⊥ (λ built. IfOk built
-                (IsTrueTableAt groups.entry.now weights.entry.now goal.entry.now i)) }
+                (IsEachAt (T.is_true weights.entry.now goal.entry.now) groups.entry.now i)) }
         {
-            *place = Some(build(alloc, &groups[i], goal, weights));
+            *place = Some(T::build_for(alloc, &groups[i], goal, weights));
         },
     );
     take_tables(alloc, places)
 }
 
 // So many places where nothing is built yet.
-fn empty_places(alloc: Global, count: usize) -> Result<Vec<Place>, OutOfMemory>
+fn empty_places<T: Drop>(alloc: Global, count: usize) -> Result<Vec<Place<T>>, OutOfMemory>
     requires { count ≤ 24 }
     ensures { IfOk result (λ places. length places.items ≡ count) }
 {
@@ -137,7 +165,7 @@ fn empty_places(alloc: Global, count: usize) -> Result<Vec<Place>, OutOfMemory>
 }
 
 // The tables that were built at their places, or that memory was refused for one.
-fn take_tables(alloc: Global, places: Vec<Place>) -> Result<Vec<Table>, OutOfMemory>
+fn take_tables<T: Drop>(alloc: Global, places: Vec<Place<T>>) -> Result<Vec<T>, OutOfMemory>
     requires { All IsSome places.items }
     ensures { IfOk result (λ tables. places.items ≡ map (λ table. Some (Ok table)) tables.items) }
 {

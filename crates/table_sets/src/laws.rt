@@ -1,6 +1,7 @@
-//! The law of built tables: the contract of a function that does nothing.
+//! The laws of built tables: each is the contract of a function that does nothing.
 
-ghost use Rattle.table_sets.specs.Laws.{SumsAreDetermined};
+ghost use Rattle.table_sets.specs.Laws.{SumsAreDetermined, FoldedSumsAreDetermined};
+ghost use Rattle.table_sets.specs.Laws.{FoldedSumsAreNoGreater};
 
 use database_build::laws::values_are_determined;
 
@@ -8,6 +9,20 @@ use database_build::laws::values_are_determined;
 /// makes no difference how they were built.
 pub fn sums_are_determined()
     ensures { SumsAreDetermined }
+{
+    values_are_determined();
+}
+
+/// So do folded tables, however they were built and folded.
+pub fn folded_sums_are_determined()
+    ensures { FoldedSumsAreDetermined }
+{
+    values_are_determined();
+}
+
+/// No board's sum by folded tables is greater than its sum by whole ones of the same groups.
+pub fn folded_sums_are_no_greater()
+    ensures { FoldedSumsAreNoGreater }
 {
     values_are_determined();
 }

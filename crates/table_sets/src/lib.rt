@@ -4,6 +4,7 @@
 #![tactic(auto)]
 
 mod building;
+mod group_tables;
 pub mod laws;
 
-pub use building::build_bound;
+pub use building::{build_bound, build_folded_bound};

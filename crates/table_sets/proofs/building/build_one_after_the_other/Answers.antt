@@ -2,6 +2,6 @@ use Rattle.table_sets.proofs.BuiltLemmas.{one_more}
 use Rattle.table_sets.proofs.building.build_one_after_the_other.Goals as goal
 
 pub groups-preserved : goal.groups-preserved
-groups-preserved c =
-    one_more c.args.groups.now c.args.weights.now c.args.goal.now c.groups.group-index c.group-item.result c.groups.tables.items c.push.new.items.items c.in_ok-table.table c.groups-test.true c.group-item.is
-    c.in_ok-table.ensures.group c.in_ok-table.ensures.values c.groups.invariant c.in_ok-push.ensures.items
+groups-preserved g c =
+    one_more (g.T.GroupTable.is_true c.args.weights.now c.args.goal.now) c.args.groups.now c.groups.group-index c.group-item.result c.groups.tables.items c.push.new.items.items c.in_ok-table.table c.groups-test.true c.group-item.is
+    c.in_ok-table.ensures c.groups.invariant c.in_ok-push.ensures.items
