@@ -1,15 +1,17 @@
 //! The tables of a bound are compared with the groups of a certificate, and tested.
 
-ghost use Rattle.std.specs.Prelude.{◌≡◌, ◌<◌, ◌↔◌, length, IsTrue, IsNone, IfSome};
+ghost use Rattle.std.specs.Prelude.{◌≡◌, ◌<◌, ◌↔◌, length, slice_get, Some, None};
+ghost use Rattle.std.specs.Prelude.{IsTrue, IsNone, IfSome, MatchOption};
 ghost use Rattle.lower_bound.specs.Tables.{IsTables};
 ghost use Rattle.certificate.specs.Certificates.{IsCertificate};
 ghost use Rattle.certificate_check.specs.Refusals.{AreFit, IsFitAt, IsFirstUnfit};
 
 use certificate::Certificate;
-use lower_bound::{Bound, is_potential};
+use database_build::Table;
+use lower_bound::{Bound, TableList, is_potential};
 
-// The first place at which the groups differ, or the table is no potential for the certificate's
-// goal and costs.
+// The first place at which the groups differ, or the table is folded or no potential for the
+// certificate's goal and costs.
 pub(crate) fn find_unfit(certificate: &Certificate, bound: &Bound) -> Option<usize>
     requires { IsCertificate certificate.now }
     ensures first { IfSome result (IsFirstUnfit certificate.now bound.now) }
@@ -25,7 +27,7 @@ pub(crate) fn find_unfit(certificate: &Certificate, bound: &Bound) -> Option<usi
             return Some(place);
         }
     }
-    if groups.len() < bound.tables().len() {
+    if groups.len() < bound.partition().groups().len() {
         return Some(groups.len());
     }
     None
@@ -40,8 +42,21 @@ fn is_of_shape(certificate: &Certificate, bound: &Bound) -> bool
     certificate.groups().shape() == bound.partition().shape()
 }
 
-// Whether the table at the place of a group is one of it, and a potential for the certificate's
-// goal and costs.
+// The table at a place; None where it is folded, since whoever checks a certificate knows no table
+// that it may have been folded from, or where there is none.
+fn whole_table(bound: &Bound, place: usize) -> Option<&Table>
+    ensures table { MatchOption result (slice_get bound.now.lookups place ≡ None)
+        (λ table. slice_get bound.now.lookups place ≡ Some table.now) }
+    ensures tables { IsTables bound.now }
+{
+    match bound.tables() {
+        TableList::Whole(tables) => tables.get(place),
+        TableList::Folded(_) => None,
+    }
+}
+
+// Whether the table at the place of a group is one of it, whole, and a potential for the
+// certificate's goal and costs.
 fn is_fit(certificate: &Certificate, bound: &Bound, place: usize) -> bool
     requires certificate { IsCertificate certificate.now }
     requires shape { certificate.now.groups.grid ≡ bound.now.split.grid }
@@ -51,7 +66,7 @@ fn is_fit(certificate: &Certificate, bound: &Bound, place: usize) -> bool
     let groups = certificate.groups().groups();
     let goal = certificate.goal();
     let costs = certificate.costs();
-    let Some(table) = bound.tables().get(place) else {
+    let Some(table) = whole_table(bound, place) else {
         return false;
     };
     is_potential(table, &groups[place], &goal, &costs)

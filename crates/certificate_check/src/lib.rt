@@ -20,16 +20,18 @@ pub use refusals::Refusal;
 use rows::{find_open, find_row, is_start_proved};
 
 /// Whether a certificate proves its cost with these tables: the plan leads from the start to the
-/// goal at that cost, the tables are those of its groups and potentials for its goal and costs, and
-/// the rows, which are boards with what it costs at most to reach them, show with the tables' sums
-/// that no plan is cheaper. The cost is then the least.
+/// goal at that cost, the tables are those of its groups, whole, and potentials for its goal and
+/// costs, and the rows, which are boards with what it costs at most to reach them, show with the
+/// tables' sums that no plan is cheaper. The cost is then the least.
 ///
 /// Else the first cause to refuse, in the order of the codes: C1 the first illegal move of the
 /// plan, C2 another end, C3 another cost, C4 the first group where the certificate's groups and the
-/// tables' differ or whose table is no potential, and the first of all where their shapes differ,
-/// C5 no row of the start at 0 although its sum is below the cost, C6 the first row of the goal, C7
-/// the first row, and there the first of the moves up, left, right and down, that leads to a board
-/// that is below the cost by its sum and without a row of at most its cost.
+/// tables' differ or whose table is folded or no potential, and the first of all where their shapes
+/// differ, C5 no row of the start at 0 although its sum is below the cost, C6 the first row of the
+/// goal, C7 the first row, and there the first of the moves up, left, right and down, that leads to
+/// a board that is below the cost by its sum and without a row of at most its cost.
+///
+/// A folded table is refused whatever it was folded from, since that can't be seen from it alone.
 ///
 /// The time grows as the sizes of the tables and as the count of rows times its logarithm, and no
 /// memory is taken.

@@ -1,5 +1,5 @@
 -- From an outcome to a certificate, and from a reply to what is written.
-use Rattle.std.proofs.Common.{◌≡◌, ◌≢◌, ◌⊎◌, OnOk, ℕ, ◌+◌, ◌<◌, ◌^◌, List, None, Some, Result, Ok, Err, Vec, All, length, codes, refl, sym, ap, subst, ◌∙◌, inl, inr, arith}
+use Rattle.std.proofs.Common.{◌≡◌, ◌≢◌, ◌⊎◌, OnOk, ℕ, ◌+◌, ◌<◌, ◌^◌, List, None, Some, Result, Ok, Err, Vec, length, codes, refl, sym, ap, subst, ◌∙◌, inl, inr, arith}
 use Rattle.byte_streams.specs.Streams.{SourceState, SinkState, Change}
 use Rattle.board.specs.Positions.{Position, IsBoard}
 use Rattle.board.specs.Laws.{KeysAreInOrder}
@@ -8,7 +8,7 @@ use Rattle.pattern_index.specs.Splits.{Split, IsSplit}
 use Rattle.lower_bound.specs.Bounds.{sum_of}
 use Rattle.lower_bound.specs.Tables.{Tables, IsTables, parts_of}
 use Rattle.certificate_check.specs.Refusals.{IsProved}
-use Rattle.certificate_runs.specs.Built.{AreBuiltFor, HasSmallEntries}
+use Rattle.certificate_runs.specs.Built.{AreBuiltFor, HaveSmallEntries}
 use Rattle.certificate_check.proofs.SumLemmas.{proved_above}
 use Rattle.certificate_runs.proofs.TableLemmas.{AreTrue, sums_below, true_potentials}
 use Rattle.reports.specs.declared.report.NoReport.{NoReport}
@@ -127,22 +127,23 @@ certificate_is order setup b cost plan rows goal there sides start named few ans
 }
 
 -- its rows prove the cost with the tables of its groups
-proved_by : (setup : SetupState) (b : Position) (cost : ℕ) (plan : Vec Move Global) (rows : Vec (Position × ℕ) Global) → IsBoard setup.goal → IsTables setup.tables → Guides setup.goal setup.rule setup.tables → All HasSmallEntries setup.tables.lookups → IsBoardOf setup.goal.grid b → Answers (task_of setup b) (Optimal cost plan rows)
+proved_by : (setup : SetupState) (b : Position) (cost : ℕ) (plan : Vec Move Global) (rows : Vec (Position × ℕ) Global) → IsBoard setup.goal → IsTables setup.tables → Guides setup.goal setup.rule setup.tables → HaveSmallEntries setup.tables → IsBoardOf setup.goal.grid b → Answers (task_of setup b) (Optimal cost plan rows)
     → (tables : Tables) → AreBuiltFor (stated setup b cost plan rows) tables → IsProved (stated setup b cost plan rows) tables
 proved_by setup b cost plan rows goal there guides small start answers tables built =
     let are_true : AreTrue setup.rule setup.goal tables = record {
-      tables_there = record { partition = subst (λ (s : Split). IsSplit s) (sym built.groups) there.partition; one_each = built.each.one_each ∙ ap (λ (s : Split). s.groups) (sym built.groups) };
+      tables_there = record { partition = subst (λ (s : Split). IsSplit s) (sym built.groups) there.partition; one_each = inl (built.each.one_each ∙ ap (λ (s : Split). s.groups) (sym built.groups), built.whole) };
+      whole = built.whole;
       sides = ap (λ (s : Split). s.grid) built.groups ∙ guides.0;
       values = built.each.values;
     } in
     record {
       plan = answers.0;
-      fit = record { groups = built.groups; potentials = true_potentials setup.rule setup.goal tables goal are_true };
+      fit = record { groups = built.groups; whole = built.whole; potentials = true_potentials setup.rule setup.goal tables goal are_true };
       rows = proved_above setup.rule rows.items (sum_of (parts_of setup.tables)) (sum_of (parts_of tables)) b setup.goal cost start.board start.sides answers.2.boards (λ r board same. sums_below setup.rule setup.goal r setup.tables tables there (sym built.groups) guides.1 small are_true board same) answers.2.proves;
     }
 
 -- a certificate that states what such an outcome does answers its task
-pub certificate_of : (setup : SetupState) (b : Position) (cost : ℕ) (plan : Vec Move Global) (rows : Vec (Position × ℕ) Global) (c : Statement) → IsBoard setup.goal → IsTables setup.tables → Guides setup.goal setup.rule setup.tables → All HasSmallEntries setup.tables.lookups → IsBoardOf setup.goal.grid b → Answers (task_of setup b) (Optimal cost plan rows)
+pub certificate_of : (setup : SetupState) (b : Position) (cost : ℕ) (plan : Vec Move Global) (rows : Vec (Position × ℕ) Global) (c : Statement) → IsBoard setup.goal → IsTables setup.tables → Guides setup.goal setup.rule setup.tables → HaveSmallEntries setup.tables → IsBoardOf setup.goal.grid b → Answers (task_of setup b) (Optimal cost plan rows)
     → c ≡ stated setup b cost plan rows → IsCertificate c → IsCertificateOf setup.tables.split (task_of setup b) c
 certificate_of setup b cost plan rows c goal there guides small start answers same is = record {
   sides = ap (λ (d : Statement). d.grid) same;

@@ -1,6 +1,7 @@
 -- The tables that a certificate is checked with.
-use Rattle.std.specs.Prelude.{ℕ, ◌≤◌, slice_index}
+use Rattle.std.specs.Prelude.{ℕ, ◌≤◌, All, slice_index}
 use Rattle.database_build.specs.Tables.{Lookup}
+use Rattle.database_build.specs.Folds.{Fold}
 use Rattle.database_build.specs.declared.table.TheConstants.{NO_VALUE}
 use Rattle.lower_bound.specs.Tables.{Tables}
 use Rattle.table_sets.specs.Built.{AreBuilt}
@@ -13,3 +14,12 @@ AreBuiltFor c tables = AreBuilt c.groups c.costs c.goal tables
 -- no entry of the table is above the greatest value
 abbrev pub HasSmallEntries : Lookup → Type 0
 HasSmallEntries table = (rank : ℕ) → slice_index table.values rank ≤ NO_VALUE
+
+-- nor one of the folded table
+abbrev pub HasSmallFolds : Fold → Type 0
+HasSmallFolds fold = (place : ℕ) → slice_index fold.least place ≤ NO_VALUE
+
+-- no entry of these tables, whole or folded, is
+pub record HaveSmallEntries (tables : Tables) : Type 0 where
+  pub whole : All HasSmallEntries tables.lookups
+  pub folded : All HasSmallFolds tables.folds

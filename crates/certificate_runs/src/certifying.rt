@@ -18,7 +18,7 @@ ghost use Rattle.certificate_runs.specs.Certifying.{Replies, SeeksFirst, PutsRep
 ghost use Rattle.certificate_runs.specs.Headline.{IsTrueAnswer};
 ghost use Rattle.certificate_runs.specs.Certifying.{AreRulesFor, IsCertificateOf, IsReply};
 ghost use Rattle.certificate_runs.specs.Certifying.{IsRefusal, HasNoReply, MayProve};
-ghost use Rattle.certificate_runs.specs.Built.{HasSmallEntries};
+ghost use Rattle.certificate_runs.specs.Built.{HasSmallEntries, HasSmallFolds, HaveSmallEntries};
 
 use crate::faults::CertifyFault;
 use batch_lines::{EntryFault, Line, LineKind, LineReader, read_entry};
@@ -27,7 +27,8 @@ use board::laws::keys_are_in_order;
 use board::{Board, Move};
 use byte_streams::{ReadFailed, Sink, Source};
 use certificate::{Certificate, Parts, WriteFault, write};
-use database_build::Table;
+use database_build::{Folded, Table};
+use lower_bound::{Bound, TableList};
 use memory::OutOfMemory;
 use outcomes::{Ending, Outcome, SolveFault};
 use reports::{outcome_report, refused_report};
@@ -261,7 +262,7 @@ fn certify(
     keys_are_in_order();
     let tables = setup.tables();
     // So no sum of theirs is above that of the tables that a checker builds.
-    tell_entries(tables.tables());
+    tell_entries(tables);
     let groups = tables.partition().copy(alloc)?;
     let goal = setup.goal();
     let parts = Parts {
@@ -277,12 +278,31 @@ fn certify(
     Ok(Certificate::new(parts).unwrap())
 }
 
-// No entry of a table is above the greatest value.
-fn tell_entries(tables: &[Table])
+// No entry of a bound's tables is above the greatest value.
+fn tell_entries(bound: &Bound)
+    ensures { HaveSmallEntries bound.now }
+{
+    match bound.tables() {
+        TableList::Whole(tables) => tell_whole(tables),
+        TableList::Folded(folds) => tell_folded(folds),
+    }
+}
+
+// No entry of these tables is.
+fn tell_whole(tables: &[Table])
     ensures { All HasSmallEntries tables.now }
 {
     'tables: for place in 0..tables.len() {
         tell_values(tables[place].values());
+    }
+}
+
+// Nor one of these, which are folded.
+fn tell_folded(folds: &[Folded])
+    ensures { All HasSmallFolds folds.now }
+{
+    'tables: for place in 0..folds.len() {
+        tell_values(folds[place].values());
     }
 }
 

@@ -8,7 +8,7 @@ use byte_streams::ByteSource;
 use certificate::{Certificate, FormatFault, ReadFault, read};
 use certificate_check::{Refusal, check};
 use database_build::{Table, build};
-use lower_bound::Bound;
+use lower_bound::{Bound, TableList};
 use pattern_index::{Group, Partition};
 use std::alloc::Global;
 use std::test::Fail;
@@ -153,6 +153,14 @@ fn changed(alloc: Global, table: &Table, rank: usize, value: u16) -> Result<Tabl
     Ok(Table::from_values(&group, values)?)
 }
 
+// The table of the first group, where tables are whole.
+fn first_table(bound: &Bound) -> Option<&Table> {
+    match bound.tables() {
+        TableList::Whole(tables) => tables.first(),
+        TableList::Folded(_) => None,
+    }
+}
+
 #[test]
 fn one_value_too_high(rt: HostRuntime) -> Result<(), Fail> {
     // The goal of 3 by 3, with the group 1.
@@ -161,7 +169,7 @@ fn one_value_too_high(rt: HostRuntime) -> Result<(), Fail> {
         \x00\x00\x00\x00\x00\x00\x00\x00\x00\x00\x00\x00\x00\x00\x00\x00";
     let certificate = read(rt.alloc(), &mut ByteSource::new(&bytes[..]))?;
     let bound = bound_for(rt.alloc(), &certificate)?;
-    let table = bound.tables().first().ok_or("it has a group")?;
+    let table = first_table(&bound).ok_or("it has a group")?;
     // Tile 1 on cell 8 with the blank on cell 0 has the rank 7 and the value 3.
     for (value, want) in [(3, Ok(())), (4, Err(Refusal::UnfitGroup(0)))] {
         let mut tables = Vec::new(rt.alloc());
@@ -169,5 +177,8 @@ fn one_value_too_high(rt: HostRuntime) -> Result<(), Fail> {
         let other = Bound::new(certificate.groups().copy(rt.alloc())?, tables)?;
         assert_eq!(rt; check(&certificate, &other), want);
     }
+    // A certificate is checked with whole tables.
+    let folded = bound.folded(rt.alloc())?;
+    assert_eq!(rt; check(&certificate, &folded), Err(Refusal::UnfitGroup(0)));
     Ok(())
 }

@@ -43,6 +43,6 @@ module _ (p : Problem) (cost : ℕ) (plan : Vec Move Global) (rows : Vec (Positi
   pub proved_with : (tables : Tables) → AreAsGood p tables → IsProved (certificate_in p cost plan.items rows.items) tables
   proved_with tables good = record {
     plan = answers.0;
-    fit = record { groups = good.groups; potentials = good.potentials };
+    fit = record { groups = good.groups; whole = good.whole; potentials = good.potentials };
     rows = proved_above p.rule rows.items (sum_in p.tables) (sum_in tables) p.start p.goal cost task.start task.sides answers.2.boards good.sums answers.2.proves;
   }

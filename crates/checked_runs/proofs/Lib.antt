@@ -1,2 +1,3 @@
 pub mod CertificateLemmas
 pub mod OutcomeLemmas
+pub mod TableLemmas

@@ -2,7 +2,7 @@
 use Rattle.std.specs.Prelude.{ℕ, ◌≡◌, ◌≤◌, List}
 use Rattle.board.specs.declared.moves.Move.{Move}
 use Rattle.board.specs.Positions.{Position, IsBoard}
-use Rattle.lower_bound.specs.Tables.{Tables, ArePotentials}
+use Rattle.lower_bound.specs.Tables.{Tables, ArePotentials, AreWhole}
 use Rattle.certificate.specs.Certificates.{Statement}
 use Rattle.certificate_check.specs.Refusals.{sum_in}
 use Rattle.hda_run.specs.Problems.{Problem}
@@ -11,8 +11,9 @@ use Rattle.hda_run.specs.Problems.{Problem}
 abbrev pub certificate_in : Problem → ℕ → List Move → List (Position × ℕ) → Statement
 certificate_in p cost plan rows = record { grid = p.goal.grid; costs = p.rule; groups = p.tables.split; start = p.start; goal = p.goal; cost = cost; plan = plan; rows = rows }
 
--- Tables that are as good as those of the problem: they are of the same groups, they are potentials, and no board's sum is lower.
+-- Tables that are as good as those of the problem: they are of the same groups, whole, and potentials, and no board's sum is lower.
 pub record AreAsGood (p : Problem) (tables : Tables) : Type 0 where
   pub groups : tables.split ≡ p.tables.split
+  pub whole : AreWhole tables
   pub potentials : ArePotentials p.rule p.goal tables
   pub sums : (b : Position) → IsBoard b → b.grid ≡ p.goal.grid → sum_in p.tables b ≤ sum_in tables b

@@ -29,8 +29,9 @@ use thread_runs::solve;
 /// Solves a job by so many workers, as `solve` does, and answers a plan of least cost only where the
 /// checker accepts its certificate with these tables. The certificate names the groups of the job's
 /// own tables; its weights have to be unit or face costs, which are those that a certificate has a
-/// name for. Where memory was refused for the copy of the groups, the cost is answered as a bound,
-/// without the plan.
+/// name for. The checker refuses folded tables, so a job that these guide is to be checked with
+/// whole ones, as those that its own were folded from. Where memory was refused for the copy of the
+/// groups, the cost is answered as a bound, without the plan.
 ///
 /// Faults: V2 the workers are not from 1 to `WORKER_LIMIT`, V3 memory was refused for the world of
 /// one worker, V4 the checker refused the certificate, which it never does with tables that are as

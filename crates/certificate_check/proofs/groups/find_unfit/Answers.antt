@@ -12,19 +12,19 @@ returns-then-not-is_fit-clause-first c =
 pub groups-preserved : goal.groups-preserved
 groups-preserved c = one_more c.args.certificate.now c.args.bound.now c.groups.place c.groups.invariant (c.is_fit.ensures.0 c.if-not-is_fit.false)
 
-pub returns-then-groups-tables-clause-first : goal.returns-then-groups-tables-clause-first
-returns-then-groups-tables-clause-first c =
+pub returns-then-groups-clause-first : goal.returns-then-groups-clause-first
+returns-then-groups-clause-first c =
     let cert = c.args.certificate.now in
     let t = c.args.bound.now in
     let count = length c.groups-groups.result.now in
     let groups_count : count ≡ length cert.groups.groups = length_as c.groups-groups.result.now cert.groups.groups (c.groups-groups.ensures ∙ ap (λ (s : Split). s.groups) c.groups-2.ensures.value) in
-    let tables_count : length c.tables.result.now ≡ length t.lookups = length_as c.tables.result.now t.lookups c.tables.ensures.value in
-    first_at cert t count (c.is_of_shape.ensures.shape.0 c.if-not-is_of_shape.false) (group_missing cert t c.tables.ensures.tables count (omega (arith, groups_count)) (omega (arith, c.if-groups-tables.true, tables_count))) (λ k low. c.groups.invariant k (omega (arith, low, c.groups-test.false)))
+    let split_count : length c.groups-3.result.now ≡ length t.split.groups = length_as c.groups-3.result.now t.split.groups (c.groups-3.ensures ∙ ap (λ (s : Split). s.groups) c.partition.ensures.value) in
+    first_at cert t count (c.is_of_shape.ensures.shape.0 c.if-not-is_of_shape.false) (group_missing cert t count (omega (arith, groups_count)) (omega (arith, c.if-groups.true, split_count))) (λ k low. c.groups.invariant k (omega (arith, low, c.groups-test.false)))
 
 pub returns-clause-none : goal.returns-clause-none
 returns-clause-none c = λ e.
     let cert = c.args.certificate.now in
     let t = c.args.bound.now in
     let groups_count : length c.groups-groups.result.now ≡ length cert.groups.groups = length_as c.groups-groups.result.now cert.groups.groups (c.groups-groups.ensures ∙ ap (λ (s : Split). s.groups) c.groups-2.ensures.value) in
-    let tables_count : length c.tables.result.now ≡ length t.lookups = length_as c.tables.result.now t.lookups c.tables.ensures.value in
-    all_fit cert t c.tables.ensures.tables (c.is_of_shape.ensures.shape.0 c.if-not-is_of_shape.false) c.groups.place (omega (arith, c.groups-test.false, groups_count)) (omega (arith, c.if-groups-tables.false, groups_count, tables_count)) c.groups.invariant
+    let split_count : length c.groups-3.result.now ≡ length t.split.groups = length_as c.groups-3.result.now t.split.groups (c.groups-3.ensures ∙ ap (λ (s : Split). s.groups) c.partition.ensures.value) in
+    all_fit cert t c.partition.ensures.tables (c.is_of_shape.ensures.shape.0 c.if-not-is_of_shape.false) c.groups.place (omega (arith, c.groups-test.false, groups_count)) (omega (arith, c.if-groups.false, groups_count, split_count)) c.groups.invariant

@@ -1,11 +1,9 @@
-use Rattle.std.proofs.Common.{◌≡◌, List, sym, ap, subst, ◌∙◌, arith}
-use Rattle.std.specs.Prelude.{All}
+use Rattle.std.proofs.Common.{◌≡◌, sym, ap, subst, ◌∙◌, arith}
 use Rattle.board.specs.Positions.{Position, IsBoard}
-use Rattle.database_build.specs.Tables.{Lookup}
 use Rattle.lower_bound.specs.Tables.{Tables, IsTables}
 use Rattle.batch_runs.specs.Setups.{Guides}
 use Rattle.certificate.specs.Certificates.{IsCertificate}
-use Rattle.certificate_runs.specs.Built.{HasSmallEntries}
+use Rattle.certificate_runs.specs.Built.{HaveSmallEntries}
 use Rattle.certificate_runs.proofs.CertifyLemmas.{stated, certificate_is, certificate_of}
 use Rattle.certificate_runs.proofs.certifying.certify.Goals as goal
 
@@ -32,7 +30,7 @@ returns c =
     let groups_is : c.in_ok-groups.groups ≡ setup.tables.split = c.in_ok-groups.ensures ∙ c.partition.ensures.value ∙ ap (λ (t : Tables). t.split) tables_is in
     let there : IsTables setup.tables = subst IsTables tables_is c.partition.ensures.tables in
     let guides : Guides setup.goal setup.rule setup.tables = subst (Guides setup.goal setup.rule) tables_is c.tables-tables.ensures.guides in
-    let small : All HasSmallEntries setup.tables.lookups = subst (λ (ls : List Lookup). All HasSmallEntries ls) (c.tables.ensures.value ∙ ap (λ (t : Tables). t.lookups) tables_is) c.tell_entries.ensures in
+    let small : HaveSmallEntries setup.tables = subst HaveSmallEntries tables_is c.tell_entries.ensures in
     let home : IsBoard setup.goal = subst IsBoard goal_is c.shape.ensures.board in
     let is = certificate_is c.keys_are_in_order.ensures setup c.args.start c.args.cost c.args.plan c.args.rows home there guides.0 c.requires.start c.requires.named (omega (arith, c.args.rows.small)) c.requires.answers in
     let made = rw c.unwrap.ensures at c.new.ensures.value in
