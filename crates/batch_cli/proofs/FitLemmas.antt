@@ -1,17 +1,17 @@
 -- What words ask for is fit, and without words it is the default.
-use Rattle.std.proofs.Common.{◌≡◌, ◌∙◌, List, [], ◌∷◌, Option, None, Some, inl, inr, sym, ap, ap₂, subst, map, arith, codes}
+use Rattle.std.proofs.Common.{◌≡◌, ◌∙◌, Bool, List, [], ◌∷◌, Option, None, Some, inl, inr, sym, ap, ap₂, subst, map, arith, codes}
 use Rattle.clap.specs.Words.{Text, Row, Kinds, first_of}
 use Rattle.board.specs.Grids.{Grid}
 use Rattle.board.specs.Positions.{Position}
 use Rattle.pattern_index.specs.Splits.{Split}
 use Rattle.option_texts.specs.Defaults.{default_groups}
 use Rattle.batch_runs.specs.Setups.{SetupState}
-use Rattle.table_sets.specs.Built.{AreTrueTables}
+use Rattle.table_sets.specs.Built.{AreTrueTables, AreBuilt}
 use Rattle.command_line.specs.declared.requests.Options.{Options}
 use Rattle.command_line.specs.declared.requests.Request.{Request}
 use Rattle.command_line.specs.declared.requests.Request.TheVariants.{Solve, Certify, Check, Replay, Help, Version}
 use Rattle.command_line.specs.Requests.{rule_of_costs, AreGroupsSaid, AreOptions, AsksRun, AsksText, AreDefaults, WordsAsk}
-use Rattle.batch_cli.specs.Setups.{AreFit, IsFit, IsSetupOf, IsDefaultSetup}
+use Rattle.batch_cli.specs.Setups.{AreFit, IsFit, AreTablesFor, IsSetupOf, IsDefaultSetup}
 
 -- groups that are said are of the shape that is said
 groups_sides : (grid : Grid) (text : Option Text) (split : Split) → AreGroupsSaid grid text split → split.grid ≡ grid
@@ -56,11 +56,13 @@ fit_asked (word ∷ words) request (program, is, inr run) = fit_run _ request ru
 pub default_setup : (o : Options) (setup : SetupState) → AreDefaults o → IsSetupOf o setup → IsDefaultSetup setup
 default_setup o setup defaults is =
     let grid = ap (λ (b : Position). b.grid) defaults.goal in
+    let built : AreBuilt o.groups setup.rule setup.goal setup.tables = subst (λ (f : Bool). AreTablesFor f o.groups setup.rule setup.goal setup.tables) defaults.fold is.tables in
     record {
       goal = is.goal ∙ defaults.goal;
       rule = is.rule ∙ ap₂ rule_of_costs defaults.costs grid;
-      groups = ap (λ (s : Split). map (λ g. g.tiles) s.groups) is.tables.groups ∙ defaults.groups.1 ∙ ap default_groups grid;
-      tables = subst (λ (s : Split). AreTrueTables s.groups setup.rule setup.goal setup.tables.lookups) (sym is.tables.groups) is.tables.each;
+      groups = ap (λ (s : Split). map (λ g. g.tiles) s.groups) built.groups ∙ defaults.groups.1 ∙ ap default_groups grid;
+      tables = subst (λ (s : Split). AreTrueTables s.groups setup.rule setup.goal setup.tables.lookups) (sym built.groups) built.each;
+      whole = built.whole;
       limit = is.limit ∙ defaults.limit;
       workers = is.workers ∙ defaults.workers;
       spread = is.spread ∙ defaults.spread;

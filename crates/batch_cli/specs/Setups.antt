@@ -1,11 +1,13 @@
 -- The setup that options say.
-use Rattle.std.specs.Prelude.{◌≡◌, ◌≤◌, ◌-◌, ◌^◌, [], ◌∷◌, map, ⊤}
+use Rattle.std.specs.Prelude.{◌≡◌, ◌≤◌, ◌-◌, ◌^◌, Bool, true, false, [], ◌∷◌, map, ⊤}
 use Rattle.board.specs.Grids.{Grid}
-use Rattle.board.specs.Positions.{goal_of}
-use Rattle.board.specs.CostRules.{unit_rule}
+use Rattle.board.specs.Positions.{Position, goal_of}
+use Rattle.board.specs.CostRules.{CostRule, unit_rule}
+use Rattle.pattern_index.specs.Splits.{Split}
+use Rattle.lower_bound.specs.Tables.{Tables, AreWhole}
 use Rattle.batch_runs.specs.Setups.{SetupState}
 use Rattle.batch_runs.specs.declared.setup.SpreadKind.TheVariants.{Zobrist}
-use Rattle.table_sets.specs.Built.{AreTrueTables, AreBuilt}
+use Rattle.table_sets.specs.Built.{AreTrueTables, AreBuilt, AreBuiltFolded}
 use Rattle.command_line.specs.declared.requests.Options.{Options}
 use Rattle.command_line.specs.declared.requests.Request.{Request}
 use Rattle.command_line.specs.declared.requests.Request.TheVariants.{Solve, Certify, Check, Replay, Help, Version}
@@ -26,11 +28,16 @@ IsFit (Replay o) = AreFit o
 IsFit (Help text) = ⊤
 IsFit (Version text) = ⊤
 
--- the goal, the costs, the limit, the workers and their spread are those of the options, and there is a table with the value of each view for each of the options' groups
+-- for each of the groups there is a table with the value of each view; or where that is asked for one that was folded from it
+abbrev pub AreTablesFor : Bool → Split → CostRule → Position → Tables → Type 0
+AreTablesFor true split rule goal tables = AreBuiltFolded split rule goal tables
+AreTablesFor false split rule goal tables = AreBuilt split rule goal tables
+
+-- the goal, the costs, the limit, the workers and their spread are those of the options, and the tables are those of the options' groups, folded where the options say so
 pub record IsSetupOf (o : Options) (setup : SetupState) : Type 0 where
   pub goal : setup.goal ≡ o.goal
   pub rule : setup.rule ≡ rule_of_costs o.costs o.goal.grid
-  pub tables : AreBuilt o.groups setup.rule setup.goal setup.tables
+  pub tables : AreTablesFor o.fold o.groups setup.rule setup.goal setup.tables
   pub limit : setup.limit ≡ o.limit
   pub workers : setup.workers ≡ o.workers
   pub spread : setup.spread ≡ o.spread
@@ -39,12 +46,13 @@ pub record IsSetupOf (o : Options) (setup : SetupState) : Type 0 where
 abbrev pub small_grid : Grid
 small_grid = record { rows = 3; cols = 3 }
 
--- Korf's goal, unit cost, and two tables with the value of each view: of the tiles 1 to 4, and of 5 to 8; without a limit, for one worker
+-- Korf's goal, unit cost, and two tables with the value of each view, neither of them folded: of the tiles 1 to 4, and of 5 to 8; without a limit, for one worker
 pub record IsDefaultSetup (setup : SetupState) : Type 0 where
   pub goal : setup.goal ≡ goal_of small_grid
   pub rule : setup.rule ≡ unit_rule small_grid
   pub groups : map (λ g. g.tiles) setup.tables.split.groups ≡ (1 ∷ 2 ∷ 3 ∷ 4 ∷ []) ∷ (5 ∷ 6 ∷ 7 ∷ 8 ∷ []) ∷ []
   pub tables : AreTrueTables setup.tables.split.groups setup.rule setup.goal setup.tables.lookups
+  pub whole : AreWhole setup.tables
   pub limit : setup.limit ≡ 2 ^ 64 - 1
   pub workers : setup.workers ≡ 1
   pub spread : setup.spread ≡ Zobrist

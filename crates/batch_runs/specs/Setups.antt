@@ -6,6 +6,7 @@ use Rattle.board.specs.CostRules.{CostRule}
 use Rattle.outcomes.specs.Outcomes.{Task}
 use Rattle.lower_bound.specs.Bounds.{sum_of}
 use Rattle.lower_bound.specs.Tables.{Tables, ArePotentials, parts_of}
+use Rattle.lower_bound.specs.Lists.{IsFoldedBound}
 use Rattle.owners.specs.Hashes.{hash_of}
 use Rattle.world_model.specs.declared.limits.TheConstants.{WORKER_LIMIT}
 use Rattle.batch_runs.specs.declared.setup.SpreadKind.{SpreadKind}
@@ -23,13 +24,13 @@ pub record SetupState : Type 0 where
 
 -- those of no group, whose sums are 0
 abbrev pub no_tables : Grid → Tables
-no_tables grid = record { split = record { grid = grid; groups = [] }; lookups = [] }
+no_tables grid = record { split = record { grid = grid; groups = [] }; lookups = []; folds = [] }
 
 -- without tables and without a limit, for one worker
 abbrev pub plain_setup : Position → CostRule → SetupState
 plain_setup goal rule = record { goal = goal; rule = rule; tables = no_tables goal.grid; limit = 2 ^ 64 - 1; workers = 1; spread = Zobrist }
 
--- the tables are of the goal's grid, and potentials for the goal and the costs
+-- the tables are of the goal's grid, and potentials for the goal and the costs, or folded from such
 abbrev pub Guides : Position → CostRule → Tables → Type 0
 Guides goal rule tables = (tables.split.grid ≡ goal.grid) × ArePotentials rule goal tables
 
@@ -39,6 +40,10 @@ pub record IsSetup (setup : SetupState) : Type 0 where
   pub guided : Guides setup.goal setup.rule setup.tables
   pub some : 1 ≤ setup.workers
   pub few : setup.workers ≤ WORKER_LIMIT
+
+-- the second is the first, with each whole table folded
+abbrev pub IsFoldedSetup : SetupState → SetupState → Type 0
+IsFoldedSetup setup folded = (tables : Tables) × IsFoldedBound setup.tables tables × (folded ≡ record setup { tables = tables })
 
 -- the hash by which boards are spread
 abbrev pub hash_by : SpreadKind → Position → ℕ

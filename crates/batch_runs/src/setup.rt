@@ -1,11 +1,12 @@
 //! What all lines of a batch have in common.
 
 ghost use Rattle.std.specs.Prelude.{◌≡◌, ◌≤◌, ◌↔◌, IsOk, IfOk, IfErr};
-ghost use Rattle.batch_runs.specs.Setups.{Guides, plain_setup};
+ghost use Rattle.batch_runs.specs.Setups.{Guides, IsFoldedSetup, plain_setup};
 ghost use Rattle.world_model.specs.declared.limits.TheConstants.{WORKER_LIMIT};
 
 use board::{Board, Shape, Weights};
 use lower_bound::Bound;
+use memory::OutOfMemory;
 use outcomes::SolveFault;
 use pattern_index::Partition;
 use std::alloc::Global;
@@ -86,6 +87,30 @@ impl Setup {
         let mut setup = self;
         setup.bound = bound;
         setup
+    }
+
+    /// The setup with the same tables, folded: no sum of theirs is higher. An error is answered
+    /// only where memory was refused.
+    pub fn folded(self, alloc: Global) -> Result<Self, OutOfMemory>
+        ensures { IfOk result (IsFoldedSetup self) }
+    {
+        let Setup {
+            goal,
+            weights,
+            bound,
+            limit,
+            workers,
+            spread,
+        } = self;
+        let bound = bound.folded(alloc)?;
+        Ok(Setup {
+            goal,
+            weights,
+            bound,
+            limit,
+            workers,
+            spread,
+        })
     }
 
     /// The setup with this limit on the boards that are expanded for a line.

@@ -34,7 +34,7 @@ abbrev pub puzzle_app : Choices → Choices → Text → App
 puzzle_app costs spreads name =
     let sides = with_rule (with_rule (new_app name) (side_rule (codes "rows"))) (side_rule (codes "cols")) in
     let texts = with_rule (with_rule (with_rule sides (choice_rule (codes "cost") costs (codes "unit"))) (option_rule (codes "goal"))) (option_rule (codes "groups")) in
-    let workers = with_rule texts (number_rule (codes "workers") 1 16 (codes "1")) in
+    let workers = with_rule (with_rule texts (flag_rule (codes "fold"))) (number_rule (codes "workers") 1 16 (codes "1")) in
     with_rule (with_rule workers (choice_rule (codes "spread") spreads (codes "zobrist"))) (number_rule (codes "limit") 0 18446744073709551615 (codes "18446744073709551615"))
 
 -- the program without its subcommands: it has a version, one subcommand must be there, and `help` is none

@@ -69,6 +69,7 @@ pub record AreValues (rows : List Row) (v : Values) : Type 0 where
   pub goal : first_of (codes "goal") rows ≡ option_map (λ t. t.now) v.goal
   pub costs : first_of (codes "cost") rows ≡ Some (costs_text v.costs)
   pub groups : first_of (codes "groups") rows ≡ option_map (λ t. t.now) v.groups
+  pub fold : IsTrue v.fold ↔ IsSet rows (codes "fold")
   pub workers : HasWorkers rows v.workers
   pub spread : first_of (codes "spread") rows ≡ Some (spread_text v.spread)
   pub limit : HasNumber rows (codes "limit") v.limit
@@ -100,6 +101,7 @@ pub record AreOptions (rows : List Row) (o : Options) : Type 0 where
   pub goal : IsGoalSaid o.goal.grid (first_of (codes "goal") rows) o.goal
   pub costs : first_of (codes "cost") rows ≡ Some (costs_text o.costs)
   pub groups : AreGroupsSaid o.goal.grid (first_of (codes "groups") rows) o.groups
+  pub fold : IsTrue o.fold ↔ IsSet rows (codes "fold")
   pub workers : HasWorkers rows o.workers
   pub spread : first_of (codes "spread") rows ≡ Some (spread_text o.spread)
   pub limit : HasNumber rows (codes "limit") o.limit
@@ -143,11 +145,12 @@ TextFails faults (Goal fault) = ⊥
 TextFails faults (Groups fault) = ⊥
 TextFails faults Memory = ⊤
 
--- without words: boards of 3 by 3 at unit cost with Korf's goal and the default groups, by one worker without a limit, and nothing told of progress
+-- without words: boards of 3 by 3 at unit cost with Korf's goal and the default groups, whose tables are not folded, by one worker without a limit, and nothing told of progress
 pub record AreDefaults (o : Options) : Type 0 where
   pub goal : o.goal ≡ goal_of (record { rows = 3; cols = 3 })
   pub costs : o.costs ≡ Unit
   pub groups : AreGroupsSaid o.goal.grid None o.groups
+  pub fold : o.fold ≡ false
   pub workers : o.workers ≡ 1
   pub spread : o.spread ≡ Zobrist
   pub limit : o.limit ≡ 2 ^ 64 - 1

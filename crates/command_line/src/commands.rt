@@ -69,6 +69,7 @@ fn puzzle<'a>(
         .arg(choice(alloc, "cost", "COST", help::COST, costs, "unit"))?
         .arg(option(alloc, "goal", "TILES", help::GOAL))?
         .arg(option(alloc, "groups", "GROUPS", help::GROUPS))?
+        .arg(flag(alloc, "fold", help::FOLD))?
         .arg(number(alloc, "workers", help::WORKERS, 1, 16, "1"))?
         .arg(choice(alloc, "spread", "SPREAD", help::SPREAD, spreads, "zobrist"))?
         .arg(number(

@@ -70,6 +70,7 @@ fn options_in(alloc: Global, matches: &ArgMatches<'_>) -> Result<Options, NoRequ
         goal,
         costs: values.costs,
         groups,
+        fold: values.fold,
         workers: values.workers,
         spread: values.spread,
         limit: values.limit,

@@ -54,6 +54,8 @@ pub struct Options {
     pub costs: Costs,
     /// The groups of tiles whose tables guide the search.
     pub groups: Partition,
+    /// Whether the tables are folded.
+    pub fold: bool,
     /// From 1 to 16.
     pub workers: u8,
     pub spread: SpreadKind,
@@ -110,6 +112,7 @@ fn default_options(alloc: Global) -> Result<Options, OutOfMemory>
         goal: Board::goal(shape),
         costs: Costs::Unit,
         groups,
+        fold: false,
         workers: 1,
         spread: SpreadKind::Zobrist,
         limit: u64::MAX,

@@ -88,6 +88,7 @@ fn print_options(rt: &impl Print, name: &str, options: &Options) -> io::Result<(
     };
     print!(rt; ", {costs} cost, groups")?;
     print_groups(rt, &options.groups)?;
+    let folded = if options.fold { ", folded" } else { "" };
     let spread = match options.spread {
         SpreadKind::Zobrist => "zobrist",
         SpreadKind::Blank => "blank",
@@ -98,7 +99,7 @@ fn print_options(rt: &impl Print, name: &str, options: &Options) -> io::Result<(
         ""
     };
     println!(rt;
-        ", workers {}, spread {spread}, limit {}{progress}",
+        "{folded}, workers {}, spread {spread}, limit {}{progress}",
         options.workers, options.limit
     )
 }

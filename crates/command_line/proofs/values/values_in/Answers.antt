@@ -11,8 +11,9 @@ returns c =
       goal = sym (first_value-rows found (codes "goal")) ∙ sym c.get_str.ensures;
       costs = c.in_ok-costs.ensures;
       groups = sym (first_value-rows found (codes "groups")) ∙ sym c.get_str-2.ensures;
+      fold = c.is_set.ensures;
       workers = c.in_ok-workers.ensures;
       spread = c.in_ok-spread.ensures;
       limit = c.in_ok-limit.ensures;
-      progress = c.is_set.ensures;
+      progress = c.is_set-2.ensures;
     }
