@@ -1,9 +1,10 @@
 //! A batch with tables: the lines on standard input are answered on standard output, by the groups
 //! that are the default for their shape. `bench/batch` times it.
 //!
-//!     batch_walk ROWS COLS [WORKERS [SPREAD]]    boards of this shape, with Korf's goal and unit
-//!                                                costs, by so many workers, over which they are
-//!                                                spread by `zobrist` or by `blank`
+//!     batch_walk ROWS COLS [WORKERS [SPREAD [fold]]]    boards of this shape, with Korf's goal and
+//!                                                       unit costs, by so many workers, over which
+//!                                                       they are spread by `zobrist` or by `blank`;
+//!                                                       with folded tables where `fold` is said
 //!
 //! Without words it answers boards of 3 by 3, by one worker.
 //!
@@ -69,6 +70,7 @@ struct Words {
     shape: Shape,
     workers: usize,
     spread: SpreadKind,
+    fold: bool,
 }
 
 // What the words say, or None where they are none of the above.
@@ -88,9 +90,14 @@ fn read_words(rt: &(impl std::rt::Env + AllocGlobal)) -> Option<Words> {
         Some(word) => read_spread(&word)?,
         None => SpreadKind::Zobrist,
     };
+    let fold = match words.next() {
+        Some(word) => word.as_str() == "fold",
+        None => false,
+    };
     Some(Words {
         workers,
         spread,
+        fold,
         ..by_one
     })
 }
@@ -101,6 +108,7 @@ fn by_one(rows: u8, cols: u8) -> Option<Words> {
         shape: Shape::new(rows, cols).ok()?,
         workers: 1,
         spread: SpreadKind::Zobrist,
+        fold: false,
     })
 }
 
@@ -147,7 +155,7 @@ fn main(rt: HostRuntime) -> ExitCode {
     ) else {
         return ExitCode::from(4);
     };
-    let Ok(setup) = guided_setup(&rt, alloc, words.shape) else {
+    let Ok(setup) = guided_setup(&rt, alloc, words.shape, words.fold) else {
         return ExitCode::from(4);
     };
     let Ok(setup) = setup.spread(words.spread).workers(words.workers) else {

@@ -49,7 +49,7 @@ pub fn tally_beginnings(
 // The bound of no group, whose sums are 0.
 fn no_tables(alloc: Global, shape: Shape) -> Bound
     ensures sides { result.split.grid ≡ shape }
-    ensures tables { result.lookups ≡ [] }
+    ensures tables { (result.lookups ≡ []) × (result.folds ≡ []) }
 {
     let partition = Partition::new(shape, Vec::new(alloc)).unwrap();
     Bound::new(partition, Vec::new(alloc)).unwrap()
@@ -57,7 +57,7 @@ fn no_tables(alloc: Global, shape: Shape) -> Bound
 
 // What a world of three workers answers after these steps.
 fn outcome_after(alloc: Global, bound: &Bound, steps: &[Step], start: Board) -> Option<Outcome>
-    requires { bound.now.lookups ≡ [] }
+    requires { (bound.now.lookups ≡ []) × (bound.now.folds ≡ []) }
 {
     let goal = Board::goal(start.shape());
     let weights = Weights::unit(start.shape());

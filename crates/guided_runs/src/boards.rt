@@ -3,7 +3,7 @@
 ghost use Rattle.std.specs.Prelude.{◌≡◌};
 ghost use Rattle.batch_runs.specs.Setups.{Guides};
 
-use crate::tables::{bound_of, partitions_of};
+use crate::tables::{bound_of, guide_of, partitions_of};
 use board::{Board, Weights};
 use breadth_first::least_costs;
 use certificate::{Certificate, Parts};
@@ -26,12 +26,14 @@ pub struct Tally {
     wrong: u64,
 }
 
-/// What is answered of all boards of a shape by each partition; or None where memory was refused.
+/// What is answered of all boards of a shape by each partition, whose tables may be folded; or None
+/// where memory was refused.
 pub fn tally_boards<R: Threads + Sync>(
     rt: &R,
     alloc: Global,
     goal: &Board,
     weights: &Weights,
+    fold: bool,
 ) -> Option<Tally>
     requires { weights.now.grid ≡ goal.now.grid }
 {
@@ -48,7 +50,8 @@ pub fn tally_boards<R: Threads + Sync>(
         for tiles in groups.as_slice() {
             lists.push(tiles.as_slice()).ok()?;
         }
-        let bound = bound_of(rt, alloc, goal, weights, lists.as_slice())?;
+        let whole = bound_of(rt, alloc, goal, weights, lists.as_slice())?;
+        let guide = guide_of(rt, alloc, goal, weights, lists.as_slice(), fold)?;
         tally.partitions = tally.partitions.saturating_add(1);
         for (start, least) in boards.as_slice() {
             let problem = Problem {
@@ -56,7 +59,7 @@ pub fn tally_boards<R: Threads + Sync>(
                 goal: *goal,
                 weights: *weights,
             };
-            count(&mut tally, alloc, &problem, &bound, *least)?;
+            count(&mut tally, alloc, &problem, &guide, &whole, *least)?;
         }
     }
     Some(tally)
@@ -84,17 +87,18 @@ fn count(
     tally: &mut Tally,
     alloc: Global,
     problem: &Problem,
-    bound: &Bound,
+    guide: &Bound,
+    whole: &Bound,
     least: Option<u32>,
 ) -> Option<()>
-    requires { Guides problem.now.goal problem.now.weights bound.now }
+    requires { Guides problem.now.goal problem.now.weights guide.now }
 {
     let due = match least {
         Some(cost) => Answer::Plan(cost),
         None => Answer::NoPlan,
     };
-    let with_rows = solve(alloc, problem, bound)?;
-    let without_rows = end(alloc, problem, bound)?;
+    let with_rows = solve(alloc, problem, guide, whole)?;
+    let without_rows = end(alloc, problem, guide)?;
     if with_rows != due || without_rows != due {
         tally.wrong = tally.wrong.saturating_add(1);
         return Some(());
@@ -122,25 +126,25 @@ fn end(alloc: Global, problem: &Problem, bound: &Bound) -> Option<Answer>
     }
 }
 
-// What the search answers with rows, as far as the checker accepts it.
-fn solve(alloc: Global, problem: &Problem, bound: &Bound) -> Option<Answer>
-    requires { Guides problem.now.goal problem.now.weights bound.now }
+// What the search answers with rows, as far as the checker accepts it with whole tables.
+fn solve(alloc: Global, problem: &Problem, guide: &Bound, whole: &Bound) -> Option<Answer>
+    requires { Guides problem.now.goal problem.now.weights guide.now }
 {
     let spread = Zobrist::new(problem.goal.shape());
-    let job = job_of(problem, bound)?;
+    let job = job_of(problem, guide)?;
     match solve_one(alloc, job, spread, &Free).ok()? {
         Outcome::Optimal { cost, plan, rows } => {
             let certificate = Certificate::new(Parts {
                 shape: problem.goal.shape(),
                 costs: problem.weights,
-                groups: bound.partition().copy(alloc).ok()?,
+                groups: guide.partition().copy(alloc).ok()?,
                 start: problem.start,
                 goal: problem.goal,
                 cost,
                 plan,
                 rows,
             })?;
-            if check(&certificate, bound).is_err() {
+            if check(&certificate, whole).is_err() {
                 return Some(Answer::Neither);
             }
             Some(Answer::Plan(cost))

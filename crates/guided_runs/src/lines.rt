@@ -30,6 +30,7 @@ pub struct Asked {
     side: u8,
     costs: Costs,
     groups: &'static [&'static [u8]],
+    fold: bool,
     limit: u64,
     workers: usize,
     spread: SpreadKind,
@@ -41,6 +42,7 @@ const SOLVED: Asked = Asked {
     side: 3,
     costs: Costs::Unit,
     groups: &[],
+    fold: false,
     limit: 0,
     workers: 1,
     spread: SpreadKind::Zobrist,
@@ -77,6 +79,7 @@ const LARGE: Asked = Asked {
         &[23],
         &[24],
     ],
+    fold: false,
     limit: u64::MAX,
     workers: 1,
     spread: SpreadKind::Zobrist,
@@ -89,6 +92,7 @@ const FAR: Asked = Asked {
     side: 3,
     costs: Costs::Unit,
     groups: &[&[1], &[2], &[3], &[4], &[5], &[6], &[7], &[8]],
+    fold: false,
     limit: 0,
     workers: 1,
     spread: SpreadKind::Zobrist,
@@ -103,7 +107,7 @@ const PROVED: Asked = Asked {
 };
 
 /// The lines. Those of several workers have one report, whatever their threads do.
-pub static LINES: [Asked; 9] = [
+pub static LINES: [Asked; 12] = [
     SOLVED,
     LARGE,
     Asked {
@@ -132,10 +136,23 @@ pub static LINES: [Asked; 9] = [
         ..LARGE
     },
     Asked { workers: 16, ..FAR },
+    // With one tile in a group, and a least value over the blank's places, the sums are the same.
+    Asked { fold: true, ..FAR },
+    Asked {
+        costs: Costs::Face,
+        fold: true,
+        ..FAR
+    },
+    Asked {
+        costs: Costs::Face,
+        fold: true,
+        workers: 3,
+        ..LARGE
+    },
 ];
 
 /// The lines whose certificates are written.
-pub static CERTIFIED: [Asked; 4] = [
+pub static CERTIFIED: [Asked; 6] = [
     // The sums leave the start alone to be proved by a row.
     Asked {
         side: 2,
@@ -153,6 +170,16 @@ pub static CERTIFIED: [Asked; 4] = [
         spread: SpreadKind::Blank,
         ..PROVED
     },
+    // The checker builds whole tables for these too.
+    Asked {
+        fold: true,
+        ..PROVED
+    },
+    Asked {
+        fold: true,
+        workers: 2,
+        ..PROVED
+    },
 ];
 
 impl Asked {
@@ -161,14 +188,16 @@ impl Asked {
         let Asked {
             costs,
             groups,
+            fold,
             limit,
             workers,
             spread,
             line,
             ..
         } = self;
+        let kind = if *fold { "folded" } else { "whole" };
         println!(rt;
-            "# {line}\n# at {costs:?} cost, {} groups, limit {limit}, workers {workers}, by {spread:?}",
+            "# {line}\n# at {costs:?} cost, {} groups, {kind}, limit {limit}, workers {workers}, by {spread:?}",
             groups.len()
         )
     }
@@ -207,7 +236,11 @@ pub fn setup_of<R: Threads + Sync>(rt: &R, alloc: Global, asked: &Asked) -> Opti
         .bound(bound)
         .limit(asked.limit)
         .spread(asked.spread);
-    setup.workers(asked.workers).ok()
+    let setup = setup.workers(asked.workers).ok()?;
+    if asked.fold {
+        return setup.folded(alloc).ok();
+    }
+    Some(setup)
 }
 
 // What the moves of boards of this shape cost.

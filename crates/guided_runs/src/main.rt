@@ -1,6 +1,7 @@
 //! Tries searches that tables guide: lines whose reports or certificates are known, and each board
 //! of 2 by 2 and of 2 by 3, without tables and with those of each partition of the tiles into at
-//! most three groups, beside a breadth-first search.
+//! most three groups, whole and folded, beside a breadth-first search; and some boards of 3 by 3,
+//! with whole tables and with folded ones.
 //!
 //! An answer of a board is wrong where its cost is not the least, where a plan is found and there
 //! is none or none is found and there is one, and where the checker refuses its certificate.
@@ -10,6 +11,7 @@ mod boards;
 mod certificates;
 mod lines;
 mod tables;
+mod walk;
 
 use board::{Board, Shape, Weights};
 use boards::{Tally, tally_boards};
@@ -18,6 +20,7 @@ use lines::{CERTIFIED, LINES, print_report};
 use std::io::{self, ErrorKind, Print};
 use std::sync::Wait;
 use std::thread::Threads;
+use walk::compare_on_a_walk;
 
 fn main(rt: HostRuntime) -> io::Result<()> {
     for line in &LINES {
@@ -30,10 +33,21 @@ fn main(rt: HostRuntime) -> io::Result<()> {
         let Ok(shape) = shape else {
             return Err(ErrorKind::InvalidData.into());
         };
-        print_tally(&rt, "unit", Weights::unit(shape))?;
-        print_tally(&rt, "face", Weights::face(shape))?;
+        for fold in [false, true] {
+            print_tally(&rt, "unit", Weights::unit(shape), fold)?;
+            print_tally(&rt, "face", Weights::face(shape), fold)?;
+        }
     }
-    Ok(())
+    print_walk(&rt)
+}
+
+// Prints whether whole and folded tables agree of boards on a walk.
+fn print_walk<R: Print + AllocGlobal + Threads + Wait + Sync>(rt: &R) -> io::Result<()> {
+    let Some(agreed) = compare_on_a_walk(rt, rt.alloc()) else {
+        return Err(ErrorKind::OutOfMemory.into());
+    };
+    println!(rt; "# Boards of 3 by 3 on a walk, with whole tables and with folded ones")?;
+    println!(rt; "{agreed:?}")
 }
 
 // Prints what is answered of all boards of a shape.
@@ -41,12 +55,14 @@ fn print_tally<R: Print + AllocGlobal + Threads + Wait + Sync>(
     rt: &R,
     name: &str,
     weights: Weights,
+    fold: bool,
 ) -> io::Result<()> {
     let shape = weights.shape();
-    let Some(tally) = tally_boards(rt, rt.alloc(), &Board::goal(shape), &weights) else {
+    let Some(tally) = tally_boards(rt, rt.alloc(), &Board::goal(shape), &weights, fold) else {
         return Err(ErrorKind::OutOfMemory.into());
     };
     let (rows, cols) = (shape.rows(), shape.cols());
-    println!(rt; "# All boards of {rows} by {cols} at {name} cost")?;
+    let kind = if fold { "folded" } else { "whole" };
+    println!(rt; "# All boards of {rows} by {cols} at {name} cost, tables {kind}")?;
     println!(rt; "{tally:?}")
 }

@@ -8,7 +8,7 @@ use lower_bound::Bound;
 use pattern_index::{Group, Partition};
 use std::alloc::Global;
 use std::thread::Threads;
-use table_sets::build_bound;
+use table_sets::{build_bound, build_folded_bound};
 
 // The most groups of a partition.
 const MOST_GROUPS: u64 = 3;
@@ -63,9 +63,27 @@ pub fn bound_of<R: Threads + Sync>(
     requires { weights.now.grid ≡ goal.now.grid }
     ensures { IfSome result (λ bound. Guides goal.now weights.now bound) }
 {
+    guide_of(rt, alloc, goal, weights, lists, false)
+}
+
+/// The same, folded where that is asked.
+pub fn guide_of<R: Threads + Sync>(
+    rt: &R,
+    alloc: Global,
+    goal: &Board,
+    weights: &Weights,
+    lists: &[&[u8]],
+    fold: bool,
+) -> Option<Bound>
+    requires { weights.now.grid ≡ goal.now.grid }
+    ensures { IfSome result (λ bound. Guides goal.now weights.now bound) }
+{
     let shape = goal.shape();
     let groups = groups_of(alloc, shape, lists)?;
     let partition = Partition::new(shape, groups).ok()?;
+    if fold {
+        return build_folded_bound(rt, alloc, partition, goal, weights).ok();
+    }
     build_bound(rt, alloc, partition, goal, weights).ok()
 }
 

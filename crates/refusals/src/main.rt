@@ -21,7 +21,7 @@ mod workers;
 use answer::Answer;
 use certificates::{read_announcement, read_certificate};
 use containers::{reserve_closed, reserve_open};
-use databases::{build_table, copy_partition};
+use databases::{build_folds, build_table, copy_partition, fold_bound, fold_table};
 use runs::{
     check_certificate, check_groups, run_one_line, run_two_lines, write_certificate, write_groups,
 };
@@ -36,9 +36,12 @@ use std::thread::Threads;
 use workers::{expand_board, expand_in_full_table, meet_board, settle_items};
 
 // The names of all calls.
-const CALLS: [&str; 22] = [
+const CALLS: [&str; 25] = [
     "partition",
     "table",
+    "fold",
+    "fold-bound",
+    "folded",
     "unit-2x2",
     "face-2x2",
     "unit-2x3",
@@ -67,6 +70,9 @@ fn call<R: Threads + Wait + AllocGlobal + Sync>(rt: &R, name: &str) -> Option<An
     match name {
         "partition" => Some(copy_partition(alloc)),
         "table" => Some(build_table(alloc)),
+        "fold" => Some(fold_table(alloc)),
+        "fold-bound" => Some(fold_bound(alloc)),
+        "folded" => Some(build_folds(rt)),
         "unit-2x2" => Some(search(alloc, 2, &[3, 2, 1, 0], false, Some(6))),
         "face-2x2" => Some(search(alloc, 2, &[3, 2, 1, 0], true, Some(12))),
         "unit-2x3" => Some(search(alloc, 3, &[2, 3, 5, 0, 1, 4], false, Some(9))),

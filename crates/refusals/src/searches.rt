@@ -57,7 +57,7 @@ pub fn search_with_tables<R: Threads + AllocGlobal + Sync>(rt: &R) -> Answer {
 
 // The bound of no group, whose sums are 0. It takes no memory.
 fn no_tables(alloc: Global, shape: Shape) -> Bound
-    ensures { result.lookups ≡ [] }
+    ensures { (result.lookups ≡ []) × (result.folds ≡ []) }
 {
     let partition = Partition::new(shape, Vec::new(alloc)).unwrap();
     Bound::new(partition, Vec::new(alloc)).unwrap()

@@ -1,9 +1,15 @@
 //! The tables of the groups where none are named.
 
+ghost use Rattle.std.specs.Prelude.{◌≡◌};
+
 use board::{Board, Shape, Weights};
+use database_build::Folded;
+use lower_bound::{Bound, TableList};
 use option_texts::default_groups;
+use std::alloc::Global;
 use std::test::Fail;
-use table_sets::build_bound;
+use std::thread::Threads;
+use table_sets::{build_bound, build_folded_bound};
 
 // All values added, as a plain search by other means gave them. The tables of 3 by 3 are
 // built one after the other, those of 3 by 4 have 1,330,692 views and are built side by side.
@@ -22,8 +28,11 @@ fn values_of_all_views(rt: HostRuntime) -> Result<(), Fail> {
         let groups = default_groups(alloc, shape)?;
         let goal = Board::goal(shape);
         let bound = build_bound(&rt, alloc, groups, &goal, &weights)?;
+        let TableList::Whole(tables) = bound.tables() else {
+            return Err("the tables are whole")?;
+        };
         let mut sums = [0; 3];
-        for (sum, table) in sums.iter_mut().zip(bound.tables()) {
+        for (sum, table) in sums.iter_mut().zip(tables) {
             *sum = sum_of(table.values());
         }
         assert_eq!(rt; sums, wanted);
@@ -35,4 +44,68 @@ fn sum_of(values: &[u16]) -> u64 {
     values
         .iter()
         .fold(0, |sum: u64, value| sum.wrapping_add(u64::from(*value)))
+}
+
+// The folded tables of a bound, where it holds such.
+fn folded_tables(bound: &Bound) -> Option<&[Folded]> {
+    match bound.tables() {
+        TableList::Whole(_) => None,
+        TableList::Folded(folds) => Some(folds),
+    }
+}
+
+// Whether two bounds hold folded tables alone, of the same groups and with the same values.
+fn are_folded_alike(one: &Bound, other: &Bound) -> bool {
+    let (Some(folds), Some(others)) = (folded_tables(one), folded_tables(other)) else {
+        return false;
+    };
+    for i in 0..one.partition().groups().len() {
+        if one.table(i).is_some() {
+            return false;
+        }
+    }
+    folds.len() == others.len()
+        && folds.iter().zip(others).all(|(fold, other)| fold.group() == other.group()
+            && fold.values() == other.values())
+}
+
+// What folded tables of the default groups say of a board, all values of each added, and whether
+// those that are built whole and then folded are the same. None where memory was refused.
+fn fold_groups<R: Threads + Sync>(
+    rt: &R,
+    alloc: Global,
+    weights: &Weights,
+    board: &Board,
+) -> Option<(u32, [u64; 3], bool)>
+    requires { weights.now.grid ≡ board.now.grid }
+{
+    let shape = board.shape();
+    let goal = Board::goal(shape);
+    let groups = default_groups(alloc, shape).ok()?;
+    let folded = build_folded_bound(rt, alloc, groups, &goal, weights).ok()?;
+    let sum_of_board = folded.of(board);
+    let mut sums = [0; 3];
+    for (sum, fold) in sums.iter_mut().zip(folded_tables(&folded)?) {
+        *sum = sum_of(fold.values());
+    }
+    let groups = default_groups(alloc, shape).ok()?;
+    let whole = build_bound(rt, alloc, groups, &goal, weights).ok()?;
+    let later = whole.folded(alloc).ok()?;
+    Some((sum_of_board, sums, are_folded_alike(&folded, &later)))
+}
+
+// The sum of a board, and all folded values added, as a plain search by other means gave them.
+#[test]
+fn folded_tables_of_all_groups(rt: HostRuntime) -> Result<(), Fail> {
+    let alloc = rt.alloc();
+    let three = Shape::new(3, 3)?;
+    let four = Shape::new(3, 4)?;
+    let far = Board::from_tiles(three, &[8, 0, 6, 5, 4, 7, 2, 3, 1])?;
+    let at_unit_cost = fold_groups(&rt, alloc, &Weights::unit(three), &far);
+    assert_eq!(rt; at_unit_cost, Some((29, [28_440, 27_528, 0], true)));
+    let at_face_cost = fold_groups(&rt, alloc, &Weights::face(three), &far);
+    assert_eq!(rt; at_face_cost, Some((123, [68_998, 176_854, 0], true)));
+    let side_by_side = fold_groups(&rt, alloc, &Weights::face(four), &Board::goal(four));
+    assert_eq!(rt; side_by_side, Some((0, [3_592_944, 9_298_278, 330], true)));
+    Ok(())
 }

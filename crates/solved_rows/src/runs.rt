@@ -38,7 +38,7 @@ fn answer(alloc: Global, run: &Run) -> Option<Result<Outcome, WorldFault>> {
 
 // The bound of no group, whose sums are 0.
 fn no_tables(alloc: Global) -> Bound
-    ensures { result.lookups ≡ [] }
+    ensures { (result.lookups ≡ []) × (result.folds ≡ []) }
 {
     let shape = Shape::new(2, 2).unwrap();
     let partition = Partition::new(shape, Vec::new(alloc)).unwrap();
@@ -47,7 +47,7 @@ fn no_tables(alloc: Global) -> Bound
 
 // The job at unit cost, without a limit.
 fn job_of<'a>(bound: &'a Bound) -> Option<Job<'a>>
-    requires { bound.now.lookups ≡ [] }
+    requires { (bound.now.lookups ≡ []) × (bound.now.folds ≡ []) }
 {
     let shape = Shape::new(2, 2).ok()?;
     let start = Board::from_tiles(shape, &RUN_START).ok()?;

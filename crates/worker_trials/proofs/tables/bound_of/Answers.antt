@@ -2,6 +2,8 @@ use Rattle.std.proofs.Common.{rules, ◌≡◌, All, List, [], ◌∷◌, ◌++�
 use Rattle.std.proofs.lemmas.List.Elements.{All-append, All-cons, All-nil}
 use Rattle.database_build.specs.Tables.{Lookup, value_in}
 use Rattle.database_build.specs.Values.{IsPotential}
+use Rattle.database_build.specs.Folds.{Fold}
+use Rattle.lower_bound.specs.Folded.{IsFoldedPotential}
 use Rattle.lower_bound.specs.Tables.{Tables, ArePotentials}
 use Rattle.worker_trials.proofs.tables.bound_of.Goals as goal
 
@@ -13,4 +15,5 @@ tables-preserved c =
     subst (λ (tables : List Lookup). All P tables) (sym grown) (All-append P c.tables.tables.items (c.in_ok-table.table ∷ []) c.tables.invariant (All-cons P c.in_ok-table.table [] one (All-nil P)))
 
 pub returns-clause-potentials : goal.returns-clause-potentials
-returns-clause-potentials c = subst (λ (tables : Tables). ArePotentials c.args.weights.now c.args.goal.now tables) (sym c.in-Ok.ensures.value) c.tables.invariant
+returns-clause-potentials c = subst (λ (tables : Tables). ArePotentials c.args.weights.now c.args.goal.now tables) (sym c.in-Ok.ensures.value)
+    (record { whole = c.tables.invariant; folded = All-nil (λ (fold : Fold). IsFoldedPotential c.args.weights.now c.args.goal.now fold) })
