@@ -2,7 +2,7 @@
 
 _tilesolve() {
     local word=${COMP_WORDS[COMP_CWORD]} before=${COMP_WORDS[COMP_CWORD - 1]} words=
-    local options='--rows --cols --cost --goal --groups --workers --spread --limit'
+    local options='--rows --cols --cost --goal --groups --fold --workers --spread --limit'
     # Where COMP_WORDBREAKS has an equals sign, an option and its value are three words.
     if [[ $word == = ]]; then
         word=
