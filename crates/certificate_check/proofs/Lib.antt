@@ -2,3 +2,6 @@ pub mod RefusalLemmas
 pub mod RowLemmas
 pub mod SumLemmas
 pub mod GroupLemmas
+pub mod BlockLemmas
+pub mod LookupLemmas
+pub mod SuccessorLemmas

@@ -1,25 +1,19 @@
 -- The rows of a certificate rise by their keys, so a board has one row at most.
-use Rattle.std.proofs.Common.{◌≡◌, ◌⊎◌, inl, inr, ⊎_elim, ℕ, zero, suc, ◌+◌, ◌<◌, ◌≤◌, Bool, true, false, not, ltb, leb, eq-eqb, unwrap_or, List, [], ◌∷◌, length, get_or, Option, None, Some, refl, sym, ap, ◌∙◌, subst, arith}
+use Rattle.std.proofs.Common.{◌≡◌, ◌⊎◌, ⊎_elim, ℕ, zero, suc, ◌<◌, ◌≤◌, true, false, leb, eqb, eqb-true, unwrap_or, List, [], ◌∷◌, length, get_or, Option, None, Some, refl, sym, ap, ◌∙◌, subst, arith}
 use Rattle.std.specs.Prelude.{slice_get, ◌↔◌, IsTrue}
 use Rattle.std.specs.List.{AllByRecursion}
 use Rattle.std.specs.List.Sorted.{IsNonDecreasingBy, IsPartitionPoint}
-use Rattle.std.proofs.lemmas.Bool.{cases_order, cases_lt, true≢false, leb-true}
-use Rattle.std.proofs.lemmas.Bool.Decides.{Decides-ltb, leb_tells}
+use Rattle.std.proofs.lemmas.Bool.{cases_order, true≢false, leb-true}
+use Rattle.std.proofs.lemmas.Bool.Decides.{leb_tells}
 use Rattle.std.proofs.lemmas.Option.{slice_get_within, get_or_from_slice_get, slice_get-get_or}
 use Rattle.std.proofs.lemmas.List.Elements.{recursion_from_All}
 use Rattle.board.specs.Grids.{Grid, cell_count}
-use Rattle.board.specs.declared.moves.Move.{Move}
-use Rattle.board.specs.declared.moves.Move.TheVariants.{U, L, R, D}
 use Rattle.board.specs.Positions.{Position}
-use Rattle.board.specs.Equality.{number_of, moves_Decide}
-use Rattle.board.specs.Moves.{Moves}
 use Rattle.board.specs.Rows.{HasRow}
-use Rattle.board.proofs.MoveLemmas.{one_move}
 use Rattle.board.specs.Keys.{key_of, Precedes}
-use Rattle.board.proofs.KeyLemmas.{packed_in_order, tiles_small}
-use Rattle.lower_bound.specs.Tables.{Tables}
+use Rattle.board.proofs.KeyLemmas.{packed_in_order, tiles_small, same_board}
 use Rattle.certificate.specs.Certificates.{Statement, IsBoardOf, IsRow, RiseAfter, IsCertificate}
-use Rattle.certificate_check.specs.Refusals.{sum_in, HasRowAt, LeavesOpen, LeavesOpenAt, IsFirstOpen}
+use Rattle.certificate_check.specs.Refusals.{HasRowAt}
 use Rattle.certificate_check.proofs.RefusalLemmas.{contains_at, at_contains}
 
 abbrev Rows : Type 0
@@ -83,14 +77,6 @@ one_row c is b p q (g, at) (g', at') =
     (λ (o : (q < p) ⊎ (p < q)).
     ⊎_elim (λ (l : q < p). let low = keys_rise c is q p d l p_in in absurd (omega (arith, low, key, key'))) (λ (l : p < q). let low = keys_rise c is p q d l q_in in absurd (omega (arith, low, key, key'))) o)
     (cases_order q p)
-
--- keys that the test says to be lower, and the others
-pub parted_by_keys : (rows : Rows) (key place : ℕ) → IsPartitionPoint (λ row. ltb (row_key row) key ≡ true) (λ row. ltb (row_key row) key ≡ false) rows place → IsPartitionPoint (λ row. row_key row < key) (λ row. key ≤ row_key row) rows place
-parted_by_keys rows key place parted = (
-  (λ k d low high. (Decides-ltb (row_key (get_or rows k d)) key).0 (parted.0 k d low high)),
-  (λ k d low high.
-      ⊎_elim (λ (l : row_key (get_or rows k d) < key). absurd (true≢false (sym ((Decides-ltb (row_key (get_or rows k d)) key).1 l) ∙ parted.1 k d low high))) (λ (le : key ≤ row_key (get_or rows k d)). le) (cases_lt (row_key (get_or rows k d)) key)),
-)
 
 -- where the rows before a place have lower keys, and those from it on have not, a board's row stands at that place
 found_there : (c : Statement) → IsCertificate c → (b : Position) (place : ℕ) → IsPartitionPoint (λ row. row_key row < key_of b) (λ row. key_of b ≤ row_key row) c.rows place → (p : ℕ) → HasRowAt c b p → p ≡ place
@@ -158,82 +144,35 @@ row_within c is b rows place d cost same (g, at) =
 pub no_row_within : (c : Statement) (b : Position) (cost : ℕ) → ((p : ℕ) → HasRowAt c b p → ⊥) → IsTrue false ↔ HasRow c.rows b cost
 no_row_within c b cost none = ((λ e. absurd (true≢false (sym e))), (λ h. let there = at_contains c.rows (b, h.0) h.1 in absurd (none there.0 (h.0, there.1))))
 
--- ---- open successors
+-- ---- rows by their keys
 
-pub opens : (c : Statement) (t : Tables) (row : Position × ℕ) (m : Move) (next : Position) (k : ℕ) → Moves c.costs row.0 m next k → sum_in t next + (row.1 + k) < c.cost → (r : Bool) → (IsTrue r ↔ HasRow c.rows next (row.1 + k)) → IsTrue (not r) ↔ LeavesOpen c t row m
-opens c t row m next k moves low true test = (
-  (λ e. absurd (true≢false (sym e))),
-  (λ o.
-      let one = one_move c.costs row.0 m next o.0 k o.1 moves o.2 in
-      let has : HasRow c.rows o.0 (row.1 + o.1) = subst (λ (x : Position). HasRow c.rows x (row.1 + o.1)) (sym one.0) (subst (λ (n : ℕ). HasRow c.rows next (row.1 + n)) (sym one.1) (test.0 refl)) in
-      absurd (o.4 has)),
+-- where the row at a place has a board's key, the board has a row with at most this cost if that row has
+pub reached_within : (c : Statement) → IsCertificate c → (rows : Rows) (at : ℕ) (row : Position × ℕ) (found key cost : ℕ) → rows ≡ c.rows → at < length rows → row ≡ get_or rows at row → found ≡ row_key row → found ≡ key → (b : Position) → IsBoardOf c.grid b → key_of b ≡ key → IsTrue (leb row.1 cost) ↔ HasRow c.rows b cost
+reached_within c is rows at row found key cost same within here value one b board named =
+    let place : slice_get c.rows at ≡ Some row = row_here_at c rows at row same within here in
+    let row_is = (row_at c is at row place).board in
+    let board_is : row.0 ≡ b = same_board row.0 b row_is.board board.board (row_is.sides ∙ sym board.sides) (sym value ∙ one ∙ sym named) in
+    let has : HasRowAt c b at = (row.1, subst (λ (x : Position). slice_get c.rows at ≡ Some (x, row.1)) board_is place) in
+    let cost_is : (get_or rows at row).1 ≡ row.1 = ap (λ (r : Position × ℕ). r.1) (sym here) in
+    subst (λ (n : ℕ). IsTrue (leb n cost) ↔ HasRow c.rows b cost) cost_is (row_within c is b rows at row cost same has)
+
+-- where it has another key than the first that is not lower, the board has no row
+pub reached_elsewhere : (c : Statement) → IsCertificate c → (rows : Rows) (at : ℕ) (row : Position × ℕ) (found key cost : ℕ) → rows ≡ c.rows → at < length rows → row ≡ get_or rows at row → found ≡ row_key row → (found ≡ key → ⊥) → IsPartitionPoint (λ row. row_key row < key) (λ row. key ≤ row_key row) c.rows at → (b : Position) → IsBoardOf c.grid b → key_of b ≡ key → IsTrue (eqb found key) ↔ HasRow c.rows b cost
+reached_elsewhere c is rows at row found key cost same within here value other parted b board named = (
+  (λ e. absurd (other (eqb-true found key e))),
+  (λ has. absurd (
+      let there = at_contains c.rows (b, has.0) has.1 in
+      let place = there.0 in
+      let is_at : place ≡ at = found_by c is b c.rows key at refl (sym named) parted place (has.0, there.1) in
+      let here' : slice_get c.rows at ≡ Some row = row_here_at c rows at row same within here in
+      let one : row ≡ (b, has.0) = ap (λ (o : Option (Position × ℕ)). unwrap_or o row) (sym here' ∙ subst (λ (p : ℕ). slice_get c.rows p ≡ Some (b, has.0)) is_at there.1) in
+      other (value ∙ ap row_key one ∙ named))),
 )
-opens c t row m next k moves low false test = ((λ e. (next, k, moves, low, (λ has. true≢false (sym (test.1 has))))), (λ o. refl))
 
-pub opens_not : (c : Statement) (t : Tables) (row : Position × ℕ) (m : Move) (next : Position) (k cost sum : ℕ) → Moves c.costs row.0 m next k → cost ≡ c.cost → sum ≡ sum_in t next → cost ≤ sum + (row.1 + k) → IsTrue (ltb (sum + (row.1 + k)) cost) ↔ LeavesOpen c t row m
-opens_not c t row m next k cost sum moves same sum_is high = (
-  (λ e. let low = (Decides-ltb (sum + (row.1 + k)) cost).0 e in absurd (omega (arith, low, high))),
-  (λ o.
-      let one = one_move c.costs row.0 m next o.0 k o.1 moves o.2 in
-      let there : sum_in t o.0 ≡ sum_in t next = ap (sum_in t) one.0 in
-      let low = o.3 in
-      absurd (omega (arith, low, high, same, sum_is, there, one.1))),
-)
-
-pub opens_never : (c : Statement) (t : Tables) (row : Position × ℕ) (m : Move) → ((next : Position) (k : ℕ) → Moves c.costs row.0 m next k → ⊥) → IsTrue false ↔ LeavesOpen c t row m
-opens_never c t row m edge = ((λ e. absurd (true≢false (sym e))), (λ o. absurd (edge o.0 o.1 o.2)))
-
-pub number_at : (i : ℕ) → i < 4 → number_of (get_or (U ∷ L ∷ R ∷ D ∷ []) i U) ≡ i
-number_at zero low = refl
-number_at (suc zero) low = refl
-number_at (suc (suc zero)) low = refl
-number_at (suc (suc (suc zero))) low = refl
-number_at (suc (suc (suc (suc i)))) low = absurd (omega (arith, low))
-
-pub number_low : (m : Move) → number_of m < 4
-number_low U = omega arith
-number_low L = omega arith
-number_low R = omega arith
-number_low D = omega arith
-
-pub same_move : (m m' : Move) → number_of m ≡ number_of m' → m ≡ m'
-same_move m m' e = (moves_Decide m m').0 (eq-eqb (number_of m) (number_of m') e)
-
--- one move more, in their order
-pub one_move_more : (c : Statement) (t : Tables) (row : Position × ℕ) (i : ℕ) → i < 4 → ((m : Move) → number_of m < i → LeavesOpen c t row m → ⊥) → (LeavesOpen c t row (get_or (U ∷ L ∷ R ∷ D ∷ []) i U) → ⊥) → (m : Move) → number_of m < i + 1 → LeavesOpen c t row m → ⊥
-one_move_more c t row i low before here m less open_here =
-    ⊎_elim (λ (l : number_of m < i). before m l open_here)
-    (λ (le : i ≤ number_of m).
-    let at : Move = get_or (U ∷ L ∷ R ∷ D ∷ []) i U in
-    let number : number_of at ≡ i = number_at i low in
-    let same : m ≡ at = same_move m at (omega (arith, number, le, less)) in
-    here (subst (LeavesOpen c t row) same open_here))
-    (cases_lt (number_of m) i)
-
--- what is left open from the row at a place is left open from that row
-row_again : (c : Statement) (t : Tables) (p place : ℕ) (row : Position × ℕ) (m : Move) → p ≡ place → slice_get c.rows place ≡ Some row → LeavesOpenAt c t p m → LeavesOpen c t row m
-row_again c t p place row m same at o =
-    let there : slice_get c.rows place ≡ Some o.0 = subst (λ (k : ℕ). slice_get c.rows k ≡ Some o.0) same o.1 in
-    let one : o.0 ≡ row = ap (λ (x : Option (Position × ℕ)). unwrap_or x row) (sym there ∙ at) in
-    subst (λ (r : Position × ℕ). LeavesOpen c t r m) one o.2
-
--- the first open successor of a row is the first of all where the rows before have none
-pub first_here : (c : Statement) (t : Tables) (place : ℕ) (row : Position × ℕ) (m : Move) → slice_get c.rows place ≡ Some row → LeavesOpen c t row m → ((m' : Move) → number_of m' < number_of m → LeavesOpen c t row m' → ⊥) → ((p : ℕ) (m' : Move) → p < place → LeavesOpenAt c t p m' → ⊥) → IsFirstOpen c t place m
-first_here c t place row m at opened first before = ((row, at, opened), earlier)
-  where
-    earlier : (p : ℕ) (m' : Move) → Precedes (p ∷ number_of m' ∷ []) (place ∷ number_of m ∷ []) → LeavesOpenAt c t p m' → ⊥
-    earlier p m' (inl l) o = before p m' l o
-    earlier p m' (inr (same, inl l)) o = first m' l (row_again c t p place row m' same at o)
-    earlier p m' (inr (same, inr e)) o = e.1
-
--- one row more
-pub one_row_more : (c : Statement) (t : Tables) (place : ℕ) (row : Position × ℕ) → slice_get c.rows place ≡ Some row → ((p : ℕ) (m : Move) → p < place → LeavesOpenAt c t p m → ⊥) → ((m : Move) → LeavesOpen c t row m → ⊥) → (p : ℕ) (m : Move) → p < place + 1 → LeavesOpenAt c t p m → ⊥
-one_row_more c t place row at before here p m less o =
-    ⊎_elim (λ (l : p < place). before p m l o) (λ (le : place ≤ p). let same : p ≡ place = omega (arith, le, less) in here m (row_again c t p place row m same at o)) (cases_lt p place)
-
--- an open successor is one of a row, so it is among those seen where all rows were seen
-pub place_of_open : (c : Statement) (t : Tables) (rows : Rows) (seen place : ℕ) (m : Move) → rows ≡ c.rows → length rows ≤ seen → LeavesOpenAt c t place m → place < seen
-place_of_open c t rows seen place m same all o =
-    let within = slice_get_within c.rows place o.0 o.1 in
-    let count : length rows ≡ length c.rows = ap (λ (rs : Rows). length rs) same in
-    omega (arith, within, count, all)
+-- behind the last row no board has one
+pub reached_behind : (c : Statement) → IsCertificate c → (at key cost : ℕ) → length c.rows ≤ at → IsPartitionPoint (λ row. row_key row < key) (λ row. key ≤ row_key row) c.rows at → (b : Position) → key_of b ≡ key → HasRow c.rows b cost → ⊥
+reached_behind c is at key cost behind parted b named has =
+    let there = at_contains c.rows (b, has.0) has.1 in
+    let is_at : there.0 ≡ at = found_by c is b c.rows key at refl (sym named) parted there.0 (has.0, there.1) in
+    let within = slice_get_within c.rows there.0 (b, has.0) there.1 in
+    omega (arith, is_at, within, behind)

@@ -1,23 +1,28 @@
 //! The checker of certificates: what it accepts is least, whoever made the certificate.
 #![tactic(auto)]
 
+mod checking;
 mod groups;
+mod lookups;
+mod parallel;
 mod plan;
 mod refusals;
 mod rows;
+mod successors;
 
-ghost use Rattle.std.specs.Prelude.{◌≡◌, ◌↔◌, IsOk, IsErrOf, OnOk};
+ghost use Rattle.std.specs.Prelude.{◌≡◌, ◌↔◌, IsOk, IsErrOf, OnOk, IfOk};
 ghost use Rattle.board.specs.Plans.{IsLeast};
 ghost use Rattle.certificate_check.specs.declared.refusals.Refusal.{Refusal};
 ghost use Rattle.certificate_check.specs.Refusals.{IsProved, IsFirstRefusal};
 
 use certificate::Certificate;
-use groups::find_unfit;
+use checking::{check_up_to_rows, conclude};
 use lower_bound::Bound;
-use lower_bound::laws::sums_are_lower_bounds;
-use plan::check_plan;
+use memory::OutOfMemory;
+use parallel::find_open_parallel;
 pub use refusals::Refusal;
-use rows::{find_open, find_row, is_start_proved};
+use std::thread::Threads;
+use successors::find_open;
 
 /// Whether a certificate proves its cost with these tables: the plan leads from the start to the
 /// goal at that cost, the tables are those of its groups, whole, and potentials for its goal and
@@ -43,24 +48,32 @@ pub fn check(certificate: &Certificate, bound: &Bound) -> Result<(), Refusal>
     ensures refused { (refusal : Refusal) →
         IsErrOf result refusal ↔ IsFirstRefusal certificate.now bound.now refusal }
 {
-    // What holds of every certificate, as that its rows rise, is told by this call.
-    let _ = certificate.shape();
-    // That sums of potentials are lower bounds is this law.
-    sums_are_lower_bounds();
-    if let Err(refusal) = check_plan(certificate) {
+    if let Err(refusal) = check_up_to_rows(certificate, bound) {
         return Err(refusal);
     }
-    if let Some(place) = find_unfit(certificate, bound) {
-        return Err(Refusal::UnfitGroup(place));
+    let first_open = find_open(certificate, bound, 0);
+    conclude(certificate, bound, first_open)
+}
+
+/// The same answer as that of `check`, for which several threads look at the rows. No memory is
+/// taken, so it is never refused.
+pub fn check_parallel(
+    rt: &(impl Threads + Sync),
+    certificate: &Certificate,
+    bound: &Bound,
+) -> Result<Result<(), Refusal>, OutOfMemory>
+    ensures answered { IsOk result }
+    ensures accepted { IfOk result
+        (λ answer. IsOk answer ↔ IsProved certificate.now bound.now) }
+    ensures least { IfOk result (λ answer. OnOk answer
+        (IsLeast certificate.now.costs certificate.now.start certificate.now.goal
+        certificate.now.cost)) }
+    ensures refused { IfOk result (λ answer. (refusal : Refusal) →
+        IsErrOf answer refusal ↔ IsFirstRefusal certificate.now bound.now refusal) }
+{
+    if let Err(refusal) = check_up_to_rows(certificate, bound) {
+        return Ok(Err(refusal));
     }
-    if !is_start_proved(certificate, bound) {
-        return Err(Refusal::StartUnproved);
-    }
-    if let Some(place) = find_row(certificate, &certificate.goal()) {
-        return Err(Refusal::GoalRow(place));
-    }
-    if let Some(found) = find_open(certificate, bound) {
-        return Err(Refusal::OpenSuccessor(found.0, found.1));
-    }
-    Ok(())
+    let first_open = find_open_parallel(rt, certificate, bound);
+    Ok(conclude(certificate, bound, first_open))
 }

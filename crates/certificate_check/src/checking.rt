@@ -1,0 +1,71 @@
+//! What both searches for an open successor share: what comes before it, and what is said then.
+
+ghost use Rattle.std.specs.Prelude.{◌≡◌, ◌↔◌, ℕ, IsOk, IsErrOf, OnOk, IfErr, IfSome, IsNone};
+ghost use Rattle.board.specs.declared.moves.Move.{Move};
+ghost use Rattle.board.specs.Plans.{IsLeast};
+ghost use Rattle.certificate_check.specs.declared.refusals.Refusal.{Refusal};
+ghost use Rattle.certificate_check.specs.Refusals.{IsProved, IsProvedUpToRows, IsFirstRefusal};
+ghost use Rattle.certificate_check.specs.Refusals.{IsFirstOpen, LeavesOpenAt};
+ghost use Rattle.certificate.specs.Certificates.{IsCertificate};
+
+use crate::groups::find_unfit;
+use crate::plan::check_plan;
+use crate::refusals::Refusal;
+use crate::rows::{find_row, is_start_proved};
+use board::Move;
+use certificate::Certificate;
+use lower_bound::Bound;
+use lower_bound::laws::sums_are_lower_bounds;
+
+// All that is looked at before the successors of the rows: the first cause of C1 to C6 to refuse.
+pub(crate) fn check_up_to_rows(certificate: &Certificate, bound: &Bound) -> Result<(), Refusal>
+    ensures up_to { OnOk result (IsProvedUpToRows certificate.now bound.now) }
+    ensures refused { IfErr result (IsFirstRefusal certificate.now bound.now) }
+    ensures certificate { IsCertificate certificate.now }
+    ensures shape { OnOk result (bound.now.split.grid ≡ certificate.now.grid) }
+{
+    // What holds of every certificate, as that its rows rise, is told by this call.
+    let _ = certificate.shape();
+    if let Err(refusal) = check_plan(certificate) {
+        return Err(refusal);
+    }
+    if let Some(place) = find_unfit(certificate, bound) {
+        return Err(Refusal::UnfitGroup(place));
+    }
+    if !is_start_proved(certificate, bound) {
+        return Err(Refusal::StartUnproved);
+    }
+    if let Some(place) = find_row(certificate, &certificate.goal()) {
+        return Err(Refusal::GoalRow(place));
+    }
+    Ok(())
+}
+
+// The answer, by the first open successor where there is one.
+pub(crate) fn conclude(
+    certificate: &Certificate,
+    bound: &Bound,
+    first_open: Option<(usize, Move)>,
+) -> Result<(), Refusal>
+    requires up_to { IsProvedUpToRows certificate.now bound.now }
+    requires first { IfSome first_open (λ found.
+        IsFirstOpen certificate.now bound.now found.0 found.1) }
+    requires none { IsNone first_open → (place : ℕ) (m : Move) →
+        ¬ LeavesOpenAt certificate.now bound.now place m }
+    ensures accepted { IsOk result ↔ IsProved certificate.now bound.now }
+    ensures least { OnOk result
+        (IsLeast certificate.now.costs certificate.now.start certificate.now.goal
+        certificate.now.cost) }
+    ensures refused { (refusal : Refusal) →
+        IsErrOf result refusal ↔ IsFirstRefusal certificate.now bound.now refusal }
+{
+    // What holds of every certificate and of every bound is told by these calls, and that sums of
+    // potentials are lower bounds is the law.
+    let _ = certificate.shape();
+    let _ = bound.partition();
+    sums_are_lower_bounds();
+    match first_open {
+        Some(found) => Err(Refusal::OpenSuccessor(found.0, found.1)),
+        None => Ok(()),
+    }
+}
