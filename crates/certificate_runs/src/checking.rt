@@ -1,6 +1,9 @@
 //! A certificate in, a verdict out.
 
-ghost use Rattle.std.specs.Prelude.{IfOk};
+ghost use Rattle.std.specs.Prelude.{◌↔◌, IfOk, IsOk, IsErrOf, OnOk};
+ghost use Rattle.board.specs.Plans.{IsLeast};
+ghost use Rattle.certificate_check.specs.declared.refusals.Refusal.{Refusal};
+ghost use Rattle.certificate_check.specs.Refusals.{IsProved, IsFirstRefusal};
 ghost use Rattle.byte_streams.specs.Streams.{change};
 ghost use Rattle.certificate_runs.specs.Checking.{IsJudgementBy, IsRefused, Checks};
 ghost use Rattle.certificate_runs.specs.Checking.{PutsVerdict};
@@ -11,7 +14,7 @@ ghost use Rattle.certificate_runs.specs.Built.{AreBuiltFor};
 use crate::faults::CheckFault;
 use byte_streams::{Sink, Source};
 use certificate::{Certificate, ReadFault, read};
-use certificate_check::check;
+use certificate_check::{Refusal, check, check_parallel};
 use lower_bound::Bound;
 use memory::OutOfMemory;
 use reports::{NoReport, accepted_report, refused_certificate_report};
@@ -19,9 +22,14 @@ use std::alloc::Global;
 use std::thread::Threads;
 use table_sets::build_bound;
 
+// From so many rows on, several threads look at them. Fewer are checked in less time than would pay
+// for the threads.
+const PARALLEL_ROWS: usize = 4_096;
+
 /// Checks the certificate that the source spells with tables that are built for its groups, and
 /// writes one line: the least cost, or the code of the first fault. Answers the status: 0 where it
-/// is accepted, 5 where it is refused. Large tables are built side by side, by several threads.
+/// is accepted, 5 where it is refused. Large tables are built side by side, and many rows are
+/// checked side by side, by several threads.
 ///
 /// Nothing is written where the source fails, or where there is no memory for the certificate, for
 /// its tables or for the line. Nothing is flushed.
@@ -51,7 +59,7 @@ fn check_source<R: Threads + Sync, S: Source, K: Sink>(
 {
     match read(alloc, source) {
         Ok(certificate) => match build_for(rt, alloc, &certificate) {
-            Ok(bound) => match judge(alloc, &certificate, &bound) {
+            Ok(bound) => match judge(rt, alloc, &certificate, &bound) {
                 Ok((text, status)) => put_verdict(sink, text.as_str(), status),
                 Err(lacking) => Err(CheckFault::Memory(lacking)),
             },
@@ -81,14 +89,38 @@ fn build_for<R: Threads + Sync>(
 }
 
 // The line that is written of a certificate that is checked with these tables, and its status.
-fn judge(alloc: Global, certificate: &Certificate, bound: &Bound) -> Result<(String, u8), NoReport>
+fn judge<R: Threads + Sync>(
+    rt: &R,
+    alloc: Global,
+    certificate: &Certificate,
+    bound: &Bound,
+) -> Result<(String, u8), NoReport>
     ensures { IfOk result
         (λ verdict. IsJudgementBy bound.now certificate.now (verdict_output verdict)) }
 {
-    match check(certificate, bound) {
+    match check_certificate(rt, certificate, bound) {
         Ok(()) => Ok((accepted_report(alloc, certificate.cost())?, 0)),
         Err(refusal) => refuse(alloc, refusal.code()),
     }
+}
+
+// What the checker says: by several threads where there are many rows, else in this one.
+fn check_certificate<R: Threads + Sync>(
+    rt: &R,
+    certificate: &Certificate,
+    bound: &Bound,
+) -> Result<(), Refusal>
+    ensures accepted { IsOk result ↔ IsProved certificate.now bound.now }
+    ensures least { OnOk result
+        (IsLeast certificate.now.costs certificate.now.start certificate.now.goal
+        certificate.now.cost) }
+    ensures refused { (refusal : Refusal) →
+        IsErrOf result refusal ↔ IsFirstRefusal certificate.now bound.now refusal }
+{
+    if certificate.rows().len() < PARALLEL_ROWS {
+        return check(certificate, bound);
+    }
+    check_parallel(rt, certificate, bound).unwrap()
 }
 
 // The line that is written of a fault, and its status.

@@ -4,6 +4,6 @@ use Rattle.certificate_runs.specs.Checking.{IsJudgementBy, IsRefused, verdict_ou
 use Rattle.certificate_runs.proofs.checking.judge.Goals as goal
 
 pub returns-in-Err : goal.returns-in-Err
-returns-in-Err c =
+returns-in-Err g c =
     IfOk-weaker c.refuse.result (λ verdict. IsRefused c.code.result.now (verdict_output verdict)) (λ verdict. IsJudgementBy c.args.bound.now c.args.certificate.now (verdict_output verdict))
     (λ verdict refused. inr (c.in-Err.refusal, (c.in-Err.ensures.refused c.in-Err.refusal).0 refl, rw c.code.ensures at refused)) c.refuse.ensures
