@@ -1,13 +1,14 @@
 //! The checker: certificates that it accepts, and one for each refusal.
 
 use crate::groups::bound_for;
-use crate::vectors::{GOAL, ONE_MOVE, THREE_MOVES, WITH_GROUPS};
+use crate::vectors::{GOAL, NO_ROWS_AT_2, ONE_MOVE, ONE_ROW_LESS, THREE_MOVES, WITH_GROUPS};
 use board::Move;
 use byte_streams::ByteSource;
 use certificate::{FormatFault, ReadFault, read};
-use certificate_check::{Refusal, check};
+use certificate_check::{Refusal, check, check_parallel};
 use std::alloc::Global;
 use std::test::Fail;
+use std::thread::Threads;
 
 // Where the kind of costs stands.
 const KIND: usize = 10;
@@ -26,6 +27,17 @@ fn answer(alloc: Global, bytes: &[u8]) -> Result<Answer, Fail> {
     }
 }
 
+// The same, where several threads look at the rows.
+fn several_answer<R: Threads + Sync>(rt: &R, alloc: Global, bytes: &[u8]) -> Result<Answer, Fail> {
+    match read(alloc, &mut ByteSource::new(bytes)) {
+        Ok(certificate) => {
+            let bound = bound_for(alloc, &certificate)?;
+            Ok(Ok(check_parallel(rt, &certificate, &bound).unwrap()))
+        }
+        Err(fault) => Ok(Err(fault)),
+    }
+}
+
 // The bytes of three moves, with other bytes from a place on.
 fn changed(place: usize, bytes: &[u8]) -> [u8; 79] {
     let mut text = THREE_MOVES;
@@ -37,11 +49,13 @@ fn changed(place: usize, bytes: &[u8]) -> [u8; 79] {
 
 #[test]
 fn known_answers(rt: HostRuntime) -> Result<(), Fail> {
-    let answers: [(&[u8], Answer); 6] = [
+    let answers: [(&[u8], Answer); 8] = [
         (&GOAL, Ok(Ok(()))),
         (&ONE_MOVE, Ok(Ok(()))),
         (&THREE_MOVES, Ok(Ok(()))),
         (&WITH_GROUPS, Ok(Ok(()))),
+        (&NO_ROWS_AT_2, Ok(Err(Refusal::OpenSuccessor(0, Move::R)))),
+        (&ONE_ROW_LESS, Ok(Err(Refusal::OpenSuccessor(2, Move::U)))),
         // Fields that are cut off are not judged.
         (b"\xff", Err(ReadFault::Format(FormatFault::Truncated))),
         (
@@ -51,6 +65,7 @@ fn known_answers(rt: HostRuntime) -> Result<(), Fail> {
     ];
     for (bytes, want) in answers {
         assert_eq!(rt; answer(rt.alloc(), bytes)?, want, "{bytes:?}");
+        assert_eq!(rt; several_answer(&rt, rt.alloc(), bytes)?, want, "{bytes:?}");
     }
     Ok(())
 }
@@ -101,6 +116,8 @@ fn each_fault_and_refusal(rt: HostRuntime) -> Result<(), Fail> {
     for (place, bytes, want) in changes {
         let text = changed(place, bytes);
         assert_eq!(rt; answer(rt.alloc(), &text)?, want, "{bytes:?} at {place}");
+        let several = several_answer(&rt, rt.alloc(), &text)?;
+        assert_eq!(rt; several, want, "{bytes:?} at {place}");
     }
     Ok(())
 }

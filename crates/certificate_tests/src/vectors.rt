@@ -31,6 +31,29 @@ pub(crate) const THREE_MOVES: [u8; 79] = [
     3, 0, 1, 2, 2, 0, 0, 0, // and at 2
 ];
 
+// The same without the two rows at 2.
+pub(crate) const NO_ROWS_AT_2: [u8; 63] = [
+    0x54, 0x49, 0x4c, 0x45, 0x43, 0x52, 0x54, 0x31, 2, 2, 0, 0, // the opening
+    1, 3, 0, 2, 0, 1, 2, 3, // start and goal
+    3, 0, 0, 0, 3, 0, 0, 0, b'R', b'U', b'L', // the cost and the plan
+    3, 0, 0, 0, 0, 0, 0, 0, // the count of rows
+    0, 3, 1, 2, 1, 0, 0, 0, // the rows
+    1, 3, 0, 2, 0, 0, 0, 0, //
+    1, 3, 2, 0, 1, 0, 0, 0, //
+];
+
+// The same without the row of 1 0 over 2 3 alone.
+pub(crate) const ONE_ROW_LESS: [u8; 71] = [
+    0x54, 0x49, 0x4c, 0x45, 0x43, 0x52, 0x54, 0x31, 2, 2, 0, 0, // the opening
+    1, 3, 0, 2, 0, 1, 2, 3, // start and goal
+    3, 0, 0, 0, 3, 0, 0, 0, b'R', b'U', b'L', // the cost and the plan
+    4, 0, 0, 0, 0, 0, 0, 0, // the count of rows
+    0, 3, 1, 2, 1, 0, 0, 0, // the rows
+    1, 3, 0, 2, 0, 0, 0, 0, //
+    1, 3, 2, 0, 1, 0, 0, 0, //
+    3, 0, 1, 2, 2, 0, 0, 0, //
+];
+
 // The same with the groups 1 and 3, whose sums leave the start alone to be proved by a row.
 pub(crate) const WITH_GROUPS: [u8; 51] = [
     0x54, 0x49, 0x4c, 0x45, 0x43, 0x52, 0x54, 0x31, 2, 2, 0, // the opening
