@@ -8,7 +8,7 @@ use batch_cli::{Ending, Gate, Kind, run_with_progress};
 use byte_streams::{ByteSink, ByteSource};
 use std::alloc::Global;
 use std::env;
-use std::io::{BufReader, BufWriter};
+use std::io::{BufReader, BufWriter, ErrorKind};
 use std::process::ExitCode;
 use std::rt::Env;
 use std::sync::atomic::{AtomicU64, Ordering};
@@ -46,8 +46,10 @@ fn tell(rt: &impl Eprint, expanded: u64) {
 // The words after the program's name, or how the program ends where they are no texts or find no
 // memory.
 fn read_words(rt: &(impl Env + AllocGlobal)) -> Result<Vec<String>, Ending> {
-    let Ok(words) = env::args(rt) else {
-        return Err(Ending::NoTexts);
+    let words = match env::args(rt) {
+        Ok(words) => words,
+        Err(fault) if fault.kind() == ErrorKind::OutOfMemory => return Err(Ending::NoMemory),
+        Err(_) => return Err(Ending::NoTexts),
     };
     match words.skip(1).collect(rt.alloc()) {
         Ok(words) => Ok(words),
