@@ -9,7 +9,7 @@ use Rattle.lower_bound.specs.Tables.{Tables, parts_of}
 use Rattle.successor_sums.specs.Unpacked.{told_of}
 use Rattle.successor_sums.specs.declared.unpacked.Successor.{Successor}
 
--- the boards of the rows before a place have lower keys
+-- the boards of the rows before a place have lower keys; since that is asked for each d, the place is no further than the rows' end
 abbrev pub AreLower : List (Position × ℕ) → ℕ → ℕ → Type 0
 AreLower rows key end = (k : ℕ) (d : Position × ℕ) → k < end → key_of (get_or rows k d).0 < key
 

@@ -3,6 +3,7 @@
 
 mod checking;
 mod groups;
+pub mod laws;
 mod lookups;
 mod parallel;
 mod plan;
@@ -30,11 +31,14 @@ use successors::find_open;
 /// tables' sums that no plan is cheaper. The cost is then the least.
 ///
 /// Else the first cause to refuse, in the order of the codes: C1 the first illegal move of the
-/// plan, C2 another end, C3 another cost, C4 the first group where the certificate's groups and the
-/// tables' differ or whose table is folded or no potential, and the first of all where their shapes
-/// differ, C5 no row of the start at 0 although its sum is below the cost, C6 the first row of the
-/// goal, C7 the first row, and there the first of the moves up, left, right and down, that leads to
-/// a board that is below the cost by its sum and without a row of at most its cost.
+/// plan, C2 another end, C3 another cost, C4 the first place at which the certificate's groups and
+/// the tables' differ or whose table is folded or no potential, and the first of all where their
+/// shapes differ, C5 no row of the start at 0 although the start's sum is below the stated cost (no
+/// row is asked for where the sum is that cost or more), C6 the first row of the goal, C7 the first
+/// row, and there the first of the moves up, left, right and down, that leaves a board open: the sum
+/// of the board that it leads to and the cost of going there, which is the row's cost and the
+/// move's, are below the stated cost when they are added up, and that board has no row, or one of
+/// more than the cost of going there.
 ///
 /// A folded table is refused whatever it was folded from, since that can't be seen from it alone.
 ///
@@ -55,8 +59,8 @@ pub fn check(certificate: &Certificate, bound: &Bound) -> Result<(), Refusal>
     conclude(certificate, bound, first_open)
 }
 
-/// The same answer as that of `check`, for which several threads look at the rows. No memory is
-/// taken, so it is never refused.
+/// The same answer as that of `check`, for which several threads look at the rows. It takes no
+/// memory itself, and answers `Ok` always, as the clause `answered` says.
 pub fn check_parallel(
     rt: &(impl Threads + Sync),
     certificate: &Certificate,

@@ -63,9 +63,10 @@ fn closed_up_to(rt: &(impl Threads + Sync), certificate: &Certificate, bound: &B
     }
 }
 
-// Whether a block of rows leaves a board open, or one before it does: then its own rows aren't
-// looked at, so that a certificate that is refused is not looked at for longer than one that is
-// accepted. What is noted for that is a hint, on which no proof rests.
+// False only where the rows of a block leave no board open; true says nothing. It is answered where
+// they leave one open, and where one before them was seen to do so: then they aren't looked at, so
+// that a certificate that is refused is not looked at for longer than one that is accepted. What is
+// noted for that is a hint, on which no proof rests.
 fn may_be_open(
     certificate: &Certificate,
     bound: &Bound,

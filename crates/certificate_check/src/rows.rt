@@ -39,7 +39,7 @@ fn has_row(certificate: &Certificate, board: &Board, cost: u32) -> bool
     }
 }
 
-// Whether the start has a row at 0, where its sum is below the cost.
+// Whether the start has a row at 0, or needs none, since its sum is the stated cost or more.
 pub(crate) fn is_start_proved(certificate: &Certificate, bound: &Bound) -> bool
     requires certificate { IsCertificate certificate.now }
     requires shape { bound.now.split.grid ≡ certificate.now.grid }

@@ -96,8 +96,9 @@ fn open_move(
     None
 }
 
-// Whether a move leads from a row to a board whose sum and the cost of going there are below the
-// cost, and that has no row with at most the cost of going there; by what is told of that board.
+// Whether a move leads from a row to a board whose sum and the cost of going there, added up, are
+// below the stated cost, and that has no row with at most the cost of going there; by what is told
+// of that board.
 fn leaves_open(
     certificate: &Certificate,
     place: usize,
