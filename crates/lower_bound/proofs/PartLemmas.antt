@@ -1,14 +1,16 @@
 -- How values are kept by groups.
-use Rattle.std.proofs.Common.{◌≡◌, ℕ, zero, suc, ◌+◌, ◌<◌, List, [], ◌∷◌, ◌++◌, map, length, take, drop, set, get_or, refl, sym, ap, ◌∙◌, arith}
-use Rattle.std.specs.Prelude.{Contains, slice_index}
+use Rattle.std.proofs.Common.{◌≡◌, ◌≢◌, ◌⊎◌, ⊎_elim, inl, inr, ℕ, zero, suc, ◌+◌, ◌<◌, List, [], ◌∷◌, ◌++◌, map, length, take, drop, set, get_or, refl, sym, ap, ◌∙◌, arith}
+use Rattle.std.specs.Prelude.{All, AllPairs, Contains, slice_index, sum_by}
 use Rattle.std.specs.List.{AllByRecursion}
 use Rattle.std.proofs.lemmas.List.{length-map, get_or-map}
+use Rattle.std.proofs.lemmas.List.Sums.{sum_by-cons}
 use Rattle.board.specs.Grids.{cell_count}
 use Rattle.board.specs.Positions.{Position, cell_of}
 use Rattle.pattern_index.specs.Ranks.{rank_of}
 use Rattle.pattern_index.specs.Selections.{IsTile}
+use Rattle.pattern_index.specs.Splits.{ShareNoTile}
 use Rattle.database_build.specs.Folds.{Fold}
-use Rattle.lower_bound.specs.Folded.{IsBefore, folded_parts, value_for, values_of}
+use Rattle.lower_bound.specs.Folded.{AreAsBefore, IsBefore, folded_parts, value_by, value_for, values_of}
 
 -- the first i of some numbers, and behind them what is left of others
 abbrev pub mixed : ℕ → List ℕ → List ℕ → List ℕ
@@ -68,3 +70,47 @@ module _ (before b : Position) (folds : List Fold) (i : ℕ) (d : Fold) (values 
       let one : suc i ≡ i + 1 = omega arith in
       let both : n ≡ get_or (map (value_for b) folds) i 0 = value ∙ sym now in
       (λ j. set (so_far j) i (both j)) ∙ mixed_set i (map (value_for b) folds) olds (omega arith) (omega arith) ∙ ap (λ k. mixed k (map (value_for b) folds) olds) one
+
+-- ---- a sum of which one value changes
+
+-- sums of the same values
+all_same : (f g : Fold → ℕ) (folds : List Fold) (d : Fold) → ((j : ℕ) → j < length folds → f (get_or folds j d) ≡ g (get_or folds j d)) → sum_by f folds ≡ sum_by g folds
+all_same f g [] d same = refl
+all_same f g (x ∷ xs) d same =
+    let here : f x ≡ g x = same 0 (omega arith) in
+    let rest = all_same f g xs d (λ j j_in. same (suc j) (omega (arith, j_in))) in
+    let one = sum_by-cons f x xs in
+    let other = sum_by-cons g x xs in
+    omega arith
+
+-- sums of values that are the same but for one
+one_changed : (f g : Fold → ℕ) (folds : List Fold) (i : ℕ) (d : Fold) → i < length folds → ((j : ℕ) → j < length folds → j ≢ i → f (get_or folds j d) ≡ g (get_or folds j d)) → sum_by f folds + g (get_or folds i d) ≡ sum_by g folds + f (get_or folds i d)
+one_changed f g [] i d i_in same = absurd (omega (arith, i_in))
+one_changed f g (x ∷ xs) zero d i_in same =
+    let rest = all_same f g xs d (λ j j_in. same (suc j) (omega (arith, j_in)) (λ e. absurd (omega (arith, e)))) in
+    let one = sum_by-cons f x xs in
+    let other = sum_by-cons g x xs in
+    omega arith
+one_changed f g (x ∷ xs) (suc i) d i_in same =
+    let here : f x ≡ g x = same 0 (omega arith) (λ e. absurd (omega (arith, e))) in
+    let rest = one_changed f g xs i d (omega (arith, i_in)) (λ j j_in ne. same (suc j) (omega (arith, j_in)) (λ e. ne (omega (arith, e)))) in
+    let one = sum_by-cons f x xs in
+    let other = sum_by-cons g x xs in
+    omega arith
+
+-- one of two different places is before the other
+one_before : (j i : ℕ) → j ≢ i → (j < i) ⊎ (i < j)
+one_before zero zero ne = absurd (ne refl)
+one_before zero (suc i) ne = inl (omega arith)
+one_before (suc j) zero ne = inr (omega arith)
+one_before (suc j) (suc i) ne =
+    ⊎_elim (λ (lt : j < i). inl (omega (arith, lt))) (λ (gt : i < j). inr (omega (arith, gt))) (one_before j i (λ e. ne (ap suc e)))
+
+-- where one of the groups has the tile that moved, its value alone changes
+pub moved_sum : (before after : List ℕ) (tile : ℕ) (folds : List Fold) (i : ℕ) (d : Fold) → i < length folds → AreAsBefore before after tile folds → AllPairs (λ (f g : Fold). ShareNoTile f.selection.tiles g.selection.tiles) folds → Contains (get_or folds i d).selection.tiles tile → sum_by (value_by before) folds + value_by after (get_or folds i d) ≡ sum_by (value_by after) folds + value_by before (get_or folds i d)
+moved_sum before after tile folds i d i_in others apart has =
+    one_changed (value_by before) (value_by after) folds i d i_in (λ j j_in ne. others j d j_in
+    (⊎_elim
+    (λ (lt : j < i). λ within. apart j i d lt i_in tile within has)
+    (λ (gt : i < j). λ within. apart i j d gt j_in tile has within)
+    (one_before j i ne)))

@@ -1,13 +1,14 @@
 -- Why tables of a partition, whole or folded, are a bound.
 use Rattle.std.proofs.Common.{◌≡◌, ℕ, ◌+◌, ◌<◌, ◌≤◌, List, [], ◌++◌, map, length, get_or, sym, ap, ◌∙◌, subst, ⊎_elim, arith}
-use Rattle.std.specs.Prelude.{All}
-use Rattle.std.proofs.lemmas.List.{append-nil, length-map}
+use Rattle.std.specs.Prelude.{All, AllPairs}
+use Rattle.std.proofs.lemmas.List.{append-nil, length-map, get_or-map}
 use Rattle.board.specs.Grids.{Grid}
 use Rattle.board.specs.Positions.{Position, IsBoard}
 use Rattle.board.specs.CostRules.{CostRule}
 use Rattle.board.specs.Plans.{NothingBelow}
 use Rattle.board.specs.Rows.{IsLowerBound}
 use Rattle.pattern_index.specs.Selections.{Selection}
+use Rattle.pattern_index.specs.Splits.{ShareNoTile}
 use Rattle.database_build.specs.Values.{IsPotential}
 use Rattle.database_build.specs.Tables.{Lookup, value_in}
 use Rattle.database_build.specs.Folds.{Fold}
@@ -58,6 +59,20 @@ table_grids tables is = each_lookup (λ g. g.grid ≡ tables.split.grid) tables 
 
 pub fold_grids : (tables : Tables) → IsTables tables → All (λ fold. fold.selection.grid ≡ tables.split.grid) tables.folds
 fold_grids tables is = each_fold (λ g. g.grid ≡ tables.split.grid) tables is is.partition.of_grid
+
+-- the groups of folded tables share no tile
+pub each_apart : (tables : Tables) → IsTables tables → AllPairs (λ (f g : Fold). ShareNoTile f.selection.tiles g.selection.tiles) tables.folds
+each_apart tables is =
+    ⊎_elim (λ (whole : AreTablesOf tables.split.groups tables.lookups × AreWhole tables). λ i j d lt j_in. (let long : length tables.folds ≡ 0 = ap length whole.1 in absurd (omega (arith, long, j_in))))
+    (λ (folded : AreFoldsOf tables.split.groups tables.folds × (tables.lookups ≡ [])). λ i j d lt j_in.
+    (let count : length (map (λ (fold : Fold). fold.selection) tables.folds) ≡ length tables.folds = length-map tables.folds (λ (fold : Fold). fold.selection) in
+    let count' : length (map (λ (fold : Fold). fold.selection) tables.folds) ≡ length tables.split.groups = ap length folded.0 in
+    let share = is.partition.apart i j d.selection lt (omega (arith, count, count', j_in)) in
+    let at : (k : ℕ) → k < length tables.folds → get_or tables.split.groups k d.selection ≡ (get_or tables.folds k d).selection = λ k k_in.
+    ap (λ (gs : List Selection). get_or gs k d.selection) (sym folded.0) ∙ get_or-map (λ (fold : Fold). fold.selection) tables.folds k d d.selection k_in in
+    subst (λ (g : Selection). ShareNoTile g.tiles (get_or tables.folds j d).selection.tiles) (at i (omega (arith, lt, j_in)))
+    (subst (λ (g : Selection). ShareNoTile (get_or tables.split.groups i d.selection).tiles g.tiles) (at j j_in) share)))
+    is.one_each
 
 -- so each is of the grid of a board that fits
 pub grids_fit : (tables : Tables) (lookups : List Lookup) (grid : Grid) → IsTables tables → tables.lookups ≡ lookups → grid ≡ tables.split.grid → All (λ table. table.selection.grid ≡ grid) lookups

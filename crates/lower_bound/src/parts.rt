@@ -1,11 +1,13 @@
 //! The values of the groups of a board, one by one.
 
-ghost use Rattle.std.specs.Prelude.{ℕ, ◌≡◌, ◌*◌, ◌≤◌, ◌↔◌, length, map, sum, sum_by, All, IsTrue, Contains};
+ghost use Rattle.std.specs.Prelude.{ℕ, ◌≡◌, ◌+◌, ◌*◌, ◌≤◌, ◌↔◌, length, map, sum, sum_by, All, AllPairs};
+ghost use Rattle.std.specs.Prelude.{IsTrue, Contains};
 ghost use Rattle.board.specs.Positions.{Position};
 ghost use Rattle.pattern_index.specs.Views.{IsView, view_at};
 ghost use Rattle.pattern_index.specs.Selections.{IsSelection};
+ghost use Rattle.pattern_index.specs.Splits.{ShareNoTile};
 ghost use Rattle.lower_bound.specs.Folded.{folded_parts, values_of, value_for, IsBefore};
-ghost use Rattle.lower_bound.specs.Folded.{value_by, AreAsBefore};
+ghost use Rattle.lower_bound.specs.Folded.{value_by, AreViews, AreAsBefore};
 
 use crate::bound::GREATEST_SUM;
 use board::Board;
@@ -72,8 +74,7 @@ impl Parts {
     /// making a view.
     pub fn at(folds: &[Folded], cells: &[u8; 25]) -> Self
         requires few { length folds.now ≤ MOST_GROUPS }
-        requires views { All (λ fold. IsView fold.selection.grid fold.selection.tiles
-            (view_at fold.selection.tiles cells.now)) folds.now }
+        requires views { AreViews cells.now folds.now }
         ensures { result ≡ map (value_by cells.now) folds.now }
     {
         let mut values = [0; MOST_GROUPS];
@@ -84,28 +85,6 @@ impl Parts {
         Parts { count, values }
     }
 
-    /// The sum of the values of a board, by the cell of each of its numbers, where these are those
-    /// of the board before a tile moved. Only the group of that tile is looked up.
-    pub fn sum_after(&self, folds: &[Folded], cells: &[u8; 25], tile: u8) -> u32
-        requires views { All (λ fold. IsView fold.selection.grid fold.selection.tiles
-            (view_at fold.selection.tiles cells.now)) folds.now }
-        requires others { AreAsBefore cells.now tile folds.now self.now }
-        ensures value { result ≡ sum_by (value_by cells.now) folds.now }
-        ensures high { result ≤ GREATEST_SUM }
-    {
-        let mut total = 0;
-        'tables: for i in 0..folds.len() {
-            let moved = has_tile(&folds[i], tile);
-            let value = if moved {
-                value_by(&folds[i], cells)
-            } else {
-                self.values[i]
-            };
-            total += u32::from(value);
-        }
-        total
-    }
-
     /// Their sum.
     pub fn sum(&self) -> u32
         ensures value { result ≡ sum self.now }
@@ -113,6 +92,28 @@ impl Parts {
     {
         add_up(&self.values[..self.count as usize])
     }
+}
+
+/// The sum of the values of a board, by the cell of each of its numbers, where this is the sum
+/// before a tile moved. Only the group of that tile is looked up, for what it said and what it says.
+pub fn sum_after(folds: &[Folded], sum: u32, before: &[u8; 25], after: &[u8; 25], tile: u8) -> u32
+    requires before { AreViews before.now folds.now }
+    requires after { AreViews after.now folds.now }
+    requires others { AreAsBefore before.now after.now tile folds.now }
+    requires apart { AllPairs
+        (λ f g. ShareNoTile f.selection.tiles g.selection.tiles) folds.now }
+    requires sum { sum ≡ sum_by (value_by before.now) folds.now }
+    requires low { sum ≤ GREATEST_SUM }
+    ensures value { result ≡ sum_by (value_by after.now) folds.now }
+    ensures high { result ≤ sum + NO_VALUE }
+{
+    'tables: for fold in folds {
+        if has_tile(fold, tile) {
+            let was = u32::from(value_by(fold, before));
+            return sum - was + u32::from(value_by(fold, after));
+        }
+    }
+    sum
 }
 
 // Adds values.

@@ -51,11 +51,12 @@ struct Hashed {
     workers: usize,
 }
 
-/// What the moves from a board offer that costs this much, to so many workers; but for one move
-/// that is left out, if any is.
+/// What the moves from a board offer that costs this much and has this sum, to so many workers; but
+/// for one move that is left out, if any is.
 pub fn offers_of<S: Spread>(
     unpacked: &UnpackedBoard,
     cost: u32,
+    sum: u32,
     weights: &Weights,
     bound: &Bound,
     owners: &S,
@@ -65,13 +66,15 @@ pub fn offers_of<S: Spread>(
     requires rule { weights.now.grid ≡ unpacked.now.grid }
     requires bound { bound.now.split.grid ≡ unpacked.now.grid }
     requires low { cost ≤ GREATEST_EXPANDED_COST }
+    requires sum { sum ≡ sum_of (parts_of bound.now) unpacked.now }
+    requires sum_low { sum ≤ GREATEST_EXPANDED_COST }
     requires some { 0 < workers }
     ensures offered { AreOffered (sum_of (parts_of bound.now))
         (λ b. S.hash_of owners.now b % workers)
         (but left_out (item_by weights.now unpacked.now cost)) result }
     ensures within { OfEach (IsWithin unpacked.now.grid cost workers) result }
 {
-    let [up, left, right, down] = unpacked.successors_but(left_out, weights, bound);
+    let [up, left, right, down] = unpacked.successors_but(left_out, Some(sum), weights, bound);
     let board = unpacked.board();
     let hashed = Hashed {
         hash: hash_for(board, owners, workers),

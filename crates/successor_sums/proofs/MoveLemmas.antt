@@ -108,7 +108,7 @@ pub record IsLedTo (inside : Inside) (to tile : ℕ) : Type 0 where
   pub key_is : inside.key - tile * 32 ^ (cell_count inside.board.grid - 1 - to) + tile * 32 ^ (cell_count inside.board.grid - 1 - slice_index inside.cells 0) ≡ key_of (blank_exchange inside.board to)
   pub key_fits : key_of (blank_exchange inside.board to) < 2 ^ 125
   pub board : IsBoard (blank_exchange inside.board to)
-  pub cells : AreCellsOf (blank_exchange inside.board to) (set (set inside.cells 0 to) tile (slice_index inside.cells 0))
+  pub cells : (cells : List ℕ) → AreCellsOf inside.board cells → AreCellsOf (blank_exchange inside.board to) (set (set cells 0 to) tile (slice_index cells 0))
   pub others : IsBefore inside.board (blank_exchange inside.board to) tile
 
 module _ (inside : Inside) (grid : Grid) (m : Move) (to : ℕ) (unpacked : IsUnpacked inside) (same : grid ≡ inside.board.grid) (lies : LiesTowards grid m (slice_index inside.cells 0) to) where
@@ -152,7 +152,7 @@ module _ (inside : Inside) (grid : Grid) (m : Move) (to : ℕ) (unpacked : IsUnp
         key_is = (λ i. sym unpacked.key i - get_or b.tiles to 0 * 32 ^ (cell_count b.grid - 1 - to) + get_or b.tiles to 0 * 32 ^ (cell_count b.grid - 1 - blank i)) ∙ key.1;
         key_fits = fits;
         board = after;
-        cells = subst (λ (x : ℕ). AreCellsOf (blank_exchange b to) (set (set inside.cells 0 to) (get_or b.tiles to 0) x)) (sym blank) (cells_after b inside.cells to unpacked.board unpacked.cells few below other);
+        cells = λ cs of. subst (λ (x : ℕ). AreCellsOf (blank_exchange b to) (set (set cs 0 to) (get_or b.tiles to 0) x)) (sym (of.are 0 (cells_above b.grid unpacked.board.sides))) (cells_after b cs to unpacked.board of few below other);
         others = others_stay b to unpacked.board below other;
       }
 

@@ -1,12 +1,13 @@
 -- The sum of a board, by the cell of each number.
-use Rattle.std.proofs.Common.{true, false, ⊎_elim, ◌≡◌, ℕ, ◌<◌, List, [], ◌∷◌, Option, None, Some, map, length, get_or, take, drop, refl, sym, ap, ◌∙◌, subst, arith}
-use Rattle.std.specs.Prelude.{All, slice_index, sum, sum_by, option_map, IfSome, MatchOption}
+use Rattle.std.proofs.Common.{true, false, ⊎_elim, ◌≡◌, ℕ, ◌<◌, ◌≤◌, List, [], ◌∷◌, Option, None, Some, map, length, get_or, take, drop, refl, sym, ap, ◌∙◌, subst, arith}
+use Rattle.std.specs.Prelude.{All, AllPairs, slice_index, sum, sum_by, option_map, IfSome, MatchOption}
 use Rattle.std.specs.List.{AllByRecursion}
 use Rattle.std.proofs.lemmas.Bool.{cases_Bool, cond-true, cond-false}
 use Rattle.std.proofs.lemmas.List.{length-map, get_or-map}
 use Rattle.std.proofs.lemmas.List.Elements.{All-weaker, recursion_from_All}
 use Rattle.std.proofs.lemmas.List.Sums.{sum_by-cons}
 use Rattle.board.specs.declared.moves.Move.{Move}
+use Rattle.board.specs.declared.costs.TheConstants.{GREATEST_EXPANDED_COST}
 use Rattle.board.specs.Grids.{Grid, cell_count}
 use Rattle.board.specs.Positions.{Position, IsBoard, blank_of}
 use Rattle.board.specs.CostRules.{CostRule}
@@ -15,6 +16,7 @@ use Rattle.board.specs.Moves.{blank_exchange, successor, successor_at}
 use Rattle.board.specs.Keys.{HasKey}
 use Rattle.board.proofs.NeighbourLemmas.{cells_above}
 use Rattle.pattern_index.specs.Views.{Sight, IsView, view_of, view_at}
+use Rattle.pattern_index.specs.Splits.{ShareNoTile}
 use Rattle.pattern_index.specs.Selections.{Selection, IsTile, IsGroup, rank_in}
 use Rattle.pattern_index.proofs.StorageLemmas.{looked_up}
 use Rattle.pattern_index.proofs.ViewMoveLemmas.{board_view}
@@ -26,9 +28,9 @@ use Rattle.lower_bound.specs.Tables.{Tables, IsTables, AreWhole, parts_of}
 use Rattle.lower_bound.proofs.WholeLemmas.{tables_sum}
 use Rattle.lower_bound.proofs.FoldedLemmas.{folds_sum}
 use Rattle.lower_bound.proofs.PartLemmas.{value_stays}
-use Rattle.lower_bound.proofs.TableLemmas.{each_lookup, each_fold, table_grids, fold_grids, whole_parts, all_folded_parts}
-use Rattle.successor_sums.specs.Ranks.{sum_at, sum_by_cells}
-use Rattle.successor_sums.specs.Unpacked.{told_of, is_left_out, but, AreCellsOf, IsNextTo, IsReached, SeesViews, told_by}
+use Rattle.lower_bound.proofs.TableLemmas.{each_apart, each_lookup, each_fold, few_folds, table_grids, fold_grids, whole_parts, all_folded_parts}
+use Rattle.successor_sums.specs.Ranks.{AreRanks, AreRanksOf, sum_at, sum_by_cells}
+use Rattle.successor_sums.specs.Unpacked.{told_of, is_left_out, but, cells_after, with_sum, AreCellsOf, IsNextTo, IsReached, IsSmall, IsSumOf, SeesViews, told_by}
 use Rattle.successor_sums.specs.declared.unpacked.Reached.{Reached}
 
 -- the values at the ranks of views are those of the views
@@ -113,32 +115,44 @@ module _ (tables : Tables) (b : Position) (cells : List ℕ) (is : IsTables tabl
       ∙ folds_sum tables.folds b
       ∙ ap (λ (ps : List Part). sum_of ps b) (sym (all_folded_parts tables folded))
 
--- the values of a board are those of the one after a tile moved, but for the group of that tile
-pub as_before : (tables : Tables) (b x : Position) (cells cells' : List ℕ) (tile : ℕ) → IsTables tables → IsBoard b → IsBoard x → x.grid ≡ b.grid → tables.split.grid ≡ b.grid → AreCellsOf b cells → AreCellsOf x cells' → IsBefore b x tile → AreAsBefore cells' tile tables.folds (map (value_by cells) tables.folds)
-as_before tables b x cells cells' tile is board board' grid same of of' before = record {
-  one_each = length-map tables.folds (value_by cells);
-  same = λ i d i_in without.
-      get_or-map (value_by cells) tables.folds i d 0 i_in
-      ∙ said tables b cells is board same of i d i_in
-      ∙ value_stays b x tile (get_or tables.folds i d) before
-      (recursion_from_All (λ t. IsTile x.grid t) (get_or tables.folds i d).selection.tiles (folded_groups tables x cells' is board' (same ∙ sym grid) of' i d i_in).tiles) without
-      ∙ sym (said tables x cells' is board' (same ∙ sym grid) of' i d i_in);
-}
+-- each folded table says of a board what it said before a tile moved, but for that with the tile
+pub as_before : (tables : Tables) (b x : Position) (cells cells' : List ℕ) (tile : ℕ) → IsTables tables → IsBoard b → IsBoard x → x.grid ≡ b.grid → tables.split.grid ≡ b.grid → AreCellsOf b cells → AreCellsOf x cells' → IsBefore b x tile → AreAsBefore cells cells' tile tables.folds
+as_before tables b x cells cells' tile is board board' grid same of of' before i d i_in without =
+    said tables b cells is board same of i d i_in
+    ∙ value_stays b x tile (get_or tables.folds i d) before
+    (recursion_from_All (λ t. IsTile x.grid t) (get_or tables.folds i d).selection.tiles (folded_groups tables x cells' is board' (same ∙ sym grid) of' i d i_in).tiles) without
+    ∙ sym (said tables x cells' is board' (same ∙ sym grid) of' i d i_in)
+
+-- the folded tables of a bound are no more than a partition may have groups, and their groups share no tile
+pub folds_few : (tables : Tables) (folds : List Fold) → IsTables tables → folds ≡ tables.folds → length folds ≤ 24
+folds_few tables folds is same = subst (λ (fs : List Fold). length fs ≤ 24) (sym same) (few_folds tables is)
+
+pub folds_apart : (tables : Tables) (folds : List Fold) → IsTables tables → folds ≡ tables.folds → AllPairs (λ (f g : Fold). ShareNoTile f.selection.tiles g.selection.tiles) folds
+folds_apart tables folds is same = subst (λ (fs : List Fold). AllPairs (λ (f g : Fold). ShareNoTile f.selection.tiles g.selection.tiles) fs) (sym same) (each_apart tables is)
+
+-- the sum of a board is that of its cells, where it is known
+pub known_sum : (tables : Tables) (b : Position) (cells : List ℕ) → IsTables tables → IsBoard b → tables.split.grid ≡ b.grid → AreCellsOf b cells → tables.lookups ≡ [] → (sum : Option ℕ) → IfSome sum (λ n. (n ≡ sum_of (parts_of tables) b) × (n ≤ GREATEST_EXPANDED_COST)) → IsSumOf tables.folds cells sum
+known_sum tables b cells is board same of folded None none = tt
+known_sum tables b cells is board same of folded (Some n) at = (at.0 ∙ sym (folded_sum tables b cells is board same of folded), at.1)
 
 -- ---- what was reached
 
+small : (rule : CostRule) (b : Position) (m : Move) (r : Reached) → IsReached rule b m r → IsSmall r
+small rule b m r at = (omega (arith, at.cell, at.below, at.few), omega (arith, at.tile_low, at.few))
+
 module _ (tables : Tables) (b : Position) (is : IsTables tables) (same : tables.split.grid ≡ b.grid) (rule : CostRule) (m : Move) where
   -- its groups see views
-  pub sees_whole : (reached : Option Reached) → IfSome reached (IsReached rule b m) → SeesViews tables.lookups reached
-  sees_whole None none = tt
-  sees_whole (Some r) at = views_at tables (blank_exchange b at.to) r.cells is at.board same at.cells
+  pub sees_whole : (cells : List ℕ) (reached : Option Reached) → AreCellsOf b cells → IfSome reached (IsReached rule b m) → SeesViews tables.lookups cells reached
+  sees_whole cells None of none = tt
+  sees_whole cells (Some r) of at = (small rule b m r at, views_at tables (blank_exchange b at.to) (cells_after cells r) is at.board same (at.cells cells of))
 
   -- and it is next to the board
-  pub next_to : (cells : List ℕ) (reached : Option Reached) → IsBoard b → AreCellsOf b cells → IfSome reached (IsReached rule b m) → IsNextTo tables.folds (map (value_by cells) tables.folds) reached
+  pub next_to : (cells : List ℕ) (reached : Option Reached) → IsBoard b → AreCellsOf b cells → IfSome reached (IsReached rule b m) → IsNextTo tables.folds cells reached
   next_to cells None board of none = tt
   next_to cells (Some r) board of at = (
-    fold_views_at tables (blank_exchange b at.to) r.cells is at.board same at.cells,
-    as_before tables b (blank_exchange b at.to) cells r.cells r.tile is board at.board refl same of at.cells at.others,
+    small rule b m r at,
+    fold_views_at tables (blank_exchange b at.to) (cells_after cells r) is at.board same (at.cells cells of),
+    as_before tables b (blank_exchange b at.to) cells (cells_after cells r) r.tile is board at.board refl same of (at.cells cells of) at.others,
   )
 
 -- ---- what is told of a successor
@@ -154,24 +168,34 @@ pub folded_sums : (tables : Tables) (grid : Grid) → IsTables tables → tables
 folded_sums tables grid is same folded x cells board at of = folded_sum tables x cells is board (same ∙ sym at) of folded
 
 -- what is looked up is what the definition tells
-told_is : (rule : CostRule) (parts : List Part) (b : Position) (m : Move) (sum : List ℕ → ℕ) (reached : Option Reached) → SumsUp b.grid parts sum → MatchOption reached (neighbour b.grid m (blank_of b) ≡ None) (IsReached rule b m) → option_map (told_by sum) reached ≡ option_map (told_of parts b) (successor rule b m)
-told_is rule parts b m sum None sums none = ap (λ (o : Option ℕ). option_map (told_of parts b) (option_map (successor_at rule b) o)) (sym none)
-told_is rule parts b m sum (Some r) sums is =
+told_is : (rule : CostRule) (parts : List Part) (b : Position) (m : Move) (sum : List ℕ → ℕ) (cells : List ℕ) (reached : Option Reached) → AreCellsOf b cells → SumsUp b.grid parts sum → MatchOption reached (neighbour b.grid m (blank_of b) ≡ None) (IsReached rule b m) → option_map (told_by sum cells) reached ≡ option_map (told_of parts b) (successor rule b m)
+told_is rule parts b m sum cells None of sums none = ap (λ (o : Option ℕ). option_map (told_of parts b) (option_map (successor_at rule b) o)) (sym none)
+told_is rule parts b m sum cells (Some r) of sums is =
     let cell : r.cell ≡ blank_of (blank_exchange b is.to) = is.cell ∙ sym is.blank in
     let tile : r.tile ≡ slice_index b.tiles (blank_of (blank_exchange b is.to)) = is.tile ∙ sym (ap (slice_index b.tiles) is.blank) in
-    let all = sums (blank_exchange b is.to) r.cells is.board refl is.cells in
+    let all = sums (blank_exchange b is.to) (cells_after cells r) is.board refl (is.cells cells of) in
     (λ i. Some (record { key = is.key i; tile = tile i; cell = cell i; cost = is.cost i; sum = all i }))
     ∙ ap (λ (o : Option ℕ). option_map (told_of parts b) (option_map (successor_at rule b) o)) (sym is.found)
 
 -- and what the definition tells but for one move that is left out
-pub told_but : (left_out : Option Move) (rule : CostRule) (parts : List Part) (b : Position) (m : Move) (sum : List ℕ → ℕ) (reached : Option Reached) → SumsUp b.grid parts sum → (is_left_out left_out m ≡ true → reached ≡ None) → (is_left_out left_out m ≡ false → MatchOption reached (neighbour b.grid m (blank_of b) ≡ None) (IsReached rule b m)) → option_map (told_by sum) reached ≡ but left_out (λ k. option_map (told_of parts b) (successor rule b k)) m
-told_but left_out rule parts b m sum reached sums out kept =
+pub told_but : (left_out : Option Move) (rule : CostRule) (parts : List Part) (b : Position) (m : Move) (sum : List ℕ → ℕ) (cells : List ℕ) (reached : Option Reached) → AreCellsOf b cells → SumsUp b.grid parts sum → (is_left_out left_out m ≡ true → reached ≡ None) → (is_left_out left_out m ≡ false → MatchOption reached (neighbour b.grid m (blank_of b) ≡ None) (IsReached rule b m)) → option_map (told_by sum cells) reached ≡ but left_out (λ k. option_map (told_of parts b) (successor rule b k)) m
+told_but left_out rule parts b m sum cells reached of sums out kept =
     ⊎_elim
-    (λ (yes_out : is_left_out left_out m ≡ true). ap (option_map (told_by sum)) (out yes_out) ∙ sym (cond-true _ _ _ yes_out))
-    (λ (stays : is_left_out left_out m ≡ false). told_is rule parts b m sum reached sums (kept stays) ∙ sym (cond-false _ _ _ stays))
+    (λ (yes_out : is_left_out left_out m ≡ true). ap (option_map (told_by sum cells)) (out yes_out) ∙ sym (cond-true _ _ _ yes_out))
+    (λ (stays : is_left_out left_out m ≡ false). told_is rule parts b m sum cells reached of sums (kept stays) ∙ sym (cond-false _ _ _ stays))
     (cases_Bool (is_left_out left_out m))
 
 -- its key is that of a board
-pub told_key : (rule : CostRule) (b : Position) (m : Move) (sum : List ℕ → ℕ) (reached : Option Reached) → IfSome reached (IsReached rule b m) → IfSome (option_map (told_by sum) reached) (λ s. (x : Position) × HasKey b.grid s.key x)
-told_key rule b m sum None none = tt
-told_key rule b m sum (Some r) is = (blank_exchange b is.to, record { board = is.board; sides = refl; packed = sym is.key })
+pub told_key : (rule : CostRule) (b : Position) (m : Move) (sum : List ℕ → ℕ) (cells : List ℕ) (reached : Option Reached) → IfSome reached (IsReached rule b m) → IfSome (option_map (told_by sum cells) reached) (λ s. (x : Position) × HasKey b.grid s.key x)
+told_key rule b m sum cells None none = tt
+told_key rule b m sum cells (Some r) is = (blank_exchange b is.to, record { board = is.board; sides = refl; packed = sym is.key })
+
+-- the values at the ranks of what was reached are those of its cells
+pub looked_up_is : (lookups : List Lookup) (cells ranks : List ℕ) (reached : Option Reached) → IfSome reached (λ r. AreRanksOf lookups (cells_after cells r) ranks) → option_map (λ r. with_sum r (sum_at lookups ranks)) reached ≡ option_map (told_by (sum_by_cells lookups) cells) reached
+looked_up_is lookups cells ranks None none = refl
+looked_up_is lookups cells ranks (Some r) at =
+    ap (λ (n : ℕ). Some (with_sum r n)) (sum_at-views lookups ranks (λ (table : Lookup). view_at table.selection.tiles (cells_after cells r)) at.are)
+
+pub ranks_within : (lookups : List Lookup) (cells ranks : List ℕ) (reached : Option Reached) → IfSome reached (λ r. AreRanksOf lookups (cells_after cells r) ranks) → IfSome reached (λ r. AreRanks lookups ranks)
+ranks_within lookups cells ranks None none = tt
+ranks_within lookups cells ranks (Some r) at = at.within

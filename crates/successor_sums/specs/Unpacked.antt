@@ -1,6 +1,7 @@
 -- Boards with the cell of each number beside the numbers, and what is told of their successors.
-use Rattle.std.specs.Prelude.{Bool, false, if◌then◌else◌, None, ℕ, ◌≡◌, ◌≤◌, ◌<◌, List, All, length, map, slice_index, Option, Some, IfSome, option_map}
+use Rattle.std.specs.Prelude.{Bool, false, if◌then◌else◌, None, ℕ, ◌≡◌, ◌≤◌, ◌<◌, List, All, length, map, set, slice_index, Option, Some, IfSome, option_map, sum_by}
 use Rattle.board.specs.declared.moves.Move.{Move}
+use Rattle.board.specs.declared.costs.TheConstants.{GREATEST_EXPANDED_COST}
 use Rattle.board.specs.Equality.{move_eq}
 use Rattle.board.specs.Grids.{cell_count}
 use Rattle.board.specs.Positions.{Position, IsBoard, cell_of, blank_of}
@@ -12,7 +13,7 @@ use Rattle.pattern_index.specs.Views.{IsView, view_at}
 use Rattle.database_build.specs.Tables.{Lookup}
 use Rattle.database_build.specs.Folds.{Fold}
 use Rattle.lower_bound.specs.Bounds.{Part, sum_of}
-use Rattle.lower_bound.specs.Folded.{AreAsBefore, IsBefore}
+use Rattle.lower_bound.specs.Folded.{AreAsBefore, AreViews, IsBefore, value_by}
 use Rattle.successor_sums.specs.declared.unpacked.Successor.{Successor}
 use Rattle.successor_sums.specs.declared.unpacked.Reached.{Reached}
 use Rattle.successor_sums.specs.declared.unpacked.UnpackedBoard.TheInside.{Inside}
@@ -54,14 +55,19 @@ pub record IsUnpacked (inside : Inside) : Type 0 where
 
 -- ---- where a move leads to, before the sum is known
 
+-- the cell of each number after the move, by those before
+abbrev pub cells_after : List ℕ → Reached → List ℕ
+cells_after cells reached = set (set cells 0 reached.cell) reached.tile (slice_index cells 0)
+
 -- what is kept of the board after the blank goes to its neighbour in the direction m
 pub record IsReached (rule : CostRule) (b : Position) (m : Move) (reached : Reached) : Type 0 where
   pub to : ℕ
   pub found : neighbour b.grid m (blank_of b) ≡ Some to
   pub below : to < cell_count b.grid
+  pub few : cell_count b.grid ≤ 25
   pub board : IsBoard (blank_exchange b to)
   pub blank : blank_of (blank_exchange b to) ≡ to
-  pub cells : AreCellsOf (blank_exchange b to) reached.cells
+  pub cells : (cells : List ℕ) → AreCellsOf b cells → AreCellsOf (blank_exchange b to) (cells_after cells reached)
   pub others : IsBefore b (blank_exchange b to) reached.tile
   pub cell : reached.cell ≡ to
   pub tile : reached.tile ≡ slice_index b.tiles to
@@ -72,15 +78,27 @@ pub record IsReached (rule : CostRule) (b : Position) (m : Move) (reached : Reac
   pub low : 1 ≤ reached.cost
   pub high : reached.cost ≤ 255
 
--- the successor, with its sum by the cell of each number
-abbrev pub told_by : (List ℕ → ℕ) → Reached → Successor
-told_by sum reached = record { key = reached.key; tile = reached.tile; cell = reached.cell; cost = reached.cost; sum = sum reached.cells }
+-- the successor, with a sum
+abbrev pub with_sum : Reached → ℕ → Successor
+with_sum reached sum = record { key = reached.key; tile = reached.tile; cell = reached.cell; cost = reached.cost; sum = sum }
+
+-- the successor, with its sum by the cell of each number, which are made from those before
+abbrev pub told_by : (List ℕ → ℕ) → List ℕ → Reached → Successor
+told_by sum cells reached = with_sum reached (sum (cells_after cells reached))
+
+-- its cell and its tile are those of some board
+abbrev pub IsSmall : Reached → Type 0
+IsSmall reached = (reached.cell < 25) × (reached.tile < 25)
 
 -- each table's group sees a view, by the cells of what was reached
-abbrev pub SeesViews : List Lookup → Option Reached → Type 0
-SeesViews lookups reached = IfSome reached (λ r. All (λ table. IsView table.selection.grid table.selection.tiles (view_at table.selection.tiles r.cells)) lookups)
+abbrev pub SeesViews : List Lookup → List ℕ → Option Reached → Type 0
+SeesViews lookups cells reached = IfSome reached (λ r. IsSmall r × All (λ table. IsView table.selection.grid table.selection.tiles (view_at table.selection.tiles (cells_after cells r))) lookups)
 
--- so does that of each folded table, and these values are those of the board before the tile moved
+-- so does that of each folded table, and each that doesn't have the tile says what it said
 abbrev pub IsNextTo : List Fold → List ℕ → Option Reached → Type 0
-IsNextTo folds values reached =
-    IfSome reached (λ r. All (λ fold. IsView fold.selection.grid fold.selection.tiles (view_at fold.selection.tiles r.cells)) folds × AreAsBefore r.cells r.tile folds values)
+IsNextTo folds cells reached =
+    IfSome reached (λ r. IsSmall r × AreViews (cells_after cells r) folds × AreAsBefore cells (cells_after cells r) r.tile folds)
+
+-- the sum of the board itself by folded tables, where it is known
+abbrev pub IsSumOf : List Fold → List ℕ → Option ℕ → Type 0
+IsSumOf folds cells sum = IfSome sum (λ n. (n ≡ sum_by (value_by cells) folds) × (n ≤ GREATEST_EXPANDED_COST))

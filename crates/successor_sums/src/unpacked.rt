@@ -1,25 +1,28 @@
 //! A board taken apart, and what its successors are told by.
 
-ghost use Rattle.std.specs.Prelude.{ℕ, ◌≡◌, ◌*◌, ◌^◌, ◌<◌, ◌≤◌, [], ◌∷◌, length, map, All, IfSome, None};
-ghost use Rattle.std.specs.Prelude.{MatchOption, option_map, sum_by, true, false, Some};
+ghost use Rattle.std.specs.Prelude.{ℕ, ◌≡◌, ◌*◌, ◌^◌, ◌<◌, ◌≤◌, [], ◌∷◌, length, map, All, AllPairs};
+ghost use Rattle.std.specs.Prelude.{IfSome, None, MatchOption, option_map, sum_by, true, false, Some};
+ghost use Rattle.board.specs.declared.costs.TheConstants.{GREATEST_EXPANDED_COST};
 ghost use Rattle.board.specs.Grids.{cell_count};
 ghost use Rattle.board.specs.Positions.{Position, IsBoard, blank_of};
 ghost use Rattle.board.specs.CostRules.{CostRule};
 ghost use Rattle.board.specs.Neighbours.{neighbour};
 ghost use Rattle.board.specs.Keys.{key_of, HasKey};
 ghost use Rattle.board.specs.Plans.{NothingBelow};
+ghost use Rattle.pattern_index.specs.Splits.{ShareNoTile};
 ghost use Rattle.pattern_index.specs.Views.{IsView, view_at};
 ghost use Rattle.lower_bound.specs.Bounds.{sum_of};
-ghost use Rattle.lower_bound.specs.Folded.{value_by};
+ghost use Rattle.lower_bound.specs.Folded.{value_by, AreViews};
 ghost use Rattle.lower_bound.specs.Tables.{ArePotentials, parts_of};
-ghost use Rattle.successor_sums.specs.Ranks.{AreRanksOf, sum_by_cells};
+ghost use Rattle.successor_sums.specs.Ranks.{AreRanks, AreRanksOf, sum_at, sum_by_cells};
 ghost use Rattle.successor_sums.specs.Unpacked.{successors_of, is_left_out, successors_but};
-ghost use Rattle.successor_sums.specs.Unpacked.{IsReached, SeesViews, IsNextTo, told_by};
+ghost use Rattle.successor_sums.specs.Unpacked.{IsReached, IsSmall, cells_after, with_sum, told_by};
+ghost use Rattle.successor_sums.specs.Unpacked.{SeesViews, IsNextTo, IsSumOf};
 
 use crate::ranks::{MOST_TABLES, sum_ranks, write_ranks};
 use board::{Board, Move, Shape, Weights};
 use database_build::{Folded, Table};
-use lower_bound::{Bound, GREATEST_SUM, Parts, TableList};
+use lower_bound::{Bound, GREATEST_SUM, Parts, TableList, sum_after};
 use pattern_index::cells_of;
 use std::marker::Model;
 
@@ -39,14 +42,13 @@ pub struct Successor {
     pub sum: u32,
 }
 
-// What is kept of a successor until its sum is known: with the cell of each number.
+// What is known of a successor before its sum is.
 #[derive(Clone, Copy, Debug)]
 struct Reached {
     key: u128,
     cell: usize,
     tile: u8,
     cost: u32,
-    cells: [u8; 25],
 }
 
 /// A board taken apart: its key, the tile on each cell, and the cell of each tile.
@@ -144,22 +146,26 @@ impl UnpackedBoard {
             (λ told. IfSome told (λ s. (1 ≤ s.cost) × (s.cost ≤ 255))) result }
         ensures sums { All (λ told. IfSome told (λ s. s.sum ≤ GREATEST_SUM)) result }
     {
-        self.successors_but(None, weights, bound)
+        self.successors_but(None, None, weights, bound)
     }
 
-    /// The same, but for one move that is left out, if any is: of that nothing is told.
+    /// The same, but for one move that is left out, if any is: of that nothing is told. Where the
+    /// board's own sum is known, folded tables are read less often.
     ///
     /// All ranks in whole tables are made before the first value is read, so that the reads, each
-    /// of which may miss the cache, go on side by side. Of folded tables only that of the tile that
-    /// is moved is read anew.
+    /// of which may miss the cache, go on side by side. Of folded tables, where the board's own sum
+    /// is known, only that of the tile that is moved is read, for what it said and what it says.
     pub fn successors_but(
         &self,
         left_out: Option<Move>,
+        sum: Option<u32>,
         weights: &Weights,
         bound: &Bound,
     ) -> [Option<Successor>; 4]
         requires rule { weights.now.grid ≡ self.now.grid }
         requires bound { bound.now.split.grid ≡ self.now.grid }
+        requires sum { IfSome sum (λ n. (n ≡ sum_of (parts_of bound.now) self.now)
+            × (n ≤ GREATEST_EXPANDED_COST)) }
         ensures value { result
             ≡ successors_but left_out weights.now (parts_of bound.now) self.now }
         ensures keys { All
@@ -177,10 +183,11 @@ impl UnpackedBoard {
         let right = self.reach_but(left_out, Move::R, weights);
         let down = self.reach_but(left_out, Move::D, weights);
         match bound.tables() {
-            TableList::Whole(tables) => by_tables(tables, &up, &left, &right, &down),
+            TableList::Whole(tables) => {
+                by_tables(tables, &self.cells, &up, &left, &right, &down)
+            }
             TableList::Folded(folds) => {
-                let parts = Parts::at(folds, &self.cells);
-                by_folds(folds, &parts, &up, &left, &right, &down)
+                by_folds(folds, sum, &self.cells, &up, &left, &right, &down)
             }
         }
     }
@@ -216,9 +223,6 @@ impl UnpackedBoard {
         let from = self.cells[0];
         let to = shape.neighbour(from as usize, direction)?;
         let tile = self.board.tile(to);
-        let mut cells = self.cells;
-        cells[0] = to as u8;
-        cells[tile as usize] = from;
         let last = shape.cells() - 1;
         let key = self.key - digit_at(tile, last - to) + digit_at(tile, last - from as usize);
         let cost = weights.of(tile);
@@ -227,9 +231,18 @@ impl UnpackedBoard {
             tile,
             cell: to,
             cost,
-            cells,
         })
     }
+}
+
+// Makes the cell of each number that after a move, where these are the cells before.
+fn move_on(cells: &mut [u8; 25], reached: &Reached)
+    requires { IsSmall reached.now }
+    ensures { cells.new ≡ cells_after cells.old reached.now }
+{
+    let blank = cells[0];
+    cells[0] = reached.cell as u8;
+    cells[reached.tile as usize] = blank;
 }
 
 // Whether a move is the one that is left out.
@@ -258,24 +271,25 @@ fn sum_at_cells(tables: &[Table], cells: &[u8; 25]) -> u32
 // The successors, by whole tables.
 fn by_tables(
     tables: &[Table],
+    cells: &[u8; 25],
     up: &Option<Reached>,
     left: &Option<Reached>,
     right: &Option<Reached>,
     down: &Option<Reached>,
 ) -> [Option<Successor>; 4]
     requires few { length tables.now ≤ MOST_TABLES }
-    requires up { SeesViews tables.now up.now }
-    requires left { SeesViews tables.now left.now }
-    requires right { SeesViews tables.now right.now }
-    requires down { SeesViews tables.now down.now }
-    ensures value { result ≡ map (option_map (told_by (sum_by_cells tables.now)))
+    requires up { SeesViews tables.now cells.now up.now }
+    requires left { SeesViews tables.now cells.now left.now }
+    requires right { SeesViews tables.now cells.now right.now }
+    requires down { SeesViews tables.now cells.now down.now }
+    ensures value { result ≡ map (option_map (told_by (sum_by_cells tables.now) cells.now))
         (up.now ∷ left.now ∷ right.now ∷ down.now ∷ []) }
     ensures high { All (λ told. IfSome told (λ s. s.sum ≤ GREATEST_SUM)) result }
 {
-    let up_ranks = ranks_of(tables, up);
-    let left_ranks = ranks_of(tables, left);
-    let right_ranks = ranks_of(tables, right);
-    let down_ranks = ranks_of(tables, down);
+    let up_ranks = ranks_of(tables, cells, up);
+    let left_ranks = ranks_of(tables, cells, left);
+    let right_ranks = ranks_of(tables, cells, right);
+    let down_ranks = ranks_of(tables, cells, down);
     [
         look_up(tables, up, &up_ranks),
         look_up(tables, left, &left_ranks),
@@ -285,14 +299,16 @@ fn by_tables(
 }
 
 // The ranks of what the groups see of a successor, if there is one.
-fn ranks_of(tables: &[Table], reached: &Option<Reached>) -> [u32; MOST_TABLES]
+fn ranks_of(tables: &[Table], cells: &[u8; 25], reached: &Option<Reached>) -> [u32; MOST_TABLES]
     requires few { length tables.now ≤ MOST_TABLES }
-    requires views { SeesViews tables.now reached.now }
-    ensures { IfSome reached.now (λ r. AreRanksOf tables.now r.cells result) }
+    requires views { SeesViews tables.now cells.now reached.now }
+    ensures { IfSome reached.now (λ r. AreRanksOf tables.now (cells_after cells.now r) result) }
 {
     let mut ranks = [0; MOST_TABLES];
     if let Some(found) = reached {
-        write_ranks(tables, &found.cells, &mut ranks);
+        let mut after = *cells;
+        move_on(&mut after, found);
+        write_ranks(tables, &after, &mut ranks);
     }
     ranks
 }
@@ -304,8 +320,8 @@ fn look_up(
     ranks: &[u32; MOST_TABLES],
 ) -> Option<Successor>
     requires few { length tables.now ≤ MOST_TABLES }
-    requires ranks { IfSome reached.now (λ r. AreRanksOf tables.now r.cells ranks.now) }
-    ensures value { result ≡ option_map (told_by (sum_by_cells tables.now)) reached.now }
+    requires ranks { IfSome reached.now (λ r. AreRanks tables.now ranks.now) }
+    ensures value { result ≡ option_map (λ r. with_sum r (sum_at tables.now ranks.now)) reached.now }
     ensures high { IfSome result (λ s. s.sum ≤ GREATEST_SUM) }
 {
     let Some(found) = reached else {
@@ -315,49 +331,69 @@ fn look_up(
     Some(with_sum(found, sum))
 }
 
-// The successors, by folded tables: from the values of the board before.
+// The successors, by folded tables: from the board's own sum, where it is known.
 fn by_folds(
     folds: &[Folded],
-    parts: &Parts,
+    sum: Option<u32>,
+    cells: &[u8; 25],
     up: &Option<Reached>,
     left: &Option<Reached>,
     right: &Option<Reached>,
     down: &Option<Reached>,
 ) -> [Option<Successor>; 4]
-    requires up { IsNextTo folds.now parts.now up.now }
-    requires left { IsNextTo folds.now parts.now left.now }
-    requires right { IsNextTo folds.now parts.now right.now }
-    requires down { IsNextTo folds.now parts.now down.now }
+    requires few { length folds.now ≤ MOST_TABLES }
+    requires apart { AllPairs
+        (λ f g. ShareNoTile f.selection.tiles g.selection.tiles) folds.now }
+    requires views { AreViews cells.now folds.now }
+    requires sum { IsSumOf folds.now cells.now sum }
+    requires up { IsNextTo folds.now cells.now up.now }
+    requires left { IsNextTo folds.now cells.now left.now }
+    requires right { IsNextTo folds.now cells.now right.now }
+    requires down { IsNextTo folds.now cells.now down.now }
     ensures value { result
-        ≡ map (option_map (told_by (λ cells. sum_by (value_by cells) folds.now)))
+        ≡ map (option_map (told_by (λ after. sum_by (value_by after) folds.now) cells.now))
         (up.now ∷ left.now ∷ right.now ∷ down.now ∷ []) }
     ensures high { All (λ told. IfSome told (λ s. s.sum ≤ GREATEST_SUM)) result }
 {
     [
-        by_parts(folds, parts, up),
-        by_parts(folds, parts, left),
-        by_parts(folds, parts, right),
-        by_parts(folds, parts, down),
+        look_up_folded(folds, sum, cells, up),
+        look_up_folded(folds, sum, cells, left),
+        look_up_folded(folds, sum, cells, right),
+        look_up_folded(folds, sum, cells, down),
     ]
 }
 
-// The successor, by folded tables: from the values of the board before.
-fn by_parts(folds: &[Folded], parts: &Parts, reached: &Option<Reached>) -> Option<Successor>
-    requires { IsNextTo folds.now parts.now reached.now }
+// The successor, by folded tables: from the board's own sum, where it is known.
+fn look_up_folded(
+    folds: &[Folded],
+    sum: Option<u32>,
+    cells: &[u8; 25],
+    reached: &Option<Reached>,
+) -> Option<Successor>
+    requires few { length folds.now ≤ MOST_TABLES }
+    requires apart { AllPairs
+        (λ f g. ShareNoTile f.selection.tiles g.selection.tiles) folds.now }
+    requires views { AreViews cells.now folds.now }
+    requires sum { IsSumOf folds.now cells.now sum }
+    requires next { IsNextTo folds.now cells.now reached.now }
     ensures value { result
-        ≡ option_map (told_by (λ cells. sum_by (value_by cells) folds.now)) reached.now }
+        ≡ option_map (told_by (λ after. sum_by (value_by after) folds.now) cells.now) reached.now }
     ensures high { IfSome result (λ s. s.sum ≤ GREATEST_SUM) }
 {
     let Some(found) = reached else {
         return None;
     };
-    let sum = parts.sum_after(folds, &found.cells, found.tile);
-    Some(with_sum(found, sum))
+    let mut after = *cells;
+    move_on(&mut after, found);
+    let Some(known) = sum else {
+        return Some(with_sum(found, Parts::at(folds, &after).sum()));
+    };
+    Some(with_sum(found, sum_after(folds, known, cells, &after, found.tile)))
 }
 
 // What is told of a successor, with its sum.
 fn with_sum(found: &Reached, sum: u32) -> Successor
-    ensures { result ≡ told_by (λ cells. sum) found.now }
+    ensures { result ≡ with_sum found.now sum }
 {
     Successor {
         key: found.key,

@@ -1,10 +1,10 @@
 -- The board that is expanded, and what its moves offer.
-use Rattle.std.proofs.Common.{◌≡◌, ℕ, ◌+◌, ◌<◌, ◌≤◌, ◌%◌, Bool, Option, Some, None, sym, ap, ◌∙◌, subst, arith}
+use Rattle.std.proofs.Common.{◌≡◌, ℕ, ◌+◌, ◌-◌, ◌<◌, ◌≤◌, ◌%◌, Bool, Option, Some, None, sym, ap, ◌∙◌, subst, arith}
 use Rattle.std.specs.Prelude.{IfSome}
 use Rattle.board.specs.declared.costs.TheConstants.{GREATEST_EXPANDED_COST}
 use Rattle.board.specs.declared.moves.Move.{Move}
 use Rattle.board.specs.Grids.{Grid}
-use Rattle.board.specs.Keys.{HasKey}
+use Rattle.board.specs.Keys.{key_of, HasKey}
 use Rattle.board.specs.Positions.{Position}
 use Rattle.closed_table.specs.Tables.{Table}
 use Rattle.open_buckets.specs.declared.open.TheConstants.{GREATEST_F}
@@ -49,6 +49,23 @@ cost_low guide closed next limit best first below is =
     let adds = first.adds in
     let most = at_most best in
     omega (arith, adds, below, is, most)
+  where
+    at_most : (best : Option ℕ) → limit_of best ≤ GREATEST_EXPANDED_COST + 1
+    at_most None = omega arith
+    at_most (Some cost) = omega arith
+
+-- what its cost leaves of its cost plus sum is its sum
+pub sum_there : (task : Task) (guide : Guide) (lists : Lists) → IsGuided task guide lists → (next : Next) → IsLeastOpen guide lists.closed next → (b : Position) (grid : Grid) → grid ≡ task.goal.grid → HasKey grid next.key b → next.f - next.cost ≡ task.sum b
+sum_there task guide lists is next first b grid sides has =
+    let sum = is.guides.sums b (has.board, has.sides ∙ sides) in
+    let key : guide.sum (key_of b) ≡ guide.sum next.key = ap guide.sum has.packed in
+    omega (arith, first.adds, sum, key)
+
+-- and no more than a board costs that is expanded
+pub sum_low : (next : Next) (limit : ℕ) (best : Option ℕ) → next.f < limit → limit ≡ limit_of best → next.f - next.cost ≤ GREATEST_EXPANDED_COST
+sum_low next limit best below is =
+    let most = at_most best in
+    omega (arith, below, is, most)
   where
     at_most : (best : Option ℕ) → limit_of best ≤ GREATEST_EXPANDED_COST + 1
     at_most None = omega arith

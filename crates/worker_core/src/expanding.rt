@@ -186,6 +186,7 @@ impl<C: Counting> Worker<C> {
         let offers = offers_of(
             &unpacked,
             next.cost,
+            next.f - next.cost,
             weights,
             bound,
             owners,

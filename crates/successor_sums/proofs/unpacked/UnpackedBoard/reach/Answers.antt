@@ -1,4 +1,4 @@
-use Rattle.std.proofs.Common.{◌≡◌, ◌-◌, ◌+◌, ◌*◌, ◌^◌, ◌<◌, ℕ, Some, set, refl, sym, ap, ◌∙◌, subst, arith}
+use Rattle.std.proofs.Common.{◌≡◌, ◌-◌, ◌+◌, ◌*◌, ◌^◌, ◌<◌, ℕ, Some, refl, sym, ap, ◌∙◌, subst, arith}
 use Rattle.std.specs.Prelude.{slice_index}
 use Rattle.board.specs.Grids.{cell_count}
 use Rattle.board.specs.Neighbours.{neighbour}
@@ -16,11 +16,6 @@ neighbour-requires c = subst (λ g. slice_index c.self.inside.cells 0 < cell_cou
 
 pub tile-tile-requires : goal.tile-tile-requires
 tile-tile-requires c = below c.self.inside c.shape-shape.result c.args.direction c.in_ok-to.to c.self.invariant c.shape-shape.ensures.value ((c.neighbour.ensures.towards c.in_ok-to.to).0 c.in_ok-to.was)
-
-pub overflow_cast-cells : goal.overflow_cast-cells
-overflow_cast-cells c =
-    let led = led_to c.self.inside c.shape-shape.result c.args.direction c.in_ok-to.to c.self.invariant c.shape-shape.ensures.value ((c.neighbour.ensures.towards c.in_ok-to.to).0 c.in_ok-to.was) c.tile-tile.result c.tile-tile.ensures.value in
-    omega (arith, led.below, led.few)
 
 pub overflow_sub-last-2 : goal.overflow_sub-last-2
 overflow_sub-last-2 c =
@@ -63,11 +58,12 @@ returns c =
     let to = c.digit_at-2.ensures ∙ ap (λ (n : ℕ). c.tile-tile.result * 32 ^ (n - 1 - slice_index c.self.inside.cells 0)) count in
     let found : neighbour c.self.inside.board.grid c.args.direction (blank_of c.self.inside.board) ≡ Some c.in_ok-to.to =
     (λ i. neighbour (sym c.shape-shape.ensures.value i) c.args.direction (sym led.blank i)) ∙ sym c.neighbour.ensures.value ∙ c.in_ok-to.was in
-    subst (λ (p : Position). IsReached c.args.weights.now p c.args.direction (record { key = c.self.inside.key - c.digit_at.result + c.digit_at-2.result; tile = c.tile-tile.result; cell = c.in_ok-to.to; cost = c.of-cost.result; cells = set (set c.self.inside.cells 0 c.in_ok-to.to) c.tile-tile.result (slice_index c.self.inside.cells 0) })) c.self.view_is
+    subst (λ (p : Position). IsReached c.args.weights.now p c.args.direction (record { key = c.self.inside.key - c.digit_at.result + c.digit_at-2.result; tile = c.tile-tile.result; cell = c.in_ok-to.to; cost = c.of-cost.result })) c.self.view_is
     (record {
       to = c.in_ok-to.to;
       found = found;
       below = led.below;
+      few = led.few;
       board = led.board;
       blank = blank_after c.self.inside.board c.self.invariant.board c.in_ok-to.to led.below;
       cells = led.cells;

@@ -14,7 +14,7 @@ use Rattle.search_lists.specs.Lists.{Lists}
 use Rattle.worker_core.specs.Expanding.{IsReady, stock, in_turn, role_by}
 use Rattle.worker_core.specs.Roles.{IsGuided, task_of}
 use Rattle.worker_core.specs.Workers.{state_of, packets_of}
-use Rattle.worker_core.proofs.ChosenLemmas.{chosen, chosen_adds, cost_low, all_low, guided_by_next, guided_with_room}
+use Rattle.worker_core.proofs.ChosenLemmas.{chosen, chosen_adds, cost_low, sum_there, sum_low, all_low, guided_by_next, guided_with_room}
 use Rattle.worker_core.proofs.ExpandLemmas.{ready_for, restarted}
 use Rattle.worker_core.proofs.GuideLemmas.{none_below, some_below}
 use Rattle.worker_core.proofs.PacketLemmas.{Items}
@@ -45,6 +45,22 @@ returns-then-left-eq0-clause-step g c = λ start.
     let waits = λ (none : HasNothingBelow task worker (limit_of worker.best)). some_below task guide lists worker refl is c.limit.result next first c.in-Some.ensures.below (subst (HasNothingBelow task worker) (sym c.limit.ensures) none) in
     let spent : worker.allowance ≡ 0 = sym c.left.ensures.value ∙ c.if-left-eq0.true in
     inr (waits, inl (spent, (refl, ap (λ (t : Table). record worker { known = t.known }) c.next.ensures.closed)))
+
+pub overflow_sub-next : goal.overflow_sub-next
+overflow_sub-next g c =
+    let guide = c.requires.guided.1 in
+    let first = c.in-Some.ensures.least guide c.requires.guided.2.order in
+    omega (arith, first.adds)
+
+pub offers_of-offers-requires-clause-sum : goal.offers_of-offers-requires-clause-sum
+offers_of-offers-requires-clause-sum g c =
+    let guide = c.requires.guided.1 in
+    let is = c.requires.guided.2 in
+    let task = task_of c.requires.guided.0 c.args.goal.now c.args.weights.now c.args.bound.now in
+    sum_there task guide c.args.self.now.lists is c.in-Some.next (c.in-Some.ensures.least guide is.order) c.of_key-unpacked.result c.shape.result c.shape.ensures.value c.of_key-unpacked.ensures
+
+pub offers_of-offers-requires-clause-sum_low : goal.offers_of-offers-requires-clause-sum_low
+offers_of-offers-requires-clause-sum_low g c = sum_low c.in-Some.next c.limit.result c.args.self.now.best c.in-Some.ensures.below c.limit.ensures
 
 -- src/expanding.rt:81:13
 pub returns-then-not-has_room-clause-step : goal.returns-then-not-has_room-clause-step
