@@ -10,3 +10,4 @@ pub mod StepLemmas
 pub mod GoalLemmas
 pub mod KeyLemmas
 pub mod LetterLemmas
+pub mod WeightLemmas

@@ -20,6 +20,10 @@ pub record IsCostRule (rule : CostRule) : Type 0 where
   pub low : (tile : ℕ) → 0 < tile → tile < cell_count rule.grid → 1 ≤ weight_of rule tile
   pub high : (tile : ℕ) → tile < cell_count rule.grid → weight_of rule tile ≤ 255
 
+-- the costs that a list says: the weights of tiles 1, 2, .. in order
+abbrev pub listed_rule : Grid → List ℕ → CostRule
+listed_rule grid weights = record { grid = grid; weights = 0 ∷ weights }
+
 -- unit cost: every move costs 1
 abbrev pub unit_rule : Grid → CostRule
 unit_rule grid = record { grid = grid; weights = 0 ∷ replicate (cell_count grid - 1) 1 }

@@ -1,11 +1,12 @@
--- The laws of letters, moves, plans, classes, keys and rows.
-use Rattle.std.specs.Prelude.{ℕ, ◌≡◌, ◌+◌, ◌^◌, ◌<◌, ◌↔◌, List, ◌++◌, take, drop, Some}
+-- The laws of letters, moves, costs, plans, classes, keys and rows.
+use Rattle.std.specs.Prelude.{ℕ, ◌≡◌, ◌+◌, ◌-◌, ◌^◌, ◌<◌, ◌↔◌, List, ◌++◌, take, drop, replicate, Some}
+use Rattle.std.specs.List.{range_with_len}
 use Rattle.board.specs.declared.moves.Move.{Move}
-use Rattle.board.specs.Grids.{Grid, cell_count}
+use Rattle.board.specs.Grids.{Grid, IsShape, cell_count}
 use Rattle.board.specs.Letters.{letter_of, move_of_letter}
 use Rattle.board.specs.Neighbours.{LiesTowards, neighbour, opposite}
 use Rattle.board.specs.Positions.{Position, IsBoard}
-use Rattle.board.specs.CostRules.{CostRule}
+use Rattle.board.specs.CostRules.{CostRule, IsCostRule, listed_rule, unit_rule, face_rule}
 use Rattle.board.specs.Moves.{Moves, successor}
 use Rattle.board.specs.Plans.{Leads, NothingBelow, IsLeast}
 use Rattle.board.specs.Classes.{SameClass}
@@ -93,3 +94,14 @@ RowsSuffice =
     → Proves rule rows sum b q k
     → IsLowerBound rule sum q
     → NothingBelow rule b q k
+
+-- every cost rule is said by the list of the weights of its tiles
+abbrev pub RulesAreListed : Type 0
+RulesAreListed = (rule : CostRule) → IsCostRule rule → rule ≡ listed_rule rule.grid (drop 1 rule.weights)
+
+-- a list of ones is unit cost, and 1, 2, .. is face cost
+abbrev pub NamedRulesAreListed : Type 0
+NamedRulesAreListed =
+    (grid : Grid)
+    → IsShape grid
+    → (unit_rule grid ≡ listed_rule grid (replicate (cell_count grid - 1) 1)) × (face_rule grid ≡ listed_rule grid (range_with_len 1 (cell_count grid - 1)))

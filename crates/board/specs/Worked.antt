@@ -4,7 +4,7 @@ use Rattle.board.specs.declared.moves.Move.TheVariants.{U, L, R, D}
 use Rattle.board.specs.Grids.{Grid}
 use Rattle.board.specs.Neighbours.{LiesTowards, neighbour}
 use Rattle.board.specs.Positions.{Position, blank_of, goal_of}
-use Rattle.board.specs.CostRules.{unit_rule, face_rule}
+use Rattle.board.specs.CostRules.{IsCostRule, listed_rule, unit_rule, face_rule}
 use Rattle.board.specs.Moves.{successor}
 use Rattle.board.specs.Plans.{Leads}
 use Rattle.board.specs.Rows.{Proves}
@@ -57,6 +57,13 @@ OneRow = Proves (unit_rule (grid_of 2 2)) ((two_by_two 1 0 2 3, 0) ∷ []) (λ _
 -- no row is needed where the sum of the start reaches the cost; here the blank's cell stands for a sum, 1 at the start and 0 at the goal
 abbrev pub NoRow : Type 0
 NoRow = Proves (unit_rule (grid_of 2 2)) [] blank_of (two_by_two 1 0 2 3) (goal_of (grid_of 2 2)) 1
+
+-- tile 1 may weigh 1 and 255, and neither 0 nor 256
+abbrev pub WeightsWithin : Type 0
+WeightsWithin =
+    IsCostRule (listed_rule (grid_of 2 2) (255 ∷ 1 ∷ 1 ∷ []))
+    × (¬ IsCostRule (listed_rule (grid_of 2 2) (256 ∷ 1 ∷ 1 ∷ [])))
+    × (¬ IsCostRule (listed_rule (grid_of 2 2) (0 ∷ 1 ∷ 1 ∷ [])))
 
 -- two rows of three columns, so that rows exchanged with columns are seen
 abbrev pub two_by_three : List ℕ → Position

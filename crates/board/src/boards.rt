@@ -251,8 +251,8 @@ fn last_digits(cells: usize, key: u128) -> [u8; 25]
 }
 
 // The first place of a 0.
-fn first_zero(tiles: &[u8]) -> Option<usize>
-    ensures { result ≡ position (λ tile. tile == 0) tiles.now }
+pub(crate) fn first_zero(numbers: &[u8]) -> Option<usize>
+    ensures { result ≡ position (λ number. number == 0) numbers.now }
 {
-    tiles.iter().position(|tile| *tile == 0)
+    numbers.iter().position(|number| *number == 0)
 }

@@ -1,10 +1,15 @@
 //! What moves cost, and the greatest costs.
 
-ghost use Rattle.std.specs.Prelude.{◌≡◌, ◌<◌, ◌≤◌, ◌↔◌, ◌-◌, ◌++◌, IsTrue, replicate};
+ghost use Rattle.std.specs.Prelude.{◌≡◌, ◌<◌, ◌≤◌, ◌↔◌, ◌-◌, ◌++◌, ◌∷◌, IsTrue, IsOk, IsErrOf};
+ghost use Rattle.std.specs.Prelude.{IfOk, IfErr, OnOk, length, replicate};
 ghost use Rattle.std.specs.List.{range_with_len};
 ghost use Rattle.board.specs.Grids.{cell_count};
-ghost use Rattle.board.specs.CostRules.{IsCostRule, unit_rule, face_rule, weight_of};
+ghost use Rattle.board.specs.CostRules.{IsCostRule, listed_rule, unit_rule, face_rule, weight_of};
+ghost use Rattle.board.specs.Faults.{IsFirstWeightsFault};
+ghost use Rattle.board.specs.declared.faults.WeightsFault.{WeightsFault};
 
+use crate::boards::first_zero;
+use crate::faults::WeightsFault;
 use crate::shapes::Shape;
 use std::marker::Model;
 
@@ -80,6 +85,29 @@ impl Weights {
         Weights { shape, weights }
     }
 
+    /// The weights of tiles 1, 2, .. in order, or the first fault: E13 where their count is not that
+    /// of the tiles, else E14 at the first 0. All ones are unit cost, and 1, 2, .. are face cost.
+    pub fn list(shape: Shape, listed: &[u8]) -> Result<Self, WeightsFault>
+        ensures accepted { IsOk result ↔ IsCostRule (listed_rule shape listed.now) }
+        ensures value { IfOk result (λ rule. rule ≡ listed_rule shape listed.now) }
+        ensures fault { (fault : WeightsFault) →
+            IsErrOf result fault ↔ IsFirstWeightsFault shape listed.now fault }
+    {
+        if let Err(fault) = check_weights(shape, listed) {
+            return Err(fault);
+        }
+        let weights = behind_blank(listed);
+        Ok(Weights { shape, weights })
+    }
+
+    /// The weights of tiles 1, 2, .. in order, as `list` takes them.
+    pub fn listed(&self) -> &[u8]
+        ensures value { self.now ≡ listed_rule self.now.grid result.now }
+        ensures rule { IsCostRule self.now }
+    {
+        &self.weights[1..self.shape.cells()]
+    }
+
     /// The cost of moving a tile.
     pub fn of(&self, tile: u8) -> u32
         requires tile { 0 < tile }
@@ -98,6 +126,30 @@ impl Weights {
     {
         self.shape
     }
+}
+
+// The first fault of a list of weights, if there is one.
+fn check_weights(shape: Shape, listed: &[u8]) -> Result<(), WeightsFault>
+    ensures sound { OnOk result (IsCostRule (listed_rule shape listed.now)) }
+    ensures fault { IfErr result (IsFirstWeightsFault shape listed.now) }
+{
+    if listed.len() != shape.cells() - 1 {
+        return Err(WeightsFault::WrongCount);
+    }
+    if let Some(place) = first_zero(listed) {
+        return Err(WeightsFault::WeightOutOfRange(place));
+    }
+    Ok(())
+}
+
+// The weights behind the blank's entry, which is 0, with zeros behind them.
+fn behind_blank(listed: &[u8]) -> [u8; 25]
+    requires { length listed.now < 25 }
+    ensures { result ≡ (0 ∷ listed.now) ++ replicate (24 - length listed.now) 0 }
+{
+    let mut weights = [0; 25];
+    weights[1..=listed.len()].copy_from_slice(listed);
+    weights
 }
 
 // The numbers from 0 on, as many as there are cells, with zeros behind them.

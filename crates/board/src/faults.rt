@@ -1,7 +1,8 @@
-//! Why sides are no shape, and why numbers are no board.
+//! Why sides are no shape, why numbers are no board, and why a list says no weights.
 
 ghost use Rattle.std.specs.Prelude.{◌≡◌};
-ghost use Rattle.board.specs.Faults.{shape_code, tiles_code, board_code};
+ghost use Rattle.board.specs.Faults.{shape_code, tiles_code, weights_code};
+ghost use Rattle.board.specs.Faults.{board_code};
 
 use thiserror::Error;
 
@@ -51,7 +52,31 @@ impl TilesFault {
     }
 }
 
-/// Why sides are no shape, or numbers no board: the sum of both. Places count from 0.
+/// Why a list says no weights of a shape's tiles. Places count from 0.
+#[derive(Clone, Copy, Debug, PartialEq, Eq, Error)]
+pub enum WeightsFault {
+    /// E13
+    #[error("the count of weights is not the count of tiles")]
+    WrongCount,
+    /// E14
+    #[error("the weight at place {0} is not from 1 to 255")]
+    WeightOutOfRange(usize),
+}
+
+impl WeightsFault {
+    /// The code that the fault is reported by: `E13` or `E14`.
+    pub fn code(self) -> &'static str
+        ensures { result.now ≡ weights_code self }
+    {
+        match self {
+            WeightsFault::WrongCount => "E13",
+            WeightsFault::WeightOutOfRange(_) => "E14",
+        }
+    }
+}
+
+/// Why sides are no shape, numbers no board, or a list no weights: the sum of these. Places count
+/// from 0.
 #[derive(Clone, Copy, Debug, PartialEq, Eq, Error)]
 pub enum BoardFault {
     /// E1
@@ -66,10 +91,16 @@ pub enum BoardFault {
     /// E4
     #[error("the number at place {0} stood before")]
     TileRepeated(usize),
+    /// E13
+    #[error("the count of weights is not the count of tiles")]
+    WrongCountOfWeights,
+    /// E14
+    #[error("the weight at place {0} is not from 1 to 255")]
+    WeightOutOfRange(usize),
 }
 
 impl BoardFault {
-    /// The code that the fault is reported by: `E1` to `E4`.
+    /// The code that the fault is reported by: `E1` to `E4`, `E13` or `E14`.
     pub fn code(self) -> &'static str
         ensures { result.now ≡ board_code self }
     {
@@ -78,6 +109,8 @@ impl BoardFault {
             BoardFault::WrongCount => "E2",
             BoardFault::TileOutOfRange(_) => "E3",
             BoardFault::TileRepeated(_) => "E4",
+            BoardFault::WrongCountOfWeights => "E13",
+            BoardFault::WeightOutOfRange(_) => "E14",
         }
     }
 }
@@ -112,6 +145,23 @@ impl From<TilesFault> for BoardFault {
             TilesFault::WrongCount => BoardFault::WrongCount,
             TilesFault::TileOutOfRange(place) => BoardFault::TileOutOfRange(place),
             TilesFault::TileRepeated(place) => BoardFault::TileRepeated(place),
+        }
+    }
+}
+
+impl From<WeightsFault> for BoardFault {
+    ghost use Rattle.std.specs.Prelude.{◌≡◌};
+    ghost use Rattle.board.specs.Faults.{weights_code, board_code, of_weights};
+
+    ghost from_gives = { λ fault sum. sum ≡ of_weights fault };
+
+    fn from(fault: WeightsFault) -> BoardFault
+        ensures given { result ≡ of_weights fault }
+        ensures code { board_code result ≡ weights_code fault }
+    {
+        match fault {
+            WeightsFault::WrongCount => BoardFault::WrongCountOfWeights,
+            WeightsFault::WeightOutOfRange(place) => BoardFault::WeightOutOfRange(place),
         }
     }
 }

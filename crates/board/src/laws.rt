@@ -1,15 +1,16 @@
 //! The laws of the definitions: each is the contract of a function that does nothing.
 
-ghost use Rattle.std.specs.Prelude.{◌≡◌, ◌+◌};
+ghost use Rattle.std.specs.Prelude.{◌≡◌, ◌+◌, ◌↔◌, IsTrue};
 ghost use Rattle.board.specs.Moves.{all_moves};
 ghost use Rattle.board.specs.Laws.{LettersAreRead, NeighboursLieThere, SuccessorsAreMoves};
 ghost use Rattle.board.specs.Laws.{MovesKeepBoards, MovesAreDetermined, MovesAreTakenBack};
 ghost use Rattle.board.specs.Laws.{PlansAreJoined, PlansAreCut, PlansAreDetermined};
 ghost use Rattle.board.specs.Laws.{PlansKeepBoards, MovesKeepTheClass, PlansKeepTheClass};
-ghost use Rattle.board.specs.Laws.{LeastCostsAreDetermined};
+ghost use Rattle.board.specs.Laws.{RulesAreListed, NamedRulesAreListed, LeastCostsAreDetermined};
 ghost use Rattle.board.specs.Laws.{KeysNameBoards, KeysFit, KeysAreInOrder, RowsSuffice};
 
 use crate::costs::{GREATEST_COST, GREATEST_EXPANDED_COST};
+use crate::faults::{BoardFault, TilesFault, WeightsFault};
 use crate::moves::Move;
 
 /// `Move::ALL` is the four moves in their order.
@@ -26,6 +27,33 @@ pub fn letters_are_read()
 pub fn expansions_stay_within()
     ensures { GREATEST_EXPANDED_COST + 255 ≡ GREATEST_COST }
 {}
+
+/// Every cost rule is said by a list of weights: unit cost by ones, face cost by 1, 2, ..
+pub fn rules_are_listed()
+    ensures each { RulesAreListed }
+    ensures named { NamedRulesAreListed }
+{}
+
+/// `==` answers whether two faults of numbers are the same, with the same places.
+pub fn faults_of_tiles_are_compared(a: TilesFault, b: TilesFault) -> bool
+    ensures { IsTrue result ↔ (a ≡ b) }
+{
+    a == b
+}
+
+/// `==` answers whether two faults of weights are the same, with the same places.
+pub fn faults_of_weights_are_compared(a: WeightsFault, b: WeightsFault) -> bool
+    ensures { IsTrue result ↔ (a ≡ b) }
+{
+    a == b
+}
+
+/// `==` answers whether two faults are the same, with the same places.
+pub fn faults_are_compared(a: BoardFault, b: BoardFault) -> bool
+    ensures { IsTrue result ↔ (a ≡ b) }
+{
+    a == b
+}
 
 /// What is computed of a move is what it does, both ways.
 pub fn successors_are_moves()

@@ -18,7 +18,7 @@ mod worked;
 pub use boards::Board;
 pub use classes::same_class;
 pub use costs::{GREATEST_COST, GREATEST_EXPANDED_COST, Weights};
-pub use faults::{BoardFault, ShapeFault, TilesFault};
+pub use faults::{BoardFault, ShapeFault, TilesFault, WeightsFault};
 pub use moves::Move;
 pub use plans::follow;
 pub use shapes::Shape;

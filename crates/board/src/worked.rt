@@ -2,7 +2,7 @@
 
 ghost use Rattle.std.specs.Prelude.{◌≡◌};
 ghost use Rattle.board.specs.Worked.{TwoLeft, SixRound, OneUp, FourSuccessors};
-ghost use Rattle.board.specs.Worked.{TwoClasses, TwoKeys, OneRow, NoRow};
+ghost use Rattle.board.specs.Worked.{TwoClasses, TwoKeys, WeightsWithin, OneRow, NoRow};
 ghost use Rattle.board.specs.Worked.{OblongNeighbours, OblongSuccessors};
 ghost use Rattle.board.specs.Worked.{OblongClasses, OblongKeys};
 
@@ -42,6 +42,11 @@ pub fn two_keys()
 pub fn greatest_costs()
     ensures handled { GREATEST_COST ≡ 1048575 }
     ensures expanded { GREATEST_EXPANDED_COST ≡ 1048320 }
+{}
+
+/// The least and the greatest weight of a tile.
+pub fn weights_within()
+    ensures { WeightsWithin }
 {}
 
 /// A row that proves a cost of 1.

@@ -1,4 +1,5 @@
 mod CommandLemmas
+mod LawLemmas
 mod ParseLemmas
 mod ReadLemmas
 mod RunLemmas

@@ -21,6 +21,10 @@ side_rule name = record (option_rule name) { required = true; parser = Some (val
 abbrev pub number_rule : Text → ℕ → ℕ → Text → Rule
 number_rule name least most given = record (option_rule name) { parser = Some (value.Unsigned least most); defaults = given ∷ [] }
 
+-- an option of any text, with the one that it has where it is left out
+abbrev pub text_rule : Text → Text → Rule
+text_rule name given = record (option_rule name) { defaults = given ∷ [] }
+
 -- an option of one of some words, with the one that it has where it is left out
 abbrev pub choice_rule : Text → Choices → Text → Rule
 choice_rule name choices given = record (option_rule name) { parser = Some (value.Names choices); defaults = given ∷ [] }
@@ -30,10 +34,10 @@ abbrev pub flag_rule : Text → Rule
 flag_rule name = record (new_rule name) { long = Some name; action = Some SetTrue }
 
 -- a subcommand with the options that say a puzzle and how it is searched
-abbrev pub puzzle_app : Choices → Choices → Text → App
-puzzle_app costs spreads name =
+abbrev pub puzzle_app : Choices → Text → App
+puzzle_app spreads name =
     let sides = with_rule (with_rule (new_app name) (side_rule (codes "rows"))) (side_rule (codes "cols")) in
-    let texts = with_rule (with_rule (with_rule sides (choice_rule (codes "cost") costs (codes "unit"))) (option_rule (codes "goal"))) (option_rule (codes "groups")) in
+    let texts = with_rule (with_rule (with_rule sides (text_rule (codes "cost") (codes "unit"))) (option_rule (codes "goal"))) (option_rule (codes "groups")) in
     let workers = with_rule (with_rule texts (flag_rule (codes "fold"))) (number_rule (codes "workers") 1 16 (codes "1")) in
     with_rule (with_rule workers (choice_rule (codes "spread") spreads (codes "zobrist"))) (number_rule (codes "limit") 0 18446744073709551615 (codes "18446744073709551615"))
 
@@ -44,16 +48,15 @@ top_app =
     record empty { top = record empty.top { has_version = true; no_binary_name = true; subcommand_required = true; disable_help_subcommand = true } }
 
 -- the program with its subcommands
-abbrev pub program_app : Choices → Choices → App
-program_app costs spreads =
-    let solve = with_rule (with_rule (puzzle_app costs spreads (codes "solve")) (flag_rule (codes "cert"))) (flag_rule (codes "progress")) in
-    with_subcommand (with_subcommand (with_subcommand top_app solve.top) (new_app (codes "check")).top) (puzzle_app costs spreads (codes "replay")).top
+abbrev pub program_app : Choices → App
+program_app spreads =
+    let solve = with_rule (with_rule (puzzle_app spreads (codes "solve")) (flag_rule (codes "cert"))) (flag_rule (codes "progress")) in
+    with_subcommand (with_subcommand (with_subcommand top_app solve.top) (new_app (codes "check")).top) (puzzle_app spreads (codes "replay")).top
 
--- the words that `--cost` and `--spread` may have
-pub record AreChoices (costs spreads : Choices) : Type 0 where
-  pub cost_words : map (λ t. t.now) costs.now ≡ codes "unit" ∷ codes "face" ∷ []
-  pub spread_words : map (λ t. t.now) spreads.now ≡ codes "zobrist" ∷ codes "blank" ∷ []
+-- the words that `--spread` may have
+abbrev pub AreChoices : Choices → Type 0
+AreChoices spreads = map (λ t. t.now) spreads.now ≡ codes "zobrist" ∷ codes "blank" ∷ []
 
 -- the program with these words
 abbrev pub IsProgram : App → Type 0
-IsProgram program = (costs : Choices) × (spreads : Choices) × AreChoices costs spreads × (program ≡ program_app costs spreads)
+IsProgram program = (spreads : Choices) × AreChoices spreads × (program ≡ program_app spreads)

@@ -1,15 +1,16 @@
 -- Why words ask for nothing: the status that each reason ends the program by, and the code that stands for it.
 use Rattle.std.specs.Prelude.{ℕ, List, [], ◌∷◌, ◌++◌, codes, string_bytes}
-use Rattle.board.specs.Faults.{tiles_code}
+use Rattle.board.specs.Faults.{tiles_code, weights_code}
 use Rattle.option_texts.specs.Faults.{groups_code}
 use Rattle.option_texts.specs.declared.faults.GroupsFault.TheVariants as groups
 use Rattle.command_line.specs.declared.faults.NoRequest.{NoRequest}
-use Rattle.command_line.specs.declared.faults.NoRequest.TheVariants.{Usage, Goal, Groups, Memory}
+use Rattle.command_line.specs.declared.faults.NoRequest.TheVariants.{Usage, Goal, Costs, Groups, Memory}
 
--- 2 for the words, with the texts of the goal and of the groups among them; 4 for want of memory
+-- 2 for the words, with the texts of the goal, of the costs and of the groups among them; 4 for want of memory
 abbrev pub refusal_status : NoRequest → ℕ
 refusal_status (Usage text) = 2
 refusal_status (Goal fault) = 2
+refusal_status (Costs fault) = 2
 refusal_status (Groups (groups.NoGroup fault)) = 2
 refusal_status (Groups (groups.NoPartition fault)) = 2
 refusal_status (Groups (groups.Memory refused)) = 4
@@ -23,5 +24,6 @@ coded_line code = codes "tilesolve: " ++ code ++ 10 ∷ []
 abbrev pub refusal_message : NoRequest → List ℕ
 refusal_message (Usage text) = string_bytes text
 refusal_message (Goal fault) = coded_line (tiles_code fault)
+refusal_message (Costs fault) = coded_line (weights_code fault)
 refusal_message (Groups fault) = coded_line (groups_code fault)
 refusal_message Memory = coded_line (codes "memory")

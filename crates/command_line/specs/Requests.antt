@@ -6,25 +6,24 @@ use Rattle.clap.specs.declared.error.kind.ErrorKind.{ErrorKind}
 use Rattle.clap.specs.declared.error.kind.ErrorKind.TheVariants.{DisplayHelp, DisplayVersion}
 use Rattle.board.specs.Grids.{Grid}
 use Rattle.board.specs.Positions.{Position, goal_of}
-use Rattle.board.specs.CostRules.{CostRule, unit_rule, face_rule}
+use Rattle.board.specs.CostRules.{CostRule, unit_rule}
 use Rattle.pattern_index.specs.Splits.{Split}
 use Rattle.batch_lines.specs.Words.{IsFirstWordFault}
 use Rattle.batch_runs.specs.declared.setup.SpreadKind.{SpreadKind}
 use Rattle.batch_runs.specs.declared.setup.SpreadKind.TheVariants.{Zobrist, Blank}
-use Rattle.option_texts.specs.Texts.{comma_words, IsGoalOf, group_texts, AreGroupsOf}
-use Rattle.option_texts.specs.Faults.{IsFirstGroupsFault}
+use Rattle.option_texts.specs.Texts.{comma_words, IsGoalOf, AreCostsOf, group_texts, AreGroupsOf}
+use Rattle.option_texts.specs.Faults.{IsFirstCostsFault, IsFirstGroupsFault}
 use Rattle.option_texts.specs.Defaults.{default_groups}
 use Rattle.option_texts.specs.Laws.{IsRefusal}
 use Rattle.option_texts.specs.declared.faults.GroupsFault.{GroupsFault}
 use Rattle.board.specs.declared.faults.TilesFault.{TilesFault}
-use Rattle.command_line.specs.declared.requests.Costs.{Costs}
-use Rattle.command_line.specs.declared.requests.Costs.TheVariants.{Unit, Face}
+use Rattle.board.specs.declared.faults.WeightsFault.{WeightsFault}
 use Rattle.command_line.specs.declared.requests.Options.{Options}
 use Rattle.command_line.specs.declared.requests.Request.{Request}
 use Rattle.command_line.specs.declared.requests.Request.TheVariants.{Solve, Certify, Check, Replay, Help, Version}
 use Rattle.command_line.specs.declared.values.Values.{Values}
 use Rattle.command_line.specs.declared.faults.NoRequest.{NoRequest}
-use Rattle.command_line.specs.declared.faults.NoRequest.TheVariants.{Usage, Goal, Groups, Memory}
+use Rattle.command_line.specs.declared.faults.NoRequest.TheVariants.{Usage, Goal, Costs, Groups, Memory}
 use Rattle.command_line.specs.Commands.{IsProgram}
 
 -- ---- values of options
@@ -35,18 +34,9 @@ pub record HasNumber (rows : List Row) (id : Text) (n : ℕ) : Type 0 where
   pub given : one_of id rows ≡ Some text
   pub value : n ≡ digits_value 10 (without_leading_plus text)
 
-abbrev pub costs_text : Costs → Text
-costs_text Unit = codes "unit"
-costs_text Face = codes "face"
-
 abbrev pub spread_text : SpreadKind → Text
 spread_text Zobrist = codes "zobrist"
 spread_text Blank = codes "blank"
-
--- what a move costs on boards of this shape
-abbrev pub rule_of_costs : Costs → Grid → CostRule
-rule_of_costs Unit grid = unit_rule grid
-rule_of_costs Face grid = face_rule grid
 
 -- an option without a value is there
 abbrev pub IsSet : List Row → Text → Type 0
@@ -63,11 +53,11 @@ pub record HasWorkers (rows : List Row) (n : ℕ) : Type 0 where
   pub some : 1 ≤ n
   pub few : n ≤ 16
 
--- what the values of a subcommand's options say, but for the texts of the goal and of the groups
+-- what the values of a subcommand's options say, but for the texts of the goal, of the costs and of the groups
 pub record AreValues (rows : List Row) (v : Values) : Type 0 where
   pub shape : HasShape rows v.shape
   pub goal : first_of (codes "goal") rows ≡ option_map (λ t. t.now) v.goal
-  pub costs : first_of (codes "cost") rows ≡ Some (costs_text v.costs)
+  pub costs : first_of (codes "cost") rows ≡ option_map (λ t. t.now) v.costs
   pub groups : first_of (codes "groups") rows ≡ option_map (λ t. t.now) v.groups
   pub fold : IsTrue v.fold ↔ IsSet rows (codes "fold")
   pub workers : HasWorkers rows v.workers
@@ -85,6 +75,16 @@ abbrev pub IsGoalFault : Grid → Option Text → TilesFault → Type 0
 IsGoalFault grid None fault = ⊥
 IsGoalFault grid (Some text) fault = IsFirstWordFault grid (comma_words text) fault
 
+-- the costs that a text says, and where there is no text unit cost
+abbrev pub AreCostsSaid : Grid → Option Text → CostRule → Type 0
+AreCostsSaid grid None rule = rule ≡ unit_rule grid
+AreCostsSaid grid (Some text) rule = AreCostsOf grid text rule
+
+-- the first fault of that text
+abbrev pub IsCostsFault : Grid → Option Text → WeightsFault → Type 0
+IsCostsFault grid None fault = ⊥
+IsCostsFault grid (Some text) fault = IsFirstCostsFault grid text fault
+
 -- the groups that a text says, and where there is no text the default groups
 abbrev pub AreGroupsSaid : Grid → Option Text → Split → Type 0
 AreGroupsSaid grid None split = (split.grid ≡ grid) × (map (λ g. g.tiles) split.groups ≡ default_groups grid)
@@ -99,7 +99,7 @@ IsGroupsFault grid (Some text) fault = IsFirstGroupsFault grid (group_texts text
 pub record AreOptions (rows : List Row) (o : Options) : Type 0 where
   pub shape : HasShape rows o.goal.grid
   pub goal : IsGoalSaid o.goal.grid (first_of (codes "goal") rows) o.goal
-  pub costs : first_of (codes "cost") rows ≡ Some (costs_text o.costs)
+  pub costs : AreCostsSaid o.goal.grid (first_of (codes "cost") rows) o.costs
   pub groups : AreGroupsSaid o.goal.grid (first_of (codes "groups") rows) o.groups
   pub fold : IsTrue o.fold ↔ IsSet rows (codes "fold")
   pub workers : HasWorkers rows o.workers
@@ -107,12 +107,15 @@ pub record AreOptions (rows : List Row) (o : Options) : Type 0 where
   pub limit : HasNumber rows (codes "limit") o.limit
   pub progress : IsTrue o.progress ↔ IsSet rows (codes "progress")
 
--- why they say nothing: the fault of the goal's text; or where that has none, the fault of the groups' text; and memory may be refused
+-- why they say nothing: the fault of the goal's text; or where that has none, the fault of the costs' text; or where that has none either, the fault of the groups' text; and memory may be refused
 abbrev pub OptionsFail : List Row → NoRequest → Type 0
 OptionsFail rows (Usage text) = ⊥
 OptionsFail rows (Goal fault) = (grid : Grid) × HasShape rows grid × IsGoalFault grid (first_of (codes "goal") rows) fault
+OptionsFail rows (Costs fault) =
+    (grid : Grid) × HasShape rows grid × (goal : Position) × IsGoalSaid grid (first_of (codes "goal") rows) goal × IsCostsFault grid (first_of (codes "cost") rows) fault
 OptionsFail rows (Groups fault) =
-    (grid : Grid) × HasShape rows grid × (goal : Position) × IsGoalSaid grid (first_of (codes "goal") rows) goal × IsGroupsFault grid (first_of (codes "groups") rows) fault
+    (grid : Grid) × HasShape rows grid × (goal : Position) × IsGoalSaid grid (first_of (codes "goal") rows) goal × (rule : CostRule)
+    × AreCostsSaid grid (first_of (codes "cost") rows) rule × IsGroupsFault grid (first_of (codes "groups") rows) fault
 OptionsFail rows Memory = ⊤
 
 -- ---- what words ask for
@@ -142,13 +145,14 @@ AsksText faults _ = ⊥
 abbrev pub TextFails : Kinds → NoRequest → Type 0
 TextFails faults (Usage text) = (kind : ErrorKind) × IsAmong kind faults × (kind ≢ DisplayHelp) × (kind ≢ DisplayVersion)
 TextFails faults (Goal fault) = ⊥
+TextFails faults (Costs fault) = ⊥
 TextFails faults (Groups fault) = ⊥
 TextFails faults Memory = ⊤
 
 -- without words: boards of 3 by 3 at unit cost with Korf's goal and the default groups, whose tables are not folded, by one worker without a limit, and nothing told of progress
 pub record AreDefaults (o : Options) : Type 0 where
   pub goal : o.goal ≡ goal_of (record { rows = 3; cols = 3 })
-  pub costs : o.costs ≡ Unit
+  pub costs : o.costs ≡ unit_rule (record { rows = 3; cols = 3 })
   pub groups : AreGroupsSaid o.goal.grid None o.groups
   pub fold : o.fold ≡ false
   pub workers : o.workers ≡ 1

@@ -7,21 +7,21 @@ use Rattle.command_line.specs.Commands.{Choices, program_app}
 -- a side of 6 and 17 workers are no values of these options
 abbrev pub NumbersAreWithin : Type 0
 NumbersAreWithin =
-    (costs spreads : Choices)
-    → (fault_of (program_app costs spreads) (codes "solve" ∷ codes "--rows" ∷ codes "6" ∷ codes "--cols" ∷ codes "3" ∷ []) ≡ ValueValidation ∷ [])
-    × (fault_of (program_app costs spreads) (codes "replay" ∷ codes "--rows" ∷ codes "3" ∷ codes "--workers=17" ∷ codes "--cols" ∷ codes "3" ∷ []) ≡ ValueValidation ∷ [])
+    (spreads : Choices)
+    → (fault_of (program_app spreads) (codes "solve" ∷ codes "--rows" ∷ codes "6" ∷ codes "--cols" ∷ codes "3" ∷ []) ≡ ValueValidation ∷ [])
+    × (fault_of (program_app spreads) (codes "replay" ∷ codes "--rows" ∷ codes "3" ∷ codes "--workers=17" ∷ codes "--cols" ∷ codes "3" ∷ []) ≡ ValueValidation ∷ [])
 
 -- an option that stands twice is at fault, and so is one of another subcommand
 abbrev pub OptionsStandOnce : Type 0
 OptionsStandOnce =
-    (costs spreads : Choices)
-    → (fault_of (program_app costs spreads) (codes "solve" ∷ codes "--rows" ∷ codes "3" ∷ codes "--rows" ∷ codes "3" ∷ []) ≡ ArgumentConflict ∷ [])
-    × (fault_of (program_app costs spreads) (codes "replay" ∷ codes "--cert" ∷ []) ≡ UnknownArgument ∷ [])
+    (spreads : Choices)
+    → (fault_of (program_app spreads) (codes "solve" ∷ codes "--rows" ∷ codes "3" ∷ codes "--rows" ∷ codes "3" ∷ []) ≡ ArgumentConflict ∷ [])
+    × (fault_of (program_app spreads) (codes "replay" ∷ codes "--cert" ∷ []) ≡ UnknownArgument ∷ [])
 
 -- help and the version are asked for; `check` alone is at no fault
 abbrev pub TextsAreAskedFor : Type 0
 TextsAreAskedFor =
-    (costs spreads : Choices)
-    → (fault_of (program_app costs spreads) (codes "solve" ∷ codes "--help" ∷ []) ≡ DisplayHelp ∷ [])
-    × (fault_of (program_app costs spreads) (codes "--version" ∷ []) ≡ DisplayVersion ∷ [])
-    × (fault_of (program_app costs spreads) (codes "check" ∷ []) ≡ [])
+    (spreads : Choices)
+    → (fault_of (program_app spreads) (codes "solve" ∷ codes "--help" ∷ []) ≡ DisplayHelp ∷ [])
+    × (fault_of (program_app spreads) (codes "--version" ∷ []) ≡ DisplayVersion ∷ [])
+    × (fault_of (program_app spreads) (codes "check" ∷ []) ≡ [])

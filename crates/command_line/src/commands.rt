@@ -4,8 +4,8 @@ ghost use Rattle.std.specs.Prelude.{◌≡◌, IfOk, IfErr, false};
 ghost use Rattle.clap.specs.Words.{app_of, rule_of, kind_of};
 ghost use Rattle.clap.specs.declared.builder.command.Command.TheViews.{out-Command};
 ghost use Rattle.clap.specs.declared.error.kind.ErrorKind.TheVariants.{OutOfMemory};
-ghost use Rattle.command_line.specs.Commands.{option_rule, side_rule, number_rule, choice_rule};
-ghost use Rattle.command_line.specs.Commands.{flag_rule, puzzle_app, program_app};
+ghost use Rattle.command_line.specs.Commands.{option_rule, side_rule, number_rule, text_rule};
+ghost use Rattle.command_line.specs.Commands.{choice_rule, flag_rule, puzzle_app, program_app};
 
 use crate::help;
 use clap::builder::ValueParser;
@@ -14,15 +14,11 @@ use std::alloc::Global;
 
 /// `tilesolve` with its subcommands `solve`, `check` and `replay`. The error is that memory was
 /// refused.
-pub(crate) fn program<'a>(
-    alloc: Global,
-    costs: &'a [&'a str],
-    spreads: &'a [&'a str],
-) -> Result<Command<'a>, Error>
-    ensures app { IfOk result (λ c. app_of c ≡ program_app costs.entry spreads.entry) }
+pub(crate) fn program<'a>(alloc: Global, spreads: &'a [&'a str]) -> Result<Command<'a>, Error>
+    ensures app { IfOk result (λ c. app_of c ≡ program_app spreads.entry) }
     ensures refused { IfErr result (λ e. kind_of e ≡ OutOfMemory) }
 {
-    let solve = puzzle(alloc, "solve", costs, spreads)?
+    let solve = puzzle(alloc, "solve", spreads)?
         .about(help::SOLVE)
         .long_about(help::SOLVE_LONG)
         .after_help(help::SOLVE_AFTER)
@@ -32,7 +28,7 @@ pub(crate) fn program<'a>(
         .about(help::CHECK)
         .long_about(help::CHECK_LONG)
         .after_help(help::CHECK_AFTER);
-    let replay = puzzle(alloc, "replay", costs, spreads)?
+    let replay = puzzle(alloc, "replay", spreads)?
         .about(help::REPLAY)
         .long_about(help::REPLAY_LONG)
         .after_help(help::REPLAY_AFTER);
@@ -52,21 +48,16 @@ pub(crate) fn program<'a>(
 }
 
 // A subcommand with the options that say a puzzle and how it is searched.
-fn puzzle<'a>(
-    alloc: Global,
-    name: &'a str,
-    costs: &'a [&'a str],
-    spreads: &'a [&'a str],
-) -> Result<Command<'a>, Error>
+fn puzzle<'a>(alloc: Global, name: &'a str, spreads: &'a [&'a str]) -> Result<Command<'a>, Error>
     ensures app { IfOk result (λ c.
-        app_of c ≡ puzzle_app costs.entry spreads.entry name.entry.now) }
+        app_of c ≡ puzzle_app spreads.entry name.entry.now) }
     ensures local { IfOk result (λ c. (out-Command c).has_globals ≡ false) }
     ensures refused { IfErr result (λ e. kind_of e ≡ OutOfMemory) }
 {
     let command = Command::new(alloc, name)
         .arg(side(alloc, "rows", help::ROWS))?
         .arg(side(alloc, "cols", help::COLS))?
-        .arg(choice(alloc, "cost", "COST", help::COST, costs, "unit"))?
+        .arg(text(alloc, "cost", "COST", help::COST, "unit"))?
         .arg(option(alloc, "goal", "TILES", help::GOAL))?
         .arg(option(alloc, "groups", "GROUPS", help::GROUPS))?
         .arg(flag(alloc, "fold", help::FOLD))?
@@ -120,6 +111,14 @@ fn number<'a>(
     option(alloc, name, "N", help)
         .value_parser(ValueParser::unsigned(least, most))
         .default_value(given)
+}
+
+// An option of any text, with the one that it has where it is left out.
+fn text<'a>(alloc: Global, name: &'a str, value: &'a str, help: &'a str, given: &'a str) -> Arg<'a>
+    ensures rule { rule_of result ≡ text_rule name.entry.now given.entry.now }
+    ensures local { result.global ≡ false }
+{
+    option(alloc, name, value, help).default_value(given)
 }
 
 // An option of one of some words.

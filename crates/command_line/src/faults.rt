@@ -1,12 +1,12 @@
 //! Why words ask for nothing.
 
 ghost use Rattle.std.specs.Prelude.{◌≡◌};
-ghost use Rattle.board.specs.Faults.{tiles_code};
+ghost use Rattle.board.specs.Faults.{tiles_code, weights_code};
 ghost use Rattle.option_texts.specs.Faults.{groups_code};
 ghost use Rattle.pattern_index.specs.Faults.{group_code, partition_code};
 ghost use Rattle.command_line.specs.Faults.{refusal_status, refusal_message, coded_line};
 
-use board::TilesFault;
+use board::{TilesFault, WeightsFault};
 use option_texts::GroupsFault;
 use pattern_index::{GroupFault, PartitionFault};
 
@@ -17,6 +17,8 @@ pub enum NoRequest {
     Usage(String),
     /// The text of the goal is at fault: E2 to E4.
     Goal(TilesFault),
+    /// The text of the costs is at fault: E13 or E14.
+    Costs(WeightsFault),
     /// The text of the groups is at fault: E5 to E10; or there is no memory for them.
     Groups(GroupsFault),
     /// There is no memory for the parser of the words.
@@ -24,13 +26,13 @@ pub enum NoRequest {
 }
 
 impl NoRequest {
-    /// The status that the program ends by: 2 for the words, with the texts of the goal and of the
-    /// groups among them; 4 for want of memory.
+    /// The status that the program ends by: 2 for the words, with the texts of the goal, of the
+    /// costs and of the groups among them; 4 for want of memory.
     pub fn status(&self) -> u8
         ensures { result ≡ refusal_status self.now }
     {
         match self {
-            NoRequest::Usage(_) | NoRequest::Goal(_) => 2,
+            NoRequest::Usage(_) | NoRequest::Goal(_) | NoRequest::Costs(_) => 2,
             NoRequest::Groups(GroupsFault::Memory(_)) => 4,
             NoRequest::Groups(_) => 2,
             NoRequest::Memory => 4,
@@ -44,6 +46,7 @@ impl NoRequest {
         match self {
             NoRequest::Usage(text) => text.as_str(),
             NoRequest::Goal(fault) => goal_line(*fault),
+            NoRequest::Costs(fault) => costs_line(*fault),
             NoRequest::Groups(fault) => groups_line(*fault),
             NoRequest::Memory => "tilesolve: memory\n",
         }
@@ -58,6 +61,16 @@ fn goal_line(fault: TilesFault) -> &'static str
         TilesFault::WrongCount => "tilesolve: E2\n",
         TilesFault::TileOutOfRange(_) => "tilesolve: E3\n",
         TilesFault::TileRepeated(_) => "tilesolve: E4\n",
+    }
+}
+
+// The line of a fault of costs.
+fn costs_line(fault: WeightsFault) -> &'static str
+    ensures { result.now ≡ coded_line (weights_code fault) }
+{
+    match fault {
+        WeightsFault::WrongCount => "tilesolve: E13\n",
+        WeightsFault::WeightOutOfRange(_) => "tilesolve: E14\n",
     }
 }
 

@@ -25,7 +25,7 @@ Without words it is: tilesolve solve --rows 3 --cols 3
 Exit status:
   0  every line is optimal or unsolvable, or the certificate is accepted
   1  some line is bounded or refused, or a replay's step was none
-  2  the words are at fault, with --goal and --groups among them
+  2  the words are at fault, with --goal, --cost and --groups among them
   3  standard input can't be read (B1, F6), or standard output can't be written (B2, F8)
   4  no memory (memory, B3, F7)
   5  the certificate is refused (F1 to F5, C1 to C7)
@@ -49,11 +49,12 @@ Examples:
     tilesolve solve --rows 4 --cols 4 --goal 1,2,3,4,5,6,7,8,9,10,11,12,13,14,15,0
   echo 'c 3 2 1 0' | tilesolve solve --rows 2 --cols 2 --cost face --groups 1,2/3 --cert |
     tilesolve check
+  echo 'd 8 0 6 5 4 7 2 3 1' | tilesolve solve --rows 3 --cols 3 --cost 255,255,1,1,1,1,1,1
 
 Exit status:
   0  every line is optimal or unsolvable
   1  some line is bounded or refused
-  2  the words are at fault, with --goal and --groups among them
+  2  the words are at fault, with --goal, --cost and --groups among them
   3  standard input can't be read (B1), or standard output can't be written (B2, F8)
   4  no memory for the tables (memory) or for a report (B3)
 
@@ -63,6 +64,9 @@ Codes of a refused line, and of a fault of --goal:
   E4   a tile stood before
   E12  the line is longer than 1024 bytes, or no UTF-8
   V3   no memory before the first step
+Codes of a fault of --cost:
+  E13  there are more weights than tiles, or fewer
+  E14  a weight is no number from 1 to 255
 Codes of a fault of --groups:
   E5   a group has no tile
   E6   a word is no tile
@@ -118,7 +122,7 @@ Examples:
 Exit status:
   0  the report is optimal or unsolvable, and each line said a step
   1  the report is bounded or refused, or some line said no step (B4)
-  2  the words are at fault, with --goal and --groups among them
+  2  the words are at fault, with --goal, --cost and --groups among them
   3  standard input can't be read (B1), or standard output can't be written (B2)
   4  no memory for the tables (memory) or for a report (B3)
 
@@ -131,7 +135,9 @@ pub(crate) const ROWS: &str = "Rows of each board, 2 to 5";
 pub(crate) const COLS: &str = "Columns of each board, 2 to 5";
 
 /// The option `--cost`.
-pub(crate) const COST: &str = "What a move costs: 1, or the number on its tile";
+pub(crate) const COST: &str = "\
+What a move costs: unit (1), face (the number on its tile), or a weight from 1 to 255
+for each tile, as 3,1,2";
 
 /// The option `--goal`.
 pub(crate) const GOAL: &str = "Tiles of the goal, cell by cell, as 1,2,3,0 [default: 0,1,2, ..]";

@@ -5,10 +5,11 @@
 mod commands;
 mod faults;
 mod help;
+pub mod laws;
 mod matches;
 mod requests;
 mod values;
 mod worked;
 
 pub use faults::NoRequest;
-pub use requests::{Costs, Options, Request, read_words};
+pub use requests::{Options, Request, read_words};

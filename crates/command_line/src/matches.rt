@@ -3,14 +3,15 @@
 ghost use Rattle.std.specs.Prelude.{◌≡◌, ◌↔◌, IsTrue, IfOk, IfErr, IfSome, Some, codes, option_map};
 ghost use Rattle.clap.specs.Words.{first_of, found_of, rows_of, subcommand_rows_of};
 ghost use Rattle.command_line.specs.Requests.{AsksRun, RunFails, AreOptions, OptionsFail};
-ghost use Rattle.command_line.specs.Requests.{IsGoalSaid, IsGoalFault, AreGroupsSaid, IsGroupsFault};
+ghost use Rattle.command_line.specs.Requests.{IsGoalSaid, IsGoalFault, AreCostsSaid, IsCostsFault};
+ghost use Rattle.command_line.specs.Requests.{AreGroupsSaid, IsGroupsFault};
 
 use crate::faults::NoRequest;
 use crate::requests::{Options, Request};
 use crate::values::{Values, is_set, values_in};
-use board::{Board, Shape, TilesFault};
+use board::{Board, Shape, TilesFault, Weights, WeightsFault};
 use clap::ArgMatches;
-use option_texts::{GroupsFault, default_groups, read_goal, read_groups};
+use option_texts::{GroupsFault, default_groups, read_costs, read_goal, read_groups};
 use pattern_index::Partition;
 use std::alloc::Global;
 
@@ -50,7 +51,8 @@ fn solve_in(alloc: Global, matches: &ArgMatches<'_>) -> Result<Request, NoReques
     Ok(Request::Solve(options))
 }
 
-// What the values of the options say. The goal's text is judged first.
+// What the values of the options say. The goal's text is judged first, then that of the costs, then
+// that of the groups.
 fn options_in(alloc: Global, matches: &ArgMatches<'_>) -> Result<Options, NoRequest>
     ensures options { IfOk result (AreOptions (rows_of (found_of matches.now))) }
     ensures refusal { IfErr result (OptionsFail (rows_of (found_of matches.now))) }
@@ -62,13 +64,17 @@ fn options_in(alloc: Global, matches: &ArgMatches<'_>) -> Result<Options, NoRequ
         Ok(goal) => goal,
         Err(fault) => return Err(NoRequest::Goal(fault)),
     };
+    let costs = match costs_said(values.shape, values.costs) {
+        Ok(costs) => costs,
+        Err(fault) => return Err(NoRequest::Costs(fault)),
+    };
     let groups = match groups_said(alloc, values.shape, values.groups) {
         Ok(groups) => groups,
         Err(fault) => return Err(NoRequest::Groups(fault)),
     };
     Ok(Options {
         goal,
-        costs: values.costs,
+        costs,
         groups,
         fold: values.fold,
         workers: values.workers,
@@ -87,6 +93,17 @@ fn goal_said(shape: Shape, text: Option<&str>) -> Result<Board, TilesFault>
     match text {
         Some(text) => read_goal(shape, text),
         None => Ok(Board::goal(shape)),
+    }
+}
+
+// The costs that a text says, and where there is no text unit cost.
+fn costs_said(shape: Shape, text: Option<&str>) -> Result<Weights, WeightsFault>
+    ensures costs { IfOk result (AreCostsSaid shape (option_map (λ t. t.now) text.entry)) }
+    ensures fault { IfErr result (IsCostsFault shape (option_map (λ t. t.now) text.entry)) }
+{
+    match text {
+        Some(text) => read_costs(shape, text),
+        None => Ok(Weights::unit(shape)),
     }
 }
 

@@ -5,7 +5,7 @@ ghost use Rattle.clap.specs.Words.{App, Kinds, HasKind, fault_of, subcommand_of}
 ghost use Rattle.clap.specs.Words.{subcommand_rows_of};
 ghost use Rattle.command_line.specs.Commands.{IsProgram};
 ghost use Rattle.command_line.specs.Requests.{AreDefaults, AsksText, TextFails};
-ghost use Rattle.command_line.specs.Requests.{WordsAsk, WordsFail, rule_of_costs};
+ghost use Rattle.command_line.specs.Requests.{WordsAsk, WordsFail};
 
 use crate::commands::program;
 use crate::faults::NoRequest;
@@ -19,39 +19,16 @@ use option_texts::{GroupsFault, default_groups};
 use pattern_index::Partition;
 use std::alloc::Global;
 
-// The words that `--cost` may have.
-static COSTS: [&str; 2] = ["unit", "face"];
-
 // The words that `--spread` may have.
 static SPREADS: [&str; 2] = ["zobrist", "blank"];
-
-/// What a move costs.
-#[derive(Clone, Copy, Debug, PartialEq, Eq)]
-pub enum Costs {
-    /// Every move costs 1.
-    Unit,
-    /// To move tile t costs t.
-    Face,
-}
-
-impl Costs {
-    /// What moving each tile costs on boards of this shape.
-    pub fn weights(self, shape: Shape) -> Weights
-        ensures { result ≡ rule_of_costs self shape }
-    {
-        match self {
-            Costs::Unit => Weights::unit(shape),
-            Costs::Face => Weights::face(shape),
-        }
-    }
-}
 
 /// A puzzle and how it is searched.
 #[derive(Debug, Drop)]
 pub struct Options {
     /// The goal, whose shape is that of all boards.
     pub goal: Board,
-    pub costs: Costs,
+    /// What a move costs on boards of the goal's shape.
+    pub costs: Weights,
     /// The groups of tiles whose tables guide the search.
     pub groups: Partition,
     /// Whether the tables are folded.
@@ -84,7 +61,7 @@ pub enum Request {
 
 /// What the words after the program's name ask for; no words at all mean
 /// `solve --rows 3 --cols 3`. Or why they ask for nothing: the words themselves are judged first,
-/// then the text of the goal, then that of the groups.
+/// then the text of the goal, then that of the costs, then that of the groups.
 pub fn read_words(alloc: Global, words: &[String]) -> Result<Request, NoRequest>
     ensures request { IfOk result (WordsAsk (map string_bytes words.now)) }
     ensures refusal { IfErr result (WordsFail (map string_bytes words.now)) }
@@ -110,7 +87,7 @@ fn default_options(alloc: Global) -> Result<Options, OutOfMemory>
     let groups = default_groups(alloc, shape)?;
     Ok(Options {
         goal: Board::goal(shape),
-        costs: Costs::Unit,
+        costs: Weights::unit(shape),
         groups,
         fold: false,
         workers: 1,
@@ -129,7 +106,7 @@ fn matches_of<'a>(alloc: Global, words: &'a [String]) -> Result<ArgMatches<'a>, 
     ensures fault { IfErr result (λ error. (program : App) × IsProgram program
         × HasKind (fault_of program (map string_bytes words.entry.now)) error) }
 {
-    program(alloc, COSTS.as_slice(), SPREADS.as_slice())?.try_get_matches_from(words)
+    program(alloc, SPREADS.as_slice())?.try_get_matches_from(words)
 }
 
 // What is asked for where the parser gives no matches: a text, or nothing.

@@ -3,19 +3,19 @@
 ghost use Rattle.std.specs.Prelude.{◌≡◌, ◌↔◌, IsTrue, IfSome, Some, codes};
 ghost use Rattle.clap.specs.Words.{first_of, found_of, rows_of};
 ghost use Rattle.command_line.specs.Requests.{HasNumber, HasShape, HasWorkers, AreValues};
-ghost use Rattle.command_line.specs.Requests.{costs_text, spread_text};
+ghost use Rattle.command_line.specs.Requests.{spread_text};
 
-use crate::requests::Costs;
 use batch_runs::SpreadKind;
 use board::Shape;
 use clap::ArgMatches;
 
-/// The values of a subcommand's options. The texts of the goal and of the groups are not yet read.
+/// The values of a subcommand's options. The texts of the goal, of the costs and of the groups are
+/// not yet read.
 #[derive(Clone, Copy, Debug)]
 pub(crate) struct Values<'a> {
     pub shape: Shape,
     pub goal: Option<&'a str>,
-    pub costs: Costs,
+    pub costs: Option<&'a str>,
     pub groups: Option<&'a str>,
     pub fold: bool,
     pub workers: u8,
@@ -30,14 +30,13 @@ pub(crate) fn values_in<'a>(matches: &ArgMatches<'a>) -> Option<Values<'a>>
     ensures { IfSome result (AreValues (rows_of (found_of matches.now))) }
 {
     let shape = shape_in(matches)?;
-    let costs = costs_in(matches)?;
     let workers = workers_in(matches)?;
     let spread = spread_in(matches)?;
     let limit = number_in(matches, "limit")?;
     Some(Values {
         shape,
         goal: matches.get_str("goal"),
-        costs,
+        costs: matches.get_str("cost"),
         groups: matches.get_str("groups"),
         fold: is_set(matches, "fold"),
         workers,
@@ -93,21 +92,6 @@ fn number_in(matches: &ArgMatches<'_>, id: &str) -> Option<u64>
     ensures { IfSome result (HasNumber (rows_of (found_of matches.now)) id.now) }
 {
     matches.get_one::<u64>(id)
-}
-
-// What `--cost` says that a move costs.
-fn costs_in(matches: &ArgMatches<'_>) -> Option<Costs>
-    ensures { IfSome result (λ costs.
-        first_of (codes "cost") (rows_of (found_of matches.now)) ≡ Some (costs_text costs)) }
-{
-    let text = matches.get_str("cost")?;
-    if text == "unit" {
-        return Some(Costs::Unit);
-    }
-    if text == "face" {
-        return Some(Costs::Face);
-    }
-    None
 }
 
 // How `--spread` says that boards are spread over workers.

@@ -1,3 +1,5 @@
 mod TextLemmas
+pub mod GoalLemmas
+pub mod CostLemmas
 mod DefaultLemmas
-mod LawLemmas
+pub mod LawLemmas

@@ -1,12 +1,13 @@
--- What the texts of options say: a goal, and groups of tiles.
-use Rattle.std.specs.Prelude.{ℕ, ◌≡◌, ◌==◌, List, [], ◌∷◌, map, if◌then◌else◌, codes, IsPermutation}
+-- What the texts of options say: a goal, costs, and groups of tiles.
+use Rattle.std.specs.Prelude.{ℕ, ◌≡◌, ◌≤◌, ◌⊎◌, ◌==◌, List, [], ◌∷◌, map, if◌then◌else◌, codes, IsPermutation}
 use Rattle.std.specs.List.{slice_split, AllZip}
 use Rattle.std.specs.Str.{bytes_eq}
 use Rattle.board.specs.Grids.{Grid}
 use Rattle.board.specs.Positions.{Position, IsBoard}
+use Rattle.board.specs.CostRules.{CostRule, IsCostRule, listed_rule, unit_rule, face_rule}
 use Rattle.pattern_index.specs.Selections.{Selection, IsSelection}
 use Rattle.batch_lines.specs.TileNumbers.{tile_number}
-use Rattle.batch_lines.specs.Words.{SpellEach}
+use Rattle.batch_lines.specs.Words.{Spells, SpellEach}
 
 -- the words of a text: what stands before, between and behind its commas
 abbrev pub comma_words : List ℕ → List (List ℕ)
@@ -17,6 +18,24 @@ pub record IsGoalOf (grid : Grid) (text : List ℕ) (b : Position) : Type 0 wher
   pub spelled : SpellEach (comma_words text) b.tiles
   pub board : IsBoard b
   pub sides : b.grid ≡ grid
+
+-- the word spells a number from 1 to 255
+pub record SpellsWeight (word : List ℕ) : Type 0 where
+  pub weight : ℕ
+  pub spelled : Spells word weight
+  pub low : 1 ≤ weight
+  pub high : weight ≤ 255
+
+-- the costs whose weights the words spell, tile by tile
+pub record AreWeightsOf (grid : Grid) (text : List ℕ) (rule : CostRule) : Type 0 where
+  pub weights : List ℕ
+  pub spelled : SpellEach (comma_words text) weights
+  pub listed : rule ≡ listed_rule grid weights
+  pub sound : IsCostRule rule
+
+-- the costs that a text says: unit cost by `unit`, face cost by `face`, or those whose weights its words spell
+abbrev pub AreCostsOf : Grid → List ℕ → CostRule → Type 0
+AreCostsOf grid text rule = ((text ≡ codes "unit") × (rule ≡ unit_rule grid)) ⊎ (((text ≡ codes "face") × (rule ≡ face_rule grid)) ⊎ AreWeightsOf grid text rule)
 
 -- the texts of groups: what stands before, between and behind the slashes; `none` says that there is no group
 abbrev pub group_texts : List ℕ → List (List ℕ)

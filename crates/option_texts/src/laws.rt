@@ -1,8 +1,25 @@
-//! The laws of texts of groups, and of groups where none are named: each is the contract of a
-//! function that does nothing.
+//! The laws of texts of goals, of costs and of groups, and of groups where none are named: each is
+//! the contract of a function that does nothing.
 
+ghost use Rattle.option_texts.specs.Laws.{GoalsAreDetermined, GoalsHaveNoFault};
+ghost use Rattle.option_texts.specs.Laws.{CostsAreDetermined, CostsHaveNoFault};
+ghost use Rattle.option_texts.specs.Laws.{CostFaultsAreDetermined};
 ghost use Rattle.option_texts.specs.Laws.{PartitionsHaveNoFault, FaultsAreDetermined};
 ghost use Rattle.option_texts.specs.Laws.{DefaultsHaveEachTile};
+
+/// A text says one goal at most, and one that says a goal has no fault.
+pub fn goals_say_one_thing()
+    ensures goals { GoalsAreDetermined }
+    ensures none { GoalsHaveNoFault }
+{}
+
+/// A text says one rule of costs at most; one that says costs has no fault, and no text has two
+/// first faults.
+pub fn costs_say_one_thing()
+    ensures costs { CostsAreDetermined }
+    ensures none { CostsHaveNoFault }
+    ensures faults { CostFaultsAreDetermined }
+{}
 
 /// Texts that say a partition have no fault, and no texts have two first faults; of both it is left
 /// out that memory is refused.

@@ -1,4 +1,4 @@
-//! What the texts of a command line's options say: a goal, and groups of tiles.
+//! What the texts of a command line's options say: a goal, costs, and groups of tiles.
 #![tactic(auto)]
 
 mod defaults;
@@ -6,6 +6,7 @@ mod faults;
 mod goals;
 mod groups;
 pub mod laws;
+mod weights;
 mod words;
 mod worked;
 
@@ -13,3 +14,4 @@ pub use defaults::default_groups;
 pub use faults::GroupsFault;
 pub use goals::read_goal;
 pub use groups::read_groups;
+pub use weights::read_costs;

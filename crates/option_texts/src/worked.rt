@@ -1,7 +1,8 @@
 //! Worked rows of the definitions.
 
-ghost use Rattle.std.specs.Prelude.{◌≡◌, ◌∷◌, []};
+ghost use Rattle.std.specs.Prelude.{◌≡◌, ◌∷◌, [], codes};
 ghost use Rattle.option_texts.specs.Defaults.{default_groups};
+ghost use Rattle.option_texts.specs.WeightNumbers.{weight_number};
 
 /// The groups of boards of 4, 9 and 15 cells where none are named.
 pub fn default_groups_of_boards()
@@ -11,4 +12,14 @@ pub fn default_groups_of_boards()
         ≡ (1 ∷ 2 ∷ 3 ∷ 4 ∷ []) ∷ (5 ∷ 6 ∷ 7 ∷ 8 ∷ []) ∷ [] }
     ensures three_by_five { default_groups (record { rows = 3; cols = 5 })
         ≡ (1 ∷ 2 ∷ 3 ∷ 4 ∷ 5 ∷ []) ∷ (6 ∷ 7 ∷ 8 ∷ 9 ∷ 10 ∷ []) ∷ (11 ∷ 12 ∷ 13 ∷ 14 ∷ []) ∷ [] }
+{}
+
+/// The weights of words: leading zeros count for nothing, and what is no number from 1 to 255 is 0.
+pub fn weight_numbers_of_words()
+    ensures zeros { weight_number (codes "007") ≡ 7 }
+    ensures greatest { weight_number (codes "255") ≡ 255 }
+    ensures above { weight_number (codes "256") ≡ 0 }
+    ensures plus { weight_number (codes "+3") ≡ 0 }
+    ensures blank { weight_number (codes "1 ") ≡ 0 }
+    ensures empty { weight_number [] ≡ 0 }
 {}

@@ -7,8 +7,8 @@
 #![tactic(auto)]
 
 use batch_runs::SpreadKind;
-use board::Board;
-use command_line::{Costs, NoRequest, Options, Request, read_words};
+use board::{Board, Weights};
+use command_line::{NoRequest, Options, Request, read_words};
 use pattern_index::Partition;
 use std::alloc::Global;
 use std::io::{self, BufRead, BufReader};
@@ -82,11 +82,8 @@ fn print_options(rt: &impl Print, name: &str, options: &Options) -> io::Result<(
     let shape = options.goal.shape();
     print!(rt; "{name}, {} by {}, goal", shape.rows(), shape.cols())?;
     print_goal(rt, &options.goal)?;
-    let costs = match options.costs {
-        Costs::Unit => "unit",
-        Costs::Face => "face",
-    };
-    print!(rt; ", {costs} cost, groups")?;
+    print_costs(rt, &options.costs)?;
+    rt.print(", groups")?;
     print_groups(rt, &options.groups)?;
     let folded = if options.fold { ", folded" } else { "" };
     let spread = match options.spread {
@@ -110,6 +107,18 @@ fn print_goal(rt: &impl Print, goal: &Board) -> io::Result<()> {
         print!(rt; " {}", goal.tile(cell))?;
     }
     Ok(())
+}
+
+// Prints what a move costs: its name, or the weights of tiles 1, 2, .. in order.
+fn print_costs(rt: &impl Print, costs: &Weights) -> io::Result<()> {
+    let shape = costs.shape();
+    if *costs == Weights::unit(shape) {
+        return rt.print(", unit cost");
+    }
+    if *costs == Weights::face(shape) {
+        return rt.print(", face cost");
+    }
+    print!(rt; ", weights {:?}", costs.listed())
 }
 
 // Prints the tiles of each group.

@@ -9,8 +9,8 @@ returns c =
     record {
       shape = c.in_ok-shape.ensures;
       goal = sym (first_value-rows found (codes "goal")) ∙ sym c.get_str.ensures;
-      costs = c.in_ok-costs.ensures;
-      groups = sym (first_value-rows found (codes "groups")) ∙ sym c.get_str-2.ensures;
+      costs = sym (first_value-rows found (codes "cost")) ∙ sym c.get_str-2.ensures;
+      groups = sym (first_value-rows found (codes "groups")) ∙ sym c.get_str-3.ensures;
       fold = c.is_set.ensures;
       workers = c.in_ok-workers.ensures;
       spread = c.in_ok-spread.ensures;

@@ -1,0 +1,29 @@
+//! The laws of what options say: each is the contract of a function that does nothing.
+
+ghost use Rattle.command_line.specs.Laws.{ShapesAreDetermined, GoalsAreDetermined};
+ghost use Rattle.command_line.specs.Laws.{GoalsHaveNoFault, CostsAreDetermined, CostsHaveNoFault};
+ghost use Rattle.command_line.specs.Laws.{OptionsHaveNoFault, GoalsAreJudgedBeforeCosts};
+ghost use Rattle.command_line.specs.Laws.{GoalsAreJudgedBeforeGroups, CostsAreJudgedBeforeGroups};
+
+/// One shape is said, one goal and one rule of costs; and where these are said, their texts have no
+/// fault.
+pub fn options_say_one_thing()
+    ensures shapes { ShapesAreDetermined }
+    ensures goals { GoalsAreDetermined }
+    ensures no_goal_fault { GoalsHaveNoFault }
+    ensures costs { CostsAreDetermined }
+    ensures no_costs_fault { CostsHaveNoFault }
+{}
+
+/// Options that are said have no fault, but that memory is refused.
+pub fn options_have_no_fault()
+    ensures { OptionsHaveNoFault }
+{}
+
+/// The goal is judged before the costs, and these before the groups: no options have faults of two
+/// of them.
+pub fn options_are_judged_in_order()
+    ensures costs { GoalsAreJudgedBeforeCosts }
+    ensures groups { GoalsAreJudgedBeforeGroups }
+    ensures costs_before_groups { CostsAreJudgedBeforeGroups }
+{}
