@@ -3,7 +3,7 @@
 ghost use Rattle.lower_bound.specs.Tables.{ArePotentials};
 
 use board::{Board, Shape, Weights};
-use certificate::{Certificate, Parts};
+use certificate::{Certificate, Claim, Parts, Version};
 use hda_run::{Free, Job, solve_one};
 use lower_bound::Bound;
 use outcomes::Outcome;
@@ -41,13 +41,13 @@ fn certificate_by(
         return None;
     };
     Certificate::new(Parts {
+        version: Version::Two,
         shape: goal.shape(),
         costs: *weights,
         groups: bound.partition().copy(alloc).ok()?,
         start,
         goal: *goal,
-        cost,
-        plan,
+        claim: Claim::Least { cost, plan },
         rows,
     })
 }
@@ -63,13 +63,24 @@ pub fn altered(
     let mut rows = Vec::from_slice(alloc, certificate.rows()).ok()?;
     rows.get_mut(place)?.1 = cost;
     Certificate::new(Parts {
+        version: certificate.version(),
         shape: certificate.shape(),
         costs: certificate.costs(),
         groups: certificate.groups().copy(alloc).ok()?,
         start: certificate.start(),
         goal: certificate.goal(),
-        cost: certificate.cost(),
-        plan: Vec::from_slice(alloc, certificate.plan()).ok()?,
+        claim: copy_of(alloc, certificate.claim())?,
         rows,
     })
+}
+
+// The same claim, or None where memory was refused.
+fn copy_of(alloc: Global, claim: &Claim) -> Option<Claim> {
+    match claim {
+        Claim::Least { cost, plan } => {
+            let plan = Vec::from_slice(alloc, plan.as_slice()).ok()?;
+            Some(Claim::Least { cost: *cost, plan })
+        }
+        Claim::Bound { bound } => Some(Claim::Bound { bound: *bound }),
+    }
 }

@@ -1,7 +1,8 @@
 -- What words ask for is fit, and without words it is the default.
-use Rattle.std.proofs.Common.{◌≡◌, ◌∙◌, Bool, List, [], ◌∷◌, Option, None, Some, inl, inr, sym, ap, ap₂, subst, map, arith, codes}
+use Rattle.std.proofs.Common.{◌≡◌, ◌∙◌, Bool, List, [], ◌∷◌, Option, None, Some, inl, inr, sym, ap, subst, map, arith, codes}
 use Rattle.clap.specs.Words.{Text, Row, Kinds, first_of}
 use Rattle.board.specs.Grids.{Grid}
+use Rattle.board.specs.CostRules.{CostRule}
 use Rattle.board.specs.Positions.{Position}
 use Rattle.pattern_index.specs.Splits.{Split}
 use Rattle.option_texts.specs.Defaults.{default_groups}
@@ -10,7 +11,7 @@ use Rattle.table_sets.specs.Built.{AreTrueTables, AreBuilt}
 use Rattle.command_line.specs.declared.requests.Options.{Options}
 use Rattle.command_line.specs.declared.requests.Request.{Request}
 use Rattle.command_line.specs.declared.requests.Request.TheVariants.{Solve, Certify, Check, Replay, Help, Version}
-use Rattle.command_line.specs.Requests.{rule_of_costs, AreGroupsSaid, AreOptions, AsksRun, AsksText, AreDefaults, WordsAsk}
+use Rattle.command_line.specs.Requests.{AreCostsSaid, AreGroupsSaid, AreOptions, AsksRun, AsksText, AreDefaults, WordsAsk}
 use Rattle.batch_cli.specs.Setups.{AreFit, IsFit, AreTablesFor, IsSetupOf, IsDefaultSetup}
 
 -- groups that are said are of the shape that is said
@@ -18,11 +19,18 @@ groups_sides : (grid : Grid) (text : Option Text) (split : Split) → AreGroupsS
 groups_sides grid None split said = said.0
 groups_sides grid (Some text) split said = said.0
 
+-- so are the costs
+costs_sides : (grid : Grid) (text : Option Text) (rule : CostRule) → AreCostsSaid grid text rule → rule.grid ≡ grid
+costs_sides grid None rule said = ap (λ (r : CostRule). r.grid) said
+costs_sides grid (Some text) rule (inl unit) = ap (λ (r : CostRule). r.grid) unit.1
+costs_sides grid (Some text) rule (inr (inl face)) = ap (λ (r : CostRule). r.grid) face.1
+costs_sides grid (Some text) rule (inr (inr weights)) = ap (λ (r : CostRule). r.grid) weights.listed
+
 fit_options : (rows : List Row) (o : Options) → AreOptions rows o → AreFit o
-fit_options rows o options = record { sides = groups_sides o.goal.grid (first_of (codes "groups") rows) o.groups options.groups; some = options.workers.some; few = options.workers.few }
+fit_options rows o options = record { costs = costs_sides o.goal.grid (first_of (codes "cost") rows) o.costs options.costs; sides = groups_sides o.goal.grid (first_of (codes "groups") rows) o.groups options.groups; some = options.workers.some; few = options.workers.few }
 
 fit_defaults : (o : Options) → AreDefaults o → AreFit o
-fit_defaults o defaults = record { sides = defaults.groups.0; some = omega (arith, defaults.workers); few = omega (arith, defaults.workers) }
+fit_defaults o defaults = record { costs = ap (λ (r : CostRule). r.grid) defaults.costs ∙ sym (ap (λ (b : Position). b.grid) defaults.goal); sides = defaults.groups.0; some = omega (arith, defaults.workers); few = omega (arith, defaults.workers) }
 
 fit_text : (faults : Kinds) (request : Request) → AsksText faults request → IsFit request
 fit_text faults (Solve o) never = absurd never
@@ -59,7 +67,7 @@ default_setup o setup defaults is =
     let built : AreBuilt o.groups setup.rule setup.goal setup.tables = subst (λ (f : Bool). AreTablesFor f o.groups setup.rule setup.goal setup.tables) defaults.fold is.tables in
     record {
       goal = is.goal ∙ defaults.goal;
-      rule = is.rule ∙ ap₂ rule_of_costs defaults.costs grid;
+      rule = is.rule ∙ defaults.costs;
       groups = ap (λ (s : Split). map (λ g. g.tiles) s.groups) built.groups ∙ defaults.groups.1 ∙ ap default_groups grid;
       tables = subst (λ (s : Split). AreTrueTables s.groups setup.rule setup.goal setup.tables.lookups) (sym built.groups) built.each;
       whole = built.whole;

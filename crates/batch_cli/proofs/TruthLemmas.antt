@@ -1,7 +1,9 @@
 -- What the program writes is true.
 use Rattle.std.proofs.Common.{ℕ, ◌≡◌, ◌≢◌, ◌⊎◌, ◌∙◌, ◌<◌, refl, List, [], Option, None, Some, Result, Ok, Err, inl, inr, sym, append-nil, arith, subst, ap, string_bytes}
-use Rattle.std.specs.Prelude.{IfSome}
+use Rattle.std.specs.Prelude.{IfSome, IsSome}
 use Rattle.std.proofs.KnownBytes.{Appends-kept}
+use Rattle.board.specs.declared.moves.Move.{Move}
+use Rattle.board.specs.Plans.{Leads, IsLeast}
 use Rattle.byte_streams.specs.Streams.{SourceState, SinkState, Change, from_to}
 use Rattle.byte_streams.specs.Sink.{Puts, PutsNone, Writes}
 use Rattle.byte_streams.specs.declared.sink.WriteFailed.{WriteFailed}
@@ -37,7 +39,7 @@ use Rattle.replay_runs.specs.Openings.{setup_jobs}
 use Rattle.command_line.specs.declared.requests.Request.{Request}
 use Rattle.command_line.specs.declared.requests.Request.TheVariants.{Solve, Certify, Check, Replay, Help, Version}
 use Rattle.command_line.specs.declared.faults.NoRequest.{NoRequest}
-use Rattle.command_line.specs.declared.faults.NoRequest.TheVariants.{Usage, Goal, Groups, Memory}
+use Rattle.command_line.specs.declared.faults.NoRequest.TheVariants.{Usage, Goal, Costs, Groups, Memory}
 use Rattle.option_texts.specs.declared.faults.GroupsFault.TheVariants as groups
 use Rattle.command_line.specs.Requests.{WordsAsk, WordsFail}
 use Rattle.batch_cli.specs.declared.endings.Ending.{Ending}
@@ -46,7 +48,7 @@ use Rattle.batch_cli.specs.declared.faults.BatchFault.TheVariants.{Write}
 use Rattle.batch_cli.specs.Faults.{of_lines, of_certify, of_check}
 use Rattle.batch_cli.specs.Endings.{status_of, HasNotBegun}
 use Rattle.batch_cli.specs.Programs.{IsUnused, ending_of, Solves, Certifies, Judges, TakesSteps, Shows, EndsRun, EndsRequest, EndsBy}
-use Rattle.batch_cli.specs.Headline.{IsTrue, IsTrueOf, IsTrueBy, JudgesTruly, StatesLeastCost, WritesReplay}
+use Rattle.batch_cli.specs.Headline.{IsTrue, IsTrueOf, IsTrueBy, JudgesTruly, StatesTruth, WritesReplay}
 use Rattle.batch_cli.proofs.EndLemmas.{behind_none, status_ran, begun_flushed, begun_run}
 use Rattle.batch_cli.proofs.FitLemmas.{default_setup}
 
@@ -140,12 +142,17 @@ module _ (source : Change SourceState) (sink : Change SinkState) (ending : Endin
 
 -- what a verdict with this status says of the input
 abbrev Judged : ℕ → Change SinkState → List ℕ → Type 0
-Judged status sink input = WritesVerdict sink input × (status ≡ 0 → StatesLeastCost input) × (status ≡ 5 → (code : List ℕ) × IsRefusedBy input code)
+Judged status sink input = WritesVerdict sink input × (status ≡ 0 → StatesTruth input) × (status ≡ 5 → (code : List ℕ) × IsRefusedBy input code)
+
+-- where a plan is stated, it leads, and its cost is the least
+stated_plan : (plan : Option (List Move)) (P : List Move → Type 0) (L : Type 0) → IfSome plan P → (IsSome plan → L) → IfSome plan (λ moves. P moves × L)
+stated_plan None P L leads least = tt
+stated_plan (Some moves) P L leads least = (leads, least tt)
 
 verdict_judged : (read : Result Statement ReadFault) (sink : Change SinkState) (input : List ℕ) (output : Output) (status : ℕ) → Tells read input → IsVerdict read output → status ≡ output.status → WritesVerdict sink input → Judged status sink input
 verdict_judged (Ok c) sink input output status tells (tables, built, inl accepted) is written = (
   written,
-  λ zero. (c, spelled_read input c tells, accepted.proved.plan, accepted.least),
+  λ zero. (c, spelled_read input c tells, accepted.below, stated_plan c.plan (λ plan. Leads c.costs c.start plan c.goal c.cost) (IsLeast c.costs c.start c.goal c.cost) accepted.proved.plan accepted.least),
   λ five. let given = ap (λ (o : Output). o.status) accepted.written in absurd (omega (arith, is, five, given)),
 )
 verdict_judged (Ok c) sink input output status tells (tables, built, inr (refusal, first, refused)) is written = (
@@ -267,6 +274,7 @@ module _ (source : Change SourceState) (sink : Change SinkState) (ending : Endin
   default_refused : (refusal : NoRequest) → WordsFail [] refusal → ending ≡ Refused refusal → BatchOrNone
   default_refused (Usage text) never is = absurd never
   default_refused (Goal fault) never is = absurd never
+  default_refused (Costs fault) never is = absurd never
   default_refused (Groups (groups.NoGroup fault)) never is = absurd never
   default_refused (Groups (groups.NoPartition fault)) never is = absurd never
   default_refused (Groups (groups.Memory lacking)) refused is = inr (subst HasNotBegun (sym is) tt, lacking, told ∙ ap status_of is)

@@ -4,7 +4,7 @@ use Rattle.byte_streams.specs.Streams.{SourceState, SinkState, Change}
 use Rattle.byte_streams.specs.Sink.{Puts}
 use Rattle.memory.specs.declared.OutOfMemory.{OutOfMemory}
 use Rattle.clap.specs.Words.{Text}
-use Rattle.board.specs.Plans.{Leads, IsLeast}
+use Rattle.board.specs.Plans.{Leads, NothingBelow, IsLeast}
 use Rattle.certificate.specs.Certificates.{Statement}
 use Rattle.certificate.specs.Readings.{certificate}
 use Rattle.batch_runs.specs.Headline.{WritesTruth, BeginsTruth}
@@ -26,15 +26,18 @@ abbrev pub IsTrue : ℕ → Change SourceState → Change SinkState → Type 0
 IsTrue status source sink =
     (setup : SetupState) × IsDefaultSetup setup × BeginsTruth (rules_of setup) source sink × (status < 2 → WritesTruth (rules_of setup) source sink status)
 
--- the input is a certificate, whose plan leads from its start to its goal at its cost, and no plan costs less
-abbrev pub StatesLeastCost : List ℕ → Type 0
-StatesLeastCost input =
-    (c : Statement) × (certificate input ≡ Ok (c, [])) × Leads c.costs c.start c.plan c.goal c.cost × IsLeast c.costs c.start c.goal c.cost
+-- the input is a certificate, no plan from its start to its goal costs less than it states, and where it states a plan, that leads there at its cost, which is the least
+abbrev pub StatesTruth : List ℕ → Type 0
+StatesTruth input =
+    (c : Statement)
+    × (certificate input ≡ Ok (c, []))
+    × NothingBelow c.costs c.start c.goal c.cost
+    × IfSome c.plan (λ plan. Leads c.costs c.start plan c.goal c.cost × IsLeast c.costs c.start c.goal c.cost)
 
--- a true verdict on the input was written with the status 0 or 5; with 0 it states a least cost, with 5 it is refused
+-- a true verdict on the input was written with the status 0 or 5; with 0 it states the truth, with 5 it is refused
 pub record JudgesTruly (status : ℕ) (sink : Change SinkState) (input : List ℕ) : Type 0 where
   pub verdict : (status ≡ 0) ⊎ (status ≡ 5) → WritesVerdict sink input
-  pub accepted : status ≡ 0 → StatesLeastCost input
+  pub accepted : status ≡ 0 → StatesTruth input
   pub refused : status ≡ 5 → (code : List ℕ) × IsRefusedBy input code
 
 -- the answers to a board line and to the lines of steps behind it were written, as the status says

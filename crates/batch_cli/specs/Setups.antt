@@ -11,10 +11,10 @@ use Rattle.table_sets.specs.Built.{AreTrueTables, AreBuilt, AreBuiltFolded}
 use Rattle.command_line.specs.declared.requests.Options.{Options}
 use Rattle.command_line.specs.declared.requests.Request.{Request}
 use Rattle.command_line.specs.declared.requests.Request.TheVariants.{Solve, Certify, Check, Replay, Help, Version}
-use Rattle.command_line.specs.Requests.{rule_of_costs}
 
--- the groups are of the goal's shape, and there are workers, not too many
+-- the costs and the groups are of the goal's shape, and there are workers, not too many
 pub record AreFit (o : Options) : Type 0 where
+  pub costs : o.costs.grid ≡ o.goal.grid
   pub sides : o.groups.grid ≡ o.goal.grid
   pub some : 1 ≤ o.workers
   pub few : o.workers ≤ 16
@@ -36,7 +36,7 @@ AreTablesFor false split rule goal tables = AreBuilt split rule goal tables
 -- the goal, the costs, the limit, the workers and their spread are those of the options, and the tables are those of the options' groups, folded where the options say so
 pub record IsSetupOf (o : Options) (setup : SetupState) : Type 0 where
   pub goal : setup.goal ≡ o.goal
-  pub rule : setup.rule ≡ rule_of_costs o.costs o.goal.grid
+  pub rule : setup.rule ≡ o.costs
   pub tables : AreTablesFor o.fold o.groups setup.rule setup.goal setup.tables
   pub limit : setup.limit ≡ o.limit
   pub workers : setup.workers ≡ o.workers

@@ -5,7 +5,6 @@ ghost use Rattle.byte_streams.specs.Streams.{change};
 ghost use Rattle.byte_streams.specs.Sink.{Writes};
 ghost use Rattle.byte_streams.specs.declared.sink.WriteFailed.{WriteFailed};
 ghost use Rattle.batch_runs.specs.Batches.{HasFailed};
-ghost use Rattle.certificate.specs.Certificates.{AreNamedCosts};
 ghost use Rattle.batch_cli.specs.declared.endings.Ending.{Ending};
 ghost use Rattle.batch_cli.specs.Endings.{Tells, HasNotBegun};
 ghost use Rattle.batch_cli.specs.Setups.{AreFit, IsFit};
@@ -217,7 +216,6 @@ fn certify_with<R: Threads + Wait + Sync, S: Source, K: Sink, G: Gate + Sync>(
     sink: &mut K,
     gate: &G,
 ) -> Ending
-    requires { AreNamedCosts setup.now.goal.grid setup.now.rule }
     ensures { Certifies (change S.state source.old source.new) setup.now
         (change K.state sink.old sink.new) result }
 {

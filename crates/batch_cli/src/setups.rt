@@ -2,7 +2,6 @@
 
 ghost use Rattle.std.specs.Prelude.{◌≡◌, IfOk};
 ghost use Rattle.lower_bound.specs.Tables.{ArePotentials};
-ghost use Rattle.certificate.specs.Certificates.{AreNamedCosts};
 ghost use Rattle.batch_cli.specs.Setups.{AreFit, AreTablesFor, IsSetupOf};
 
 use batch_runs::Setup;
@@ -24,7 +23,6 @@ pub(crate) fn setup_of(
 ) -> Result<Setup, OutOfMemory>
     requires { AreFit options }
     ensures setup { IfOk result (IsSetupOf options) }
-    ensures named { IfOk result (λ setup. AreNamedCosts setup.goal.grid setup.rule) }
 {
     let Options {
         goal,
@@ -36,9 +34,8 @@ pub(crate) fn setup_of(
         limit,
         progress: _,
     } = options;
-    let weights = costs.weights(goal.shape());
-    let bound = bound_for(rt, alloc, fold, groups, &goal, &weights)?;
-    let setup = Setup::new(alloc, goal, weights)
+    let bound = bound_for(rt, alloc, fold, groups, &goal, &costs)?;
+    let setup = Setup::new(alloc, goal, costs)
         .bound(bound)
         .limit(limit)
         .spread(spread);

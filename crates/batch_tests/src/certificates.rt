@@ -7,15 +7,24 @@ use std::sync::Wait;
 use std::thread::Threads;
 
 // The goal of 2 by 2 itself: no move, and no row is due.
-pub(crate) const SOLVED: [u8; 36] = [
-    0x54, 0x49, 0x4c, 0x45, 0x43, 0x52, 0x54, 0x31, 2, 2, 0, 0, // the opening
+pub(crate) const SOLVED: [u8; 37] = [
+    0x54, 0x49, 0x4c, 0x45, 0x43, 0x52, 0x54, 0x32, 0, 2, 2, 0, 0, // the opening
     0, 1, 2, 3, 0, 1, 2, 3, // start and goal
     0, 0, 0, 0, 0, 0, 0, 0, // the cost and the plan
     0, 0, 0, 0, 0, 0, 0, 0, // the count of rows
 ];
 
 // 1 0 over 2 3, which one move to the left solves.
-pub(crate) const ONE_MOVE: [u8; 45] = [
+pub(crate) const ONE_MOVE: [u8; 46] = [
+    0x54, 0x49, 0x4c, 0x45, 0x43, 0x52, 0x54, 0x32, 0, 2, 2, 0, 0, // the opening
+    1, 0, 2, 3, 0, 1, 2, 3, // start and goal
+    1, 0, 0, 0, 1, 0, 0, 0, 0x4c, // the cost and the plan
+    1, 0, 0, 0, 0, 0, 0, 0, // the count of rows
+    1, 0, 2, 3, 0, 0, 0, 0, // the row
+];
+
+// The same in version 1.
+pub(crate) const ONE_MOVE_ONE: [u8; 45] = [
     0x54, 0x49, 0x4c, 0x45, 0x43, 0x52, 0x54, 0x31, 2, 2, 0, 0, // the opening
     1, 0, 2, 3, 0, 1, 2, 3, // start and goal
     1, 0, 0, 0, 1, 0, 0, 0, 0x4c, // the cost and the plan
@@ -24,8 +33,8 @@ pub(crate) const ONE_MOVE: [u8; 45] = [
 ];
 
 // 1 3 over 0 2, which three moves solve: right, up, left. The boards that cost less prove it.
-pub(crate) const THREE_MOVES: [u8; 79] = [
-    0x54, 0x49, 0x4c, 0x45, 0x43, 0x52, 0x54, 0x31, 2, 2, 0, 0, // the opening
+pub(crate) const THREE_MOVES: [u8; 80] = [
+    0x54, 0x49, 0x4c, 0x45, 0x43, 0x52, 0x54, 0x32, 0, 2, 2, 0, 0, // the opening
     1, 3, 0, 2, 0, 1, 2, 3, // start and goal
     3, 0, 0, 0, 3, 0, 0, 0, b'R', b'U', b'L', // the cost and the plan
     5, 0, 0, 0, 0, 0, 0, 0, // the count of rows
@@ -36,7 +45,16 @@ pub(crate) const THREE_MOVES: [u8; 79] = [
     3, 0, 1, 2, 2, 0, 0, 0, // and at 2
 ];
 
-// From which byte to which `ONE_MOVE` is replaced, by what, and the code that the result is refused
+// A bound of 1 for the same board: no plan costs less, since it is not the goal.
+pub(crate) const BOUND: [u8; 41] = [
+    0x54, 0x49, 0x4c, 0x45, 0x43, 0x52, 0x54, 0x32, 1, 2, 2, 0, 0, // the opening
+    1, 0, 2, 3, 0, 1, 2, 3, // start and goal
+    1, 0, 0, 0, // the bound
+    1, 0, 0, 0, 0, 0, 0, 0, // the count of rows
+    1, 0, 2, 3, 0, 0, 0, 0, // the row
+];
+
+// From which byte to which `ONE_MOVE_ONE` is replaced, by what, and the code that the result is refused
 // by.
 const CHANGES: [(usize, usize, &[u8], &str); 13] = [
     (0, 1, &[0x55], "F1"),
@@ -90,7 +108,7 @@ fn is_judged<R: Threads + AllocGlobal + Sync>(
         && sink.into_inner().as_slice() == report
 }
 
-// Whether a changed `ONE_MOVE` is refused by this code.
+// Whether a changed `ONE_MOVE_ONE` is refused by this code.
 fn is_refused<R: Threads + AllocGlobal + Sync>(
     rt: &R,
     from: usize,
@@ -101,11 +119,11 @@ fn is_refused<R: Threads + AllocGlobal + Sync>(
     let alloc = rt.alloc();
     let mut bytes = Vec::new(alloc);
     bytes
-        .extend_from_slice(ONE_MOVE.get(..from).unwrap_or(&[]))
+        .extend_from_slice(ONE_MOVE_ONE.get(..from).unwrap_or(&[]))
         .ok()?;
     bytes.extend_from_slice(by).ok()?;
     bytes
-        .extend_from_slice(ONE_MOVE.get(to..).unwrap_or(&[]))
+        .extend_from_slice(ONE_MOVE_ONE.get(to..).unwrap_or(&[]))
         .ok()?;
     let report = format!(in alloc; "{{\"fault\":\"{code}\",\"status\":\"refused\"}}\n").ok()?;
     Some(is_judged(rt, bytes.as_slice(), report.as_bytes(), 5))

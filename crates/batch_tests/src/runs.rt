@@ -3,9 +3,8 @@
 ghost use Rattle.std.specs.Prelude.{◌≡◌, false};
 ghost use Rattle.byte_streams.specs.ByteSink.{sink_has_failed};
 ghost use Rattle.board.specs.CostRules.{unit_rule};
-ghost use Rattle.certificate.specs.Certificates.{AreNamedCosts};
 
-use crate::certificates::{ONE_MOVE, SOLVED, THREE_MOVES};
+use crate::certificates::{BOUND, ONE_MOVE, ONE_MOVE_ONE, SOLVED, THREE_MOVES};
 use batch_cli::{
     BatchFault, Cause, Free, LinesFault, Ruled, Setup, Summary, Why, run_batch, run_cert,
     run_check, run_lines, run_program,
@@ -89,7 +88,7 @@ struct Case {
     unwritten: &'static str,
 }
 
-fn cases() -> [Case; 12] {
+fn cases() -> [Case; 13] {
     [
         Case {
             run: Run::Lines,
@@ -172,7 +171,7 @@ fn cases() -> [Case; 12] {
         },
         Case {
             run: Run::Check,
-            input: &ONE_MOVE,
+            input: &ONE_MOVE_ONE,
             reads: 46,
             output: b"{\"cost\":1,\"status\":\"accepted\"}\n",
             status: 0,
@@ -181,14 +180,22 @@ fn cases() -> [Case; 12] {
         Case {
             run: Run::Check,
             input: &SOLVED,
-            reads: 37,
+            reads: 38,
             output: b"{\"cost\":0,\"status\":\"accepted\"}\n",
             status: 0,
             unwritten: "tilesolve: B2\n",
         },
         Case {
             run: Run::Check,
-            input: b"TILECRT2",
+            input: &BOUND,
+            reads: 42,
+            output: b"{\"bound\":1,\"status\":\"accepted\"}\n",
+            status: 0,
+            unwritten: "tilesolve: B2\n",
+        },
+        Case {
+            run: Run::Check,
+            input: b"TILECRT3",
             reads: 8,
             output: b"{\"fault\":\"F1\",\"status\":\"refused\"}\n",
             status: 5,
@@ -390,9 +397,7 @@ fn square() -> Shape {
 }
 
 // Korf's goal, at unit cost.
-fn setup_of_square(alloc: Global) -> Setup
-    ensures { AreNamedCosts result.goal.grid result.rule }
-{
+fn setup_of_square(alloc: Global) -> Setup {
     let shape = square();
     Setup::new(alloc, Board::goal(shape), Weights::unit(shape))
 }

@@ -1,5 +1,5 @@
 -- Certificates are read where they are spelled, and what stands before the first fault begins a spelling.
-use Rattle.std.proofs.Common.{◌≡◌, ◌⊎◌, inl, inr, ⊎_elim, ℕ, ◌<◌, ◌≤◌, ◌^◌, List, [], ◌∷◌, ◌++◌, length, None, Ok, Err, refl, sym, ap, subst, ◌∙◌, append-nil, append_assoc, arith}
+use Rattle.std.proofs.Common.{◌≡◌, ◌⊎◌, inl, inr, ⊎_elim, ℕ, ◌<◌, ◌≤◌, ◌^◌, List, [], ◌∷◌, ◌++◌, length, Option, Some, None, Ok, Err, refl, sym, ap, subst, ◌∙◌, append-nil, append_assoc, arith}
 use Rattle.std.specs.List.{flat_map, AllByRecursion}
 use Rattle.board.specs.declared.moves.Move.{Move}
 use Rattle.board.specs.Grids.{Grid, IsShape}
@@ -7,112 +7,128 @@ use Rattle.board.specs.Positions.{Position}
 use Rattle.board.specs.CostRules.{CostRule}
 use Rattle.pattern_index.specs.Selections.{Selection}
 use Rattle.pattern_index.specs.Splits.{Split}
-use Rattle.certificate.specs.Fields.{SpellsAllGroups, SpellsAllRows, SpellsBoard, SpellsBody, SpellsCount, SpellsFront, SpellsGroups, SpellsNumber, SpellsOpening, SpellsPlan}
+use Rattle.certificate.specs.declared.certificate.Version.{Version}
+use Rattle.certificate.specs.declared.certificate.Version.TheVariants.{One, Two}
+use Rattle.certificate.specs.Fields.{IsClaimIn, SpellsAllGroups, SpellsAllRows, SpellsBeginning, SpellsBoard, SpellsBody, SpellsClaimed, SpellsCount, SpellsFront, SpellsGroups, SpellsOpening}
 use Rattle.certificate.specs.declared.faults.FormatFault.{FormatFault}
 use Rattle.certificate.specs.declared.faults.FormatFault.TheVariants.{OutOfRange, BytesAfterEnd}
-use Rattle.certificate.specs.Certificates.{Statement, AreNamedCosts, IsSplitOf, IsBoardOf, IsRow, RiseAfter, IsCertificate}
-use Rattle.certificate.specs.Spellings.{opening_text, number_text, count_text, group_text, groups_text, plan_text, row_text, body_text, front_text, heading, announcement, spelling, Spells}
-use Rattle.certificate.specs.Readings.{◌>>=◌, next_reading, give, byte_within, byte_in, number, count, count_in, board, opening, groups, all_groups, plan, rows, all_rows, end, body, front, certificate, IsFaultAt}
+use Rattle.certificate.specs.Certificates.{Statement, Allows, IsSplitOf, IsBoardOf, IsRow, RiseAfter, IsCertificate}
+use Rattle.certificate.specs.Spellings.{claim_of, beginning_text, opening_text, count_text, group_text, groups_text, claimed_text, row_text, body_text, front_text, heading, announcement, spelling, Spells}
+use Rattle.certificate.specs.Readings.{◌>>=◌, next_reading, give, byte_within, byte_in, count, count_in, board, beginning, opening, groups, all_groups, claimed, rows, all_rows, end, body, front, certificate, IsFaultAt}
 use Rattle.certificate.specs.Laws.{AreBytes, Begins, AnnouncesGroups, AnnouncesRows}
 use Rattle.certificate.proofs.ReaderLemmas.{Law, Opens, Law-iff, Opens-iff, Both, Law-seq, Opens-seq, Known, Law-give, Opens-give, fine, faulty, both_ok, one_fails, field_from, AreBytes-rest}
-use Rattle.certificate.proofs.TextLemmas.{byte_law, opening_law, opening_opens, board_law, board_opens, number_law, number_opens, plan_law, plan_opens, count_law}
+use Rattle.certificate.proofs.TextLemmas.{byte_law, beginning_law, beginning_opens, opening_law, opening_opens, board_law, board_opens, claimed_law, claimed_opens, count_law}
 use Rattle.certificate.proofs.RowLemmas.{RowsText, rows_law, rows_before}
 use Rattle.certificate.proofs.GroupLemmas.{IsGroupHead, all_groups_law, groups_before, no_groups_found, none_apart, split_found}
 
--- ---- the boards, the cost and the plan
+-- ---- the boards, and what is claimed
 
-abbrev pub bare_of : CostRule → Split → Position → Position → ℕ → List Move → Statement
-bare_of costs split start goal cost moves = record { grid = costs.grid; costs = costs; groups = split; start = start; goal = goal; cost = cost; plan = moves; rows = [] }
+abbrev pub bare_of : Version → CostRule → Split → Position → Position → ℕ × Option (List Move) → Statement
+bare_of v costs split start goal found = record { version = v; grid = costs.grid; costs = costs; groups = split; start = start; goal = goal; cost = found.0; plan = found.1; rows = [] }
 
-abbrev pub BodyParts : CostRule → Split → Statement → List ℕ → Type 0
-BodyParts costs split = Both (SpellsBoard costs.grid) (λ start. Both (SpellsBoard costs.grid) (λ goal. Both SpellsNumber (λ cost. Both SpellsPlan (λ moves. Known (bare_of costs split start goal cost moves)))))
+abbrev pub BodyParts : Version → ℕ → CostRule → Split → Statement → List ℕ → Type 0
+BodyParts v n costs split = Both (SpellsBoard costs.grid) (λ start. Both (SpellsBoard costs.grid) (λ goal. Both (SpellsClaimed n) (λ found. Known (bare_of v costs split start goal found))))
 
-pub body_there : (costs : CostRule) (split : Split) (c : Statement) (text : List ℕ) → BodyParts costs split c text → SpellsBody costs split c text
-body_there costs split c text (start, s1, t1, b, (goal, s2, t2, g, (cost, s3, t3, n, (moves, s4, t4, p, (known, nil), e4), e3), e2), e1) =
-    let made : SpellsBody costs split (bare_of costs split start goal cost moves) text = record {
+pub body_there : (v : Version) (n : ℕ) (costs : CostRule) (split : Split) (c : Statement) (text : List ℕ) → BodyParts v n costs split c text → SpellsBody v n costs split c text
+body_there v n costs split c text (start, s1, t1, b, (goal, s2, t2, g, (found, s3, t3, f, (known, nil), e3), e2), e1) =
+    let made : SpellsBody v n costs split (bare_of v costs split start goal found) text = record {
       start = b.board;
       goal = g.board;
-      cost = n.within;
-      plan = p.within;
+      claim = f.claim;
+      cost = f.cost;
+      plan = f.plan;
       same = refl;
-      is = e1 ∙ (λ i. b.is i ++ e2 i) ∙ (λ i. start.tiles ++ (g.is i ++ e3 i)) ∙ (λ i. start.tiles ++ (goal.tiles ++ (n.is i ++ e4 i))) ∙ (λ i. start.tiles ++ (goal.tiles ++ (number_text cost ++ (p.is i ++ nil i))))
-          ∙ ap (λ (l : List ℕ). start.tiles ++ (goal.tiles ++ (number_text cost ++ l))) (append-nil (plan_text moves));
+      is = e1 ∙ (λ i. b.is i ++ e2 i) ∙ (λ i. start.tiles ++ (g.is i ++ e3 i)) ∙ (λ i. start.tiles ++ (goal.tiles ++ (f.is i ++ nil i)))
+          ∙ ap (λ (l : List ℕ). start.tiles ++ (goal.tiles ++ l)) (append-nil (claimed_text found.0 found.1));
     } in
-    subst (λ (d : Statement). SpellsBody costs split d text) (sym known) made
+    subst (λ (d : Statement). SpellsBody v n costs split d text) (sym known) made
 
-body_back : (costs : CostRule) (split : Split) (c : Statement) (text : List ℕ) → SpellsBody costs split c text → BodyParts costs split c text
-body_back costs split c text t =
+body_back : (v : Version) (n : ℕ) (costs : CostRule) (split : Split) (c : Statement) (text : List ℕ) → SpellsBody v n costs split c text → BodyParts v n costs split c text
+body_back v n costs split c text t =
+    let found : ℕ × Option (List Move) = (c.cost, c.plan) in
+    let last = claimed_text c.cost c.plan in
     let b : SpellsBoard costs.grid c.start c.start.tiles = record { board = t.start; is = refl } in
     let g : SpellsBoard costs.grid c.goal c.goal.tiles = record { board = t.goal; is = refl } in
-    let n : SpellsNumber c.cost (number_text c.cost) = record { within = t.cost; is = refl } in
-    let p : SpellsPlan c.plan (plan_text c.plan) = record { within = t.plan; is = refl } in (
-      c.start,
-      c.start.tiles,
-      c.goal.tiles ++ (number_text c.cost ++ plan_text c.plan),
-      b,
-      (c.goal, c.goal.tiles, number_text c.cost ++ plan_text c.plan, g, (c.cost, number_text c.cost, plan_text c.plan, n, (c.plan, plan_text c.plan, [], p, (t.same, refl), sym (append-nil (plan_text c.plan))), refl), refl),
-      t.is,
-    )
+    let f : SpellsClaimed n found last = record { claim = t.claim; cost = t.cost; plan = t.plan; is = refl } in
+    (c.start, c.start.tiles, c.goal.tiles ++ last, b, (c.goal, c.goal.tiles, last, g, (found, last, [], f, (t.same, refl), sym (append-nil last)), refl), t.is)
 
-pub body_law : (costs : CostRule) (split : Split) → IsShape costs.grid → Law (body costs split) (SpellsBody costs split)
+pub body_law : (v : Version) (n : ℕ) (costs : CostRule) (split : Split) → IsShape costs.grid → n ≤ 1 → Law (body v n costs split) (SpellsBody v n costs split)
 unfolding body
-body_law costs split sides = Law-iff _ (BodyParts costs split) (SpellsBody costs split) (body_there costs split) (body_back costs split)
+body_law v n costs split sides low = Law-iff _ (BodyParts v n costs split) (SpellsBody v n costs split) (body_there v n costs split) (body_back v n costs split)
     (Law-seq (board costs.grid) _ (SpellsBoard costs.grid) _ (board_law costs.grid sides) (λ start _ _.
     Law-seq (board costs.grid) _ (SpellsBoard costs.grid) _ (board_law costs.grid sides) (λ goal _ _.
-    Law-seq number _ SpellsNumber _ number_law (λ cost _ _.
-    Law-seq plan _ SpellsPlan _ plan_law (λ moves _ _. Law-give (bare_of costs split start goal cost moves))))))
+    Law-seq (claimed n) _ (SpellsClaimed n) _ (claimed_law n low) (λ found _ _. Law-give (bare_of v costs split start goal found)))))
 
-body_opens : (costs : CostRule) (split : Split) → IsShape costs.grid → Opens (body costs split) (SpellsBody costs split)
+body_opens : (v : Version) (n : ℕ) (costs : CostRule) (split : Split) → IsShape costs.grid → n ≤ 1 → Opens (body v n costs split) (SpellsBody v n costs split)
 unfolding body
-body_opens costs split sides = Opens-iff _ (BodyParts costs split) (SpellsBody costs split) (body_there costs split)
+body_opens v n costs split sides low = Opens-iff _ (BodyParts v n costs split) (SpellsBody v n costs split) (body_there v n costs split)
     (Opens-seq (board costs.grid) _ (SpellsBoard costs.grid) _ (board_law costs.grid sides) (board_opens costs.grid sides) (λ start _ _.
     Opens-seq (board costs.grid) _ (SpellsBoard costs.grid) _ (board_law costs.grid sides) (board_opens costs.grid sides) (λ goal _ _.
-    Opens-seq number _ SpellsNumber _ number_law number_opens (λ cost _ _.
-    Opens-seq plan _ SpellsPlan _ plan_law plan_opens (λ moves _ _. Opens-give (bare_of costs split start goal cost moves))))))
+    Opens-seq (claimed n) _ (SpellsClaimed n) _ (claimed_law n low) (claimed_opens n low) (λ found _ _. Opens-give (bare_of v costs split start goal found)))))
 
 -- ---- all before the rows
 
-named_grid : (grid : Grid) (costs : CostRule) → AreNamedCosts grid costs → costs.grid ≡ grid
-named_grid grid costs (inl unit) = ap (λ (rule : CostRule). rule.grid) unit
-named_grid grid costs (inr face) = ap (λ (rule : CostRule). rule.grid) face
+pub at_most_one : (v : Version) (n : ℕ) → IsClaimIn v n → n ≤ 1
+at_most_one One n is = omega (arith, is)
+at_most_one Two n low = low
+
+-- what is claimed may be claimed in the version
+claim_allowed : (v : Version) (plan : Option (List Move)) → IsClaimIn v (claim_of plan) → Allows v plan
+claim_allowed One (Some plan) is = refl
+claim_allowed One None is = absurd (omega (arith, is))
+claim_allowed Two plan is = tt
+
+allowed_claim : (v : Version) (plan : Option (List Move)) → Allows v plan → IsClaimIn v (claim_of plan)
+allowed_claim One (Some plan) some = refl
+allowed_claim One None some = absurd cc
+allowed_claim Two (Some plan) some = omega arith
+allowed_claim Two None some = omega arith
+
+abbrev pub CostsParts : Version → ℕ → Statement → List ℕ → Type 0
+CostsParts v n = Both SpellsOpening (λ costs. Both (SpellsAllGroups costs.grid) (λ split. SpellsBody v n costs split))
 
 abbrev pub FrontParts : Statement → List ℕ → Type 0
-FrontParts = Both SpellsOpening (λ costs. Both (SpellsAllGroups costs.grid) (λ split. SpellsBody costs split))
+FrontParts = Both SpellsBeginning (λ form. CostsParts form.0 form.1)
 
 pub front_there : (c : Statement) (text : List ℕ) → FrontParts c text → SpellsFront c text
-front_there c text (costs, s0, t0, o, (split, s1, t1, g, b, e1), e0) =
-    let whole : text ≡ opening_text costs ++ (groups_text split.groups ++ body_text c) = e0 ∙ (λ i. o.is i ++ e1 i) ∙ (λ i. opening_text costs ++ (g.is i ++ b.is i)) in
-    let made : SpellsFront (record c { grid = costs.grid; costs = costs; groups = split; rows = [] }) text = record {
-      fits = record { sides = o.sides; costs = o.named; groups = g.split; start = b.start; goal = b.goal; cost = b.cost; plan = b.plan; count = omega arith; rows = tt; rising = tt };
+front_there c text (form, s, t, f, (costs, s0, t0, o, (split, s1, t1, g, b, e1), e0), e) =
+    let v = form.0 in
+    let n = form.1 in
+    let whole : text ≡ beginning_text v n ++ (opening_text costs ++ (groups_text split.groups ++ body_text c)) = e ∙ (λ i. f.is i ++ e0 i) ∙ (λ i. beginning_text v n ++ (o.is i ++ e1 i)) ∙ (λ i. beginning_text v n ++ (opening_text costs ++ (g.is i ++ b.is i))) in
+    let allowed : Allows v c.plan = claim_allowed v c.plan (subst (λ (m : ℕ). IsClaimIn v m) (sym b.claim) f.allowed) in
+    let made : SpellsFront (record c { version = v; grid = costs.grid; costs = costs; groups = split; rows = [] }) text = record {
+      fits = record { sides = o.rule.sides; costs = record { rule = o.rule; sides = refl }; groups = g.split; start = b.start; goal = b.goal; claim = allowed; cost = b.cost; plan = b.plan; count = omega arith; rows = tt; rising = tt };
       bare = refl;
-      is = whole;
+      is = whole ∙ ap (λ (m : ℕ). beginning_text v m ++ (opening_text costs ++ (groups_text split.groups ++ body_text c))) (sym b.claim);
     } in
     subst (λ (d : Statement). SpellsFront d text) (sym b.same) made
 
 front_back : (c : Statement) (text : List ℕ) → SpellsFront c text → FrontParts c text
 front_back c text t =
-    let same : c.costs.grid ≡ c.grid = named_grid c.grid c.costs t.fits.costs in
+    let same : c.costs.grid ≡ c.grid = t.fits.costs.sides in
     let costs = c.costs in
-    let o : SpellsOpening costs (opening_text costs) = record {
-      sides = subst (λ (g : Grid). IsShape g) (sym same) t.fits.sides;
-      named = subst (λ (g : Grid). AreNamedCosts g c.costs) (sym same) t.fits.costs;
-      is = refl;
-    } in
+    let form : Version × ℕ = (c.version, claim_of c.plan) in
+    let first = beginning_text c.version (claim_of c.plan) in
+    let f : SpellsBeginning form first = record { allowed = allowed_claim c.version c.plan t.fits.claim; is = refl } in
+    let o : SpellsOpening costs (opening_text costs) = record { rule = t.fits.costs.rule; is = refl } in
     let g : SpellsAllGroups costs.grid c.groups (groups_text c.groups.groups) = record { split = subst (λ (g : Grid). IsSplitOf g c.groups) (sym same) t.fits.groups; is = refl } in
-    let b : SpellsBody costs c.groups c (body_text c) = record {
+    let b : SpellsBody c.version (claim_of c.plan) costs c.groups c (body_text c) = record {
       start = subst (λ (g : Grid). IsBoardOf g c.start) (sym same) t.fits.start;
       goal = subst (λ (g : Grid). IsBoardOf g c.goal) (sym same) t.fits.goal;
+      claim = refl;
       cost = t.fits.cost;
       plan = t.fits.plan;
-      same = λ i. record { grid = sym same i; costs = c.costs; groups = c.groups; start = c.start; goal = c.goal; cost = c.cost; plan = c.plan; rows = t.bare i };
+      same = λ i. record { version = c.version; grid = sym same i; costs = c.costs; groups = c.groups; start = c.start; goal = c.goal; cost = c.cost; plan = c.plan; rows = t.bare i };
       is = refl;
     } in
-    (costs, opening_text costs, groups_text c.groups.groups ++ body_text c, o, (c.groups, groups_text c.groups.groups, body_text c, g, b, refl), t.is)
+    (form, first, opening_text costs ++ (groups_text c.groups.groups ++ body_text c), f, (costs, opening_text costs, groups_text c.groups.groups ++ body_text c, o, (c.groups, groups_text c.groups.groups, body_text c, g, b, refl), refl), t.is)
+
+pub costs_parts_law : (v : Version) (n : ℕ) → n ≤ 1 → Law (opening >>= λ costs. all_groups costs.grid >>= λ split. body v n costs split) (CostsParts v n)
+costs_parts_law v n low = Law-seq opening _ SpellsOpening _ opening_law (λ costs _ o. Law-seq (all_groups costs.grid) _ (SpellsAllGroups costs.grid) _ (all_groups_law costs.grid o.rule.sides) (λ split _ _. body_law v n costs split o.rule.sides low))
 
 pub front_law : Law front SpellsFront
 unfolding front
-front_law = Law-iff _ FrontParts SpellsFront front_there front_back
-    (Law-seq opening _ SpellsOpening _ opening_law (λ costs _ o. Law-seq (all_groups costs.grid) _ (SpellsAllGroups costs.grid) _ (all_groups_law costs.grid o.sides) (λ split _ _. body_law costs split o.sides)))
+front_law = Law-iff _ FrontParts SpellsFront front_there front_back (Law-seq beginning _ SpellsBeginning _ beginning_law (λ form _ f. costs_parts_law form.0 form.1 (at_most_one form.0 form.1 f.allowed)))
 
 -- ---- the rows
 
@@ -144,6 +160,7 @@ bare_fits c fits = record {
   groups = fits.groups;
   start = fits.start;
   goal = fits.goal;
+  claim = fits.claim;
   cost = fits.cost;
   plan = fits.plan;
   count = omega arith;
@@ -158,6 +175,7 @@ with_rows d rs fits count all rising = record {
   groups = fits.groups;
   start = fits.start;
   goal = fits.goal;
+  claim = fits.claim;
   cost = fits.cost;
   plan = fits.plan;
   count = count;
@@ -240,18 +258,28 @@ pub record Precedent (bytes from : List ℕ) : Type 0 where
 begins_front : (c : Statement) (s t : List ℕ) → SpellsFront c (s ++ t) → Begins (spelling c) s
 begins_front c s t f = (t ++ rows_text c, ap (λ (l : List ℕ). l ++ rows_text c) (sym f.is) ∙ append_assoc s t (rows_text c))
 
--- some statement has these costs and groups
-record Completed (costs : CostRule) (split : Split) (s t : List ℕ) : Type 0 where
+-- some statement is of this form, and has these costs and groups
+record Completed (form : Version × ℕ) (costs : CostRule) (split : Split) (r s t : List ℕ) : Type 0 where
   c : Statement
   rest : List ℕ
-  front : SpellsFront c (s ++ (t ++ rest))
+  front : SpellsFront c (r ++ (s ++ (t ++ rest)))
+  version_is : c.version ≡ form.0
+  claim_is : claim_of c.plan ≡ form.1
   costs_are : c.costs ≡ costs
   groups_are : c.groups ≡ split
 
-completed : (costs : CostRule) (split : Split) (s t : List ℕ) → SpellsOpening costs s → SpellsAllGroups costs.grid split t → Completed costs split s t
-completed costs split s t o g =
-    let q = (body_opens costs split o.sides).some in
-    record { c = q.0; rest = q.1; front = front_there q.0 (s ++ (t ++ q.1)) (costs, s, t ++ q.1, o, (split, t, q.1, g, q.2, refl), refl); costs_are = ap (λ (d : Statement). d.costs) q.2.same; groups_are = ap (λ (d : Statement). d.groups) q.2.same }
+completed : (form : Version × ℕ) (costs : CostRule) (split : Split) (r s t : List ℕ) → SpellsBeginning form r → SpellsOpening costs s → SpellsAllGroups costs.grid split t → Completed form costs split r s t
+completed form costs split r s t f o g =
+    let q = (body_opens form.0 form.1 costs split o.rule.sides (at_most_one form.0 form.1 f.allowed)).some in
+    record {
+      c = q.0;
+      rest = q.1;
+      front = front_there q.0 (r ++ (s ++ (t ++ q.1))) (form, r, s ++ (t ++ q.1), f, (costs, s, t ++ q.1, o, (split, t, q.1, g, q.2, refl), refl), refl);
+      version_is = ap (λ (d : Statement). d.version) q.2.same;
+      claim_is = q.2.claim;
+      costs_are = ap (λ (d : Statement). d.costs) q.2.same;
+      groups_are = ap (λ (d : Statement). d.groups) q.2.same;
+    }
 
 abbrev split_of : Grid → List Selection → Split
 split_of grid gs = record { grid = grid; groups = gs }
@@ -262,14 +290,27 @@ no_groups grid = record { split = split_found grid 0 [] [] (omega arith) (no_gro
 regroup : (a b c d : List ℕ) → a ++ (b ++ (c ++ d)) ≡ (a ++ (b ++ c)) ++ d
 regroup a b c d = ap (λ (l : List ℕ). a ++ l) (sym (append_assoc b c d)) ∙ sym (append_assoc a (b ++ c) d)
 
+-- within the beginning
+before_beginning : (bytes : List ℕ) → AreBytes bytes → (fault : FormatFault) (from : List ℕ) → beginning bytes ≡ Err (fault, from) → Precedent bytes from
+before_beginning bytes all fault from e =
+    let p = beginning_opens.before bytes all fault from e in
+    let o = opening_opens.some in
+    let costs = o.0 in
+    let q = completed p.2 costs (split_of costs.grid []) (p.0 ++ p.1) o.1 (0 ∷ []) p.4 o.2 (no_groups costs.grid) in
+    let rest = o.1 ++ (0 ∷ q.rest) in
+    let whole : SpellsFront q.c (p.0 ++ (p.1 ++ rest)) = subst (λ (l : List ℕ). SpellsFront q.c l) (append_assoc p.0 p.1 rest) q.front in
+    record { before = p.0; c = q.c; parts = p.3; fits = q.front.fits; begins = inl (begins_front q.c p.0 (p.1 ++ rest) whole) }
+
 -- within the opening
-before_opening : (bytes : List ℕ) → AreBytes bytes → (fault : FormatFault) (from : List ℕ) → opening bytes ≡ Err (fault, from) → Precedent bytes from
-before_opening bytes all fault from e =
+before_opening : (form : Version × ℕ) (r : List ℕ) → SpellsBeginning form r → (bytes : List ℕ) → AreBytes bytes → (fault : FormatFault) (from : List ℕ) → opening bytes ≡ Err (fault, from) → Precedent (r ++ bytes) from
+before_opening form r f bytes all fault from e =
     let p = opening_opens.before bytes all fault from e in
     let costs = p.2 in
-    let q = completed costs (split_of costs.grid []) (p.0 ++ p.1) (0 ∷ []) p.4 (no_groups costs.grid) in
-    let whole : SpellsFront q.c (p.0 ++ (p.1 ++ (0 ∷ q.rest))) = subst (λ (l : List ℕ). SpellsFront q.c l) (append_assoc p.0 p.1 (0 ∷ q.rest)) q.front in
-    record { before = p.0; c = q.c; parts = p.3; fits = q.front.fits; begins = inl (begins_front q.c p.0 (p.1 ++ (0 ∷ q.rest)) whole) }
+    let q = completed form costs (split_of costs.grid []) r (p.0 ++ p.1) (0 ∷ []) f p.4 (no_groups costs.grid) in
+    let rest = p.1 ++ (0 ∷ q.rest) in
+    let again : r ++ ((p.0 ++ p.1) ++ (0 ∷ q.rest)) ≡ (r ++ p.0) ++ rest = ap (λ (l : List ℕ). r ++ l) (append_assoc p.0 p.1 (0 ∷ q.rest)) ∙ sym (append_assoc r p.0 rest) in
+    let whole : SpellsFront q.c ((r ++ p.0) ++ rest) = subst (λ (l : List ℕ). SpellsFront q.c l) again q.front in
+    record { before = r ++ p.0; c = q.c; parts = ap (λ (l : List ℕ). r ++ l) p.3 ∙ sym (append_assoc r p.0 from); fits = q.front.fits; begins = inl (begins_front q.c (r ++ p.0) rest whole) }
 
 -- groups are announced, and perhaps the number of tiles
 announced : (c : Statement) (count : ℕ) (head : List ℕ) → length c.groups.groups < count → count ≤ 24 → IsGroupHead head → AnnouncesGroups c (heading count c ++ head)
@@ -279,69 +320,90 @@ announced c count head more few begun = record { count = count; more = more; few
     by_head (inl nil) = inl (ap (λ (l : List ℕ). heading count c ++ l) nil ∙ append-nil (heading count c))
     by_head (inr w) = inr (w.0, w.1, w.2, ap (λ (l : List ℕ). heading count c ++ l) w.3)
 
-heading_parts : (opened : List ℕ) (n : ℕ) (done head from : List ℕ) → opened ++ (n ∷ (done ++ (head ++ from))) ≡ ((opened ++ (n ∷ done)) ++ head) ++ from
-heading_parts opened n done head from = sym (append_assoc (opened ++ (n ∷ done)) head from ∙ append_assoc opened (n ∷ done) (head ++ from))
+heading_parts : (begun opened : List ℕ) (n : ℕ) (done head from : List ℕ) → begun ++ (opened ++ (n ∷ (done ++ (head ++ from)))) ≡ ((begun ++ (opened ++ (n ∷ done))) ++ head) ++ from
+heading_parts begun opened n done head from =
+    ap (λ (l : List ℕ). begun ++ l) (sym (append_assoc opened (n ∷ done) (head ++ from)))
+    ∙ sym (append_assoc begun (opened ++ (n ∷ done)) (head ++ from))
+    ∙ sym (append_assoc (begun ++ (opened ++ (n ∷ done))) head from)
 
 -- within the groups
-before_groups : (costs : CostRule) (s : List ℕ) → SpellsOpening costs s → (bytes : List ℕ) → AreBytes bytes → (fault : FormatFault) (from : List ℕ) → all_groups costs.grid bytes ≡ Err (fault, from) → Precedent (s ++ bytes) from
+before_groups : (form : Version × ℕ) (costs : CostRule) (r s : List ℕ) → SpellsBeginning form r → SpellsOpening costs s → (bytes : List ℕ) → AreBytes bytes → (fault : FormatFault) (from : List ℕ) → all_groups costs.grid bytes ≡ Err (fault, from) → Precedent (r ++ (s ++ bytes)) from
 unfolding all_groups ◌>>=◌ give
-before_groups costs s o bytes all fault from e =
+before_groups form costs r s f o bytes all fault from e =
     ⊎_elim
     (λ failed.
     let here : bytes ≡ from = field_from OutOfRange 1 (byte_in 0 24) bytes fault from failed in
-    let q = completed costs (split_of costs.grid []) s (0 ∷ []) o (no_groups costs.grid) in
-    record { before = s; c = q.c; parts = ap (λ (l : List ℕ). s ++ l) here; fits = q.front.fits; begins = inl (begins_front q.c s (0 ∷ q.rest) q.front) })
-    (λ r.
-    let n = r.0.0 in
-    let p = (byte_law 0 24).takes bytes all n r.0.1 r.1 in
-    let left : AreBytes r.0.1 = AreBytes-rest p.0 r.0.1 (subst (λ (l : List ℕ). AreBytes l) p.2 all) in
+    let q = completed form costs (split_of costs.grid []) r s (0 ∷ []) f o (no_groups costs.grid) in
+    let whole : SpellsFront q.c ((r ++ s) ++ (0 ∷ q.rest)) = subst (λ (l : List ℕ). SpellsFront q.c l) (sym (append_assoc r s (0 ∷ q.rest))) q.front in
+    record { before = r ++ s; c = q.c; parts = ap (λ (l : List ℕ). r ++ (s ++ l)) here ∙ sym (append_assoc r s from); fits = q.front.fits; begins = inl (begins_front q.c (r ++ s) (0 ∷ q.rest) whole) })
+    (λ x.
+    let n = x.0.0 in
+    let p = (byte_law 0 24).takes bytes all n x.0.1 x.1 in
+    let left : AreBytes x.0.1 = AreBytes-rest p.0 x.0.1 (subst (λ (l : List ℕ). AreBytes l) p.2 all) in
     ⊎_elim
     (λ failed.
-    let q = groups_before costs.grid [] n o.sides none_apart r.0.1 left fault from failed in
+    let q = groups_before costs.grid [] n o.rule.sides none_apart x.0.1 left fault from failed in
     let split = split_of costs.grid q.done in
     let found : SpellsGroups costs.grid [] (length q.done) q.done (flat_map group_text q.done) = record { count = refl; groups = q.groups; sides = q.sides; apart = q.apart; is = refl } in
-    let m = completed costs split s (groups_text q.done) o (record { split = split_found costs.grid (length q.done) q.done (flat_map group_text q.done) (omega (arith, q.fewer, p.1.below)) found; is = refl }) in
-    let head_is : heading n m.c ≡ opening_text costs ++ (n ∷ flat_map group_text q.done) = λ i. opening_text (m.costs_are i) ++ (n ∷ flat_map group_text (m.groups_are i).groups) in
+    let m = completed form costs split r s (groups_text q.done) f o (record { split = split_found costs.grid (length q.done) q.done (flat_map group_text q.done) (omega (arith, q.fewer, p.1.below)) found; is = refl }) in
+    let begun = beginning_text form.0 form.1 in
+    let head_is : heading n m.c ≡ begun ++ (opening_text costs ++ (n ∷ flat_map group_text q.done)) = λ i. beginning_text (m.version_is i) (m.claim_is i) ++ (opening_text (m.costs_are i) ++ (n ∷ flat_map group_text (m.groups_are i).groups)) in
     record {
       before = heading n m.c ++ q.head;
       c = m.c;
-      parts = (λ i. o.is i ++ (p.2 ∙ (λ j. p.1.is j ++ q.is j)) i) ∙ heading_parts (opening_text costs) n (flat_map group_text q.done) q.head from ∙ ap (λ (l : List ℕ). (l ++ q.head) ++ from) (sym head_is);
+      parts = (λ i. f.is i ++ (o.is i ++ (p.2 ∙ (λ j. p.1.is j ++ q.is j)) i)) ∙ heading_parts begun (opening_text costs) n (flat_map group_text q.done) q.head from ∙ ap (λ (l : List ℕ). (l ++ q.head) ++ from) (sym head_is);
       fits = m.front.fits;
       begins = inr (inl (announced m.c n q.head (subst (λ (z : Split). length z.groups < n) (sym m.groups_are) q.fewer) p.1.below q.begun));
     })
     (λ t. absurd (never (split_of costs.grid t.0.0) t.0.1 t.2))
-    (one_fails (groups costs.grid [] n r.0.1) (λ found. give (split_of costs.grid found)) (fault, from) r.2))
+    (one_fails (groups costs.grid [] n x.0.1) (λ found. give (split_of costs.grid found)) (fault, from) x.2))
     (one_fails (byte_within 0 24 bytes) (λ n. groups costs.grid [] n >>= λ found. give (split_of costs.grid found)) (fault, from) e)
   where
     never : (z : Split) (l : List ℕ) → fine z l ≡ faulty Split fault from → ⊥
     never z l e = absurd cc
 
--- within the boards, the cost and the plan
-before_body : (costs : CostRule) (split : Split) (s t : List ℕ) → SpellsOpening costs s → SpellsAllGroups costs.grid split t → (bytes : List ℕ) → AreBytes bytes → (fault : FormatFault) (from : List ℕ) → body costs split bytes ≡ Err (fault, from) → Precedent (s ++ (t ++ bytes)) from
-before_body costs split s t o g bytes all fault from e =
-    let b = (body_opens costs split o.sides).before bytes all fault from e in
+-- within the boards, and what is claimed
+before_body : (form : Version × ℕ) (costs : CostRule) (split : Split) (r s t : List ℕ) → SpellsBeginning form r → SpellsOpening costs s → SpellsAllGroups costs.grid split t → (bytes : List ℕ) → AreBytes bytes → (fault : FormatFault) (from : List ℕ) → body form.0 form.1 costs split bytes ≡ Err (fault, from)
+    → Precedent (r ++ (s ++ (t ++ bytes))) from
+before_body form costs split r s t f o g bytes all fault from e =
+    let b = (body_opens form.0 form.1 costs split o.rule.sides (at_most_one form.0 form.1 f.allowed)).before bytes all fault from e in
     let c = b.2 in
-    let front : SpellsFront c (s ++ (t ++ (b.0 ++ b.1))) = front_there c (s ++ (t ++ (b.0 ++ b.1))) (costs, s, t ++ (b.0 ++ b.1), o, (split, t, b.0 ++ b.1, g, b.4, refl), refl) in
-    let whole : SpellsFront c ((s ++ (t ++ b.0)) ++ b.1) = subst (λ (l : List ℕ). SpellsFront c l) (regroup s t b.0 b.1) front in
-    record { before = s ++ (t ++ b.0); c = c; parts = ap (λ (l : List ℕ). s ++ (t ++ l)) b.3 ∙ regroup s t b.0 from; fits = front.fits; begins = inl (begins_front c (s ++ (t ++ b.0)) b.1 whole) }
+    let last = b.0 ++ b.1 in
+    let front : SpellsFront c (r ++ (s ++ (t ++ last))) = front_there c (r ++ (s ++ (t ++ last))) (form, r, s ++ (t ++ last), f, (costs, s, t ++ last, o, (split, t, last, g, b.4, refl), refl), refl) in
+    let begun = r ++ (s ++ (t ++ b.0)) in
+    let apart : (l : List ℕ) → r ++ (s ++ (t ++ (b.0 ++ l))) ≡ begun ++ l = λ l. ap (λ (m : List ℕ). r ++ m) (regroup s t b.0 l) ∙ sym (append_assoc r (s ++ (t ++ b.0)) l) in
+    let whole : SpellsFront c (begun ++ b.1) = subst (λ (l : List ℕ). SpellsFront c l) (apart b.1) front in
+    record { before = begun; c = c; parts = ap (λ (l : List ℕ). r ++ (s ++ (t ++ l))) b.3 ∙ apart from; fits = front.fits; begins = inl (begins_front c begun b.1 whole) }
+
+-- within the costs, the groups and the boards
+before_costs : (form : Version × ℕ) (r : List ℕ) → SpellsBeginning form r → (bytes : List ℕ) → AreBytes bytes → (fault : FormatFault) (from : List ℕ) → (opening >>= λ costs. all_groups costs.grid >>= λ split. body form.0 form.1 costs split) bytes ≡ Err (fault, from) → Precedent (r ++ bytes) from
+unfolding ◌>>=◌
+before_costs form r f bytes all fault from e =
+    ⊎_elim (λ failed. before_opening form r f bytes all fault from failed)
+    (λ x.
+    let costs = x.0.0 in
+    let p = opening_law.takes bytes all costs x.0.1 x.1 in
+    let left : AreBytes x.0.1 = AreBytes-rest p.0 x.0.1 (subst (λ (l : List ℕ). AreBytes l) p.2 all) in
+    ⊎_elim (λ failed. subst (λ (l : List ℕ). Precedent (r ++ l) from) (sym p.2) (before_groups form costs r p.0 f p.1 x.0.1 left fault from failed))
+    (λ s.
+    let q = (all_groups_law costs.grid p.1.rule.sides).takes x.0.1 left s.0.0 s.0.1 s.1 in
+    let rest : AreBytes s.0.1 = AreBytes-rest q.0 s.0.1 (subst (λ (l : List ℕ). AreBytes l) q.2 left) in
+    let begun : bytes ≡ p.0 ++ (q.0 ++ s.0.1) = p.2 ∙ ap (λ (l : List ℕ). p.0 ++ l) q.2 in
+    subst (λ (l : List ℕ). Precedent (r ++ l) from) (sym begun) (before_body form costs s.0.0 r p.0 q.0 f p.1 q.1 s.0.1 rest fault from s.2))
+    (one_fails (all_groups costs.grid x.0.1) (λ split. body form.0 form.1 costs split) (fault, from) x.2))
+    (one_fails (opening bytes) (λ costs. all_groups costs.grid >>= λ split. body form.0 form.1 costs split) (fault, from) e)
 
 -- within all before the rows
 before_front : (bytes : List ℕ) → AreBytes bytes → (fault : FormatFault) (from : List ℕ) → front bytes ≡ Err (fault, from) → Precedent bytes from
 unfolding front ◌>>=◌
 before_front bytes all fault from e =
-    ⊎_elim (λ failed. before_opening bytes all fault from failed)
-    (λ r.
-    let costs = r.0.0 in
-    let p = opening_law.takes bytes all costs r.0.1 r.1 in
-    let left : AreBytes r.0.1 = AreBytes-rest p.0 r.0.1 (subst (λ (l : List ℕ). AreBytes l) p.2 all) in
-    ⊎_elim (λ failed. subst (λ (l : List ℕ). Precedent l from) (sym p.2) (before_groups costs p.0 p.1 r.0.1 left fault from failed))
-    (λ s.
-    let q = (all_groups_law costs.grid p.1.sides).takes r.0.1 left s.0.0 s.0.1 s.1 in
-    let rest : AreBytes s.0.1 = AreBytes-rest q.0 s.0.1 (subst (λ (l : List ℕ). AreBytes l) q.2 left) in
-    let begun : bytes ≡ p.0 ++ (q.0 ++ s.0.1) = p.2 ∙ ap (λ (l : List ℕ). p.0 ++ l) q.2 in
-    subst (λ (l : List ℕ). Precedent l from) (sym begun) (before_body costs s.0.0 p.0 q.0 p.1 q.1 s.0.1 rest fault from s.2))
-    (one_fails (all_groups costs.grid r.0.1) (λ split. body costs split) (fault, from) r.2))
-    (one_fails (opening bytes) (λ costs. all_groups costs.grid >>= λ split. body costs split) (fault, from) e)
+    ⊎_elim (λ failed. before_beginning bytes all fault from failed)
+    (λ x.
+    let form = x.0.0 in
+    let p = beginning_law.takes bytes all form x.0.1 x.1 in
+    let left : AreBytes x.0.1 = AreBytes-rest p.0 x.0.1 (subst (λ (l : List ℕ). AreBytes l) p.2 all) in
+    subst (λ (l : List ℕ). Precedent l from) (sym p.2) (before_costs form p.0 p.1 x.0.1 left fault from x.2))
+    (one_fails (beginning bytes) (λ (form : Version × ℕ). opening >>= λ costs. all_groups costs.grid >>= λ split. body form.0 form.1 costs split) (fault, from) e)
 
 -- within the rows
 before_rows : (d : Statement) → IsCertificate d → d.rows ≡ [] → (bytes : List ℕ) → AreBytes bytes → (fault : FormatFault) (from : List ℕ) → all_rows d.grid bytes ≡ Err (fault, from) → Precedent (front_text d ++ bytes) from

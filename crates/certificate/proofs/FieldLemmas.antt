@@ -12,9 +12,8 @@ use Rattle.certificate.specs.declared.faults.FormatFault.{FormatFault}
 use Rattle.certificate.specs.declared.faults.FormatFault.TheVariants.{OtherMagic, Truncated, OutOfRange, NotRising, BytesAfterEnd}
 use Rattle.std.specs.Int.{w32, w64, from_le_bytes}
 use Rattle.std.proofs.lemmas.Nat.{le_bytes_4, le_bytes_8}
-use Rattle.board.specs.declared.costs.TheConstants.{GREATEST_COST}
 use Rattle.certificate.specs.Spellings.{number_text, count_text}
-use Rattle.certificate.specs.Readings.{Reader, IsFaultOf, IsCutOff, field, number_in, byte_in, magic_in}
+use Rattle.certificate.specs.Readings.{Reader, IsFaultOf, IsCutOff, field, number_in, byte_in, version_in}
 use Rattle.std.specs.Str.{bytes_eq}
 use Rattle.byte_streams.specs.Streams.{SourceState, Change}
 use Rattle.byte_streams.specs.Source.{Takes, ReadsOn}
@@ -163,9 +162,9 @@ pub count_back : (text : List ℕ) (n : ℕ) → length text ≡ 8 → ((i : ℕ
 unfolding count_text
 count_back text n len small is = le_bytes_8 text n len small is
 
-pub number_too_high : (text : List ℕ) (n : ℕ) → n ≡ from_le_bytes w32 text → GREATEST_COST < n → number_in text ≡ None
+pub number_too_high : (text : List ℕ) (most n : ℕ) → n ≡ from_le_bytes w32 text → most < n → number_in most text ≡ None
 unfolding number_in
-number_too_high text n is high = let past : leb n GREATEST_COST ≡ false = lt-leb _ _ high in rw (← is, past) refl
+number_too_high text most n is high = let past : leb n most ≡ false = lt-leb _ _ high in rw (← is, past) refl
 
 pub below_range : (low high byte : ℕ) → byte < low → byte_in low high (byte ∷ []) ≡ None
 unfolding byte_in
@@ -176,9 +175,9 @@ unfolding byte_in
 above_range low high byte above = let past : leb byte high ≡ false = lt-leb _ _ above in rw (past, and-false (leb low byte)) refl
 
 -- bytes that no certificate begins with
-pub other_magic : (text : List ℕ) → bytes_eq text (codes "TILECRT1") ≡ false → magic_in text ≡ None
-unfolding magic_in
-other_magic text differ = rw differ refl
+pub other_version : (text : List ℕ) → bytes_eq text (codes "TILECRT1") ≡ false → bytes_eq text (codes "TILECRT2") ≡ false → version_in text ≡ None
+unfolding version_in
+other_version text one two = rw (one, two) refl
 
 pub not_flipped_back : (b : Bool) → not b ≡ false → b ≡ true
 not_flipped_back true e = refl

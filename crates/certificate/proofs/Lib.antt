@@ -9,5 +9,6 @@ pub mod RowLemmas
 pub mod RisingLemmas
 pub mod GroupLemmas
 pub mod TextLemmas
+pub mod CostLemmas
 pub mod ReaderLemmas
 pub mod BoardLemmas

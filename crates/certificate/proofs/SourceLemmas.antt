@@ -8,6 +8,7 @@ use Rattle.std.proofs.lemmas.List.Concat.{flat_map-cons}
 use Rattle.std.proofs.lemmas.List.Elements.{All-tail}
 use Rattle.board.specs.declared.moves.Move.{Move}
 use Rattle.board.specs.Grids.{Grid, IsShape}
+use Rattle.board.specs.declared.costs.TheConstants.{GREATEST_COST}
 use Rattle.board.specs.Positions.{Position}
 use Rattle.pattern_index.specs.Selections.{Selection, IsSelection}
 use Rattle.pattern_index.specs.Splits.{AreApart}
@@ -147,7 +148,7 @@ row_cut : (grid : Grid) (before : Option Position) → IsShape grid → (b : Pos
 unfolding row as_one
 row_cut grid before sides b is rest few =
     let bytes = b.tiles ++ rest in
-    let cut = first_fault number (λ n. row_order before (b, n)) rest Truncated (rest, field_short OutOfRange 4 number_in rest few) in
+    let cut = first_fault number (λ n. row_order before (b, n)) rest Truncated (rest, field_short OutOfRange 4 (number_in GREATEST_COST) rest few) in
     (bytes, ap (whole_reading bytes) (again_at (board grid) (λ b. number >>= λ n. row_order before (b, n)) (SpellsBoard grid) (board_law grid sides) b b.tiles (record { board = is; is = refl }) rest ∙ cut.1))
 
 pub row_refuses : (grid : Grid) (before : Option Position) (b : Position) (n : ℕ) (old mid new : SourceState) → Finds (SpellsBoard grid) (from_to old mid) b → Finds SpellsNumber (from_to mid new) n → may_follow before b ≡ false → Refuses (row grid before) (from_to old new) (Format NotRising)

@@ -1,35 +1,39 @@
 -- The text of each field and of each part of a certificate, with the laws of its reader.
-use Rattle.std.proofs.Common.{◌≡◌, inl, inr, ℕ, zero, suc, ◌+◌, ◌*◌, ◌-◌, ◌<◌, ◌≤◌, ◌^◌, Bool, true, false, cond, leb, List, [], ◌∷◌, ◌++◌, length, get_or, map, Some, None, refl, sym, ap, subst, ◌∙◌, append-nil, arith}
+use Rattle.std.proofs.Common.{◌≡◌, ℕ, zero, suc, ◌+◌, ◌-◌, ◌<◌, ◌≤◌, ◌^◌, Bool, true, false, cond, leb, List, [], ◌∷◌, ◌++◌, length, get_or, map, Option, Some, None, refl, sym, ap, subst, ◌∙◌, append-nil, arith}
 use Rattle.std.specs.Prelude.{codes, slice_index, ◌&&◌}
 use Rattle.std.specs.Int.{w32, w64, from_le_bytes}
 use Rattle.std.specs.Str.{bytes_eq}
 use Rattle.std.proofs.lemmas.Bool.{leb-true, le-leb}
-use Rattle.std.proofs.lemmas.List.{get_or-replicate}
-use Rattle.std.proofs.lemmas.List.FromFn.{get_or-range_with_len}
-use Rattle.std.proofs.lemmas.Nat.{from_le_bytes-to_le_bytes_4, from_le_bytes-to_le_bytes_8, mul-le}
+use Rattle.std.proofs.lemmas.Nat.{from_le_bytes-to_le_bytes_4, from_le_bytes-to_le_bytes_8}
 use Rattle.std.proofs.lemmas.Slice.Eq.{bytes_eq-Decides}
 use Rattle.board.specs.declared.costs.TheConstants.{GREATEST_COST}
 use Rattle.board.specs.declared.moves.Move.{Move}
 use Rattle.board.specs.declared.moves.Move.TheVariants.{U}
-use Rattle.board.specs.Equality.{rules_Decide}
 use Rattle.board.specs.Grids.{Grid, IsShape, cell_count}
 use Rattle.board.specs.Positions.{Position, goal_of}
-use Rattle.board.specs.CostRules.{CostRule, unit_rule, face_rule}
+use Rattle.board.specs.CostRules.{CostRule}
 use Rattle.board.proofs.GoalLemmas.{goal_board}
-use Rattle.certificate.specs.Fields.{SpellsBoard, SpellsByte, SpellsCount, SpellsLetter, SpellsLetters, SpellsMagic, SpellsNumber, SpellsOpening, SpellsPlan}
+use Rattle.certificate.specs.Fields.{SpellsBeginning, SpellsBoard, SpellsByte, SpellsClaim, SpellsClaimed, SpellsCosts, SpellsCount, SpellsLetter, SpellsLetters, SpellsNumber, SpellsNumberWithin, SpellsOpening, SpellsPlan, SpellsVersion}
 use Rattle.certificate.specs.declared.faults.FormatFault.TheVariants.{OtherMagic, OutOfRange}
-use Rattle.certificate.specs.Certificates.{AreNamedCosts, IsWithinLimit}
+use Rattle.certificate.specs.declared.certificate.TheConstants.{GREATEST_BOUND}
+use Rattle.certificate.specs.declared.certificate.Version.{Version}
+use Rattle.certificate.specs.declared.certificate.Version.TheVariants.{One, Two}
+use Rattle.certificate.specs.Certificates.{IsWithinLimit}
 use Rattle.board.specs.Letters.{letter_of, move_of_letter}
 use Rattle.board.proofs.LetterLemmas.{letter_reads}
-use Rattle.certificate.specs.Spellings.{kind_of, opening_text, number_text, count_text}
-use Rattle.certificate.specs.Readings.{give, magic, magic_in, byte_within, byte_in, number, number_in, count, count_in, board, board_in, letter, letter_in, grid_of, costs_of, opening, letters, plan, rows}
+use Rattle.certificate.specs.Spellings.{kind_of, weights_text, version_text, claim_text, opening_text, number_text, count_text, plan_text}
+use Rattle.certificate.specs.Readings.{give, version, version_in, claim, beginning, byte_within, byte_in, number, number_within, number_in, count, count_in, board, board_in, letter, letter_in, grid_of, opening, letters, plan, claimed}
 use Rattle.certificate.specs.Laws.{AreBytes}
+use Rattle.certificate.proofs.CostLemmas.{costs_law, costs_open, kind_high}
 use Rattle.certificate.proofs.FieldLemmas.{number_back, count_back}
-use Rattle.certificate.proofs.BoardLemmas.{not_true, board_back, board_found}
+use Rattle.certificate.proofs.BoardLemmas.{board_back, board_found}
 use Rattle.certificate.proofs.ReaderLemmas.{Law, Opens, Law-iff, Opens-iff, Both, Law-seq, Opens-seq, Known, Law-give, Opens-give, Law-field, Opens-field}
 
 some_number : (m n : ℕ) → Some m ≡ Some n → m ≡ n
 some_number m n e = cc
+
+some_version : (v w : Version) → Some v ≡ Some w → v ≡ w
+some_version v w e = cc
 
 and_both : (a b : Bool) → (a && b) ≡ true → (a ≡ true) × (b ≡ true)
 and_both true b e = (refl, e)
@@ -45,25 +49,33 @@ one_byte [] e = absurd (omega (arith, e))
 one_byte (b ∷ []) e = refl
 one_byte (b ∷ c ∷ text) e = absurd (omega (arith, e))
 
--- ---- the magic
+-- ---- the version
 
-magic_there : (u : Unit {0}) (text : List ℕ) → SpellsMagic u text → (length text ≡ 8) × (magic_in text ≡ Some u)
-unfolding magic_in
-magic_there u text is = (ap (λ (t : List ℕ). length t) is, rw ((bytes_eq-Decides text (codes "TILECRT1")).1 is) refl)
+differ : bytes_eq (codes "TILECRT2") (codes "TILECRT1") ≡ false
+differ = refl
 
-magic_back : (u : Unit {0}) (text : List ℕ) → AreBytes text → length text ≡ 8 → magic_in text ≡ Some u → SpellsMagic u text
-unfolding magic_in
-magic_back u text all len e = by_test (bytes_eq text (codes "TILECRT1")) refl e
+version_there : (v : Version) (text : List ℕ) → SpellsVersion v text → (length text ≡ 8) × (version_in text ≡ Some v)
+unfolding version_in
+version_there One text is = (ap (λ (t : List ℕ). length t) is, rw ((bytes_eq-Decides text (codes "TILECRT1")).1 is) refl)
+version_there Two text is = (ap (λ (t : List ℕ). length t) is, rw (ap (λ (t : List ℕ). bytes_eq t (codes "TILECRT1")) is ∙ differ, (bytes_eq-Decides text (codes "TILECRT2")).1 is) refl)
+
+pub version_told : (v : Version) (text : List ℕ) → version_in text ≡ Some v → SpellsVersion v text
+unfolding version_in
+version_told v text e = by_tests (bytes_eq text (codes "TILECRT1")) (bytes_eq text (codes "TILECRT2")) refl refl e
   where
-    by_test : (r : Bool) → bytes_eq text (codes "TILECRT1") ≡ r → cond r (Some u) None ≡ Some u → SpellsMagic u text
-    by_test true is e = (bytes_eq-Decides text (codes "TILECRT1")).0 is
-    by_test false is e = absurd cc
+    by_tests : (r s : Bool) → bytes_eq text (codes "TILECRT1") ≡ r → bytes_eq text (codes "TILECRT2") ≡ s → cond r (Some One) (cond s (Some Two) None) ≡ Some v → SpellsVersion v text
+    by_tests true s one two e = subst (λ (w : Version). SpellsVersion w text) (some_version One v e) ((bytes_eq-Decides text (codes "TILECRT1")).0 one)
+    by_tests false true one two e = subst (λ (w : Version). SpellsVersion w text) (some_version Two v e) ((bytes_eq-Decides text (codes "TILECRT2")).0 two)
+    by_tests false false one two e = absurd cc
 
-pub magic_law : Law magic SpellsMagic
-magic_law = Law-field OtherMagic 8 magic_in SpellsMagic magic_there magic_back
+version_back : (v : Version) (text : List ℕ) → AreBytes text → length text ≡ 8 → version_in text ≡ Some v → SpellsVersion v text
+version_back v text all len e = version_told v text e
 
-magic_opens : Opens magic SpellsMagic
-magic_opens = Opens-field OtherMagic 8 magic_in SpellsMagic tt (codes "TILECRT1") refl
+pub version_law : Law version SpellsVersion
+version_law = Law-field OtherMagic 8 version_in SpellsVersion version_there version_back
+
+version_opens : Opens version SpellsVersion
+version_opens = Opens-field OtherMagic 8 version_in SpellsVersion One (codes "TILECRT1") refl
 
 -- ---- a byte
 
@@ -108,27 +120,33 @@ count_again : (n : ℕ) → n < 2 ^ 64 → from_le_bytes w64 (count_text n) ≡ 
 unfolding count_text
 count_again n low = from_le_bytes-to_le_bytes_8 n low
 
-number_there : (n : ℕ) (text : List ℕ) → SpellsNumber n text → (length text ≡ 4) × (number_in text ≡ Some n)
+number_there : (high n : ℕ) → high < 2 ^ 32 → (text : List ℕ) → SpellsNumberWithin high n text → (length text ≡ 4) × (number_in high text ≡ Some n)
 unfolding number_in
-number_there n text t =
+number_there high n few text t =
     let value : from_le_bytes w32 text ≡ n = ap (from_le_bytes w32) t.is ∙ number_again n (omega (arith, t.within)) in
-    (ap (λ (l : List ℕ). length l) t.is ∙ four_bytes n, ap (λ (m : ℕ). cond (leb m GREATEST_COST) (Some m) None) value ∙ ap (λ (r : Bool). cond r (Some n) None) (le-leb n GREATEST_COST t.within))
+    (ap (λ (l : List ℕ). length l) t.is ∙ four_bytes n, ap (λ (m : ℕ). cond (leb m high) (Some m) None) value ∙ ap (λ (r : Bool). cond r (Some n) None) (le-leb n high t.within))
 
-number_in_back : (n : ℕ) (text : List ℕ) → AreBytes text → length text ≡ 4 → number_in text ≡ Some n → SpellsNumber n text
+number_in_back : (high n : ℕ) (text : List ℕ) → AreBytes text → length text ≡ 4 → number_in high text ≡ Some n → SpellsNumberWithin high n text
 unfolding number_in
-number_in_back n text all len e = by_test (leb (from_le_bytes w32 text) GREATEST_COST) refl e
+number_in_back high n text all len e = by_test (leb (from_le_bytes w32 text) high) refl e
   where
-    by_test : (r : Bool) → leb (from_le_bytes w32 text) GREATEST_COST ≡ r → cond r (Some (from_le_bytes w32 text)) None ≡ Some n → SpellsNumber n text
+    by_test : (r : Bool) → leb (from_le_bytes w32 text) high ≡ r → cond r (Some (from_le_bytes w32 text)) None ≡ Some n → SpellsNumberWithin high n text
     by_test false is e = absurd cc
     by_test true is e =
         let same = some_number _ _ e in
-        record { within = subst (λ (m : ℕ). m ≤ GREATEST_COST) same (leb-true _ _ is); is = sym (number_back text n len (bytes_at text all) (sym same)) }
+        record { within = subst (λ (m : ℕ). m ≤ high) same (leb-true _ _ is); is = sym (number_back text n len (bytes_at text all) (sym same)) }
+
+pub number_within_law : (high : ℕ) → high < 2 ^ 32 → Law (number_within high) (SpellsNumberWithin high)
+number_within_law high few = Law-field OutOfRange 4 (number_in high) (SpellsNumberWithin high) (λ n. number_there high n few) (number_in_back high)
+
+pub number_within_opens : (high : ℕ) → Opens (number_within high) (SpellsNumberWithin high)
+number_within_opens high = Opens-field OutOfRange 4 (number_in high) (SpellsNumberWithin high) 0 (number_text 0) (record { within = omega arith; is = refl })
 
 pub number_law : Law number SpellsNumber
-number_law = Law-field OutOfRange 4 number_in SpellsNumber number_there number_in_back
+number_law = number_within_law GREATEST_COST (omega arith)
 
 pub number_opens : Opens number SpellsNumber
-number_opens = Opens-field OutOfRange 4 number_in SpellsNumber 0 (number_text 0) (record { within = omega arith; is = refl })
+number_opens = number_within_opens GREATEST_COST
 
 from_le_below : (text : List ℕ) → AreBytes text → from_le_bytes w64 text < 2 ^ 64
 from_le_below text all = let b = bytes_at text all in omega (arith, b 0, b 1, b 2, b 3, b 4, b 5, b 6, b 7)
@@ -181,81 +199,105 @@ letter_opens = Opens-field OutOfRange 1 letter_in SpellsLetter U (letter_of U �
 
 -- ---- the opening
 
-unit_kind : (grid : Grid) → kind_of (unit_rule grid) ≡ 0
-unit_kind grid = ap (λ (r : Bool). cond r 0 1) ((rules_Decide (unit_rule grid) (unit_rule grid)).1 refl)
+abbrev pub KindParts : ℕ → ℕ → CostRule → List ℕ → Type 0
+KindParts rows cols = Both (SpellsByte 0 2) (λ kind. SpellsCosts (grid_of rows cols) kind)
 
-face_is_other : (grid : Grid) → IsShape grid → face_rule grid ≡ unit_rule grid → ⊥
-face_is_other grid sides same =
-    let many : 2 * 2 ≤ cell_count grid = mul-le _ _ _ _ sides.rows_low sides.cols_low in
-    let face : get_or (face_rule grid).weights 2 0 ≡ 0 + 2 = get_or-range_with_len 0 (cell_count grid) 2 0 (omega (arith, many)) in
-    let unit : get_or (unit_rule grid).weights 2 0 ≡ 1 = get_or-replicate (cell_count grid - 1) 1 1 0 (omega (arith, many)) in
-    let both : get_or (face_rule grid).weights 2 0 ≡ get_or (unit_rule grid).weights 2 0 = ap (λ (rule : CostRule). get_or rule.weights 2 0) same in
-    absurd (omega (arith, face, unit, both))
+abbrev pub ColsParts : ℕ → CostRule → List ℕ → Type 0
+ColsParts rows = Both (SpellsByte 2 5) (λ cols. KindParts rows cols)
 
-face_kind : (grid : Grid) → IsShape grid → kind_of (face_rule grid) ≡ 1
-face_kind grid sides = ap (λ (r : Bool). cond r 0 1) (not_true _ (λ e. face_is_other grid sides ((rules_Decide (face_rule grid) (unit_rule grid)).0 e)))
+abbrev pub RowsParts : CostRule → List ℕ → Type 0
+RowsParts = Both (SpellsByte 2 5) (λ rows. ColsParts rows)
 
--- the kinds of costs, both ways
-costs_back : (grid : Grid) (kind : ℕ) → IsShape grid → kind ≤ 1 → (kind_of (costs_of grid kind) ≡ kind) × AreNamedCosts grid (costs_of grid kind) × ((costs_of grid kind).grid ≡ grid)
-costs_back grid zero sides low = (unit_kind grid, inl refl, refl)
-costs_back grid (suc zero) sides low = (face_kind grid sides, inr refl, refl)
-costs_back grid (suc (suc kind)) sides low = absurd (omega (arith, low))
+pub sides_read : (rows cols : ℕ) (s t : List ℕ) → SpellsByte 2 5 rows s → SpellsByte 2 5 cols t → IsShape (grid_of rows cols)
+sides_read rows cols s t r c = record { rows_low = r.above; rows_high = r.below; cols_low = c.above; cols_high = c.below }
 
-costs_again : (costs : CostRule) → IsShape costs.grid → AreNamedCosts costs.grid costs → (kind_of costs ≤ 1) × (costs_of costs.grid (kind_of costs) ≡ costs)
-costs_again costs sides (inl unit) =
-    let kind : kind_of costs ≡ 0 = ap kind_of unit ∙ unit_kind costs.grid in
-    (omega (arith, kind), ap (costs_of costs.grid) kind ∙ sym unit)
-costs_again costs sides (inr face) =
-    let kind : kind_of costs ≡ 1 = ap kind_of face ∙ face_kind costs.grid sides in
-    (omega (arith, kind), ap (costs_of costs.grid) kind ∙ sym face)
-
-abbrev pub OpeningParts : CostRule → List ℕ → Type 0
-OpeningParts = Both SpellsMagic (λ _. Both (SpellsByte 2 5) (λ rows. Both (SpellsByte 2 5) (λ cols. Both (SpellsByte 0 1) (λ kind. Known (costs_of (grid_of rows cols) kind)))))
-
-opening_parts_law : Law opening OpeningParts
+opening_parts_law : Law opening RowsParts
 unfolding opening
-opening_parts_law = Law-seq magic _ SpellsMagic _ magic_law (λ _ _ _.
-    Law-seq (byte_within 2 5) _ (SpellsByte 2 5) _ (byte_law 2 5) (λ rows _ _.
-    Law-seq (byte_within 2 5) _ (SpellsByte 2 5) _ (byte_law 2 5) (λ cols _ _.
-    Law-seq (byte_within 0 1) _ (SpellsByte 0 1) _ (byte_law 0 1) (λ kind _ _. Law-give (costs_of (grid_of rows cols) kind)))))
+opening_parts_law = Law-seq (byte_within 2 5) _ (SpellsByte 2 5) _ (byte_law 2 5) (λ rows s r.
+    Law-seq (byte_within 2 5) _ (SpellsByte 2 5) _ (byte_law 2 5) (λ cols t c.
+    Law-seq (byte_within 0 2) _ (SpellsByte 0 2) _ (byte_law 0 2) (λ kind _ k. costs_law (grid_of rows cols) kind (sides_read rows cols s t r c) k.below)))
 
-opening_parts_open : Opens opening OpeningParts
+opening_parts_open : Opens opening RowsParts
 unfolding opening
-opening_parts_open = Opens-seq magic _ SpellsMagic _ magic_law magic_opens (λ _ _ _.
-    Opens-seq (byte_within 2 5) _ (SpellsByte 2 5) _ (byte_law 2 5) (byte_opens 2 5 (omega arith)) (λ rows _ _.
-    Opens-seq (byte_within 2 5) _ (SpellsByte 2 5) _ (byte_law 2 5) (byte_opens 2 5 (omega arith)) (λ cols _ _.
-    Opens-seq (byte_within 0 1) _ (SpellsByte 0 1) _ (byte_law 0 1) (byte_opens 0 1 (omega arith)) (λ kind _ _. Opens-give (costs_of (grid_of rows cols) kind)))))
+opening_parts_open = Opens-seq (byte_within 2 5) _ (SpellsByte 2 5) _ (byte_law 2 5) (byte_opens 2 5 (omega arith)) (λ rows s r.
+    Opens-seq (byte_within 2 5) _ (SpellsByte 2 5) _ (byte_law 2 5) (byte_opens 2 5 (omega arith)) (λ cols t c.
+    Opens-seq (byte_within 0 2) _ (SpellsByte 0 2) _ (byte_law 0 2) (byte_opens 0 2 (omega arith)) (λ kind _ k. costs_open (grid_of rows cols) kind (sides_read rows cols s t r c) k.below)))
 
-pub opening_there : (costs : CostRule) (text : List ℕ) → OpeningParts costs text → SpellsOpening costs text
+pub opening_there : (costs : CostRule) (text : List ℕ) → RowsParts costs text → SpellsOpening costs text
 unfolding opening_text
-opening_there costs text (u, s0, t0, m, (rows, s1, t1, r, (cols, s2, t2, c, (kind, s3, t3, k, (is, nil), e3), e2), e1), e0) =
-    let grid = grid_of rows cols in
-    let sides : IsShape grid = record { rows_low = r.above; rows_high = r.below; cols_low = c.above; cols_high = c.below } in
-    let p = costs_back grid kind sides k.below in
-    let bytes : text ≡ codes "TILECRT1" ++ rows ∷ cols ∷ kind ∷ [] = e0 ∙ (λ i. m i ++ e1 i) ∙ (λ i. codes "TILECRT1" ++ (r.is i ++ e2 i)) ∙ (λ i. codes "TILECRT1" ++ rows ∷ (c.is i ++ e3 i)) ∙ (λ i. codes "TILECRT1" ++ rows ∷ cols ∷ (k.is i ++ nil i)) in
-    let made : SpellsOpening (costs_of grid kind) text = record {
-      sides = subst (λ (g : Grid). IsShape g) (sym p.2) sides;
-      named = subst (λ (g : Grid). AreNamedCosts g (costs_of grid kind)) (sym p.2) p.1;
-      is = bytes ∙ (λ i. codes "TILECRT1" ++ (sym p.2 i).rows ∷ (sym p.2 i).cols ∷ sym p.0 i ∷ []);
-    } in
-    subst (λ (rule : CostRule). SpellsOpening rule text) (sym is) made
+opening_there costs text (rows, s1, t1, r, (cols, s2, t2, c, (kind, s3, t3, k, o, e3), e2), e1) =
+    let same : costs.grid ≡ grid_of rows cols = o.costs.sides in
+    let bytes : text ≡ rows ∷ cols ∷ kind ∷ t3 = e1 ∙ (λ i. r.is i ++ e2 i) ∙ (λ i. rows ∷ (c.is i ++ e3 i)) ∙ (λ i. rows ∷ cols ∷ (k.is i ++ t3)) in
+    let told : t3 ≡ weights_text (kind_of costs) costs = o.is ∙ ap (λ (n : ℕ). weights_text n costs) (sym o.kind) in
+    record { rule = o.costs.rule; is = bytes ∙ (λ i. (sym same i).rows ∷ (sym same i).cols ∷ sym o.kind i ∷ told i) }
 
-opening_back : (costs : CostRule) (text : List ℕ) → SpellsOpening costs text → OpeningParts costs text
+opening_back : (costs : CostRule) (text : List ℕ) → SpellsOpening costs text → RowsParts costs text
 unfolding opening_text
 opening_back costs text t =
     let grid = costs.grid in
     let kind = kind_of costs in
-    let p = costs_again costs t.sides t.named in
-    let r : SpellsByte 2 5 grid.rows (grid.rows ∷ []) = record { above = t.sides.rows_low; below = t.sides.rows_high; is = refl } in
-    let c : SpellsByte 2 5 grid.cols (grid.cols ∷ []) = record { above = t.sides.cols_low; below = t.sides.cols_high; is = refl } in
-    let k : SpellsByte 0 1 kind (kind ∷ []) = record { above = omega arith; below = p.0; is = refl } in
-    (tt, codes "TILECRT1", grid.rows ∷ grid.cols ∷ kind ∷ [], refl, (grid.rows, grid.rows ∷ [], grid.cols ∷ kind ∷ [], r, (grid.cols, grid.cols ∷ [], kind ∷ [], c, (kind, kind ∷ [], [], k, (sym p.1, refl), refl), refl), refl), t.is)
+    let last = weights_text kind costs in
+    let sides = t.rule.sides in
+    let r : SpellsByte 2 5 grid.rows (grid.rows ∷ []) = record { above = sides.rows_low; below = sides.rows_high; is = refl } in
+    let c : SpellsByte 2 5 grid.cols (grid.cols ∷ []) = record { above = sides.cols_low; below = sides.cols_high; is = refl } in
+    let k : SpellsByte 0 2 kind (kind ∷ []) = record { above = omega arith; below = kind_high costs; is = refl } in
+    let o : SpellsCosts grid kind costs last = record { costs = record { rule = t.rule; sides = refl }; kind = refl; is = refl } in
+    (grid.rows, grid.rows ∷ [], grid.cols ∷ kind ∷ last, r, (grid.cols, grid.cols ∷ [], kind ∷ last, c, (kind, kind ∷ [], last, k, o, refl), refl), t.is)
 
 pub opening_law : Law opening SpellsOpening
-opening_law = Law-iff opening OpeningParts SpellsOpening opening_there opening_back opening_parts_law
+opening_law = Law-iff opening RowsParts SpellsOpening opening_there opening_back opening_parts_law
 
 pub opening_opens : Opens opening SpellsOpening
-opening_opens = Opens-iff opening OpeningParts SpellsOpening opening_there opening_parts_open
+opening_opens = Opens-iff opening RowsParts SpellsOpening opening_there opening_parts_open
+
+-- ---- the beginning
+
+claim_known : (n : ℕ) (text : List ℕ) → Known 0 n text → SpellsClaim One n text
+claim_known n text k = record { allowed = k.0; is = k.1 }
+
+claim_known_back : (n : ℕ) (text : List ℕ) → SpellsClaim One n text → Known 0 n text
+claim_known_back n text t = (t.allowed, t.is)
+
+claim_byte : (n : ℕ) (text : List ℕ) → SpellsByte 0 1 n text → SpellsClaim Two n text
+claim_byte n text t = record { allowed = t.below; is = t.is }
+
+claim_byte_back : (n : ℕ) (text : List ℕ) → SpellsClaim Two n text → SpellsByte 0 1 n text
+claim_byte_back n text t = record { above = omega arith; below = t.allowed; is = t.is }
+
+pub claim_law : (v : Version) → Law (claim v) (SpellsClaim v)
+claim_law One = Law-iff (give 0) (Known 0) (SpellsClaim One) claim_known claim_known_back (Law-give 0)
+claim_law Two = Law-iff (byte_within 0 1) (SpellsByte 0 1) (SpellsClaim Two) claim_byte claim_byte_back (byte_law 0 1)
+
+claim_opens : (v : Version) → Opens (claim v) (SpellsClaim v)
+claim_opens One = Opens-iff (give 0) (Known 0) (SpellsClaim One) claim_known (Opens-give 0)
+claim_opens Two = Opens-iff (byte_within 0 1) (SpellsByte 0 1) (SpellsClaim Two) claim_byte (byte_opens 0 1 (omega arith))
+
+abbrev form_of : Version → ℕ → Version × ℕ
+form_of v n = (v, n)
+
+abbrev pub BeginningParts : Version × ℕ → List ℕ → Type 0
+BeginningParts = Both SpellsVersion (λ v. Both (SpellsClaim v) (λ n. Known (form_of v n)))
+
+pub beginning_there : (form : Version × ℕ) (text : List ℕ) → BeginningParts form text → SpellsBeginning form text
+beginning_there form text (v, s0, t0, is, (n, s1, t1, claim, (known, nil), e1), e0) =
+    let made : SpellsBeginning (form_of v n) text = record {
+      allowed = claim.allowed;
+      is = e0 ∙ (λ i. is i ++ e1 i) ∙ (λ i. version_text v ++ (claim.is i ++ nil i)) ∙ ap (λ (l : List ℕ). version_text v ++ l) (append-nil (claim_text v n));
+    } in
+    subst (λ (f : Version × ℕ). SpellsBeginning f text) (sym known) made
+
+beginning_back : (form : Version × ℕ) (text : List ℕ) → SpellsBeginning form text → BeginningParts form text
+beginning_back form text t = (form.0, version_text form.0, claim_text form.0 form.1, refl, (form.1, claim_text form.0 form.1, [], record { allowed = t.allowed; is = refl }, (refl, refl), sym (append-nil (claim_text form.0 form.1))), t.is)
+
+pub beginning_law : Law beginning SpellsBeginning
+unfolding beginning
+beginning_law = Law-iff _ BeginningParts SpellsBeginning beginning_there beginning_back
+    (Law-seq version _ SpellsVersion _ version_law (λ v _ _. Law-seq (claim v) _ (SpellsClaim v) _ (claim_law v) (λ n _ _. Law-give (form_of v n))))
+
+pub beginning_opens : Opens beginning SpellsBeginning
+unfolding beginning
+beginning_opens = Opens-iff _ BeginningParts SpellsBeginning beginning_there
+    (Opens-seq version _ SpellsVersion _ version_law version_opens (λ v _ _. Opens-seq (claim v) _ (SpellsClaim v) _ (claim_law v) (claim_opens v) (λ n _ _. Opens-give (form_of v n))))
 
 -- ---- the plan
 
@@ -305,3 +347,57 @@ plan_law = Law-iff _ (Both SpellsNumber SpellsLetters) SpellsPlan plan_there pla
 pub plan_opens : Opens plan SpellsPlan
 unfolding plan
 plan_opens = Opens-iff _ (Both SpellsNumber SpellsLetters) SpellsPlan plan_there (Opens-seq number _ SpellsNumber _ number_law number_opens (λ n _ _. letters_open n))
+
+-- ---- what is claimed
+
+abbrev plan_found : ℕ → List Move → ℕ × Option (List Move)
+plan_found cost moves = (cost, Some moves)
+
+abbrev bound_found : ℕ → ℕ × Option (List Move)
+bound_found bound = (bound, None)
+
+abbrev pub LeastParts : ℕ × Option (List Move) → List ℕ → Type 0
+LeastParts = Both SpellsNumber (λ cost. Both SpellsPlan (λ moves. Known (plan_found cost moves)))
+
+abbrev pub BoundParts : ℕ × Option (List Move) → List ℕ → Type 0
+BoundParts = Both (SpellsNumberWithin GREATEST_BOUND) (λ bound. Known (bound_found bound))
+
+pub least_there : (found : ℕ × Option (List Move)) (text : List ℕ) → LeastParts found text → SpellsClaimed 0 found text
+least_there found text (cost, s0, t0, n, (moves, s1, t1, p, (known, nil), e1), e0) =
+    let made : SpellsClaimed 0 (plan_found cost moves) text = record {
+      claim = refl;
+      cost = n.within;
+      plan = p.within;
+      is = e0 ∙ (λ i. n.is i ++ e1 i) ∙ (λ i. number_text cost ++ (p.is i ++ nil i)) ∙ ap (λ (l : List ℕ). number_text cost ++ l) (append-nil (plan_text moves));
+    } in
+    subst (λ (f : ℕ × Option (List Move)). SpellsClaimed 0 f text) (sym known) made
+
+least_back : (found : ℕ × Option (List Move)) (text : List ℕ) → SpellsClaimed 0 found text → LeastParts found text
+least_back (cost, Some moves) text t = (cost, number_text cost, plan_text moves, record { within = t.cost; is = refl }, (moves, plan_text moves, [], record { within = t.plan; is = refl }, (refl, refl), sym (append-nil (plan_text moves))), t.is)
+least_back (bound, None) text t = absurd (omega (arith, t.claim))
+
+pub bound_there : (claim : ℕ) (found : ℕ × Option (List Move)) (text : List ℕ) → claim ≤ 0 → BoundParts found text → SpellsClaimed (suc claim) found text
+bound_there claim found text low (bound, s0, t0, n, (known, nil), e0) =
+    let made : SpellsClaimed (suc claim) (bound_found bound) text = record {
+      claim = omega (arith, low);
+      cost = n.within;
+      plan = tt;
+      is = e0 ∙ (λ i. n.is i ++ nil i) ∙ append-nil (number_text bound);
+    } in
+    subst (λ (f : ℕ × Option (List Move)). SpellsClaimed (suc claim) f text) (sym known) made
+
+bound_back : (claim : ℕ) (found : ℕ × Option (List Move)) (text : List ℕ) → SpellsClaimed (suc claim) found text → BoundParts found text
+bound_back claim (cost, Some moves) text t = absurd (omega (arith, t.claim))
+bound_back claim (bound, None) text t = (bound, number_text bound, [], record { within = t.cost; is = refl }, (refl, refl), t.is ∙ sym (append-nil (number_text bound)))
+
+pub claimed_law : (n : ℕ) → n ≤ 1 → Law (claimed n) (SpellsClaimed n)
+claimed_law zero low = Law-iff _ LeastParts (SpellsClaimed 0) least_there least_back
+    (Law-seq number _ SpellsNumber _ number_law (λ cost _ _. Law-seq plan _ SpellsPlan _ plan_law (λ moves _ _. Law-give (plan_found cost moves))))
+claimed_law (suc n) low = Law-iff _ BoundParts (SpellsClaimed (suc n)) (λ found text. bound_there n found text (omega (arith, low))) (bound_back n)
+    (Law-seq (number_within GREATEST_BOUND) _ (SpellsNumberWithin GREATEST_BOUND) _ (number_within_law GREATEST_BOUND (omega arith)) (λ bound _ _. Law-give (bound_found bound)))
+
+pub claimed_opens : (n : ℕ) → n ≤ 1 → Opens (claimed n) (SpellsClaimed n)
+claimed_opens zero low = Opens-iff _ LeastParts (SpellsClaimed 0) least_there
+    (Opens-seq number _ SpellsNumber _ number_law number_opens (λ cost _ _. Opens-seq plan _ SpellsPlan _ plan_law plan_opens (λ moves _ _. Opens-give (plan_found cost moves))))
+claimed_opens (suc n) low = Opens-iff _ BoundParts (SpellsClaimed (suc n)) (λ found text. bound_there n found text (omega (arith, low)))
+    (Opens-seq (number_within GREATEST_BOUND) _ (SpellsNumberWithin GREATEST_BOUND) _ (number_within_law GREATEST_BOUND (omega arith)) (number_within_opens GREATEST_BOUND) (λ bound _ _. Opens-give (bound_found bound)))

@@ -1,33 +1,54 @@
 -- What a certificate states, and when it has a spelling.
-use Rattle.std.specs.Prelude.{ℕ, ◌≡◌, ◌⊎◌, ◌≤◌, ◌<◌, ◌^◌, List, [], ◌∷◌, length, Option, None, Some, IfSome, ⊤}
+use Rattle.std.specs.Prelude.{ℕ, ◌≡◌, ◌≤◌, ◌<◌, ◌^◌, List, [], ◌∷◌, length, Option, None, Some, IfSome, IsSome, ⊤}
 use Rattle.std.specs.List.{AllByRecursion}
 use Rattle.board.specs.declared.costs.TheConstants.{GREATEST_COST}
 use Rattle.board.specs.declared.moves.Move.{Move}
 use Rattle.board.specs.Grids.{Grid, IsShape}
 use Rattle.board.specs.Positions.{Position, IsBoard}
-use Rattle.board.specs.CostRules.{CostRule, unit_rule, face_rule}
+use Rattle.board.specs.CostRules.{CostRule, IsCostRule}
 use Rattle.board.specs.Keys.{Precedes}
 use Rattle.pattern_index.specs.Splits.{Split, IsSplit}
+use Rattle.certificate.specs.declared.certificate.TheConstants.{GREATEST_BOUND}
+use Rattle.certificate.specs.declared.certificate.Version.{Version}
+use Rattle.certificate.specs.declared.certificate.Version.TheVariants.{One, Two}
+use Rattle.certificate.specs.declared.certificate.Claim.{Claim}
+use Rattle.certificate.specs.declared.certificate.Claim.TheVariants.{Least, Bound}
 use Rattle.certificate.specs.declared.certificate.Parts.{Parts}
 
--- a plan leads from the start to the goal at this cost, and rows, which are boards with a cost, prove with the sums of the groups' tables that none is cheaper
+-- Rows, which are boards with a cost, prove with the sums of the groups' tables that no plan from the start to the goal is cheaper than the cost. A plan leads there at that cost, or there is none, and the cost is a bound.
 pub record Statement : Type 0 where
+  pub version : Version
   pub grid : Grid
   pub costs : CostRule
   pub groups : Split
   pub start : Position
   pub goal : Position
   pub cost : ℕ
-  pub plan : List Move
+  pub plan : Option (List Move)
   pub rows : List (Position × ℕ)
+
+-- the plan's cost, or the bound
+abbrev pub cost_of : Claim → ℕ
+cost_of (Least cost plan) = cost
+cost_of (Bound bound) = bound
+
+-- the plan, where there is one
+abbrev pub plan_of : Claim → Option (List Move)
+plan_of (Least cost plan) = Some plan.items
+plan_of (Bound bound) = None
 
 -- what the fields state
 abbrev pub statement_of : Parts → Statement
-statement_of p = record { grid = p.shape; costs = p.costs; groups = p.groups; start = p.start; goal = p.goal; cost = p.cost; plan = p.plan.items; rows = p.rows.items }
+statement_of p = record { version = p.version; grid = p.shape; costs = p.costs; groups = p.groups; start = p.start; goal = p.goal; cost = cost_of p.claim; plan = plan_of p.claim; rows = p.rows.items }
 
--- every move costs 1, or moving tile t costs t
-abbrev pub AreNamedCosts : Grid → CostRule → Type 0
-AreNamedCosts grid costs = (costs ≡ unit_rule grid) ⊎ (costs ≡ face_rule grid)
+-- the same in version 2
+abbrev pub upgraded : Statement → Statement
+upgraded c = record c { version = Two }
+
+-- a weight for each tile of this grid's boards
+pub record AreCostsOf (grid : Grid) (costs : CostRule) : Type 0 where
+  pub rule : IsCostRule costs
+  pub sides : costs.grid ≡ grid
 
 -- groups of tiles of this grid's boards, of which no two share one
 pub record IsSplitOf (grid : Grid) (groups : Split) : Type 0 where
@@ -39,9 +60,19 @@ pub record IsBoardOf (grid : Grid) (b : Position) : Type 0 where
   pub board : IsBoard b
   pub sides : b.grid ≡ grid
 
--- the greatest cost, and the greatest length of a plan, that can be written
+-- the greatest cost of a row, and the greatest length of a plan, that can be written
 abbrev pub IsWithinLimit : ℕ → Type 0
 IsWithinLimit n = n ≤ GREATEST_COST
+
+-- the greatest cost of a plan, or the greatest bound, that can be written
+abbrev pub greatest : Option (List Move) → ℕ
+greatest (Some plan) = GREATEST_COST
+greatest None = GREATEST_BOUND
+
+-- in version 1 there is a plan
+abbrev pub Allows : Version → Option (List Move) → Type 0
+Allows One plan = IsSome plan
+Allows Two plan = ⊤
 
 -- a row: a board of the grid, and a cost
 pub record IsRow (grid : Grid) (row : Position × ℕ) : Type 0 where
@@ -57,15 +88,16 @@ abbrev pub RiseAfter : Option Position → List (Position × ℕ) → Type 0
 RiseAfter before [] = ⊤
 RiseAfter before (row ∷ rows) = Follows before row.0 × RiseAfter (Some row.0) rows
 
--- all groups and boards are of one shape, the numbers are in their ranges, and the rows rise by their lists of tiles
+-- a bound is claimed in version 2 only, all groups and boards are of one shape, the numbers are in their ranges, and the rows rise by their lists of tiles
 pub record IsCertificate (c : Statement) : Type 0 where
   pub sides : IsShape c.grid
-  pub costs : AreNamedCosts c.grid c.costs
+  pub costs : AreCostsOf c.grid c.costs
   pub groups : IsSplitOf c.grid c.groups
   pub start : IsBoardOf c.grid c.start
   pub goal : IsBoardOf c.grid c.goal
-  pub cost : IsWithinLimit c.cost
-  pub plan : IsWithinLimit (length c.plan)
+  pub claim : Allows c.version c.plan
+  pub cost : c.cost ≤ greatest c.plan
+  pub plan : IfSome c.plan (λ plan. IsWithinLimit (length plan))
   pub count : length c.rows < 2 ^ 64
   pub rows : AllByRecursion (IsRow c.grid) c.rows
   pub rising : RiseAfter None c.rows

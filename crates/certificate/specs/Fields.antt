@@ -1,19 +1,27 @@
 -- What bytes spell the value of a field, or of a part of a certificate: the value is one that may stand there, and they are its text.
-use Rattle.std.specs.Prelude.{ℕ, ◌≡◌, ◌≤◌, ◌<◌, ◌^◌, List, [], ◌∷◌, ◌++◌, length, map, All, Option, None, codes}
+use Rattle.std.specs.Prelude.{ℕ, ◌≡◌, ◌≤◌, ◌<◌, ◌^◌, List, [], ◌∷◌, ◌++◌, length, map, All, Option, None, IfSome}
 use Rattle.std.specs.List.{flat_map, AllByRecursion}
+use Rattle.board.specs.declared.costs.TheConstants.{GREATEST_COST}
 use Rattle.board.specs.declared.moves.Move.{Move}
-use Rattle.board.specs.Grids.{Grid, IsShape}
+use Rattle.board.specs.Grids.{Grid}
 use Rattle.board.specs.Positions.{Position}
-use Rattle.board.specs.CostRules.{CostRule}
+use Rattle.board.specs.CostRules.{CostRule, IsCostRule}
 use Rattle.pattern_index.specs.Selections.{Selection, IsSelection}
 use Rattle.pattern_index.specs.Splits.{Split, ShareNoTile, AreApart}
-use Rattle.certificate.specs.Certificates.{Statement, AreNamedCosts, IsSplitOf, IsBoardOf, IsWithinLimit, IsRow, Follows, RiseAfter, IsCertificate}
+use Rattle.certificate.specs.declared.certificate.Version.{Version}
+use Rattle.certificate.specs.declared.certificate.Version.TheVariants.{One, Two}
+use Rattle.certificate.specs.Certificates.{Statement, AreCostsOf, IsSplitOf, IsBoardOf, IsWithinLimit, greatest, IsRow, Follows, RiseAfter, IsCertificate}
 use Rattle.board.specs.Letters.{letter_of}
-use Rattle.certificate.specs.Spellings.{opening_text, group_text, groups_text, number_text, count_text, plan_text, row_text, body_text, front_text}
+use Rattle.certificate.specs.Spellings.{kind_of, weights_text, version_text, claim_of, claim_text, beginning_text, opening_text, group_text, groups_text, number_text, count_text, plan_text, claimed_text, row_text, body_text, front_text}
 
--- what every certificate begins with
-abbrev pub SpellsMagic : Unit {0} → List ℕ → Type 0
-SpellsMagic found text = text ≡ codes "TILECRT1"
+-- the version of a certificate, with which it begins
+abbrev pub SpellsVersion : Version → List ℕ → Type 0
+SpellsVersion version text = text ≡ version_text version
+
+-- in version 1 a plan is claimed, in version 2 that or a bound
+abbrev pub IsClaimIn : Version → ℕ → Type 0
+IsClaimIn One claim = claim ≡ 0
+IsClaimIn Two claim = claim ≤ 1
 
 -- one byte within a range
 pub record SpellsByte (low high byte : ℕ) (text : List ℕ) : Type 0 where
@@ -21,10 +29,24 @@ pub record SpellsByte (low high byte : ℕ) (text : List ℕ) : Type 0 where
   pub below : byte ≤ high
   pub is : text ≡ byte ∷ []
 
--- a cost, or the length of a plan
-pub record SpellsNumber (n : ℕ) (text : List ℕ) : Type 0 where
-  pub within : IsWithinLimit n
+-- what is claimed in this version
+pub record SpellsClaim (version : Version) (claim : ℕ) (text : List ℕ) : Type 0 where
+  pub allowed : IsClaimIn version claim
+  pub is : text ≡ claim_text version claim
+
+-- the version, and what is claimed
+pub record SpellsBeginning (form : Version × ℕ) (text : List ℕ) : Type 0 where
+  pub allowed : IsClaimIn form.0 form.1
+  pub is : text ≡ beginning_text form.0 form.1
+
+-- a number that is at most this one
+pub record SpellsNumberWithin (high n : ℕ) (text : List ℕ) : Type 0 where
+  pub within : n ≤ high
   pub is : text ≡ number_text n
+
+-- a cost, or the length of a plan
+abbrev pub SpellsNumber : ℕ → List ℕ → Type 0
+SpellsNumber = SpellsNumberWithin GREATEST_COST
 
 -- the number of rows
 pub record SpellsCount (n : ℕ) (text : List ℕ) : Type 0 where
@@ -40,10 +62,15 @@ pub record SpellsBoard (grid : Grid) (b : Position) (text : List ℕ) : Type 0 w
 abbrev pub SpellsLetter : Move → List ℕ → Type 0
 SpellsLetter m text = text ≡ letter_of m ∷ []
 
--- the unit or the face costs of a shape
+-- costs of the grid that are of this kind, by what follows the kind
+pub record SpellsCosts (grid : Grid) (n : ℕ) (c : CostRule) (text : List ℕ) : Type 0 where
+  pub costs : AreCostsOf grid c
+  pub kind : kind_of c ≡ n
+  pub is : text ≡ weights_text n c
+
+-- the costs of a shape
 pub record SpellsOpening (costs : CostRule) (text : List ℕ) : Type 0 where
-  pub sides : IsShape costs.grid
-  pub named : AreNamedCosts costs.grid costs
+  pub rule : IsCostRule costs
   pub is : text ≡ opening_text costs
 
 -- a group of the grid that shares no tile with the groups before it
@@ -86,6 +113,13 @@ pub record SpellsPlan (moves : List Move) (text : List ℕ) : Type 0 where
   pub within : IsWithinLimit (length moves)
   pub is : text ≡ plan_text moves
 
+-- a plan and its cost, or a bound
+pub record SpellsClaimed (n : ℕ) (found : ℕ × Option (List Move)) (text : List ℕ) : Type 0 where
+  pub claim : claim_of found.1 ≡ n
+  pub cost : found.0 ≤ greatest found.1
+  pub plan : IfSome found.1 (λ plan. IsWithinLimit (length plan))
+  pub is : text ≡ claimed_text found.0 found.1
+
 -- a row, which comes after the one with this board, if there is one
 pub record SpellsRow (grid : Grid) (before : Option Position) (r : Position × ℕ) (text : List ℕ) : Type 0 where
   pub row : IsRow grid r
@@ -106,13 +140,14 @@ pub record SpellsAllRows (grid : Grid) (rs : List (Position × ℕ)) (text : Lis
   pub rising : RiseAfter None rs
   pub is : text ≡ count_text (length rs) ++ flat_map row_text rs
 
--- the boards, the cost and the plan of a statement with these costs and groups, and with no rows
-pub record SpellsBody (costs : CostRule) (groups : Split) (c : Statement) (text : List ℕ) : Type 0 where
+-- the boards, and what is claimed, of a statement of this version with these costs and groups, and with no rows
+pub record SpellsBody (v : Version) (n : ℕ) (costs : CostRule) (groups : Split) (c : Statement) (text : List ℕ) : Type 0 where
   pub start : IsBoardOf costs.grid c.start
   pub goal : IsBoardOf costs.grid c.goal
-  pub cost : IsWithinLimit c.cost
-  pub plan : IsWithinLimit (length c.plan)
-  pub same : c ≡ record c { grid = costs.grid; costs = costs; groups = groups; rows = [] }
+  pub claim : claim_of c.plan ≡ n
+  pub cost : c.cost ≤ greatest c.plan
+  pub plan : IfSome c.plan (λ plan. IsWithinLimit (length plan))
+  pub same : c ≡ record c { version = v; grid = costs.grid; costs = costs; groups = groups; rows = [] }
   pub is : text ≡ body_text c
 
 -- all before the rows, of a statement with none

@@ -1,5 +1,5 @@
 -- Reading from front to back: each field is judged as a whole before the next is read, and the first fault decides.
-use Rattle.std.specs.Prelude.{ℕ, ◌≡◌, ◌==◌, ◌&&◌, zero, suc, Bool, true, nat_lt, nat_le, not, List, [], ◌∷◌, ◌++◌, length, take, drop, slice_index, Option, None, Some, Result, Ok, Err, if◌then◌else◌, codes}
+use Rattle.std.specs.Prelude.{ℕ, ◌≡◌, ◌==◌, ◌&&◌, ◌-◌, zero, suc, Bool, true, nat_lt, nat_le, not, List, [], ◌∷◌, ◌++◌, length, take, drop, slice_index, Option, None, Some, Result, Ok, Err, if◌then◌else◌, codes}
 use Rattle.std.specs.List.{list_all, list_any}
 use Rattle.std.specs.Int.{w32, w64, from_le_bytes}
 use Rattle.std.specs.Str.{bytes_eq}
@@ -8,12 +8,16 @@ use Rattle.board.specs.declared.moves.Move.{Move}
 use Rattle.board.specs.Letters.{move_of_letter}
 use Rattle.board.specs.Grids.{Grid, cell_count}
 use Rattle.board.specs.Positions.{Position}
-use Rattle.board.specs.CostRules.{CostRule, unit_rule, face_rule}
+use Rattle.board.specs.CostRules.{CostRule, listed_rule, unit_rule, face_rule}
 use Rattle.board.specs.Keys.{key_of}
 use Rattle.pattern_index.specs.declared.group.TheConstants.{MAX_SIZE}
 use Rattle.pattern_index.specs.Selections.{Selection, size_of}
 use Rattle.pattern_index.specs.Splits.{Split}
+use Rattle.certificate.specs.declared.certificate.TheConstants.{GREATEST_BOUND}
+use Rattle.certificate.specs.declared.certificate.Version.{Version}
+use Rattle.certificate.specs.declared.certificate.Version.TheVariants.{One, Two}
 use Rattle.certificate.specs.Certificates.{Statement}
+use Rattle.certificate.specs.Spellings.{kind_of}
 use Rattle.certificate.specs.declared.faults.FormatFault.{FormatFault}
 use Rattle.certificate.specs.declared.faults.FormatFault.TheVariants.{OtherMagic, Truncated, OutOfRange, NotRising, BytesAfterEnd}
 
@@ -57,11 +61,11 @@ as_one reader bytes = whole_reading bytes (reader bytes)
 
 -- ---- the fields
 
-unfoldable pub magic_in : List ℕ → Option (Unit {0})
-magic_in text = if bytes_eq text (codes "TILECRT1") then Some tt else None
+unfoldable pub version_in : List ℕ → Option Version
+version_in text = if bytes_eq text (codes "TILECRT1") then Some One else if bytes_eq text (codes "TILECRT2") then Some Two else None
 
-abbrev pub magic : Reader (Unit {0})
-magic = field OtherMagic 8 magic_in
+abbrev pub version : Reader Version
+version = field OtherMagic 8 version_in
 
 -- one byte within a range
 unfoldable pub byte_in : ℕ → ℕ → List ℕ → Option ℕ
@@ -70,12 +74,16 @@ byte_in low high text = if nat_le low (slice_index text 0) && nat_le (slice_inde
 abbrev pub byte_within : ℕ → ℕ → Reader ℕ
 byte_within low high = field OutOfRange 1 (byte_in low high)
 
--- a cost, or the length of a plan
-unfoldable pub number_in : List ℕ → Option ℕ
-number_in text = if nat_le (from_le_bytes w32 text) GREATEST_COST then Some (from_le_bytes w32 text) else None
+-- a number that is at most this one
+unfoldable pub number_in : ℕ → List ℕ → Option ℕ
+number_in high text = if nat_le (from_le_bytes w32 text) high then Some (from_le_bytes w32 text) else None
 
+abbrev pub number_within : ℕ → Reader ℕ
+number_within high = field OutOfRange 4 (number_in high)
+
+-- a cost, or the length of a plan
 abbrev pub number : Reader ℕ
-number = field OutOfRange 4 number_in
+number = number_within GREATEST_COST
 
 -- the number of rows, whatever it is
 unfoldable pub count_in : List ℕ → Option ℕ
@@ -123,23 +131,38 @@ letter_in text = move_of_letter (slice_index text 0)
 abbrev pub letter : Reader Move
 letter = field OutOfRange 1 letter_in
 
+-- the weights of tiles 1, 2, .. in order: none is 0, and they are neither unit nor face costs
+unfoldable pub weights_in : Grid → List ℕ → Option CostRule
+weights_in grid text = if list_all (λ weight. nat_lt 0 weight) text && (kind_of (listed_rule grid text) == 2) then Some (listed_rule grid text) else None
+
 -- ---- the certificate
 
 abbrev pub grid_of : ℕ → ℕ → Grid
 grid_of rows cols = record { rows = rows; cols = cols }
 
--- kind 0 is unit cost, kind 1 face cost
-abbrev pub costs_of : Grid → ℕ → CostRule
-costs_of grid zero = unit_rule grid
-costs_of grid (suc kind) = face_rule grid
+-- kind 0 is unit cost, kind 1 face cost; of kind 2 the weights follow
+abbrev pub costs_of : Grid → ℕ → Reader CostRule
+costs_of grid zero = give (unit_rule grid)
+costs_of grid (suc zero) = give (face_rule grid)
+costs_of grid (suc (suc kind)) = field OutOfRange (cell_count grid - 1) (weights_in grid)
+
+-- 0 where a plan is claimed, 1 where a bound is: a byte of version 2
+abbrev pub claim : Version → Reader ℕ
+claim One = give 0
+claim Two = byte_within 0 1
+
+unfoldable pub beginning : Reader (Version × ℕ)
+beginning = do
+  v ← version
+  n ← claim v
+  give (v, n)
 
 unfoldable pub opening : Reader CostRule
 opening = do
-  _ ← magic
   rows ← byte_within 2 5
   cols ← byte_within 2 5
-  kind ← byte_within 0 1
-  give (costs_of (grid_of rows cols) kind)
+  kind ← byte_within 0 2
+  costs_of (grid_of rows cols) kind
 
 -- the number of tiles, and the tiles
 unfoldable pub group : Grid → List Selection → Reader Selection
@@ -173,6 +196,16 @@ plan = do
   n ← number
   letters n
 
+-- a plan and its cost, or a bound
+abbrev pub claimed : ℕ → Reader (ℕ × Option (List Move))
+claimed zero = do
+  cost ← number
+  moves ← plan
+  give (cost, Some moves)
+claimed (suc claim) = do
+  bound ← number_within GREATEST_BOUND
+  give (bound, None)
+
 -- whether the board may stand in the row after this one, if there is one: boards of a grid have their keys in the order of their lists of tiles
 abbrev pub may_follow : Option Position → Position → Bool
 may_follow None b = true
@@ -205,21 +238,21 @@ unfoldable pub end : Reader (Unit {0})
 end [] = Ok (tt, [])
 end (b ∷ bytes) = Err (BytesAfterEnd, b ∷ bytes)
 
--- the boards, the cost and the plan
-unfoldable pub body : CostRule → Split → Reader Statement
-body costs groups = do
+-- the boards, and what is claimed
+unfoldable pub body : Version → ℕ → CostRule → Split → Reader Statement
+body v n costs groups = do
   start ← board costs.grid
   goal ← board costs.grid
-  cost ← number
-  moves ← plan
-  give (record { grid = costs.grid; costs = costs; groups = groups; start = start; goal = goal; cost = cost; plan = moves; rows = [] })
+  found ← claimed n
+  give (record { version = v; grid = costs.grid; costs = costs; groups = groups; start = start; goal = goal; cost = found.0; plan = found.1; rows = [] })
 
 -- all before the rows
 unfoldable pub front : Reader Statement
 front = do
+  form ← beginning
   costs ← opening
   split ← all_groups costs.grid
-  body costs split
+  body form.0 form.1 costs split
 
 unfoldable pub certificate : Reader Statement
 certificate = do

@@ -1,22 +1,49 @@
--- The one spelling of a certificate. Numbers of several bytes have their lowest byte first.
-use Rattle.std.specs.Prelude.{ℕ, ◌≡◌, List, [], ◌∷◌, ◌++◌, length, map, if◌then◌else◌, codes}
+-- The one spelling of a certificate, by its version. Numbers of several bytes have their lowest byte first.
+use Rattle.std.specs.Prelude.{ℕ, ◌≡◌, zero, suc, List, [], ◌∷◌, ◌++◌, length, map, drop, Option, Some, None, if◌then◌else◌, codes}
 use Rattle.std.specs.List.{flat_map}
 use Rattle.std.specs.Int.{w32, w64, to_le_bytes}
 use Rattle.board.specs.declared.moves.Move.{Move}
 use Rattle.board.specs.Letters.{letter_of}
 use Rattle.board.specs.Equality.{rule_eq}
 use Rattle.board.specs.Positions.{Position}
-use Rattle.board.specs.CostRules.{CostRule, unit_rule}
+use Rattle.board.specs.CostRules.{CostRule, unit_rule, face_rule}
 use Rattle.pattern_index.specs.Selections.{Selection}
+use Rattle.certificate.specs.declared.certificate.Version.{Version}
+use Rattle.certificate.specs.declared.certificate.Version.TheVariants.{One, Two}
 use Rattle.certificate.specs.Certificates.{Statement, IsCertificate}
 
--- 0 where every move costs 1, else 1
+-- 0 where every move costs 1, 1 where moving tile t costs t, else 2
 abbrev pub kind_of : CostRule → ℕ
-kind_of costs = if rule_eq costs (unit_rule costs.grid) then 0 else 1
+kind_of costs = if rule_eq costs (unit_rule costs.grid) then 0 else if rule_eq costs (face_rule costs.grid) then 1 else 2
 
--- what it is, the sides of the boards, and the kind of costs
+-- what follows the kind: of kind 2 the weights of tiles 1, 2, .. in order
+abbrev pub weights_text : ℕ → CostRule → List ℕ
+weights_text zero costs = []
+weights_text (suc zero) costs = []
+weights_text (suc (suc kind)) costs = drop 1 costs.weights
+
+-- 0 where a plan is claimed, 1 where a bound is
+abbrev pub claim_of : Option (List Move) → ℕ
+claim_of (Some plan) = 0
+claim_of None = 1
+
+-- the eight bytes that tell the version
+abbrev pub version_text : Version → List ℕ
+version_text One = codes "TILECRT1"
+version_text Two = codes "TILECRT2"
+
+-- of version 2 a byte says what is claimed
+abbrev pub claim_text : Version → ℕ → List ℕ
+claim_text One claim = []
+claim_text Two claim = claim ∷ []
+
+-- the version, and what is claimed
+abbrev pub beginning_text : Version → ℕ → List ℕ
+beginning_text version claim = version_text version ++ claim_text version claim
+
+-- the sides of the boards, and the costs
 unfoldable pub opening_text : CostRule → List ℕ
-opening_text costs = codes "TILECRT1" ++ costs.grid.rows ∷ costs.grid.cols ∷ kind_of costs ∷ []
+opening_text costs = costs.grid.rows ∷ costs.grid.cols ∷ kind_of costs ∷ weights_text (kind_of costs) costs
 
 -- the number of tiles, and the tiles
 abbrev pub group_text : Selection → List ℕ
@@ -34,25 +61,30 @@ count_text n = to_le_bytes w64 n
 abbrev pub plan_text : List Move → List ℕ
 plan_text plan = number_text (length plan) ++ map letter_of plan
 
+-- the cost and the plan, or the bound alone
+abbrev pub claimed_text : ℕ → Option (List Move) → List ℕ
+claimed_text cost (Some plan) = number_text cost ++ plan_text plan
+claimed_text bound None = number_text bound
+
 -- the tiles, and the cost
 abbrev pub row_text : Position × ℕ → List ℕ
 row_text row = row.0.tiles ++ number_text row.1
 
--- the opening and the groups, but for the number of groups, which is given
+-- all before the boards, but for the number of groups, which is given
 abbrev pub heading : ℕ → Statement → List ℕ
-heading count c = opening_text c.costs ++ (count ∷ flat_map group_text c.groups.groups)
+heading count c = beginning_text c.version (claim_of c.plan) ++ (opening_text c.costs ++ (count ∷ flat_map group_text c.groups.groups))
 
 -- the number of groups, and the groups
 abbrev pub groups_text : List Selection → List ℕ
 groups_text groups = length groups ∷ flat_map group_text groups
 
--- the boards, the cost and the plan
+-- the boards, and what is claimed
 abbrev pub body_text : Statement → List ℕ
-body_text c = c.start.tiles ++ (c.goal.tiles ++ (number_text c.cost ++ plan_text c.plan))
+body_text c = c.start.tiles ++ (c.goal.tiles ++ claimed_text c.cost c.plan)
 
 -- all before the number of rows
 abbrev pub front_text : Statement → List ℕ
-front_text c = opening_text c.costs ++ (groups_text c.groups.groups ++ body_text c)
+front_text c = beginning_text c.version (claim_of c.plan) ++ (opening_text c.costs ++ (groups_text c.groups.groups ++ body_text c))
 
 -- the spelling, but for the number of rows, which is given
 abbrev pub announcement : ℕ → Statement → List ℕ

@@ -1,20 +1,55 @@
 //! A certificate, and whether fields have a spelling.
 
-ghost use Rattle.std.specs.Prelude.{◌≡◌, ◌↔◌, length, None, IsSome, IfSome, IsTrue};
+ghost use Rattle.std.specs.Prelude.{◌≡◌, ◌≤◌, ◌↔◌, length, None, IsSome, IfSome, IsTrue};
 ghost use Rattle.std.specs.List.{AllByRecursion};
-ghost use Rattle.certificate.specs.Certificates.{Statement, statement_of, AreNamedCosts, IsSplitOf};
-ghost use Rattle.certificate.specs.Certificates.{IsBoardOf};
+ghost use Rattle.certificate.specs.Certificates.{Statement, statement_of, AreCostsOf, IsSplitOf};
+ghost use Rattle.certificate.specs.Certificates.{Allows, greatest, upgraded, IsBoardOf};
+ghost use Rattle.certificate.specs.Certificates.{cost_of, plan_of};
 ghost use Rattle.certificate.specs.Certificates.{IsWithinLimit, IsRow, Follows};
 ghost use Rattle.certificate.specs.Certificates.{RiseAfter, IsCertificate};
 ghost use Rattle.certificate.specs.Readings.{may_follow};
+ghost use Rattle.certificate.specs.Spellings.{kind_of};
 
 use board::{Board, GREATEST_COST, Move, Shape, Weights};
 use pattern_index::Partition;
 use std::marker::Model;
 
+/// The greatest bound that a certificate can state: the greatest cost of a row, and 65,535 for each
+/// of 24 groups.
+pub const GREATEST_BOUND: u32 = 2_621_415;
+
+/// The version of a certificate. In version 1 a plan is claimed, in version 2 that or a bound.
+#[derive(Clone, Copy, Debug, PartialEq, Eq)]
+pub enum Version {
+    One,
+    Two,
+}
+
+/// What a certificate claims of the plans from its start to its goal.
+#[derive(Debug, Drop)]
+pub enum Claim {
+    /// The moves of a plan, and what it costs, which is least.
+    Least { cost: u32, plan: Vec<Move> },
+    /// No plan costs less than the bound.
+    Bound { bound: u32 },
+}
+
+impl Claim {
+    /// The plan's cost, or the bound.
+    pub fn cost(&self) -> u32
+        ensures { result ≡ cost_of self.now }
+    {
+        match self {
+            Claim::Least { cost, .. } => *cost,
+            Claim::Bound { bound } => *bound,
+        }
+    }
+}
+
 /// The fields of a certificate.
 #[derive(Debug, Drop)]
 pub struct Parts {
+    pub version: Version,
     /// The shape of all boards.
     pub shape: Shape,
     /// What moves cost.
@@ -23,18 +58,17 @@ pub struct Parts {
     pub groups: Partition,
     pub start: Board,
     pub goal: Board,
-    /// What the plan costs.
-    pub cost: u32,
-    /// The moves from the start to the goal.
-    pub plan: Vec<Move>,
+    /// A plan and its cost, which is least, or a bound.
+    pub claim: Claim,
     /// Boards, and what it costs at most to reach them, that prove with the sums of the groups'
-    /// tables that the cost is least.
+    /// tables that no plan costs less than is claimed.
     pub rows: Vec<(Board, u32)>,
 }
 
-/// An answer that any program can check. It has a spelling: the groups and all boards are of one
-/// shape, the costs are unit or face costs, no cost is above `GREATEST_COST` and the plan is no longer than that,
-/// and the rows rise by their lists of tiles.
+/// An answer that any program can check. It has a spelling: a bound is claimed in version 2 only, the
+/// costs, the groups and all boards are of one shape, no cost is above `GREATEST_COST` and the plan is
+/// no longer than that, no bound is above `GREATEST_BOUND`, and the rows rise by their lists of
+/// tiles.
 #[derive(Debug, Drop)]
 pub struct Certificate {
     parts: Parts,
@@ -52,8 +86,8 @@ impl Model for Certificate {
 
 impl Certificate {
     /// The certificate with these fields, or None where they have no spelling: shapes that differ,
-    /// costs that are neither unit nor face costs, a cost or a plan's length above `GREATEST_COST`,
-    /// or rows of which one does not come after the row before it.
+    /// a cost or a plan's length above `GREATEST_COST`, a bound above `GREATEST_BOUND` or in version
+    /// 1, or rows of which one does not come after the row before it.
     pub fn new(parts: Parts) -> Option<Self>
         ensures accepted { IsSome result ↔ IsCertificate (statement_of parts) }
         ensures value { IfSome result (λ c. c ≡ statement_of parts) }
@@ -73,7 +107,7 @@ impl Certificate {
         self.parts.shape
     }
 
-    /// What moves cost: unit or face costs.
+    /// What moves cost.
     pub fn costs(&self) -> Weights
         ensures { result ≡ self.now.costs }
     {
@@ -102,22 +136,30 @@ impl Certificate {
         self.parts.goal
     }
 
-    /// What the plan costs.
+    /// The version.
+    pub fn version(&self) -> Version
+        ensures { result ≡ self.now.version }
+    {
+        self.parts.version
+    }
+
+    /// A plan and its cost, which is least, or a bound.
+    pub fn claim(&self) -> &Claim
+        ensures cost { cost_of result.now ≡ self.now.cost }
+        ensures plan { plan_of result.now ≡ self.now.plan }
+        ensures within { IfSome self.now.plan (λ plan. IsWithinLimit (length plan)) }
+    {
+        &self.parts.claim
+    }
+
+    /// The plan's cost, or the bound: no plan costs less, as is claimed.
     pub fn cost(&self) -> u32
         ensures { result ≡ self.now.cost }
     {
-        self.parts.cost
+        self.parts.claim.cost()
     }
 
-    /// The moves from the start to the goal.
-    pub fn plan(&self) -> &[Move]
-        ensures value { result.now ≡ self.now.plan }
-        ensures within { IsWithinLimit (length self.now.plan) }
-    {
-        self.parts.plan.as_slice()
-    }
-
-    /// Boards with costs, which prove the cost to be least.
+    /// Boards with costs, which prove that no plan costs less than is claimed.
     pub fn rows(&self) -> &[(Board, u32)]
         ensures { result.now ≡ self.now.rows }
     {
@@ -129,6 +171,15 @@ impl Certificate {
         requires { IsCertificate (statement_of parts) }
         ensures { result ≡ statement_of parts }
     {
+        Certificate { parts }
+    }
+
+    /// The same certificate in version 2, for which no memory is taken.
+    pub fn upgrade(self) -> Self
+        ensures { result ≡ upgraded self }
+    {
+        let Certificate { mut parts } = self;
+        parts.version = Version::Two;
         Certificate { parts }
     }
 
@@ -146,7 +197,7 @@ fn has_spelling(parts: &Parts) -> bool
     ensures { IsTrue result ↔ IsCertificate (statement_of parts.now) }
 {
     let shape = parts.shape;
-    if !are_named(shape, &parts.costs) {
+    if !are_costs_of(shape, &parts.costs) {
         return false;
     }
     if !is_partition_of(shape, &parts.groups) {
@@ -155,17 +206,45 @@ fn has_spelling(parts: &Parts) -> bool
     if !is_board_of(shape, &parts.start) || !is_board_of(shape, &parts.goal) {
         return false;
     }
-    if parts.cost > GREATEST_COST || parts.plan.len() > GREATEST_COST as usize {
+    if !is_claim(parts.version, &parts.claim) {
         return false;
     }
     are_rows(shape, parts.rows.as_slice())
 }
 
-// Whether these are the unit or the face costs of the shape.
-fn are_named(shape: Shape, costs: &Weights) -> bool
-    ensures { IsTrue result ↔ AreNamedCosts shape costs.now }
+// Whether this may be claimed in a certificate of the version.
+fn is_claim(version: Version, claim: &Claim) -> bool
+    ensures { IsTrue result
+        ↔ (Allows version (plan_of claim.now) × (cost_of claim.now ≤ greatest (plan_of claim.now))
+        × IfSome (plan_of claim.now) (λ plan. IsWithinLimit (length plan))) }
 {
-    *costs == Weights::unit(shape) || *costs == Weights::face(shape)
+    match claim {
+        Claim::Least { cost, plan } => {
+            *cost <= GREATEST_COST && plan.len() <= GREATEST_COST as usize
+        }
+        Claim::Bound { bound } => version == Version::Two && *bound <= GREATEST_BOUND,
+    }
+}
+
+// Whether costs are of the shape.
+fn are_costs_of(shape: Shape, costs: &Weights) -> bool
+    ensures { IsTrue result ↔ AreCostsOf shape costs.now }
+{
+    costs.shape() == shape
+}
+
+// 0 for unit costs, 1 for face costs, else 2.
+pub(crate) fn kind(costs: &Weights) -> u8
+    ensures { result ≡ kind_of costs.now }
+{
+    let shape = costs.shape();
+    if *costs == Weights::unit(shape) {
+        return 0;
+    }
+    if *costs == Weights::face(shape) {
+        return 1;
+    }
+    2
 }
 
 // Whether groups are of the shape.

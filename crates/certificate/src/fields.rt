@@ -1,20 +1,21 @@
 //! The fields of a certificate are read from a source, each judged as a whole.
 
-ghost use Rattle.std.specs.Prelude.{◌≡◌, ◌<◌, ◌∷◌, [], IfSome, OnOk, length};
+ghost use Rattle.std.specs.Prelude.{◌≡◌, ◌<◌, ◌-◌, ◌∷◌, [], IfSome, OnOk, length};
 ghost use Rattle.std.specs.Prelude.{vec_len, vec_capacity};
 ghost use Rattle.std.specs.Int.{w32, w64, from_le_bytes};
 ghost use Rattle.byte_streams.specs.Streams.{change};
 ghost use Rattle.certificate.specs.Certificates.{IsBoardOf};
 ghost use Rattle.certificate.specs.Spellings.{number_text, count_text};
-ghost use Rattle.certificate.specs.Fields.{SpellsMagic, SpellsByte, SpellsNumber, SpellsCount};
-ghost use Rattle.certificate.specs.Fields.{SpellsBoard, SpellsLetter, SpellsRow};
-ghost use Rattle.certificate.specs.Readings.{magic, byte_within, number, count};
-ghost use Rattle.certificate.specs.Readings.{board, letter, row, end};
+ghost use Rattle.certificate.specs.Fields.{SpellsVersion, SpellsByte, SpellsNumberWithin, SpellsCount};
+ghost use Rattle.board.specs.Grids.{IsShape, cell_count};
+ghost use Rattle.certificate.specs.Fields.{SpellsCosts, SpellsBoard, SpellsLetter, SpellsRow};
+ghost use Rattle.certificate.specs.Readings.{version, version_in, byte_within, number_within, count};
+ghost use Rattle.certificate.specs.Readings.{costs_of, weights_in, board, letter, row, end};
 ghost use Rattle.certificate.specs.Sources.{TakesDue, Reads, ReadsAll};
 
-use crate::certificate::comes_after;
+use crate::certificate::{Version, comes_after, kind};
 use crate::faults::{FormatFault, ReadFault};
-use board::{Board, GREATEST_COST, Move, Shape};
+use board::{Board, GREATEST_COST, Move, Shape, Weights};
 use byte_streams::Source;
 use memory::reserve;
 
@@ -41,16 +42,29 @@ pub(crate) fn fill<S: Source>(source: &mut S, text: &mut [u8]) -> Result<(), Rea
     Ok(())
 }
 
-// The eight bytes that each certificate begins with.
-pub(crate) fn read_magic<S: Source>(source: &mut S) -> Result<(), ReadFault>
-    ensures { Reads magic SpellsMagic (change S.state source.old source.new) result }
+// The eight bytes that each certificate begins with, which tell its version.
+pub(crate) fn read_version<S: Source>(source: &mut S) -> Result<Version, ReadFault>
+    ensures { Reads version SpellsVersion (change S.state source.old source.new) result }
 {
     let mut text = [0; 8];
     fill(source, &mut text)?;
-    if text != *b"TILECRT1" {
-        return Err(ReadFault::Format(FormatFault::OtherMagic));
+    match version_from(&text) {
+        Some(version) => Ok(version),
+        None => Err(ReadFault::Format(FormatFault::OtherMagic)),
     }
-    Ok(())
+}
+
+// The version that eight bytes tell.
+fn version_from(text: &[u8; 8]) -> Option<Version>
+    ensures { result ≡ version_in text.now }
+{
+    if *text == *b"TILECRT1" {
+        return Some(Version::One);
+    }
+    if *text == *b"TILECRT2" {
+        return Some(Version::Two);
+    }
+    None
 }
 
 // One byte within a range.
@@ -65,14 +79,15 @@ pub(crate) fn read_byte<S: Source>(source: &mut S, low: u8, high: u8) -> Result<
     Ok(byte)
 }
 
-// A cost, or the length of a plan.
-pub(crate) fn read_number<S: Source>(source: &mut S) -> Result<u32, ReadFault>
-    ensures { Reads number SpellsNumber (change S.state source.old source.new) result }
+// A number that is at most this one.
+pub(crate) fn read_number<S: Source>(source: &mut S, high: u32) -> Result<u32, ReadFault>
+    ensures { Reads (number_within high) (SpellsNumberWithin high)
+        (change S.state source.old source.new) result }
 {
     let mut text = [0; 4];
     fill(source, &mut text)?;
     let number = number_from(text);
-    if number > GREATEST_COST {
+    if number > high {
         return Err(ReadFault::Format(FormatFault::OutOfRange));
     }
     Ok(number)
@@ -101,6 +116,36 @@ pub(crate) fn read_count<S: Source>(source: &mut S) -> Result<u64, ReadFault>
     let mut text = [0; 8];
     fill(source, &mut text)?;
     Ok(count_from(text))
+}
+
+// The weights of tiles 1, 2, .. in order, which no kind tells.
+pub(crate) fn read_weights<S: Source>(source: &mut S, shape: Shape) -> Result<Weights, ReadFault>
+    ensures { Reads (costs_of shape 2) (SpellsCosts shape 2)
+        (change S.state source.old source.new) result }
+{
+    let mut text = [0; 24];
+    let listed = &mut text[..shape.cells() - 1];
+    fill(source, listed)?;
+    match listed_costs(shape, listed) {
+        Some(costs) => Ok(costs),
+        None => Err(ReadFault::Format(FormatFault::OutOfRange)),
+    }
+}
+
+// The costs of these weights, where no kind tells them.
+fn listed_costs(shape: Shape, listed: &[u8]) -> Option<Weights>
+    requires shape { IsShape shape }
+    requires count { length listed.now ≡ cell_count shape - 1 }
+    ensures costs { IfSome result (λ c. SpellsCosts shape 2 c listed.now) }
+    ensures value { result ≡ weights_in shape listed.now }
+{
+    let Ok(costs) = Weights::list(shape, listed) else {
+        return None;
+    };
+    if kind(&costs) != 2 {
+        return None;
+    }
+    Some(costs)
 }
 
 // A board of the shape.
@@ -147,7 +192,7 @@ pub(crate) fn read_row<S: Source>(
     if let Err(refused) = reserve(rows, 1) {
         return Err(ReadFault::NoMemory(refused));
     }
-    let cost = read_number(source)?;
+    let cost = read_number(source, GREATEST_COST)?;
     if !comes_after(before, &board) {
         return Err(ReadFault::Format(FormatFault::NotRising));
     }

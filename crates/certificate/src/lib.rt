@@ -9,7 +9,7 @@ pub mod laws;
 mod reading;
 mod writing;
 
-pub use certificate::{Certificate, Parts};
+pub use certificate::{Certificate, Claim, GREATEST_BOUND, Parts, Version};
 pub use faults::{FormatFault, ReadFault, WriteFault};
 pub use reading::read;
 pub use writing::write;

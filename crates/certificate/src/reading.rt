@@ -1,46 +1,75 @@
 //! A certificate is read from a source, part by part.
 
-ghost use Rattle.std.specs.Prelude.{◌≡◌, None, false};
+ghost use Rattle.std.specs.Prelude.{◌≡◌, ◌≤◌, None, false};
+ghost use Rattle.board.specs.Grids.{IsShape};
 ghost use Rattle.byte_streams.specs.Streams.{change};
-ghost use Rattle.certificate.specs.Certificates.{statement_of};
+ghost use Rattle.certificate.specs.Certificates.{cost_of, plan_of, statement_of};
 ghost use Rattle.certificate.specs.Spellings.{Spells};
-ghost use Rattle.certificate.specs.Fields.{SpellsOpening, SpellsLetters, SpellsPlan, SpellsRows};
+ghost use Rattle.certificate.specs.Fields.{SpellsClaim, SpellsBeginning, SpellsCosts, SpellsOpening};
+ghost use Rattle.certificate.specs.Fields.{SpellsLetters, SpellsPlan, SpellsClaimed, SpellsRows};
 ghost use Rattle.certificate.specs.Fields.{SpellsAllRows, SpellsBody, SpellsFront};
-ghost use Rattle.certificate.specs.Readings.{costs_of, opening, letters, plan, rows, all_rows};
+ghost use Rattle.certificate.specs.Readings.{claim, beginning, costs_of, opening};
+ghost use Rattle.certificate.specs.Readings.{letters, plan, claimed, rows, all_rows};
 ghost use Rattle.certificate.specs.Readings.{body, front, certificate};
 ghost use Rattle.certificate.specs.Sources.{Reads, ReadsAll, ReadsCertificate};
 
-use crate::certificate::{Certificate, Parts};
+use crate::certificate::{Certificate, Claim, GREATEST_BOUND, Parts, Version};
 use crate::faults::ReadFault;
 use crate::fields::{
-    read_board, read_byte, read_count, read_end, read_letter, read_magic, read_number, read_row,
+    read_board, read_byte, read_count, read_end, read_letter, read_number, read_row, read_version,
+    read_weights,
 };
 use crate::groups::read_all_groups;
-use board::{Board, Move, Shape, Weights};
+use board::{Board, GREATEST_COST, Move, Shape, Weights};
 use byte_streams::Source;
 use memory::reserve;
 use pattern_index::Partition;
 use std::alloc::Global;
 
-// What the input is, the sides of the boards, and the kind of costs.
+// The version, and what is claimed: 0 for a plan, 1 for a bound.
+fn read_beginning<S: Source>(source: &mut S) -> Result<(Version, u8), ReadFault>
+    ensures { Reads beginning SpellsBeginning (change S.state source.old source.new) result }
+{
+    let version = read_version(source)?;
+    let claim = read_claim(source, version)?;
+    Ok((version, claim))
+}
+
+// What is claimed: of version 2 a byte says it.
+fn read_claim<S: Source>(source: &mut S, version: Version) -> Result<u8, ReadFault>
+    requires fine { (S.state source.old).has_failed ≡ false }
+    ensures { Reads (claim version) (SpellsClaim version)
+        (change S.state source.old source.new) result }
+{
+    match version {
+        Version::One => Ok(0),
+        Version::Two => read_byte(source, 0, 1),
+    }
+}
+
+// The sides of the boards, and the costs.
 fn read_opening<S: Source>(source: &mut S) -> Result<Weights, ReadFault>
     ensures { Reads opening SpellsOpening (change S.state source.old source.new) result }
 {
-    read_magic(source)?;
     let rows = read_byte(source, 2, 5)?;
     let cols = read_byte(source, 2, 5)?;
-    let kind = read_byte(source, 0, 1)?;
+    let kind = read_byte(source, 0, 2)?;
     let shape = Shape::new(rows, cols).unwrap();
-    Ok(named_costs(shape, kind))
+    read_costs(source, shape, kind)
 }
 
-// Unit costs for kind 0, face costs for kind 1.
-fn named_costs(shape: Shape, kind: u8) -> Weights
-    ensures { result ≡ costs_of shape kind }
+// Unit costs for kind 0, face costs for kind 1; of kind 2 the weights are read.
+fn read_costs<S: Source>(source: &mut S, shape: Shape, kind: u8) -> Result<Weights, ReadFault>
+    requires fine { (S.state source.old).has_failed ≡ false }
+    requires shape { IsShape shape }
+    requires kind { kind ≤ 2 }
+    ensures { Reads (costs_of shape kind) (SpellsCosts shape kind)
+        (change S.state source.old source.new) result }
 {
     match kind {
-        0 => Weights::unit(shape),
-        _ => Weights::face(shape),
+        0 => Ok(Weights::unit(shape)),
+        1 => Ok(Weights::face(shape)),
+        _ => read_weights(source, shape),
     }
 }
 
@@ -49,7 +78,7 @@ fn read_plan<S: Source>(alloc: Global, source: &mut S) -> Result<Vec<Move>, Read
     ensures { Reads plan (λ moves. SpellsPlan moves.items)
         (change S.state source.old source.new) result }
 {
-    let count = read_number(source)?;
+    let count = read_number(source, GREATEST_COST)?;
     read_letters(alloc, source, count)
 }
 
@@ -114,36 +143,56 @@ fn read_front<S: Source>(alloc: Global, source: &mut S) -> Result<Parts, ReadFau
     ensures { Reads front (λ parts. SpellsFront (statement_of parts))
         (change S.state source.old source.new) result }
 {
+    let form = read_beginning(source)?;
     let costs = read_opening(source)?;
     let groups = read_all_groups(alloc, source, costs.shape())?;
-    read_body(alloc, source, costs, groups)
+    read_body(alloc, source, form.0, form.1, costs, groups)
 }
 
-// The boards, the cost and the plan, with no rows.
+// The boards, the cost, and the plan where one is claimed, with no rows.
 fn read_body<S: Source>(
     alloc: Global,
     source: &mut S,
+    version: Version,
+    claim: u8,
     costs: Weights,
     groups: Partition,
 ) -> Result<Parts, ReadFault>
-    ensures { Reads (body costs groups) (λ parts. SpellsBody costs groups (statement_of parts))
+    requires { claim ≤ 1 }
+    ensures { Reads (body version claim costs groups)
+        (λ parts. SpellsBody version claim costs groups (statement_of parts))
         (change S.state source.old source.new) result }
 {
     let shape = costs.shape();
     let start = read_board(source, shape)?;
     let goal = read_board(source, shape)?;
-    let cost = read_number(source)?;
-    let plan = read_plan(alloc, source)?;
+    let claim = read_claimed(alloc, source, claim)?;
     Ok(Parts {
+        version,
         shape,
         costs,
         groups,
         start,
         goal,
-        cost,
-        plan,
+        claim,
         rows: Vec::new(alloc),
     })
+}
+
+// A plan and its cost, or a bound.
+fn read_claimed<S: Source>(alloc: Global, source: &mut S, claim: u8) -> Result<Claim, ReadFault>
+    requires fine { (S.state source.old).has_failed ≡ false }
+    requires claim { claim ≤ 1 }
+    ensures { Reads (claimed claim) (λ read. SpellsClaimed claim (cost_of read, plan_of read))
+        (change S.state source.old source.new) result }
+{
+    if claim != 0 {
+        let bound = read_number(source, GREATEST_BOUND)?;
+        return Ok(Claim::Bound { bound });
+    }
+    let cost = read_number(source, GREATEST_COST)?;
+    let plan = read_plan(alloc, source)?;
+    Ok(Claim::Least { cost, plan })
 }
 
 // A whole certificate.

@@ -1,16 +1,18 @@
 //! Certificates are written to a sink, field by field.
 
-ghost use Rattle.std.specs.Prelude.{◌≡◌, ◌≤◌, ◌++◌, false, length, map};
+ghost use Rattle.std.specs.Prelude.{◌≡◌, ◌≤◌, ◌++◌, false, length, map, IfSome};
 ghost use Rattle.std.specs.List.{flat_map};
 ghost use Rattle.board.specs.Letters.{letter_of};
 ghost use Rattle.byte_streams.specs.Streams.{change};
 ghost use Rattle.byte_streams.specs.Sink.{Writes};
-ghost use Rattle.certificate.specs.Certificates.{IsWithinLimit};
-ghost use Rattle.certificate.specs.Spellings.{kind_of, opening_text, number_text, count_text};
-ghost use Rattle.certificate.specs.Spellings.{group_text, groups_text, plan_text, row_text};
+ghost use Rattle.certificate.specs.Certificates.{cost_of, plan_of, IsWithinLimit};
+ghost use Rattle.certificate.specs.Spellings.{claim_of, beginning_text};
+ghost use Rattle.certificate.specs.Spellings.{kind_of, weights_text, opening_text};
+ghost use Rattle.certificate.specs.Spellings.{number_text, count_text};
+ghost use Rattle.certificate.specs.Spellings.{group_text, groups_text, plan_text, claimed_text, row_text};
 ghost use Rattle.certificate.specs.Spellings.{body_text, front_text, spelling};
 
-use crate::certificate::Certificate;
+use crate::certificate::{Certificate, Claim, Version, kind};
 use crate::faults::WriteFault;
 use board::{Board, Move, Weights};
 use byte_streams::{Sink, WriteFailed};
@@ -38,38 +40,77 @@ fn write_all<K: Sink>(sink: &mut K, certificate: &Certificate) -> Result<(), Wri
 fn write_front<K: Sink>(sink: &mut K, certificate: &Certificate) -> Result<(), WriteFailed>
     ensures { Writes (change K.state sink.old sink.new) (front_text certificate.now) result }
 {
+    write_beginning(sink, certificate)?;
     write_opening(sink, &certificate.costs())?;
     write_groups(sink, certificate.groups().groups())?;
     write_body(sink, certificate)
 }
 
-// The boards, the cost and the plan.
+// The version, and what is claimed.
+fn write_beginning<K: Sink>(sink: &mut K, certificate: &Certificate) -> Result<(), WriteFailed>
+    ensures { Writes (change K.state sink.old sink.new)
+        (beginning_text certificate.now.version (claim_of certificate.now.plan)) result }
+{
+    match certificate.version() {
+        Version::One => sink.put(b"TILECRT1"),
+        Version::Two => {
+            sink.put(b"TILECRT2")?;
+            sink.put(&[claim_byte(certificate.claim())])
+        }
+    }
+}
+
+// 0 for a plan, 1 for a bound.
+fn claim_byte(claim: &Claim) -> u8
+    ensures { result ≡ claim_of (plan_of claim.now) }
+{
+    match claim {
+        Claim::Least { .. } => 0,
+        Claim::Bound { .. } => 1,
+    }
+}
+
+// The boards, and what is claimed.
 fn write_body<K: Sink>(sink: &mut K, certificate: &Certificate) -> Result<(), WriteFailed>
     ensures { Writes (change K.state sink.old sink.new) (body_text certificate.now) result }
 {
     write_tiles(sink, &certificate.start())?;
     write_tiles(sink, &certificate.goal())?;
-    write_number(sink, certificate.cost())?;
-    write_plan(sink, certificate.plan())
+    write_claim(sink, certificate.claim())
 }
 
-// What it is, the sides of the boards, and the kind of costs.
+// A plan and its cost, or a bound.
+fn write_claim<K: Sink>(sink: &mut K, claim: &Claim) -> Result<(), WriteFailed>
+    requires { IfSome (plan_of claim.now) (λ plan. IsWithinLimit (length plan)) }
+    ensures { Writes (change K.state sink.old sink.new)
+        (claimed_text (cost_of claim.now) (plan_of claim.now)) result }
+{
+    match claim {
+        Claim::Least { cost, plan } => {
+            write_number(sink, *cost)?;
+            write_plan(sink, plan.as_slice())
+        }
+        Claim::Bound { bound } => write_number(sink, *bound),
+    }
+}
+
+// The sides of the boards, and the costs.
 fn write_opening<K: Sink>(sink: &mut K, costs: &Weights) -> Result<(), WriteFailed>
     ensures { Writes (change K.state sink.old sink.new) (opening_text costs.now) result }
 {
     let shape = costs.shape();
-    sink.put(b"TILECRT1")?;
-    sink.put(&[shape.rows(), shape.cols(), kind(costs)])
+    sink.put(&[shape.rows(), shape.cols(), kind(costs)])?;
+    sink.put(weights_behind(costs))
 }
 
-// 0 for unit costs, else 1.
-fn kind(costs: &Weights) -> u8
-    ensures { result ≡ kind_of costs.now }
+// The weights of tiles 1, 2, .., which stand behind the kind where it does not tell them.
+fn weights_behind(costs: &Weights) -> &[u8]
+    ensures { result.now ≡ weights_text (kind_of costs.now) costs.now }
 {
-    if *costs == Weights::unit(costs.shape()) {
-        0
+    if kind(costs) == 2 {
+        costs.listed()
     } else {
-        1
+        &[]
     }
 }
 

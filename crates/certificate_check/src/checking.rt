@@ -1,8 +1,8 @@
 //! What both searches for an open successor share: what comes before it, and what is said then.
 
-ghost use Rattle.std.specs.Prelude.{◌≡◌, ◌↔◌, ℕ, IsOk, IsErrOf, OnOk, IfErr, IfSome, IsNone};
+ghost use Rattle.std.specs.Prelude.{◌≡◌, ◌↔◌, ℕ, IsOk, IsErrOf, OnOk, IfErr, IfSome, IsSome, IsNone};
 ghost use Rattle.board.specs.declared.moves.Move.{Move};
-ghost use Rattle.board.specs.Plans.{IsLeast};
+ghost use Rattle.board.specs.Plans.{NothingBelow, IsLeast};
 ghost use Rattle.certificate_check.specs.declared.refusals.Refusal.{Refusal};
 ghost use Rattle.certificate_check.specs.Refusals.{IsProved, IsProvedUpToRows, IsFirstRefusal};
 ghost use Rattle.certificate_check.specs.Refusals.{IsFirstOpen, LeavesOpenAt};
@@ -53,7 +53,10 @@ pub(crate) fn conclude(
     requires none { IsNone first_open → (place : ℕ) (m : Move) →
         ¬ LeavesOpenAt certificate.now bound.now place m }
     ensures accepted { IsOk result ↔ IsProved certificate.now bound.now }
-    ensures least { OnOk result
+    ensures below { OnOk result
+        (NothingBelow certificate.now.costs certificate.now.start certificate.now.goal
+        certificate.now.cost) }
+    ensures least { IsSome certificate.now.plan → OnOk result
         (IsLeast certificate.now.costs certificate.now.start certificate.now.goal
         certificate.now.cost) }
     ensures refused { (refusal : Refusal) →

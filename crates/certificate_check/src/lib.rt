@@ -11,8 +11,8 @@ mod refusals;
 mod rows;
 mod successors;
 
-ghost use Rattle.std.specs.Prelude.{◌≡◌, ◌↔◌, IsOk, IsErrOf, OnOk, IfOk};
-ghost use Rattle.board.specs.Plans.{IsLeast};
+ghost use Rattle.std.specs.Prelude.{◌≡◌, ◌↔◌, IsOk, IsErrOf, OnOk, IfOk, IsSome};
+ghost use Rattle.board.specs.Plans.{NothingBelow, IsLeast};
 ghost use Rattle.certificate_check.specs.declared.refusals.Refusal.{Refusal};
 ghost use Rattle.certificate_check.specs.Refusals.{IsProved, IsFirstRefusal};
 
@@ -25,20 +25,21 @@ pub use refusals::Refusal;
 use std::thread::Threads;
 use successors::find_open;
 
-/// Whether a certificate proves its cost with these tables: the plan leads from the start to the
-/// goal at that cost, the tables are those of its groups, whole, and potentials for its goal and
-/// costs, and the rows, which are boards with what it costs at most to reach them, show with the
-/// tables' sums that no plan is cheaper. The cost is then the least.
+/// Whether a certificate proves what it claims with these tables: the plan, if there is one, leads
+/// from the start to the goal at the stated cost, the tables are those of its groups, whole, and
+/// potentials for its goal and costs, and the rows, which are boards with what it costs at most to
+/// reach them, show with the tables' sums that no plan is cheaper. The cost of a plan is then the
+/// least, and a bound is undercut by no plan.
 ///
-/// Else the first cause to refuse, in the order of the codes: C1 the first illegal move of the
-/// plan, C2 another end, C3 another cost, C4 the first place at which the certificate's groups and
-/// the tables' differ or whose table is folded or no potential, and the first of all where their
-/// shapes differ, C5 no row of the start at 0 although the start's sum is below the stated cost (no
-/// row is asked for where the sum is that cost or more), C6 the first row of the goal, C7 the first
-/// row, and there the first of the moves up, left, right and down, that leaves a board open: the sum
-/// of the board that it leads to and the cost of going there, which is the row's cost and the
-/// move's, are below the stated cost when they are added up, and that board has no row, or one of
-/// more than the cost of going there.
+/// Else the first cause to refuse, in the order of the codes: of a plan C1 its first illegal move,
+/// C2 another end, C3 another cost; of plans and bounds, where the stated cost is the bound, C4 the
+/// first place at which the certificate's groups and the tables' differ or whose table is folded or
+/// no potential, and the first of all where their shapes differ, C5 no row of the start at 0
+/// although the start's sum is below the stated cost (no row is asked for where the sum is that
+/// cost or more), C6 the first row of the goal, C7 the first row, and there the first of the moves
+/// up, left, right and down, that leaves a board open: the sum of the board that it leads to and
+/// the cost of going there, which is the row's cost and the move's, are below the stated cost when
+/// they are added up, and that board has no row, or one of more than the cost of going there.
 ///
 /// A folded table is refused whatever it was folded from, since that can't be seen from it alone.
 ///
@@ -46,7 +47,10 @@ use successors::find_open;
 /// memory is taken.
 pub fn check(certificate: &Certificate, bound: &Bound) -> Result<(), Refusal>
     ensures accepted { IsOk result ↔ IsProved certificate.now bound.now }
-    ensures least { OnOk result
+    ensures below { OnOk result
+        (NothingBelow certificate.now.costs certificate.now.start certificate.now.goal
+        certificate.now.cost) }
+    ensures least { IsSome certificate.now.plan → OnOk result
         (IsLeast certificate.now.costs certificate.now.start certificate.now.goal
         certificate.now.cost) }
     ensures refused { (refusal : Refusal) →
@@ -69,7 +73,10 @@ pub fn check_parallel(
     ensures answered { IsOk result }
     ensures accepted { IfOk result
         (λ answer. IsOk answer ↔ IsProved certificate.now bound.now) }
-    ensures least { IfOk result (λ answer. OnOk answer
+    ensures below { IfOk result (λ answer. OnOk answer
+        (NothingBelow certificate.now.costs certificate.now.start certificate.now.goal
+        certificate.now.cost)) }
+    ensures least { IsSome certificate.now.plan → IfOk result (λ answer. OnOk answer
         (IsLeast certificate.now.costs certificate.now.start certificate.now.goal
         certificate.now.cost)) }
     ensures refused { IfOk result (λ answer. (refusal : Refusal) →

@@ -1,13 +1,14 @@
 -- From an outcome to a certificate, and from a reply to what is written.
 use Rattle.std.proofs.Common.{◌≡◌, ◌≢◌, ◌⊎◌, OnOk, ℕ, ◌+◌, ◌<◌, ◌^◌, List, None, Some, Result, Ok, Err, Vec, length, codes, refl, sym, ap, subst, ◌∙◌, inl, inr, arith}
+use Rattle.std.specs.Prelude.{IsSome}
 use Rattle.byte_streams.specs.Streams.{SourceState, SinkState, Change}
 use Rattle.board.specs.Positions.{Position, IsBoard}
 use Rattle.board.specs.Laws.{KeysAreInOrder}
-use Rattle.board.specs.Plans.{Leads, IsLeast}
+use Rattle.board.specs.Plans.{IsLeast}
 use Rattle.pattern_index.specs.Splits.{Split, IsSplit}
 use Rattle.lower_bound.specs.Bounds.{sum_of}
 use Rattle.lower_bound.specs.Tables.{Tables, IsTables, parts_of}
-use Rattle.certificate_check.specs.Refusals.{IsProved}
+use Rattle.certificate_check.specs.Refusals.{ItsPlanLeads, IsProved}
 use Rattle.certificate_runs.specs.Built.{AreBuiltFor, HaveSmallEntries}
 use Rattle.certificate_check.proofs.SumLemmas.{proved_above}
 use Rattle.certificate_runs.proofs.TableLemmas.{AreTrue, sums_below, true_potentials}
@@ -23,7 +24,8 @@ use Rattle.batch_lines.specs.declared.words.EntryFault.{EntryFault}
 use Rattle.batch_lines.specs.declared.lines.Line.{Line}
 use Rattle.batch_lines.specs.declared.lines.LineKind.{LineKind}
 use Rattle.batch_lines.specs.declared.lines.LineKind.TheVariants.{PassedOver, Within, TooLong}
-use Rattle.certificate.specs.Certificates.{Statement, AreNamedCosts, IsBoardOf, IsCertificate}
+use Rattle.certificate.specs.declared.certificate.Version.TheVariants.{Two}
+use Rattle.certificate.specs.Certificates.{Statement, AreCostsOf, IsBoardOf, IsCertificate}
 use Rattle.certificate.proofs.RisingLemmas.{rise, rows_fit}
 use Rattle.batch_runs.specs.Batches.Answer.{refused, answered}
 use Rattle.batch_runs.specs.Batches.{HasFailed, no_lines, with_outcome, status_of_counts}
@@ -109,16 +111,17 @@ report_lacks rules line bytes fault (lacking, is) = subst (HasNoReply rules line
 
 -- what a certificate of the setup's goal states
 abbrev pub stated : SetupState → Position → ℕ → Vec Move Global → Vec (Position × ℕ) Global → Statement
-stated setup b cost plan rows = record { grid = setup.goal.grid; costs = setup.rule; groups = setup.tables.split; start = b; goal = setup.goal; cost = cost; plan = plan.items; rows = rows.items }
+stated setup b cost plan rows = record { version = Two; grid = setup.goal.grid; costs = setup.rule; groups = setup.tables.split; start = b; goal = setup.goal; cost = cost; plan = Some plan.items; rows = rows.items }
 
 -- an outcome that names a plan of least cost has a certificate
-pub certificate_is : (order : KeysAreInOrder) (setup : SetupState) (b : Position) (cost : ℕ) (plan : Vec Move Global) (rows : Vec (Position × ℕ) Global) → IsBoard setup.goal → IsTables setup.tables → setup.tables.split.grid ≡ setup.goal.grid → IsBoardOf setup.goal.grid b → AreNamedCosts setup.goal.grid setup.rule → length rows.items < 2 ^ 64 → Answers (task_of setup b) (Optimal cost plan rows) → IsCertificate (stated setup b cost plan rows)
-certificate_is order setup b cost plan rows goal there sides start named few answers = record {
+pub certificate_is : (order : KeysAreInOrder) (setup : SetupState) (b : Position) (cost : ℕ) (plan : Vec Move Global) (rows : Vec (Position × ℕ) Global) → IsBoard setup.goal → IsTables setup.tables → setup.tables.split.grid ≡ setup.goal.grid → IsBoardOf setup.goal.grid b → AreCostsOf setup.goal.grid setup.rule → length rows.items < 2 ^ 64 → Answers (task_of setup b) (Optimal cost plan rows) → IsCertificate (stated setup b cost plan rows)
+certificate_is order setup b cost plan rows goal there sides start costs few answers = record {
   sides = goal.sides;
-  costs = named;
+  costs = costs;
   groups = record { split = there.partition; sides = sides };
   start = start;
   goal = record { board = goal; sides = refl };
+  claim = tt;
   cost = answers.3;
   plan = answers.4;
   count = few;
@@ -152,7 +155,9 @@ certificate_of setup b cost plan rows c goal there guides small start answers sa
   start = ap (λ (d : Statement). d.start) same;
   goal = ap (λ (d : Statement). d.goal) same;
   certificate = is;
-  leads = subst (λ (d : Statement). Leads d.costs d.start d.plan d.goal d.cost) (sym same) answers.0;
+  version = ap (λ (d : Statement). d.version) same;
+  plan = subst (λ (d : Statement). IsSome d.plan) (sym same) refl;
+  leads = subst (λ (d : Statement). ItsPlanLeads d) (sym same) answers.0;
   least = subst (λ (d : Statement). IsLeast d.costs d.start d.goal d.cost) (sym same) answers.1;
   proved = subst (λ (d : Statement). (tables : Tables) → AreBuiltFor d tables → IsProved d tables) (sym same) (proved_by setup b cost plan rows goal there guides small start answers);
 }

@@ -1,32 +1,33 @@
 -- What was written for a line, or of a certificate, is true.
 use Rattle.std.proofs.Common.{◌≡◌, ℕ, suc, ◌+◌, ◌^◌, ◌<◌, List, [], ◌∷◌, ◌++◌, Bool, true, false, cond, Option, None, Some, Result, Ok, Err, length, refl, sym, ap, ◌∙◌, subst, inl, inr, arith, append-nil, length-append, get_or, not}
-use Rattle.std.specs.Prelude.{IfSome, nat_lt}
+use Rattle.std.specs.Prelude.{◌≤◌, IfSome, IsSome, codes, nat_lt}
 use Rattle.std.specs.List.{AllByRecursion}
 use Rattle.std.proofs.lemmas.List.Elements.{recursion_from_All}
 use Rattle.serde_json.specs.Data.{Data, null, boolean, number, string, array, object}
 use Rattle.serde_json.specs.Written.{compact_text}
 use Rattle.byte_streams.specs.Streams.{SourceState, SinkState, Change}
 use Rattle.byte_streams.specs.Sink.{Puts}
+use Rattle.board.specs.declared.moves.Move.{Move}
 use Rattle.board.specs.Positions.{Position}
 use Rattle.board.specs.CostRules.{CostRule}
-use Rattle.board.specs.Plans.{Leads, IsLeast}
+use Rattle.board.specs.Plans.{Leads, NothingBelow, IsLeast}
 use Rattle.outcomes.specs.Outcomes.{Task}
 use Rattle.batch_lines.specs.Lines.{without_return, is_passed_over, kind_of}
 use Rattle.batch_lines.specs.declared.lines.LineKind.{LineKind}
 use Rattle.batch_lines.specs.declared.lines.LineKind.TheVariants.{PassedOver, Within, TooLong}
 use Rattle.batch_lines.specs.declared.lines.TheConstants.{LINE_LIMIT}
-use Rattle.reports.specs.Reports.{accepted_data, refused_certificate_data, report_text}
-use Rattle.reports.specs.Readings.{IsSmall}
-use Rattle.reports.specs.Readings.IsReport.{of_cost, of_certificate}
+use Rattle.reports.specs.Reports.{refused_certificate_data, report_text}
+use Rattle.reports.specs.Readings.{HasStatus, IsReport, IsSmall}
+use Rattle.reports.specs.Readings.IsReport.{of_cost, of_bound, of_certificate}
 use Rattle.reports.proofs.ReadLemmas.{report_read}
-use Rattle.certificate.specs.Certificates.{Statement}
+use Rattle.certificate.specs.Certificates.{Statement, greatest}
 use Rattle.certificate.specs.Spellings.{Spells, spelling}
 use Rattle.certificate.specs.Faults.{format_code}
 use Rattle.certificate.specs.Sources.{Tells}
 use Rattle.certificate.specs.declared.faults.ReadFault.{ReadFault}
 use Rattle.certificate.specs.declared.faults.ReadFault.TheVariants.{Format, Failed, NoMemory}
 use Rattle.certificate.proofs.LawLemmas.{spelled_read}
-use Rattle.certificate_check.specs.Refusals.{refusal_code}
+use Rattle.certificate_check.specs.Refusals.{ItsPlanLeads, refusal_code}
 use Rattle.pattern_index.specs.Splits.{Split}
 use Rattle.batch_runs.specs.Batches.{Rules, IsTruthful, Answer, AnswersKind, AnswersLine, AnswersLines, AreAll, AreFirst, answer_text, answers_text}
 use Rattle.batch_runs.specs.Batches.Answer.{passed_over}
@@ -38,8 +39,8 @@ use Rattle.certificate_runs.specs.Outputs.{Output, IsUntouched}
 use Rattle.certificate_runs.specs.declared.faults.CertifyFault.{CertifyFault}
 use Rattle.certificate_runs.specs.declared.faults.CheckFault.{CheckFault}
 use Rattle.certificate_runs.specs.Certifying.{IsPassedOver, IsCertificateOf, FindsFirst, PassesAll, RepliesTo, Replies, first_line}
-use Rattle.certificate_runs.specs.Checking.{IsJudgement, IsVerdict, Checks}
-use Rattle.certificate_runs.specs.Headline.{CertifiesLeast, AnswersFirst, WritesAnswer, IsTrueAnswer, IsRefusedBy, IsTrueVerdict, WritesVerdict, IsTrueCheck}
+use Rattle.certificate_runs.specs.Checking.{claim_data, IsJudgement, IsVerdict, Checks}
+use Rattle.certificate_runs.specs.Headline.{CertifiesLeast, AnswersFirst, WritesAnswer, IsTrueAnswer, IsRefusedBy, SaysOf, IsTrueVerdict, WritesVerdict, IsTrueCheck}
 use Rattle.certificate_runs.specs.Headline.AnswersFirst.{by_none, by_certificate, by_report}
 use Rattle.std.proofs.KnownBytes.{Appends-nil}
 
@@ -120,6 +121,13 @@ moved : (P : CostRule → Position → Position → Type 0) (task : Task) (c : S
 moved P task c costs start goal fact =
     subst (λ (q : Position). P task.rule task.start q) goal (subst (λ (b : Position). P task.rule b c.goal) start (subst (λ (rule : CostRule). P rule c.start c.goal) costs fact))
 
+its_plan : (c : Statement) → IsSome c.plan → (plan : List Move) × (c.plan ≡ Some plan)
+its_plan c some = by_plan c.plan refl some
+  where
+    by_plan : (o : Option (List Move)) → c.plan ≡ o → IsSome o → (plan : List Move) × (c.plan ≡ Some plan)
+    by_plan None is some = absurd cc
+    by_plan (Some plan) is some = (plan, is)
+
 certifies_least : (split : Split) (task : Task) (c : Statement) → IsCertificateOf split task c → CertifiesLeast split task c (spelling c)
 certifies_least split task c of = record {
   read = spelled_read (spelling c) c (of.certificate, refl);
@@ -127,7 +135,9 @@ certifies_least split task c of = record {
   start = of.start;
   goal = of.goal;
   costs = of.costs;
-  leads = moved (λ rule b q. Leads rule b c.plan q c.cost) task c of.costs of.start of.goal of.leads;
+  plan = (its_plan c of.plan).0;
+  claimed = (its_plan c of.plan).1;
+  leads = moved (λ rule b q. Leads rule b (its_plan c of.plan).0 q c.cost) task c of.costs of.start of.goal (subst (λ (o : Option (List Move)). IfSome o (λ plan. Leads c.costs c.start plan c.goal c.cost)) (its_plan c of.plan).1 of.leads);
   least = moved (λ rule b q. IsLeast rule b q c.cost) task c of.costs of.start of.goal of.least;
   proved = of.proved;
 }
@@ -186,11 +196,24 @@ abbrev first_letter : Option Data → ℕ
 first_letter None = 0
 first_letter (Some d) = get_or (text_in d) 0 0
 
-accepted_true : (input : List ℕ) (c : Statement) → Spells c input → Leads c.costs c.start c.plan c.goal c.cost → IsLeast c.costs c.start c.goal c.cost → IsTrueVerdict input (accepted_data c.cost)
-accepted_true input c spells leads least = record {
-  status = inl refl;
-  accepted = λ e. (c, spelled_read input c spells, refl, leads, least);
-  refused = λ e. let z = ap first_letter e in absurd (omega arith);
+-- what is said of a claim that is proved
+said_of : (c : Statement) (plan : Option (List Move)) → IfSome plan (λ p. Leads c.costs c.start p c.goal c.cost) → NothingBelow c.costs c.start c.goal c.cost → (IsSome plan → IsLeast c.costs c.start c.goal c.cost) → SaysOf c plan (claim_data plan c.cost)
+said_of c (Some plan) leads below least = (refl, leads, least refl)
+said_of c None leads below least = (refl, below)
+
+accepted_status : (plan : Option (List Move)) (cost : ℕ) → HasStatus (claim_data plan cost) (codes "accepted")
+accepted_status (Some plan) cost = refl
+accepted_status None bound = refl
+
+not_refused : (plan : Option (List Move)) (cost : ℕ) → HasStatus (claim_data plan cost) (codes "refused") → ⊥
+not_refused (Some plan) cost e = let z = ap first_letter e in absurd (omega arith)
+not_refused None bound e = let z = ap first_letter e in absurd (omega arith)
+
+accepted_true : (input : List ℕ) (c : Statement) → Spells c input → ItsPlanLeads c → NothingBelow c.costs c.start c.goal c.cost → (IsSome c.plan → IsLeast c.costs c.start c.goal c.cost) → IsTrueVerdict input (claim_data c.plan c.cost)
+accepted_true input c spells leads below least = record {
+  status = inl (accepted_status c.plan c.cost);
+  accepted = λ e. (c, spelled_read input c spells, said_of c c.plan leads below least);
+  refused = λ e. absurd (not_refused c.plan c.cost e);
 }
 
 refused_true : (input code : List ℕ) → IsRefusedBy input code → IsTrueVerdict input (refused_certificate_data code)
@@ -200,10 +223,18 @@ refused_true input code by = record {
   refused = λ e. (code, refl, by);
 }
 
-accepted_written : (sink : Change SinkState) (input : List ℕ) (c : Statement) → Puts sink (report_text (accepted_data c.cost)) → Spells c input → Leads c.costs c.start c.plan c.goal c.cost → IsLeast c.costs c.start c.goal c.cost → WritesVerdict sink input
-accepted_written sink input c put spells leads least =
-    let small : IsSmall c.cost = omega (arith, spells.0.cost) in
-    record { line = compact_text (accepted_data c.cost); value = accepted_data c.cost; put = put; json = report_read (accepted_data c.cost) (of_cost c.cost small); truth = accepted_true input c spells leads least }
+claim_is_report : (plan : Option (List Move)) (cost : ℕ) → IsSmall cost → IsReport (claim_data plan cost)
+claim_is_report (Some plan) cost small = of_cost cost small
+claim_is_report None bound small = of_bound bound small
+
+greatest_small : (plan : Option (List Move)) (cost : ℕ) → cost ≤ greatest plan → IsSmall cost
+greatest_small (Some plan) cost low = omega (arith, low)
+greatest_small None bound low = omega (arith, low)
+
+accepted_written : (sink : Change SinkState) (input : List ℕ) (c : Statement) → Puts sink (report_text (claim_data c.plan c.cost)) → Spells c input → ItsPlanLeads c → NothingBelow c.costs c.start c.goal c.cost → (IsSome c.plan → IsLeast c.costs c.start c.goal c.cost) → WritesVerdict sink input
+accepted_written sink input c put spells leads below least =
+    let d = claim_data c.plan c.cost in
+    record { line = compact_text d; value = d; put = put; json = report_read d (claim_is_report c.plan c.cost (greatest_small c.plan c.cost spells.0.cost)); truth = accepted_true input c spells leads below least }
 
 refused_written : (sink : Change SinkState) (input code : List ℕ) → Puts sink (report_text (refused_certificate_data code)) → IsRefusedBy input code → WritesVerdict sink input
 refused_written sink input code put by =
@@ -215,7 +246,7 @@ module _ (sink : Change SinkState) (input : List ℕ) (output : Output) (put : P
   put_text text status is = subst (Puts sink) (ap (λ (o : Output). o.text) is) put
 
   judged : (c : Statement) → Spells c input → IsJudgement c output → WritesVerdict sink input
-  judged c spells (tables, built, inl accepted) = accepted_written sink input c (put_text (report_text (accepted_data c.cost)) 0 accepted.written) spells accepted.proved.plan accepted.least
+  judged c spells (tables, built, inl accepted) = accepted_written sink input c (put_text (report_text (claim_data c.plan c.cost)) 0 accepted.written) spells accepted.proved.plan accepted.below accepted.least
   judged c spells (tables, built, inr (refusal, first, refused)) =
       refused_written sink input (refusal_code refusal) (put_text (report_text (refused_certificate_data (refusal_code refusal))) 5 refused) (inr (c, tables, refusal, spelled_read input c spells, built, first, refl))
 

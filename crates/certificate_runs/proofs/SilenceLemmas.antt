@@ -1,7 +1,9 @@
 -- Nothing is written only where nothing is asked.
 use Rattle.std.proofs.Common.{ℕ, ◌≡◌, List, [], length, get_or, ap, arith}
+use Rattle.certificate.specs.declared.certificate.Version.{Version}
+use Rattle.certificate.specs.declared.certificate.Version.TheVariants.{One, Two}
 use Rattle.certificate.specs.Certificates.{Statement}
-use Rattle.certificate.specs.Spellings.{opening_text, spelling}
+use Rattle.certificate.specs.Spellings.{spelling}
 use Rattle.certificate.proofs.CertificateLemmas.{read_takes}
 use Rattle.batch_runs.specs.Batches.{Rules}
 use Rattle.certificate_runs.specs.Headline.AnswersFirst.{by_none, by_certificate, by_report}
@@ -9,8 +11,11 @@ use Rattle.certificate_runs.specs.Laws.{SilenceIsUnasked}
 
 -- a certificate begins with a T
 spelled : (c : Statement) → ¬ ([] ≡ spelling c)
-unfolding opening_text
-spelled c e = let z = ap (λ (text : List ℕ). get_or text 0 0) e in omega arith
+spelled c e = by_version c.version (ap (λ (text : List ℕ). get_or text 0 0) e)
+  where
+    by_version : (v : Version) → 0 ≡ get_or (spelling (record c { version = v })) 0 0 → ⊥
+    by_version One e = omega (arith, e)
+    by_version Two e = omega (arith, e)
 
 pub silence : (rules : Rules) → SilenceIsUnasked rules
 silence rules split lines (by_none none empty) = none

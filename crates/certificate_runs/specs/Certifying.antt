@@ -1,20 +1,21 @@
 -- What is written for the first line of an input that isn't passed over: a certificate, or a report.
-use Rattle.std.specs.Prelude.{ℕ, ◌≡◌, ◌⊎◌, ◌+◌, ◌^◌, ◌<◌, List, [], ◌∷◌, ◌++◌, length, Option, None, Some, Result, Ok, Err, Vec, All, string_bytes, ⊤}
+use Rattle.std.specs.Prelude.{ℕ, ◌≡◌, ◌⊎◌, ◌+◌, ◌^◌, ◌<◌, List, [], ◌∷◌, ◌++◌, length, Option, None, Some, Result, Ok, Err, Vec, All, IsSome, string_bytes, ⊤}
 use Rattle.std.specs.declared.alloc.Global.{Global}
 use Rattle.byte_streams.specs.Streams.{SourceState, SinkState, Change}
 use Rattle.byte_streams.specs.Sink.{WritesAll, FailsWriting}
 use Rattle.byte_streams.specs.declared.source.ReadFailed.{ReadFailed}
 use Rattle.board.specs.declared.moves.Move.{Move}
 use Rattle.board.specs.Positions.{Position}
-use Rattle.board.specs.Plans.{Leads, IsLeast}
+use Rattle.board.specs.Plans.{IsLeast}
 use Rattle.batch_lines.specs.Lines.{without_return, kind_of}
 use Rattle.batch_lines.specs.Readings.{IsJudged}
 use Rattle.batch_lines.specs.Words.{IsEntry}
 use Rattle.batch_lines.specs.declared.lines.Line.{Line}
 use Rattle.batch_lines.specs.declared.lines.LineKind.TheVariants.{PassedOver, Within}
+use Rattle.certificate.specs.declared.certificate.Version.TheVariants.{Two}
 use Rattle.certificate.specs.Certificates.{Statement, IsCertificate}
 use Rattle.certificate.specs.Spellings.{spelling}
-use Rattle.certificate_check.specs.Refusals.{IsProved}
+use Rattle.certificate_check.specs.Refusals.{ItsPlanLeads, IsProved}
 use Rattle.pattern_index.specs.Splits.{Split}
 use Rattle.outcomes.specs.declared.outcome.Ending.TheVariants.{Optimal, Unsolvable, Bounded}
 use Rattle.outcomes.specs.declared.outcome.Outcome.{Outcome}
@@ -51,7 +52,9 @@ pub record IsCertificateOf (split : Split) (task : Task) (c : Statement) : Type 
   pub start : c.start ≡ task.start
   pub goal : c.goal ≡ task.goal
   pub certificate : IsCertificate c
-  pub leads : Leads c.costs c.start c.plan c.goal c.cost
+  pub version : c.version ≡ Two
+  pub plan : IsSome c.plan
+  pub leads : ItsPlanLeads c
   pub least : IsLeast c.costs c.start c.goal c.cost
   pub proved : (tables : Tables) → AreBuiltFor c tables → IsProved c tables
 

@@ -1,10 +1,12 @@
 -- What is written of a certificate that is checked, and the status of that.
-use Rattle.std.specs.Prelude.{ℕ, ◌≡◌, ◌⊎◌, String, List, Result, Ok, Err, string_bytes, ⊤}
+use Rattle.std.specs.Prelude.{ℕ, ◌≡◌, ◌⊎◌, String, List, Option, Some, None, IsSome, Result, Ok, Err, string_bytes, ⊤}
 use Rattle.std.specs.declared.alloc.Global.{Global}
 use Rattle.byte_streams.specs.Streams.{SourceState, SinkState, Change}
 use Rattle.byte_streams.specs.Sink.{WritesAll, FailsWriting}
-use Rattle.board.specs.Plans.{IsLeast}
-use Rattle.reports.specs.Reports.{accepted_data, refused_certificate_data, report_text}
+use Rattle.serde_json.specs.Data.{Data}
+use Rattle.board.specs.declared.moves.Move.{Move}
+use Rattle.board.specs.Plans.{NothingBelow, IsLeast}
+use Rattle.reports.specs.Reports.{accepted_data, accepted_bound_data, refused_certificate_data, report_text}
 use Rattle.certificate.specs.declared.faults.ReadFault.{ReadFault}
 use Rattle.certificate.specs.declared.faults.ReadFault.TheVariants.{Format, Failed, NoMemory}
 use Rattle.certificate.specs.Certificates.{Statement}
@@ -19,11 +21,17 @@ use Rattle.certificate_runs.specs.Built.{AreBuiltFor}
 use Rattle.certificate_runs.specs.declared.faults.CheckFault.{CheckFault}
 use Rattle.certificate_runs.specs.declared.faults.CheckFault.TheVariants.{CertificateRead, CertificateMemory, Write, Memory}
 
--- the plan leads at its cost and the rows prove it with the sums of these tables, so the cost is the least: it is reported with the status 0
+-- the report of an accepted certificate: of a plan's cost, or of a bound
+abbrev pub claim_data : Option (List Move) → ℕ → Data
+claim_data (Some plan) cost = accepted_data cost
+claim_data None bound = accepted_bound_data bound
+
+-- the rows prove with the sums of these tables what is claimed, so that no plan costs less, and a plan that leads at that cost is least: it is reported with the status 0
 pub record IsAccepted (c : Statement) (tables : Tables) (output : Output) : Type 0 where
   pub proved : IsProved c tables
-  pub least : IsLeast c.costs c.start c.goal c.cost
-  pub written : output ≡ record { text = report_text (accepted_data c.cost); status = 0 }
+  pub below : NothingBelow c.costs c.start c.goal c.cost
+  pub least : IsSome c.plan → IsLeast c.costs c.start c.goal c.cost
+  pub written : output ≡ record { text = report_text (claim_data c.plan c.cost); status = 0 }
 
 -- a fault with this code is reported with the status 5
 abbrev pub IsRefused : List ℕ → Output → Type 0

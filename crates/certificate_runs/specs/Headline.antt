@@ -1,10 +1,11 @@
 -- What a reader of a certificate, or of a verdict on one, may believe.
-use Rattle.std.specs.Prelude.{ℕ, ◌≡◌, ◌⊎◌, List, [], ◌∷◌, ◌++◌, Result, Ok, IfOk, IfSome, codes}
+use Rattle.std.specs.Prelude.{ℕ, ◌≡◌, ◌⊎◌, List, [], ◌∷◌, ◌++◌, Option, Some, None, Result, Ok, IfOk, IfSome, codes}
 use Rattle.serde_json.specs.Data.{Data}
 use Rattle.byte_streams.specs.Streams.{SourceState, SinkState, Change}
 use Rattle.byte_streams.specs.Sink.{Puts}
+use Rattle.board.specs.declared.moves.Move.{Move}
 use Rattle.board.specs.Positions.{Position}
-use Rattle.board.specs.Plans.{Leads, IsLeast}
+use Rattle.board.specs.Plans.{Leads, NothingBelow, IsLeast}
 use Rattle.pattern_index.specs.Splits.{Split}
 use Rattle.outcomes.specs.Outcomes.{Task}
 use Rattle.reports.specs.Readings.{Reads, SaysText, SaysNumber, HasStatus}
@@ -31,7 +32,9 @@ pub record CertifiesLeast (split : Split) (task : Task) (c : Statement) (bytes :
   pub start : c.start ≡ task.start
   pub goal : c.goal ≡ task.goal
   pub costs : c.costs ≡ task.rule
-  pub leads : Leads task.rule task.start c.plan task.goal c.cost
+  pub plan : List Move
+  pub claimed : c.plan ≡ Some plan
+  pub leads : Leads task.rule task.start plan task.goal c.cost
   pub least : IsLeast task.rule task.start task.goal c.cost
   pub proved : (tables : Tables) → AreBuiltFor c tables → IsProved c tables
 
@@ -60,19 +63,19 @@ abbrev pub IsRefusedBy : List ℕ → List ℕ → Type 0
 IsRefusedBy input code =
     ((fault : FormatFault) × IsFirstFault input fault × (code ≡ format_code fault)) ⊎ ((c : Statement) × (tables : Tables) × (refusal : Refusal) × (certificate input ≡ Ok (c, [])) × AreBuiltFor c tables × IsFirstRefusal c tables refusal × (code ≡ refusal_code refusal))
 
--- the input is a certificate, whose plan leads from its start to its goal at the cost that is said, and no plan costs less
-abbrev pub SaysLeastCost : List ℕ → Data → Type 0
-SaysLeastCost input d =
-    (c : Statement)
-    × (certificate input ≡ Ok (c, []))
-    × SaysNumber d (codes "cost") c.cost
-    × Leads c.costs c.start c.plan c.goal c.cost
-    × IsLeast c.costs c.start c.goal c.cost
+-- of a plan its cost is said, at which it leads from the start to the goal, and no plan costs less; or a bound is said, and no plan costs less
+abbrev pub SaysOf : Statement → Option (List Move) → Data → Type 0
+SaysOf c (Some plan) d = SaysNumber d (codes "cost") c.cost × Leads c.costs c.start plan c.goal c.cost × IsLeast c.costs c.start c.goal c.cost
+SaysOf c None d = SaysNumber d (codes "bound") c.cost × NothingBelow c.costs c.start c.goal c.cost
+
+-- the input is a certificate, and this is said of what it claims
+abbrev pub SaysClaim : List ℕ → Data → Type 0
+SaysClaim input d = (c : Statement) × (certificate input ≡ Ok (c, [])) × SaysOf c c.plan d
 
 -- what is said of the input is true
 pub record IsTrueVerdict (input : List ℕ) (d : Data) : Type 0 where
   pub status : HasStatus d (codes "accepted") ⊎ HasStatus d (codes "refused")
-  pub accepted : HasStatus d (codes "accepted") → SaysLeastCost input d
+  pub accepted : HasStatus d (codes "accepted") → SaysClaim input d
   pub refused : HasStatus d (codes "refused") → (code : List ℕ) × SaysText d (codes "fault") code × IsRefusedBy input code
 
 -- one line was written, which is read as JSON and says the truth of the input

@@ -9,7 +9,7 @@ ghost use Rattle.outcomes.specs.Outcomes.{Answers};
 ghost use Rattle.outcomes.specs.Endings.{without_rows};
 ghost use Rattle.reports.specs.declared.report.NoReport.{NoReport};
 ghost use Rattle.batch_lines.specs.declared.lines.LineKind.TheVariants.{PassedOver, Within};
-ghost use Rattle.certificate.specs.Certificates.{AreNamedCosts, IsBoardOf};
+ghost use Rattle.certificate.specs.Certificates.{IsBoardOf};
 ghost use Rattle.certificate.specs.Spellings.{spelling};
 ghost use Rattle.certificate_runs.specs.declared.faults.CertifyFault.{CertifyFault};
 ghost use Rattle.batch_runs.specs.Batches.{HasFailed, Rules, no_lines, with_outcome, status_of_counts};
@@ -26,7 +26,7 @@ use batch_runs::{Ruled, Setup, send_report};
 use board::laws::keys_are_in_order;
 use board::{Board, Move};
 use byte_streams::{ReadFailed, Sink, Source};
-use certificate::{Certificate, Parts, WriteFault, write};
+use certificate::{Certificate, Claim, Parts, Version, WriteFault, write};
 use database_build::{Folded, Table};
 use lower_bound::{Bound, TableList};
 use memory::OutOfMemory;
@@ -59,7 +59,6 @@ pub fn certify_first<
     asked: &A,
     prover: F,
 ) -> Result<u8, CertifyFault>
-    requires named { AreNamedCosts setup.now.goal.grid setup.now.rule }
     requires rules { AreRulesFor setup.now (A.rules asked.now) }
     requires callable { (start : _) → start.now.grid ≡ setup.now.goal.grid → F.pre prover start }
     requires gives { (start result : _) → start.now.grid ≡ setup.now.goal.grid
@@ -83,7 +82,6 @@ fn reply_to_first<S: Source, K: Sink, A: Ruled, F: Fn(&Board) -> Result<Outcome,
     asked: &A,
     prover: &F,
 ) -> Result<u8, CertifyFault>
-    requires named { AreNamedCosts setup.now.goal.grid setup.now.rule }
     requires rules { AreRulesFor setup.now (A.rules asked.now) }
     requires callable { (start : _) → start.now.grid ≡ setup.now.goal.grid → F.pre prover.now start }
     requires gives { (start result : _) → start.now.grid ≡ setup.now.goal.grid
@@ -140,7 +138,6 @@ fn reply_to_line<A: Ruled, F: Fn(&Board) -> Result<Outcome, OutOfMemory>>(
     line: Line,
     bytes: &[u8],
 ) -> Result<Reply, CertifyFault>
-    requires named { AreNamedCosts setup.now.goal.grid setup.now.rule }
     requires rules { AreRulesFor setup.now (A.rules asked.now) }
     requires callable { (start : _) → start.now.grid ≡ setup.now.goal.grid → F.pre prover.now start }
     requires gives { (start result : _) → start.now.grid ≡ setup.now.goal.grid
@@ -165,7 +162,6 @@ fn reply_to_entry<A: Ruled, F: Fn(&Board) -> Result<Outcome, OutOfMemory>>(
     number: u64,
     bytes: &[u8],
 ) -> Result<Reply, CertifyFault>
-    requires named { AreNamedCosts setup.now.goal.grid setup.now.rule }
     requires rules { AreRulesFor setup.now (A.rules asked.now) }
     requires callable { (start : _) → start.now.grid ≡ setup.now.goal.grid → F.pre prover.now start }
     requires gives { (start result : _) → start.now.grid ≡ setup.now.goal.grid
@@ -253,7 +249,6 @@ fn certify(
     plan: Vec<Move>,
     rows: Vec<(Board, u32)>,
 ) -> Result<Certificate, OutOfMemory>
-    requires named { AreNamedCosts setup.now.goal.grid setup.now.rule }
     requires start { IsBoardOf setup.now.goal.grid start }
     requires answers { Answers (task_of setup.now start) (Optimal cost plan rows) }
     ensures { IfOk result (IsCertificateOf setup.now.tables.split (task_of setup.now start)) }
@@ -265,14 +260,17 @@ fn certify(
     tell_entries(tables);
     let groups = tables.partition().copy(alloc)?;
     let goal = setup.goal();
+    let costs = setup.weights();
+    // That these are a weight for each tile is told by this call.
+    let _ = costs.shape();
     let parts = Parts {
+        version: Version::Two,
         shape: goal.shape(),
-        costs: setup.weights(),
+        costs,
         groups,
         start,
         goal,
-        cost,
-        plan,
+        claim: Claim::Least { cost, plan },
         rows,
     };
     Ok(Certificate::new(parts).unwrap())

@@ -1,23 +1,25 @@
 //! A certificate in, a verdict out.
 
-ghost use Rattle.std.specs.Prelude.{◌↔◌, IfOk, IsOk, IsErrOf, OnOk};
-ghost use Rattle.board.specs.Plans.{IsLeast};
+ghost use Rattle.std.specs.Prelude.{◌≡◌, ◌↔◌, IfOk, IsOk, IsErrOf, OnOk, IsSome, string_bytes};
+ghost use Rattle.board.specs.Plans.{NothingBelow, IsLeast};
 ghost use Rattle.certificate_check.specs.declared.refusals.Refusal.{Refusal};
 ghost use Rattle.certificate_check.specs.Refusals.{IsProved, IsFirstRefusal};
 ghost use Rattle.byte_streams.specs.Streams.{change};
 ghost use Rattle.certificate_runs.specs.Checking.{IsJudgementBy, IsRefused, Checks};
-ghost use Rattle.certificate_runs.specs.Checking.{PutsVerdict};
+ghost use Rattle.certificate_runs.specs.Checking.{claim_data, PutsVerdict};
+ghost use Rattle.certificate.specs.Certificates.{cost_of, plan_of};
+ghost use Rattle.reports.specs.Reports.{report_text};
 ghost use Rattle.certificate_runs.specs.Checking.{verdict_output};
 ghost use Rattle.certificate_runs.specs.Headline.{IsTrueCheck};
 ghost use Rattle.certificate_runs.specs.Built.{AreBuiltFor};
 
 use crate::faults::CheckFault;
 use byte_streams::{Sink, Source};
-use certificate::{Certificate, ReadFault, read};
+use certificate::{Certificate, Claim, ReadFault, read};
 use certificate_check::{Refusal, check, check_parallel};
 use lower_bound::Bound;
 use memory::OutOfMemory;
-use reports::{NoReport, accepted_report, refused_certificate_report};
+use reports::{NoReport, accepted_bound_report, accepted_report, refused_certificate_report};
 use std::alloc::Global;
 use std::thread::Threads;
 use table_sets::build_bound;
@@ -27,7 +29,7 @@ use table_sets::build_bound;
 const PARALLEL_ROWS: usize = 4_096;
 
 /// Checks the certificate that the source spells with tables that are built for its groups, and
-/// writes one line: the least cost, or the code of the first fault. Answers the status: 0 where it
+/// writes one line: the least cost or the bound, or the code of the first fault. Answers the status: 0 where it
 /// is accepted, 5 where it is refused. Large tables are built side by side, and many rows are
 /// checked side by side, by several threads.
 ///
@@ -99,8 +101,19 @@ fn judge<R: Threads + Sync>(
         (λ verdict. IsJudgementBy bound.now certificate.now (verdict_output verdict)) }
 {
     match check_certificate(rt, certificate, bound) {
-        Ok(()) => Ok((accepted_report(alloc, certificate.cost())?, 0)),
+        Ok(()) => Ok((accept(alloc, certificate.claim())?, 0)),
         Err(refusal) => refuse(alloc, refusal.code()),
+    }
+}
+
+// The line that is written of a claim that is proved.
+fn accept(alloc: Global, claim: &Claim) -> Result<String, NoReport>
+    ensures { IfOk result (λ text. string_bytes text
+        ≡ report_text (claim_data (plan_of claim.now) (cost_of claim.now))) }
+{
+    match claim {
+        Claim::Least { cost, .. } => accepted_report(alloc, *cost),
+        Claim::Bound { bound } => accepted_bound_report(alloc, *bound),
     }
 }
 
@@ -111,7 +124,10 @@ fn check_certificate<R: Threads + Sync>(
     bound: &Bound,
 ) -> Result<(), Refusal>
     ensures accepted { IsOk result ↔ IsProved certificate.now bound.now }
-    ensures least { OnOk result
+    ensures below { OnOk result
+        (NothingBelow certificate.now.costs certificate.now.start certificate.now.goal
+        certificate.now.cost) }
+    ensures least { IsSome certificate.now.plan → OnOk result
         (IsLeast certificate.now.costs certificate.now.start certificate.now.goal
         certificate.now.cost) }
     ensures refused { (refusal : Refusal) →

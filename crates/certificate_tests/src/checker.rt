@@ -1,7 +1,10 @@
 //! The checker: certificates that it accepts, and one for each refusal.
 
 use crate::groups::bound_for;
-use crate::vectors::{GOAL, NO_ROWS_AT_2, ONE_MOVE, ONE_ROW_LESS, THREE_MOVES, WITH_GROUPS};
+use crate::vectors::{
+    BOUND_OF_0, BOUND_OF_1, GOAL, GREATEST, NO_ROWS_AT_2, ONE_MOVE, ONE_MOVE_TWO, ONE_ROW_LESS,
+    THREE_MOVES, WITH_GROUPS, WITH_WEIGHTS,
+};
 use board::Move;
 use byte_streams::ByteSource;
 use certificate::{FormatFault, ReadFault, read};
@@ -12,6 +15,9 @@ use std::thread::Threads;
 
 // Where the kind of costs stands.
 const KIND: usize = 10;
+
+// Where it stands in version 2.
+const KIND_OF_TWO: usize = 11;
 
 // What is answered for bytes: why they are no certificate, or what the checker says of the one that
 // they spell, with the tables of its groups.
@@ -49,17 +55,66 @@ fn changed(place: usize, bytes: &[u8]) -> [u8; 79] {
 
 #[test]
 fn known_answers(rt: HostRuntime) -> Result<(), Fail> {
-    let answers: [(&[u8], Answer); 8] = [
+    let answers: [(&[u8], Answer); 23] = [
         (&GOAL, Ok(Ok(()))),
         (&ONE_MOVE, Ok(Ok(()))),
         (&THREE_MOVES, Ok(Ok(()))),
         (&WITH_GROUPS, Ok(Ok(()))),
+        (&WITH_WEIGHTS, Ok(Ok(()))),
         (&NO_ROWS_AT_2, Ok(Err(Refusal::OpenSuccessor(0, Move::R)))),
         (&ONE_ROW_LESS, Ok(Err(Refusal::OpenSuccessor(2, Move::U)))),
         // Fields that are cut off are not judged.
         (b"\xff", Err(ReadFault::Format(FormatFault::Truncated))),
         (
             b"TILECRT1\x02\x02\x00\x00\x01\xff\x02",
+            Err(ReadFault::Format(FormatFault::Truncated)),
+        ),
+        (
+            b"TILECRT1\x02\x02\x02\x00\x01",
+            Err(ReadFault::Format(FormatFault::Truncated)),
+        ),
+        // There is no kind 3, and weights are those of no other kind and above 0.
+        (
+            b"TILECRT1\x02\x02\x03",
+            Err(ReadFault::Format(FormatFault::OutOfRange)),
+        ),
+        (
+            b"TILECRT1\x02\x02\x02\x05\x01\x00",
+            Err(ReadFault::Format(FormatFault::OutOfRange)),
+        ),
+        (
+            b"TILECRT1\x02\x02\x02\x01\x01\x01",
+            Err(ReadFault::Format(FormatFault::OutOfRange)),
+        ),
+        (
+            b"TILECRT1\x02\x02\x02\x01\x02\x03",
+            Err(ReadFault::Format(FormatFault::OutOfRange)),
+        ),
+        (
+            b"TILECRT1\x02\x02\x02\xff\xff\xff",
+            Err(ReadFault::Format(FormatFault::Truncated)),
+        ),
+        // Version 2, with a plan or with a bound, which rows have to prove.
+        (&ONE_MOVE_TWO, Ok(Ok(()))),
+        (&BOUND_OF_1, Ok(Ok(()))),
+        (&BOUND_OF_0, Ok(Ok(()))),
+        (&GREATEST, Ok(Err(Refusal::StartUnproved))),
+        (
+            b"TILECRT2\x01\x02\x02\x00\x00\x01\x00\x02\x03\x00\x01\x02\x03\x02\x00\x00\x00\x01\x00\x00\x00\x00\x00\x00\x00\x01\x00\x02\x03\x00\x00\x00\x00",
+            Ok(Err(Refusal::OpenSuccessor(0, Move::L))),
+        ),
+        (
+            b"TILECRT2\x01\x02\x02\x00\x00\x01\x00\x02\x03\x00\x01\x02\x03\x01\x00\x00\x00\x00\x00\x00\x00\x00\x00\x00\x00",
+            Ok(Err(Refusal::StartUnproved)),
+        ),
+        // A bound of 2,621,416.
+        (
+            b"TILECRT2\x01\x02\x02\x00\x00\x01\x00\x02\x03\x00\x01\x02\x03\xe8\xff\x27\x00\x00",
+            Err(ReadFault::Format(FormatFault::OutOfRange)),
+        ),
+        // The last byte of a bound's certificate left out.
+        (
+            BOUND_OF_1.get(..40).unwrap_or(&[]),
             Err(ReadFault::Format(FormatFault::Truncated)),
         ),
     ];
@@ -72,9 +127,11 @@ fn known_answers(rt: HostRuntime) -> Result<(), Fail> {
 
 #[test]
 fn each_fault_and_refusal(rt: HostRuntime) -> Result<(), Fail> {
-    let changes: [(usize, &[u8], Answer); 12] = [
+    let changes: [(usize, &[u8], Answer); 13] = [
         // Another text in front.
-        (7, b"2", Err(ReadFault::Format(FormatFault::OtherMagic))),
+        (7, b"3", Err(ReadFault::Format(FormatFault::OtherMagic))),
+        // The number of rows where a claim is due.
+        (7, b"2", Err(ReadFault::Format(FormatFault::OutOfRange))),
         // More rows announced than any memory holds.
         (
             31,
@@ -148,9 +205,10 @@ fn accepted_changes(alloc: Global, bytes: &[u8]) -> Result<Vec<(usize, u8)>, Fai
 #[test]
 fn each_byte_changed(rt: HostRuntime) -> Result<(), Fail> {
     // The one move is of tile 1, so its face cost is 1 too. Three moves with groups cost 6.
-    let certificates: [(&[u8], &[(usize, u8)]); 2] = [
+    let certificates: [(&[u8], &[(usize, u8)]); 3] = [
         (&ONE_MOVE, &[(KIND, 1)]),
         (&WITH_GROUPS, &[]),
+        (&ONE_MOVE_TWO, &[(KIND_OF_TWO, 1)]),
     ];
     for (bytes, accepted) in certificates {
         assert_eq!(rt; accepted_changes(rt.alloc(), bytes)?.as_slice(), accepted);

@@ -18,6 +18,18 @@ pub(crate) const ONE_MOVE: [u8; 45] = [
     1, 0, 2, 3, 0, 0, 0, 0, // the row
 ];
 
+// The same board where moving tile 1 costs 5 and the others cost 1: the two boards that are reached
+// for less prove it too.
+pub(crate) const WITH_WEIGHTS: [u8; 64] = [
+    0x54, 0x49, 0x4c, 0x45, 0x43, 0x52, 0x54, 0x31, 2, 2, 2, 5, 1, 1, 0, // the opening
+    1, 0, 2, 3, 0, 1, 2, 3, // start and goal
+    5, 0, 0, 0, 1, 0, 0, 0, b'L', // the cost and the plan
+    3, 0, 0, 0, 0, 0, 0, 0, // the count of rows
+    1, 0, 2, 3, 0, 0, 0, 0, // the rows, at 0,
+    1, 3, 0, 2, 2, 0, 0, 0, // at 2,
+    1, 3, 2, 0, 1, 0, 0, 0, // and at 1
+];
+
 // 1 3 over 0 2 is solved by the moves right, up, left, and the five boards that cost less prove it.
 pub(crate) const THREE_MOVES: [u8; 79] = [
     0x54, 0x49, 0x4c, 0x45, 0x43, 0x52, 0x54, 0x31, 2, 2, 0, 0, // the opening
@@ -72,4 +84,42 @@ pub(crate) const FOUR_LETTERS: [u8; 64] = [
     2, 0, 0, 0, 0, 0, 0, 0, // the count of rows
     0, 1, 2, 3, 4, 5, 0x02, 0x01, 0, 0, // the rows, at 258
     1, 2, 0, 3, 4, 5, 0xff, 0xff, 0x0f, 0, // and at 1,048,575
+];
+
+// One move to the left, in version 2.
+pub(crate) const ONE_MOVE_TWO: [u8; 46] = [
+    0x54, 0x49, 0x4c, 0x45, 0x43, 0x52, 0x54, 0x32, 0, // a plan is claimed
+    2, 2, 0, 0, // the rest of the opening
+    1, 0, 2, 3, 0, 1, 2, 3, // start and goal
+    1, 0, 0, 0, 1, 0, 0, 0, b'L', // the cost and the plan
+    1, 0, 0, 0, 0, 0, 0, 0, // the count of rows
+    1, 0, 2, 3, 0, 0, 0, 0, // the row
+];
+
+// No plan from 1 0 over 2 3 costs less than 1, since it is not the goal.
+pub(crate) const BOUND_OF_1: [u8; 41] = [
+    0x54, 0x49, 0x4c, 0x45, 0x43, 0x52, 0x54, 0x32, 1, // a bound is claimed
+    2, 2, 0, 0, // the rest of the opening
+    1, 0, 2, 3, 0, 1, 2, 3, // start and goal
+    1, 0, 0, 0, // the bound
+    1, 0, 0, 0, 0, 0, 0, 0, // the count of rows
+    1, 0, 2, 3, 0, 0, 0, 0, // the row
+];
+
+// No plan costs less than 0, which needs no row.
+pub(crate) const BOUND_OF_0: [u8; 33] = [
+    0x54, 0x49, 0x4c, 0x45, 0x43, 0x52, 0x54, 0x32, 1, // a bound is claimed
+    2, 2, 0, 0, // the rest of the opening
+    1, 0, 2, 3, 0, 1, 2, 3, // start and goal
+    0, 0, 0, 0, // the bound
+    0, 0, 0, 0, 0, 0, 0, 0, // the count of rows
+];
+
+// The greatest bound that can be stated.
+pub(crate) const GREATEST: [u8; 33] = [
+    0x54, 0x49, 0x4c, 0x45, 0x43, 0x52, 0x54, 0x32, 1, // a bound is claimed
+    2, 2, 0, 0, // the rest of the opening
+    1, 0, 2, 3, 0, 1, 2, 3, // start and goal
+    0xe7, 0xff, 0x27, 0, // the bound, 2,621,415
+    0, 0, 0, 0, 0, 0, 0, 0, // the count of rows
 ];

@@ -1,10 +1,9 @@
 //! What is answered where a checker has to accept the plan, and what it says of one.
 
-ghost use Rattle.certificate.specs.Certificates.{AreNamedCosts};
 ghost use Rattle.lower_bound.specs.Tables.{ArePotentials};
 
 use board::{Board, Weights};
-use certificate::{Certificate, Parts};
+use certificate::{Certificate, Claim, Parts, Version};
 use certificate_check::{Refusal, check};
 use checked_runs::{CheckedFault, solve_checked};
 use hda_run::{Free, Job, solve_one};
@@ -60,7 +59,6 @@ pub fn checked_answer<R: Threads + Wait + Sync>(
     tables: &Bound,
 ) -> Answer
     requires potentials { ArePotentials problem.now.weights problem.now.goal bound.now }
-    requires named { AreNamedCosts problem.now.goal.grid problem.now.weights }
 {
     let spread = Zobrist::new(problem.goal.shape());
     let Ok(job) = Job::new(
@@ -111,13 +109,13 @@ fn certificate_of(alloc: Global, problem: &Problem, bound: &Bound) -> Option<Cer
     };
     let groups = bound.partition().copy(alloc).ok()?;
     Certificate::new(Parts {
+        version: Version::Two,
         shape: problem.goal.shape(),
         costs: problem.weights,
         groups,
         start: problem.start,
         goal: problem.goal,
-        cost,
-        plan,
+        claim: Claim::Least { cost, plan },
         rows,
     })
 }

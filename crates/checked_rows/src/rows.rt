@@ -1,7 +1,6 @@
 //! The rows: who judges, and what is answered.
 
 ghost use Rattle.std.specs.Prelude.{◌≡◌, IfSome};
-ghost use Rattle.certificate.specs.Certificates.{AreNamedCosts};
 ghost use Rattle.lower_bound.specs.Tables.{ArePotentials};
 
 use crate::judging::{Problem, checked_answer, verdict_on_plan};
@@ -81,7 +80,6 @@ fn print_judge<R: Threads + Wait + Print + AllocGlobal + Sync>(
     judge: Judge,
 ) -> io::Result<()>
     requires potentials { ArePotentials problem.now.weights problem.now.goal bound.now }
-    requires named { AreNamedCosts problem.now.goal.grid problem.now.weights }
 {
     let Some(tables) = tables_of(rt.alloc(), judge) else {
         return Err(ErrorKind::OutOfMemory.into());
@@ -105,7 +103,6 @@ enum Costs {
 // The board and its goal at these costs.
 fn problem(costs: Costs) -> Option<Problem>
     ensures sides { IfSome result (λ p. p.weights.grid ≡ p.goal.grid) }
-    ensures named { IfSome result (λ p. AreNamedCosts p.goal.grid p.weights) }
 {
     let shape = Shape::new(3, 3).ok()?;
     let start = Board::from_tiles(shape, &START).ok()?;
@@ -119,7 +116,6 @@ fn problem(costs: Costs) -> Option<Problem>
 // What the moves of boards of this shape cost.
 fn weights_of(costs: Costs, shape: Shape) -> Weights
     ensures sides { result.grid ≡ shape }
-    ensures named { AreNamedCosts shape result }
 {
     match costs {
         Costs::Unit => Weights::unit(shape),

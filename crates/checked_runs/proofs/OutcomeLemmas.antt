@@ -1,6 +1,6 @@
 -- Outcomes whose plans the checker gives back, and those that name no least plan.
 use Rattle.std.proofs.Common.{◌≡◌, ◌≢◌, ℕ, Vec, Result, Ok, Err, refl, ap, subst, inl, inr}
-use Rattle.std.specs.Prelude.{◌↔◌}
+use Rattle.std.specs.Prelude.{◌↔◌, IfSome}
 use Rattle.std.specs.Result.{IsErrOf}
 use Rattle.std.specs.declared.alloc.Global.{Global}
 use Rattle.board.specs.declared.moves.Move.{Move}
@@ -26,7 +26,7 @@ module _ (p : Problem) (cost cost' : ℕ) (plan plan' : Vec Move Global) (rows r
   given_again w (lowest, reached, low, at, given) = (lowest, reached, low, at, subst (Given (record { world = w; lowest = lowest; reached = reached })) same given)
     where
       Given : End → Statement → Type 0
-      Given end c = IsBoundOf end c.cost × IsFollowedBack end c.cost c.plan × AreRowsFor end.world c.cost c.rows
+      Given end c = IsBoundOf end c.cost × IfSome c.plan (λ plan. IsFollowedBack end c.cost plan) × AreRowsFor end.world c.cost c.rows
 
   -- so do the workers
   pub solved_again : {S : Type 0} (hash_of : S → Position → ℕ) (owners : S) (n : ℕ) → IsSolved hash_of p owners n (Optimal cost plan rows) → IsSolved hash_of p owners n (Optimal cost' plan' rows')

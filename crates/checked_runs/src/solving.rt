@@ -8,15 +8,14 @@ ghost use Rattle.outcomes.specs.declared.outcome.Why.TheVariants.{Parity};
 ghost use Rattle.hda_run.specs.Problems.{task_in};
 ghost use Rattle.hda_run.specs.Worlds.{IsWorkerCount};
 ghost use Rattle.thread_runs.specs.Solved.{HasWholeRun};
-ghost use Rattle.certificate.specs.Certificates.{AreNamedCosts};
 ghost use Rattle.certificate_check.specs.declared.refusals.Refusal.{Refusal};
 ghost use Rattle.checked_runs.specs.Certificates.{AreAsGood};
 ghost use Rattle.checked_runs.specs.Checked.{IsProvedWith, IsCheckedRun, IsRefusedRun};
 
-use crate::checking::accepted;
+use crate::checking::{Proved, accepted};
 use crate::faults::CheckedFault;
 use board::laws::{keys_are_in_order, plans_keep_the_class};
-use certificate::Parts;
+use certificate::{Claim, Parts, Version};
 use hda_run::{Gate, Job};
 use lower_bound::Bound;
 use outcomes::{Cause, Outcome, Want};
@@ -28,8 +27,7 @@ use thread_runs::solve;
 
 /// Solves a job by so many workers, as `solve` does, and answers a plan of least cost only where the
 /// checker accepts its certificate with these tables. The certificate names the groups of the job's
-/// own tables; its weights have to be unit or face costs, which are those that a certificate has a
-/// name for. The checker refuses folded tables, so a job that these guide is to be checked with
+/// own tables. The checker refuses folded tables, so a job that these guide is to be checked with
 /// whole ones, as those that its own were folded from. Where memory was refused for the copy of the
 /// groups, the cost is answered as a bound, without the plan.
 ///
@@ -45,7 +43,6 @@ pub fn solve_checked<'a, R: Threads + Wait + Sync, S: Spread + Drop + Sync, G: G
     gate: &G,
     tables: &Bound,
 ) -> Result<Outcome, CheckedFault>
-    requires named { AreNamedCosts job.goal.grid job.rule }
     ensures count { IsErrOf result CheckedFault.WorkerCount ↔ (¬ IsWorkerCount workers) }
     ensures parity { IsWorkerCount workers → (result ≡ Ok (Unsolvable Parity))
         ↔ (¬ SameClass job.entry.start job.entry.goal) }
@@ -87,24 +84,17 @@ pub fn solve_checked<'a, R: Threads + Wait + Sync, S: Spread + Drop + Sync, G: G
         }
     };
     let parts = Parts {
-        shape: goal.shape(),
+        version: Version::Two,
+        shape: costs.shape(),
         costs,
         groups,
         start,
         goal,
-        cost,
-        plan,
+        claim: Claim::Least { cost, plan },
         rows,
     };
     match accepted(parts, tables) {
-        Ok(
-            Parts {
-                cost,
-                plan,
-                rows,
-                ..
-            },
-        ) => Ok(Outcome::Optimal { cost, plan, rows }),
+        Ok(Proved { cost, plan, rows }) => Ok(Outcome::Optimal { cost, plan, rows }),
         Err(refusal) => Err(CheckedFault::Refused(refusal)),
     }
 }

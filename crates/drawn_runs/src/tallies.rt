@@ -3,7 +3,7 @@
 ghost use Rattle.std.specs.Prelude.{◌≡◌, []};
 
 use board::{Board, Move, Shape, Weights};
-use certificate::{Certificate, Parts};
+use certificate::{Certificate, Claim, Parts, Version};
 use certificate_check::check;
 use hda_run::{Job, World, run_steps};
 use lower_bound::Bound;
@@ -104,13 +104,13 @@ fn is_accepted(
 ) -> bool {
     let shape = start.shape();
     let parts = Parts {
+        version: Version::Two,
         shape,
         costs: Weights::unit(shape),
         groups: Partition::new(shape, Vec::new(alloc)).unwrap(),
         start,
         goal: Board::goal(shape),
-        cost,
-        plan,
+        claim: Claim::Least { cost, plan },
         rows,
     };
     match Certificate::new(parts) {

@@ -6,7 +6,7 @@ ghost use Rattle.batch_runs.specs.Setups.{Guides};
 use crate::tables::{bound_of, guide_of, partitions_of};
 use board::{Board, Weights};
 use breadth_first::least_costs;
-use certificate::{Certificate, Parts};
+use certificate::{Certificate, Claim, Parts, Version};
 use certificate_check::check;
 use hda_run::{Free, Job, end_one, solve_one};
 use lower_bound::Bound;
@@ -135,13 +135,13 @@ fn solve(alloc: Global, problem: &Problem, guide: &Bound, whole: &Bound) -> Opti
     match solve_one(alloc, job, spread, &Free).ok()? {
         Outcome::Optimal { cost, plan, rows } => {
             let certificate = Certificate::new(Parts {
+                version: Version::Two,
                 shape: problem.goal.shape(),
                 costs: problem.weights,
                 groups: guide.partition().copy(alloc).ok()?,
                 start: problem.start,
                 goal: problem.goal,
-                cost,
-                plan,
+                claim: Claim::Least { cost, plan },
                 rows,
             })?;
             if check(&certificate, whole).is_err() {

@@ -1,7 +1,6 @@
 //! Lines whose reports are known.
 
 ghost use Rattle.std.specs.Prelude.{◌≡◌, IfSome};
-ghost use Rattle.certificate.specs.Certificates.{AreNamedCosts};
 
 use crate::tables::bound_of;
 use batch_runs::{Setup, SpreadKind};
@@ -225,9 +224,7 @@ pub fn print_report<R: Print + AllocGlobal + Threads + Wait + Sync>(
 }
 
 /// The setup of a line's batch, or None where memory was refused.
-pub fn setup_of<R: Threads + Sync>(rt: &R, alloc: Global, asked: &Asked) -> Option<Setup>
-    ensures { IfSome result (λ setup. AreNamedCosts setup.goal.grid setup.rule) }
-{
+pub fn setup_of<R: Threads + Sync>(rt: &R, alloc: Global, asked: &Asked) -> Option<Setup> {
     let shape = Shape::new(asked.side, asked.side).ok()?;
     let goal = Board::goal(shape);
     let weights = weights_of(asked.costs, shape);
@@ -246,7 +243,6 @@ pub fn setup_of<R: Threads + Sync>(rt: &R, alloc: Global, asked: &Asked) -> Opti
 // What the moves of boards of this shape cost.
 fn weights_of(costs: Costs, shape: Shape) -> Weights
     ensures sides { result.grid ≡ shape }
-    ensures named { AreNamedCosts shape result }
 {
     match costs {
         Costs::Unit => Weights::unit(shape),

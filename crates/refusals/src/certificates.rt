@@ -2,7 +2,7 @@
 
 use crate::answer::{Answer, refused_if, whole_if};
 use byte_streams::ByteSource;
-use certificate::{FormatFault, ReadFault, read};
+use certificate::{Claim, FormatFault, ReadFault, read};
 use std::alloc::Global;
 
 // A plan of nine moves, which outgrows its first places, and five rows.
@@ -28,10 +28,18 @@ pub fn read_certificate(alloc: Global) -> Answer {
     let mut source = ByteSource::new(LONGER.as_slice());
     match read(alloc, &mut source) {
         Ok(certificate) => whole_if(
-            certificate.plan().len() == 9 && certificate.rows().len() == 5,
+            move_count(certificate.claim()) == Some(9) && certificate.rows().len() == 5,
             "another certificate",
         ),
         Err(fault) => refused_if(matches!(fault, ReadFault::NoMemory(_)), "no certificate"),
+    }
+}
+
+// How many moves a plan has that is claimed.
+fn move_count(claim: &Claim) -> Option<usize> {
+    match claim {
+        Claim::Least { plan, .. } => Some(plan.len()),
+        Claim::Bound { .. } => None,
     }
 }
 

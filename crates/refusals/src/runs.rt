@@ -1,7 +1,6 @@
 //! Runs over lines and with certificates.
 
 ghost use Rattle.std.specs.Prelude.{IfSome};
-ghost use Rattle.certificate.specs.Certificates.{AreNamedCosts};
 
 use crate::answer::{Answer, refused_if, whole_if};
 use crate::searches::bound_of;
@@ -17,8 +16,8 @@ use std::sync::Wait;
 use std::thread::Threads;
 
 // 1 0 over 2 3, which one move to the left solves.
-const ONE_MOVE: [u8; 45] = [
-    0x54, 0x49, 0x4c, 0x45, 0x43, 0x52, 0x54, 0x31, 2, 2, 0, 0, // the opening
+const ONE_MOVE: [u8; 46] = [
+    0x54, 0x49, 0x4c, 0x45, 0x43, 0x52, 0x54, 0x32, 0, 2, 2, 0, 0, // the opening
     1, 0, 2, 3, 0, 1, 2, 3, // start and goal
     1, 0, 0, 0, 1, 0, 0, 0, 0x4c, // the cost and the plan
     1, 0, 0, 0, 0, 0, 0, 0, // the count of rows
@@ -26,8 +25,8 @@ const ONE_MOVE: [u8; 45] = [
 ];
 
 // The same with the groups 1,2 and 3. Their sum is the cost, so no row is due.
-const ONE_MOVE_BY_TABLES: [u8; 42] = [
-    0x54, 0x49, 0x4c, 0x45, 0x43, 0x52, 0x54, 0x31, 2, 2, 0, // the opening
+const ONE_MOVE_BY_TABLES: [u8; 43] = [
+    0x54, 0x49, 0x4c, 0x45, 0x43, 0x52, 0x54, 0x32, 0, 2, 2, 0, // the opening
     2, 2, 1, 2, 1, 3, // the groups
     1, 0, 2, 3, 0, 1, 2, 3, // start and goal
     1, 0, 0, 0, 1, 0, 0, 0, 0x4c, // the cost and the plan
@@ -35,17 +34,13 @@ const ONE_MOVE_BY_TABLES: [u8; 42] = [
 ];
 
 // Korf's goal of 2 by 2, at unit cost.
-fn plain(alloc: Global) -> Setup
-    ensures { AreNamedCosts result.goal.grid result.rule }
-{
+fn plain(alloc: Global) -> Setup {
     let shape = Shape::new(2, 2).unwrap();
     Setup::new(alloc, Board::goal(shape), Weights::unit(shape))
 }
 
 // The same with tables, or None where they find no memory.
-fn guided<R: Threads + Sync>(rt: &R, alloc: Global) -> Option<Setup>
-    ensures { IfSome result (λ setup. AreNamedCosts setup.goal.grid setup.rule) }
-{
+fn guided<R: Threads + Sync>(rt: &R, alloc: Global) -> Option<Setup> {
     let shape = Shape::new(2, 2).unwrap();
     let goal = Board::goal(shape);
     let weights = Weights::unit(shape);
@@ -122,9 +117,7 @@ fn certify<R: Threads + Wait + AllocGlobal + Sync>(
     setup: &Setup,
     line: &str,
     due: &[u8],
-) -> Answer
-    requires { AreNamedCosts setup.now.goal.grid setup.now.rule }
-{
+) -> Answer {
     let Ok(mut page) = page(rt.alloc()) else {
         return Answer::Refused;
     };

@@ -17,8 +17,8 @@ use Rattle.board.specs.declared.moves.Move.{Move}
 use Rattle.outcomes.specs.Outcomes.{best_of}
 use Rattle.outcomes.specs.declared.outcome.Ending.{Ending}
 use Rattle.outcomes.specs.declared.outcome.Ending.TheVariants.{Optimal, Unsolvable, Bounded}
-use Rattle.reports.specs.Reports.{outcome_data, refused_data, accepted_data, refused_certificate_data, report_text, best_data}
-use Rattle.reports.specs.Readings.IsReport.{of_outcome, of_line, of_cost, of_certificate}
+use Rattle.reports.specs.Reports.{outcome_data, refused_data, accepted_data, accepted_bound_data, refused_certificate_data, report_text, best_data}
+use Rattle.reports.specs.Readings.IsReport.{of_outcome, of_line, of_cost, of_bound, of_certificate}
 use Rattle.reports.specs.Readings.{IsSmall, AreSmall, IsSmallBest, IsReport}
 
 abbrev whole : Option (json.Json × List Token) → Option Data
@@ -64,6 +64,9 @@ refused_readable code line h = record { numbers = (tt, (IsNumber-decimal line h,
 accepted_readable : (cost : ℕ) → IsSmall cost → IsReadable (accepted_data cost)
 accepted_readable cost h = record { numbers = (IsNumber-decimal cost h, (tt, tt)); shallow = omega arith; same = rw (number_of-decimal cost h) refl }
 
+bound_readable : (bound : ℕ) → IsSmall bound → IsReadable (accepted_bound_data bound)
+bound_readable bound h = record { numbers = (IsNumber-decimal bound h, (tt, tt)); shallow = omega arith; same = rw (number_of-decimal bound h) refl }
+
 refused_certificate_readable : (code : List ℕ) → IsReadable (refused_certificate_data code)
 refused_certificate_readable code = record { numbers = (tt, (tt, tt)); shallow = omega arith; same = refl }
 
@@ -71,6 +74,7 @@ readable : (d : Data) → IsReport d → IsReadable d
 readable d (of_outcome id outcome small) = outcome_readable id outcome small
 readable d (of_line code line small) = refused_readable code line small
 readable d (of_cost cost small) = accepted_readable cost small
+readable d (of_bound bound small) = bound_readable bound small
 readable d (of_certificate code) = refused_certificate_readable code
 
 pub report_read : (d : Data) → IsReport d → read (compact_text d) ≡ Some d

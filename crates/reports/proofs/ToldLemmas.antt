@@ -12,9 +12,9 @@ use Rattle.outcomes.specs.declared.outcome.Why.{Why}
 use Rattle.outcomes.specs.declared.outcome.Why.TheVariants.{Parity, Exhausted}
 use Rattle.outcomes.specs.declared.outcome.Ending.{Ending}
 use Rattle.outcomes.specs.declared.outcome.Ending.TheVariants.{Optimal, Unsolvable, Bounded}
-use Rattle.reports.specs.Reports.{outcome_data, refused_data, accepted_data, refused_certificate_data, report_text, best_data, letters_of}
+use Rattle.reports.specs.Reports.{outcome_data, refused_data, accepted_data, accepted_bound_data, refused_certificate_data, report_text, best_data, letters_of}
 use Rattle.reports.specs.Readings.SaySame.{optimal, unsolvable, bounded}
-use Rattle.reports.specs.Readings.IsReport.{of_outcome, of_line, of_cost, of_certificate}
+use Rattle.reports.specs.Readings.IsReport.{of_outcome, of_line, of_cost, of_bound, of_certificate}
 use Rattle.reports.specs.Readings.{IsSmall, AreSmall, SaySame}
 use Rattle.reports.proofs.ReadLemmas.{one_thing}
 
@@ -118,6 +118,9 @@ refusal_told code code' line line' small small' same =
 
 pub cost_told : (cost cost' : ℕ) → IsSmall cost → IsSmall cost' → report_text (accepted_data cost) ≡ report_text (accepted_data cost') → cost ≡ cost'
 cost_told cost cost' small small' same = ap (number_at (codes "cost")) (one_thing (accepted_data cost) (accepted_data cost') (of_cost cost small) (of_cost cost' small') same)
+
+pub bound_told : (bound bound' : ℕ) → IsSmall bound → IsSmall bound' → report_text (accepted_bound_data bound) ≡ report_text (accepted_bound_data bound') → bound ≡ bound'
+bound_told bound bound' small small' same = ap (number_at (codes "bound")) (one_thing (accepted_bound_data bound) (accepted_bound_data bound') (of_bound bound small) (of_bound bound' small') same)
 
 pub code_told : (code code' : List ℕ) → report_text (refused_certificate_data code) ≡ report_text (refused_certificate_data code') → code ≡ code'
 code_told code code' same = ap (text_at (codes "fault")) (one_thing (refused_certificate_data code) (refused_certificate_data code') (of_certificate code) (of_certificate code') same)

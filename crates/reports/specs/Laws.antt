@@ -4,7 +4,7 @@ use Rattle.std.specs.List.{AllByRecursion}
 use Rattle.serde_json.specs.Data.{Data}
 use Rattle.serde_json.specs.Written.{compact_text}
 use Rattle.outcomes.specs.declared.outcome.Ending.{Ending}
-use Rattle.reports.specs.Reports.{outcome_data, refused_data, accepted_data, refused_certificate_data, report_text}
+use Rattle.reports.specs.Reports.{outcome_data, refused_data, accepted_data, accepted_bound_data, refused_certificate_data, report_text}
 use Rattle.reports.specs.Readings.{IsSmall, AreSmall, IsReport, Reads, SaySame}
 
 -- a report has one line feed (10), its last byte
@@ -44,6 +44,10 @@ RefusalsAreTold =
 -- from the report of an accepted certificate its cost is read back
 abbrev pub CostsAreTold : Type 0
 CostsAreTold = (cost cost' : ℕ) → IsSmall cost → IsSmall cost' → report_text (accepted_data cost) ≡ report_text (accepted_data cost') → cost ≡ cost'
+
+-- from that of an accepted bound the bound
+abbrev pub BoundsAreTold : Type 0
+BoundsAreTold = (bound bound' : ℕ) → IsSmall bound → IsSmall bound' → report_text (accepted_bound_data bound) ≡ report_text (accepted_bound_data bound') → bound ≡ bound'
 
 -- and from that of a refused one its code
 abbrev pub CodesAreTold : Type 0

@@ -11,7 +11,7 @@ use Rattle.outcomes.specs.declared.outcome.Why.{Why}
 use Rattle.outcomes.specs.declared.outcome.Cause.{Cause}
 use Rattle.outcomes.specs.declared.outcome.Ending.{Ending}
 use Rattle.outcomes.specs.declared.outcome.Ending.TheVariants.{Optimal, Unsolvable, Bounded}
-use Rattle.reports.specs.Reports.{outcome_data, refused_data, accepted_data, refused_certificate_data}
+use Rattle.reports.specs.Reports.{outcome_data, refused_data, accepted_data, accepted_bound_data, refused_certificate_data}
 
 -- ---- the values that are reports
 
@@ -35,6 +35,7 @@ pub data IsReport : Data → Type 0 where
   of_outcome : (id : List ℕ) (outcome : Ending) → AreSmall outcome → IsReport (outcome_data id outcome)
   of_line : (code : List ℕ) (line : ℕ) → IsSmall line → IsReport (refused_data code line)
   of_cost : (cost : ℕ) → IsSmall cost → IsReport (accepted_data cost)
+  of_bound : (bound : ℕ) → IsSmall bound → IsReport (accepted_bound_data bound)
   of_certificate : (code : List ℕ) → IsReport (refused_certificate_data code)
 
 -- ---- what a value says

@@ -39,6 +39,10 @@ refused_data code line =
 abbrev pub accepted_data : ℕ → Data
 accepted_data cost = object (member (codes "cost") (number (unsigned cost)) (member (codes "status") (string (codes "accepted")) no_members))
 
+-- the report of a certificate of a bound that is accepted
+abbrev pub accepted_bound_data : ℕ → Data
+accepted_bound_data bound = object (member (codes "bound") (number (unsigned bound)) (member (codes "status") (string (codes "accepted")) no_members))
+
 -- the report of a certificate that is refused by a fault with this code
 abbrev pub refused_certificate_data : List ℕ → Data
 refused_certificate_data code = object (member (codes "fault") (string code) (member (codes "status") (string (codes "refused")) no_members))

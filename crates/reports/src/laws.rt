@@ -2,7 +2,7 @@
 
 ghost use Rattle.reports.specs.Laws.{ReportsAreLines, ReportsAreRead, ReportsSayOneThing};
 ghost use Rattle.reports.specs.Laws.{OutcomesAreTold, OutcomesAreToldAlike, RefusalsAreTold};
-ghost use Rattle.reports.specs.Laws.{CostsAreTold, CodesAreTold};
+ghost use Rattle.reports.specs.Laws.{CostsAreTold, BoundsAreTold, CodesAreTold};
 
 /// A report has one line feed, its last byte.
 pub fn reports_are_lines()
@@ -30,8 +30,9 @@ pub fn refusals_are_told()
     ensures { RefusalsAreTold }
 {}
 
-/// A certificate's report is that of no other cost, or code.
+/// A certificate's report is that of no other cost, bound, or code.
 pub fn certificates_are_told()
     ensures costs { CostsAreTold }
+    ensures bounds { BoundsAreTold }
     ensures codes { CodesAreTold }
 {}

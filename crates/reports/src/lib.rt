@@ -5,5 +5,6 @@ pub mod laws;
 mod report;
 
 pub use report::{
-    NoReport, accepted_report, outcome_report, refused_certificate_report, refused_report,
+    NoReport, accepted_bound_report, accepted_report, outcome_report, refused_certificate_report,
+    refused_report,
 };

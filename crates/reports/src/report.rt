@@ -9,7 +9,8 @@ ghost use Rattle.outcomes.specs.Outcomes.{best_of};
 ghost use Rattle.outcomes.specs.declared.outcome.Ending.TheVariants.{Optimal, Unsolvable, Bounded};
 ghost use Rattle.reports.specs.Readings.{IsSmall, IsSmallBest, AreSmall};
 ghost use Rattle.reports.specs.Reports.{letters_of, best_data, outcome_data, refused_data};
-ghost use Rattle.reports.specs.Reports.{accepted_data, refused_certificate_data, report_text};
+ghost use Rattle.reports.specs.Reports.{accepted_data, accepted_bound_data};
+ghost use Rattle.reports.specs.Reports.{refused_certificate_data, report_text};
 
 use board::Move;
 use memory::{OutOfMemory, json_text, push_char, put, text_value};
@@ -53,6 +54,18 @@ pub fn accepted_report(alloc: Global, cost: u32) -> Result<String, NoReport>
     ensures { IfOk result (λ text. string_bytes text ≡ report_text (accepted_data cost)) }
 {
     let value = match accepted_value(alloc, cost) {
+        Ok(value) => value,
+        Err(refused) => return Err(NoReport { refused }),
+    };
+    json_line(alloc, &value)
+}
+
+/// The report of a certificate of a bound that is accepted: one JSON object and a line feed. No plan
+/// costs less.
+pub fn accepted_bound_report(alloc: Global, bound: u32) -> Result<String, NoReport>
+    ensures { IfOk result (λ text. string_bytes text ≡ report_text (accepted_bound_data bound)) }
+{
+    let value = match accepted_bound_value(alloc, bound) {
         Ok(value) => value,
         Err(refused) => return Err(NoReport { refused }),
     };
@@ -187,6 +200,21 @@ fn accepted_value(alloc: Global, cost: u32) -> Result<Value, OutOfMemory>
 {
     let mut members = Map::new(alloc);
     put(&mut members, alloc, "cost", cost.into())?;
+    put(
+        &mut members,
+        alloc,
+        "status",
+        text_value(alloc, "accepted")?,
+    )?;
+    Ok(Value::Object(members))
+}
+
+// The object of a certificate of a bound that is accepted.
+fn accepted_bound_value(alloc: Global, bound: u32) -> Result<Value, OutOfMemory>
+    ensures { IfOk result (λ built. view built ≡ accepted_bound_data bound) }
+{
+    let mut members = Map::new(alloc);
+    put(&mut members, alloc, "bound", bound.into())?;
     put(
         &mut members,
         alloc,

@@ -5,7 +5,6 @@ ghost use Rattle.board.specs.Positions.{Position};
 ghost use Rattle.byte_streams.specs.Streams.{change};
 ghost use Rattle.batch_runs.specs.Batches.{HasFailed};
 ghost use Rattle.batch_runs.specs.Setups.{hash_by};
-ghost use Rattle.certificate.specs.Certificates.{AreNamedCosts};
 ghost use Rattle.certificate_runs.specs.Certifying.{Replies, MayProve};
 ghost use Rattle.certificate_runs.specs.Headline.{IsTrueAnswer};
 ghost use Rattle.setup_runs.specs.Solving.{rules_of};
@@ -87,7 +86,6 @@ pub fn run_cert<R: Threads + Wait + Sync, S: Source, K: Sink, G: Gate + Sync>(
     setup: &Setup,
     gate: &G,
 ) -> Result<u8, CertifyFault>
-    requires { AreNamedCosts setup.now.goal.grid setup.now.rule }
     ensures replies { Replies setup.now.tables.split (rules_of setup.now)
         (change S.state source.old source.new) (change K.state sink.old sink.new) result }
     ensures truth { IsTrueAnswer setup.now.tables.split (rules_of setup.now)

@@ -1,7 +1,7 @@
 //! Each fault by its code and its text.
 
 use batch_cli::{BatchFault, CertifyFault, CheckFault, EntryFault, LinesFault, SolveFault};
-use board::{BoardFault, Move, ShapeFault, TilesFault};
+use board::{BoardFault, Move, ShapeFault, TilesFault, WeightsFault};
 use byte_streams::{ReadFailed, WriteFailed};
 use certificate::{FormatFault, ReadFault, WriteFault};
 use certificate_check::Refusal;
@@ -30,10 +30,12 @@ fn print_boards(rt: &impl Print) -> io::Result<()> {
         BoardFault::WrongCount,
         BoardFault::TileOutOfRange(7),
         BoardFault::TileRepeated(0),
+        BoardFault::WrongCountOfWeights,
+        BoardFault::WeightOutOfRange(2),
     ] {
         print_fault(rt, fault.code(), fault)?;
     }
-    rt.println("\n# Faults of each kind of call: making a shape or a board")?;
+    rt.println("\n# Faults of each kind of call: making a shape, a board or weights")?;
     let fault = ShapeFault::SideOutOfRange;
     print_fault(rt, fault.code(), fault)?;
     for fault in [
@@ -41,6 +43,9 @@ fn print_boards(rt: &impl Print) -> io::Result<()> {
         TilesFault::TileOutOfRange(7),
         TilesFault::TileRepeated(0),
     ] {
+        print_fault(rt, fault.code(), fault)?;
+    }
+    for fault in [WeightsFault::WrongCount, WeightsFault::WeightOutOfRange(2)] {
         print_fault(rt, fault.code(), fault)?;
     }
     Ok(())

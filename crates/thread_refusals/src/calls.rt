@@ -1,7 +1,6 @@
 //! The calls.
 
 ghost use Rattle.std.specs.Prelude.{◌≡◌, IfSome};
-ghost use Rattle.certificate.specs.Certificates.{AreNamedCosts};
 
 use crate::checking::checked_answer;
 use board::{Board, Shape, Weights};
@@ -158,7 +157,6 @@ fn answer_to<R: Threads + Wait + Sync>(rt: &R, alloc: Global, call: &Call) -> An
 // What a call asks of workers, or None where there is no such board.
 fn problem_of(call: &Call) -> Option<Problem>
     ensures sides { IfSome result (λ p. p.weights.grid ≡ p.goal.grid) }
-    ensures named { IfSome result (λ p. AreNamedCosts p.goal.grid p.weights) }
 {
     let shape = Shape::new(2, call.cols).ok()?;
     let start = Board::from_tiles(shape, call.tiles).ok()?;

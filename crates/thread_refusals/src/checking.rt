@@ -1,6 +1,5 @@
 //! What is answered where a checker has to accept the plan.
 
-ghost use Rattle.certificate.specs.Certificates.{AreNamedCosts};
 ghost use Rattle.lower_bound.specs.Tables.{ArePotentials};
 
 use checked_runs::{CheckedFault, solve_checked};
@@ -22,7 +21,6 @@ pub fn checked_answer<R: Threads + Wait + Sync>(
     workers: usize,
 ) -> Answer
     requires potentials { ArePotentials problem.now.weights problem.now.goal bound.now }
-    requires named { AreNamedCosts problem.now.goal.grid problem.now.weights }
 {
     let spread = Zobrist::new(problem.goal.shape());
     let Ok(job) = Job::new(

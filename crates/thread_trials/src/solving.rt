@@ -4,7 +4,7 @@ ghost use Rattle.lower_bound.specs.Tables.{ArePotentials};
 
 use crate::problems::{Answer, Division, Problem, Team};
 use board::{Board, Move};
-use certificate::{Certificate, Parts};
+use certificate::{Certificate, Claim, Parts, Version};
 use certificate_check::check;
 use hda_run::{Gate, Job, WorldFault};
 use lower_bound::Bound;
@@ -145,13 +145,13 @@ fn judge(
         return Answer::NoMemory;
     };
     let parts = Parts {
+        version: Version::Two,
         shape: problem.goal.shape(),
         costs: problem.weights,
         groups,
         start: problem.start,
         goal: problem.goal,
-        cost,
-        plan,
+        claim: Claim::Least { cost, plan },
         rows,
     };
     match Certificate::new(parts) {

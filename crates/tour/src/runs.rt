@@ -3,7 +3,6 @@
 //! Each run is called by a function without clauses, so that no other has its contract to look at.
 
 ghost use Rattle.std.specs.Prelude.{◌≡◌};
-ghost use Rattle.certificate.specs.Certificates.{AreNamedCosts};
 
 use batch_cli::{
     CertifyFault, CheckFault, Free, LinesFault, Setup, Summary, run_batch, run_cert, run_check,
@@ -83,9 +82,7 @@ fn check(
 }
 
 // Boards of 3 by 3, Korf's goal, and face cost: moving tile t costs t.
-fn setup_of_faces(alloc: Global) -> Setup
-    ensures { AreNamedCosts result.goal.grid result.rule }
-{
+fn setup_of_faces(alloc: Global) -> Setup {
     let shape = Shape::new(3, 3).unwrap();
     Setup::new(alloc, Board::goal(shape), Weights::face(shape))
 }

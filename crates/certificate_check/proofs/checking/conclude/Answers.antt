@@ -3,7 +3,7 @@ use Rattle.std.specs.Prelude.{IfSome}
 use Rattle.board.specs.declared.moves.Move.{Move}
 use Rattle.certificate_check.specs.declared.refusals.Refusal.TheVariants.{OpenSuccessor}
 use Rattle.certificate_check.specs.Refusals.{IsProved, IsFirstRefusal, IsFirstOpen}
-use Rattle.certificate_check.proofs.RefusalLemmas.{first_open, all_proved, proved_is_least, refusal_not_accepted, refusal_is_first, none_refused}
+use Rattle.certificate_check.proofs.RefusalLemmas.{first_open, all_proved, proved_is_below, proved_is_least, refusal_not_accepted, refusal_is_first, none_refused}
 use Rattle.certificate_check.proofs.checking.conclude.Goals as goal
 
 -- the refusal for an open successor is the first
@@ -30,7 +30,10 @@ pub returns-in-None-clause-accepted : goal.returns-in-None-clause-accepted
 returns-in-None-clause-accepted c = ((λ e. proved c), (λ p. refl))
 
 pub returns-in-None-clause-least : goal.returns-in-None-clause-least
-returns-in-None-clause-least c = proved_is_least c.args.certificate.now c.args.bound.now c.sums_are_lower_bounds.ensures.tables c.partition.ensures.tables c.shape.ensures.certificate (proved c)
+returns-in-None-clause-least c = λ some. proved_is_least c.args.certificate.now c.args.bound.now c.sums_are_lower_bounds.ensures.tables c.partition.ensures.tables c.shape.ensures.certificate (proved c) some
+
+pub returns-in-None-clause-below : goal.returns-in-None-clause-below
+returns-in-None-clause-below c = proved_is_below c.args.certificate.now c.args.bound.now c.sums_are_lower_bounds.ensures.tables c.partition.ensures.tables c.shape.ensures.certificate (proved c)
 
 pub returns-in-None-clause-refused : goal.returns-in-None-clause-refused
 returns-in-None-clause-refused c = none_refused c.args.certificate.now c.args.bound.now (proved c)

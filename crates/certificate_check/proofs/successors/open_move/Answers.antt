@@ -6,6 +6,13 @@ use Rattle.certificate_check.proofs.RowLemmas.{row_at, row_here_at}
 use Rattle.certificate_check.proofs.SuccessorLemmas.{number_at, number_low, one_move_more, row_again, told_at}
 use Rattle.certificate_check.proofs.successors.open_move.Goals as goal
 
+pub leaves_open-requires-clause-low : goal.leaves_open-requires-clause-low
+leaves_open-requires-clause-low c =
+    let cert = c.args.certificate.now in
+    let row = c.index-rows-place.result in
+    let at : slice_get cert.rows c.args.place ≡ Some row = row_here_at cert c.rows.result.now c.args.place row c.rows.ensures (omega (arith, ap length c.rows.ensures)) c.index-rows-place.is in
+    (row_at cert c.requires.certificate c.args.place row at).cost
+
 pub returns-then-leaves_open-clause-leaves : goal.returns-then-leaves_open-clause-leaves
 returns-then-leaves_open-clause-leaves c =
     let cert = c.args.certificate.now in
