@@ -38,12 +38,9 @@ fn plan_in(parts: Parts) -> Proved
     requires { IsSome (plan_of parts.claim) }
     ensures { IsPartOf (statement_of parts) result }
 {
-    match parts.claim {
-        Claim::Least { cost, plan } => Proved {
-            cost,
-            plan,
-            rows: parts.rows,
-        },
+    let Parts { claim, rows, .. } = parts;
+    match claim {
+        Claim::Least { cost, plan } => Proved { cost, plan, rows },
         Claim::Bound { .. } => unreachable!(),
     }
 }

@@ -35,8 +35,8 @@ returns-in-Err-groups-clause-run g c same =
     let solved = rw c.in-Optimal.is at (c.in-Ok.ensures.run same) in
     inr (c.in-Optimal.cost, c.in-Optimal.plan, c.in-Optimal.rows, c.in-Err-groups.refused, solved, refl)
 
-pub accepted-requires : goal.accepted-requires
-accepted-requires g c =
+pub accepted-requires-clause-certificate : goal.accepted-requires-clause-certificate
+accepted-requires-clause-certificate g c =
     let p = c.args.job in
     let made = c.in-Optimal in
     let goal_is : c.goal-goal.result.now ≡ p.goal = c.goal-goal.ensures.value in
@@ -60,8 +60,8 @@ returns-in-Ok-accepted-clause-run g c apart =
     let same = alike p made.cost back.cost made.plan.items back.plan.items made.rows.items back.rows.items (sym part.cost) (sym part.plan) (sym part.rows) in
     inl (solved_again p made.cost back.cost made.plan back.plan made.rows back.rows same g.S.Spread.hash_of c.args.spread c.args.workers solved)
 
-pub returns-clause-refused : goal.returns-clause-refused
-returns-clause-refused g c refusal is =
+pub returns-in-Err-accepted-clause-refused : goal.returns-in-Err-accepted-clause-refused
+returns-in-Err-accepted-clause-refused g c refusal is =
     let p = c.args.job in
     let made = c.in-Optimal in
     let goal_is : c.goal-goal.result.now ≡ p.goal = c.goal-goal.ensures.value in
@@ -74,8 +74,8 @@ returns-clause-refused g c refusal is =
     let first : IsFirstRefusal (certificate_in p made.cost made.plan.items made.rows.items) c.args.tables.now c.in-Err-accepted.refusal = subst (λ (s : Statement). IsFirstRefusal s c.args.tables.now c.in-Err-accepted.refusal) same c.in-Err-accepted.ensures.refused in
     (made.cost, made.plan, made.rows, solved, subst (IsFirstRefusal (certificate_in p made.cost made.plan.items made.rows.items) c.args.tables.now) (one_refusal c.in-Err-accepted.refusal refusal is) first)
 
-pub returns-clause-sure : goal.returns-clause-sure
-returns-clause-sure g c good refusal is =
+pub returns-in-Err-accepted-clause-sure : goal.returns-in-Err-accepted-clause-sure
+returns-in-Err-accepted-clause-sure g c good refusal is =
     let p = c.args.job in
     let made = c.in-Optimal in
     let goal_is : c.goal-goal.result.now ≡ p.goal = c.goal-goal.ensures.value in
