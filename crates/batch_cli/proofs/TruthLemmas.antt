@@ -147,7 +147,7 @@ Judged status sink input = WritesVerdict sink input × (status ≡ 0 → StatesT
 -- where a plan is stated, it leads, and its cost is the least
 stated_plan : (plan : Option (List Move)) (P : List Move → Type 0) (L : Type 0) → IfSome plan P → (IsSome plan → L) → IfSome plan (λ moves. P moves × L)
 stated_plan None P L leads least = tt
-stated_plan (Some moves) P L leads least = (leads, least tt)
+stated_plan (Some moves) P L leads least = (leads, least refl)
 
 verdict_judged : (read : Result Statement ReadFault) (sink : Change SinkState) (input : List ℕ) (output : Output) (status : ℕ) → Tells read input → IsVerdict read output → status ≡ output.status → WritesVerdict sink input → Judged status sink input
 verdict_judged (Ok c) sink input output status tells (tables, built, inl accepted) is written = (
