@@ -15,12 +15,12 @@ _tilesolve() {
     --groups) words='none' ;;
     --spread) words='zobrist blank' ;;
     --goal | --workers | --limit) ;;
-    tilesolve | */tilesolve) words='solve check replay --help --version' ;;
+    tilesolve | */tilesolve) words='solve check upgrade replay --help --version' ;;
     *)
         case ${COMP_WORDS[1]} in
         solve) words="$options --cert --progress --help" ;;
         replay) words="$options --help" ;;
-        check) words='--help' ;;
+        check | upgrade) words='--help' ;;
         esac
         ;;
     esac

@@ -10,7 +10,7 @@ use Rattle.batch_runs.specs.Setups.{SetupState}
 use Rattle.table_sets.specs.Built.{AreTrueTables, AreBuilt}
 use Rattle.command_line.specs.declared.requests.Options.{Options}
 use Rattle.command_line.specs.declared.requests.Request.{Request}
-use Rattle.command_line.specs.declared.requests.Request.TheVariants.{Solve, Certify, Check, Replay, Help, Version}
+use Rattle.command_line.specs.declared.requests.Request.TheVariants.{Solve, Certify, Check, Upgrade, Replay, Help, Version}
 use Rattle.command_line.specs.Requests.{AreCostsSaid, AreGroupsSaid, AreOptions, AsksRun, AsksText, AreDefaults, WordsAsk}
 use Rattle.batch_cli.specs.Setups.{AreFit, IsFit, AreTablesFor, IsSetupOf, IsDefaultSetup}
 
@@ -36,6 +36,7 @@ fit_text : (faults : Kinds) (request : Request) → AsksText faults request → 
 fit_text faults (Solve o) never = absurd never
 fit_text faults (Certify o) never = absurd never
 fit_text faults Check never = tt
+fit_text faults Upgrade never = tt
 fit_text faults (Replay o) never = absurd never
 fit_text faults (Help text) asked = tt
 fit_text faults (Version text) asked = tt
@@ -45,6 +46,7 @@ fit_run None request never = absurd never
 fit_run (Some p) (Solve o) asked = fit_options p.1 o asked.1
 fit_run (Some p) (Certify o) asked = fit_options p.1 o asked.1
 fit_run (Some p) Check asked = tt
+fit_run (Some p) Upgrade asked = tt
 fit_run (Some p) (Replay o) asked = fit_options p.1 o asked.1
 fit_run (Some p) (Help text) asked = tt
 fit_run (Some p) (Version text) asked = tt
@@ -54,6 +56,7 @@ pub fit_asked : (words : List Text) (request : Request) → WordsAsk words reque
 fit_asked [] (Solve o) defaults = fit_defaults o defaults
 fit_asked [] (Certify o) never = absurd never
 fit_asked [] Check never = tt
+fit_asked [] Upgrade never = tt
 fit_asked [] (Replay o) never = absurd never
 fit_asked [] (Help text) never = tt
 fit_asked [] (Version text) never = tt

@@ -1,7 +1,7 @@
 -- What the program writes is true.
 use Rattle.std.proofs.Common.{ℕ, ◌≡◌, ◌≢◌, ◌⊎◌, ◌∙◌, ◌<◌, refl, List, [], Option, None, Some, Result, Ok, Err, inl, inr, sym, append-nil, arith, subst, ap, string_bytes}
 use Rattle.std.specs.Prelude.{IfSome, IsSome}
-use Rattle.std.proofs.KnownBytes.{Appends-kept}
+use Rattle.std.proofs.KnownBytes.{Appends-kept, Keeps-trans}
 use Rattle.board.specs.declared.moves.Move.{Move}
 use Rattle.board.specs.Plans.{Leads, IsLeast}
 use Rattle.byte_streams.specs.Streams.{SourceState, SinkState, Change, from_to}
@@ -28,16 +28,18 @@ use Rattle.batch_runs.proofs.RunLemmas.{run_true}
 use Rattle.certificate_runs.specs.declared.faults.CertifyFault.{CertifyFault}
 use Rattle.certificate_runs.specs.declared.faults.CertifyFault.TheVariants as certify
 use Rattle.certificate_runs.specs.declared.faults.CheckFault.{CheckFault}
+use Rattle.certificate_runs.specs.declared.faults.UpgradeFault.{UpgradeFault}
+use Rattle.certificate_runs.specs.declared.faults.UpgradeFault.TheVariants as upgrade
 use Rattle.certificate_runs.specs.declared.faults.CheckFault.TheVariants as check
 use Rattle.certificate_runs.specs.Outputs.{Output}
 use Rattle.certificate_runs.specs.Certifying.{Replies}
 use Rattle.certificate_runs.specs.Checking.{Checks, IsVerdict}
-use Rattle.certificate_runs.specs.Headline.{WritesAnswer, WritesVerdict, IsRefusedBy}
-use Rattle.certificate_runs.proofs.HeadlineLemmas.{answer_true, check_true}
+use Rattle.certificate_runs.specs.Headline.{WritesAnswer, WritesVerdict, IsRefusedBy, WritesUpgrade, IsTrueUpgrade}
+use Rattle.certificate_runs.proofs.HeadlineLemmas.{answer_true, check_true, upgrade_true}
 use Rattle.replay_runs.specs.Replays.{Jobs, Replays}
 use Rattle.replay_runs.specs.Openings.{setup_jobs}
 use Rattle.command_line.specs.declared.requests.Request.{Request}
-use Rattle.command_line.specs.declared.requests.Request.TheVariants.{Solve, Certify, Check, Replay, Help, Version}
+use Rattle.command_line.specs.declared.requests.Request.TheVariants.{Solve, Certify, Check, Upgrade, Replay, Help, Version}
 use Rattle.command_line.specs.declared.faults.NoRequest.{NoRequest}
 use Rattle.command_line.specs.declared.faults.NoRequest.TheVariants.{Usage, Goal, Costs, Groups, Memory}
 use Rattle.option_texts.specs.declared.faults.GroupsFault.TheVariants as groups
@@ -45,10 +47,10 @@ use Rattle.command_line.specs.Requests.{WordsAsk, WordsFail}
 use Rattle.batch_cli.specs.declared.endings.Ending.{Ending}
 use Rattle.batch_cli.specs.declared.endings.Ending.TheVariants.{Refused, Ran, Answered, Shown}
 use Rattle.batch_cli.specs.declared.faults.BatchFault.TheVariants.{Write}
-use Rattle.batch_cli.specs.Faults.{of_lines, of_certify, of_check}
+use Rattle.batch_cli.specs.Faults.{of_lines, of_certify, of_check, of_upgrade}
 use Rattle.batch_cli.specs.Endings.{status_of, HasNotBegun}
-use Rattle.batch_cli.specs.Programs.{IsUnused, ending_of, Solves, Certifies, Judges, TakesSteps, Shows, EndsRun, EndsRequest, EndsBy}
-use Rattle.batch_cli.specs.Headline.{IsTrue, IsTrueOf, IsTrueBy, JudgesTruly, StatesTruth, WritesReplay}
+use Rattle.batch_cli.specs.Programs.{IsUnused, ending_of, Solves, Certifies, Judges, Rewrites, TakesSteps, Shows, EndsRun, EndsRequest, EndsBy}
+use Rattle.batch_cli.specs.Headline.{IsTrue, IsTrueOf, IsTrueBy, JudgesTruly, StatesTruth, UpgradesTruly, WritesReplay}
 use Rattle.batch_cli.proofs.EndLemmas.{behind_none, status_ran, begun_flushed, begun_run}
 use Rattle.batch_cli.proofs.FitLemmas.{default_setup}
 
@@ -71,6 +73,10 @@ WritesAnswer-kept split rules source a b c all kept = record { lines = all.lines
 
 WritesVerdict-kept : (a b c : SinkState) (input : List ℕ) → WritesVerdict (from_to a b) input → PutsNone (from_to b c) → WritesVerdict (from_to a c) input
 WritesVerdict-kept a b c input all kept = record { line = all.line; value = all.value; put = Appends-kept a.contents b.contents c.contents _ all.put kept; json = all.json; truth = all.truth }
+
+WritesUpgrade-kept : (a b c : SinkState) (status : ℕ) (input : List ℕ) → WritesUpgrade (from_to a b) status input → PutsNone (from_to b c) → WritesUpgrade (from_to a c) status input
+WritesUpgrade-kept a b c status input (inl (cert, read, put, is)) kept = inl (cert, read, Appends-kept a.contents b.contents c.contents _ put kept, is)
+WritesUpgrade-kept a b c status input (inr (fault, first, none, is)) kept = inr (fault, first, Keeps-trans a.contents b.contents c.contents none kept, is)
 
 WritesReplay-kept : (jobs : Jobs) (source : Change SourceState) (a b c : SinkState) (status : ℕ) → WritesReplay jobs source (from_to a b) status → PutsNone (from_to b c) → WritesReplay jobs source (from_to a c) status
 WritesReplay-kept jobs source a b c status (inl (lines, all, over, put, is)) kept = inl (lines, all, over, Appends-kept a.contents b.contents c.contents _ put kept, is)
@@ -205,6 +211,30 @@ module _ (source : Change SourceState) (sink : Change SinkState) (ending : Endin
       (λ well. judged source (from_to sink.before ended.between) ended.run.0 status (status_ran ended.ran last ending status ended.flush told (other_than_3 status well) ∙ ap status_of ended.run.2) well ended.run.1)
       (behind_none ended.ran last ending ended.flush)
 
+-- ---- an upgrade
+
+upgraded_by : (source : Change SourceState) (sink : Change SinkState) (result : Result ℕ UpgradeFault) (status : ℕ) → status ≡ status_of (ending_of Answered of_upgrade result) → (status ≡ 0) ⊎ (status ≡ 5) → IsTrueUpgrade source sink result → IfSome source.before.left (WritesUpgrade sink status)
+upgraded_by source sink (Ok n) status told well truth = subst (λ (k : ℕ). IfSome source.before.left (WritesUpgrade sink k)) (sym told) truth
+upgraded_by source sink (Err upgrade.CertificateRead) status told (inl zero) truth = absurd (omega (arith, told, zero))
+upgraded_by source sink (Err upgrade.CertificateRead) status told (inr five) truth = absurd (omega (arith, told, five))
+upgraded_by source sink (Err (upgrade.CertificateMemory refused)) status told (inl zero) truth = absurd (omega (arith, told, zero))
+upgraded_by source sink (Err (upgrade.CertificateMemory refused)) status told (inr five) truth = absurd (omega (arith, told, five))
+upgraded_by source sink (Err upgrade.CertificateWrite) status told (inl zero) truth = absurd (omega (arith, told, zero))
+upgraded_by source sink (Err upgrade.CertificateWrite) status told (inr five) truth = absurd (omega (arith, told, five))
+
+Upgraded-kept : (input : Option (List ℕ)) (a b c : SinkState) (status : ℕ) → ((status ≡ 0) ⊎ (status ≡ 5) → IfSome input (WritesUpgrade (from_to a b) status)) → PutsNone (from_to b c) → IfSome input (UpgradesTruly status (from_to a c))
+Upgraded-kept None a b c status all kept = tt
+Upgraded-kept (Some input) a b c status all kept = λ well. WritesUpgrade-kept a b c status input (all well) kept
+
+module _ (source : Change SourceState) (sink : Change SinkState) (ending : Ending) (status : ℕ) (told : status ≡ status_of ending) where
+  rewritten : EndsRun (Rewrites source) sink ending → IfSome source.before.left (UpgradesTruly status sink)
+  rewritten ended =
+      let last = from_to ended.between sink.after in
+      let first = from_to sink.before ended.between in
+      Upgraded-kept source.before.left sink.before ended.between sink.after status
+      (λ well. upgraded_by source first ended.run.0 status (status_ran ended.ran last ending status ended.flush told (other_than_3 status well) ∙ ap status_of ended.run.2) well (upgrade_true source first ended.run.0 ended.run.1))
+      (behind_none ended.ran last ending ended.flush)
+
 -- ---- a replay, and a text
 
 stepped : (jobs : Jobs) (source : Change SourceState) (sink : Change SinkState) (result : Result ℕ LinesFault) (status : ℕ) → status ≡ status_of (ending_of Answered of_lines result) → status < 2 → Replays jobs source sink result → WritesReplay jobs source sink status
@@ -240,6 +270,7 @@ module _ (source : Change SourceState) (sink : Change SinkState) (ending : Endin
   request_true (Certify o) (inl (setup, is, run)) = inl (setup, is, certified source sink ending status told setup run)
   request_true (Certify o) (inr (lacking, unused, is)) = inr (lacking, told ∙ ap status_of is, unused)
   request_true Check run = inl (checked source sink ending status told run)
+  request_true Upgrade run = inl (rewritten source sink ending status told run)
   request_true (Replay o) (inl (setup, is, run)) = inl (setup, is, replayed setup run)
   request_true (Replay o) (inr (lacking, unused, is)) = inr (lacking, told ∙ ap status_of is, unused)
   request_true (Help text) (unread, run) = inl (shown (string_bytes text) run)
@@ -267,6 +298,7 @@ module _ (source : Change SourceState) (sink : Change SinkState) (ending : Endin
   default_true (Solve o) defaults (inr (lacking, unused, is)) = inr (subst HasNotBegun (sym is) tt, lacking, told ∙ ap status_of is)
   default_true (Certify o) never ends = absurd never
   default_true Check never ends = absurd never
+  default_true Upgrade never ends = absurd never
   default_true (Replay o) never ends = absurd never
   default_true (Help text) never ends = absurd never
   default_true (Version text) never ends = absurd never

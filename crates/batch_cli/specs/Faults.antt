@@ -6,6 +6,8 @@ use Rattle.certificate_runs.specs.declared.faults.CertifyFault.{CertifyFault}
 use Rattle.certificate_runs.specs.declared.faults.CertifyFault.TheVariants as certify
 use Rattle.certificate_runs.specs.declared.faults.CheckFault.{CheckFault}
 use Rattle.certificate_runs.specs.declared.faults.CheckFault.TheVariants as check
+use Rattle.certificate_runs.specs.declared.faults.UpgradeFault.{UpgradeFault}
+use Rattle.certificate_runs.specs.declared.faults.UpgradeFault.TheVariants as upgrade
 use Rattle.batch_cli.specs.declared.faults.BatchFault.{BatchFault}
 use Rattle.batch_cli.specs.declared.faults.BatchFault.TheVariants.{Read, Write, Memory, GroupsMemory, CertificateRead, CertificateMemory, CertificateWrite}
 
@@ -39,3 +41,9 @@ of_check check.CertificateRead = CertificateRead
 of_check (check.CertificateMemory refused) = CertificateMemory refused
 of_check check.Write = Write
 of_check (check.Memory lacking) = Memory lacking
+
+-- of a run that upgrades one
+abbrev pub of_upgrade : UpgradeFault → BatchFault
+of_upgrade upgrade.CertificateRead = CertificateRead
+of_upgrade (upgrade.CertificateMemory refused) = CertificateMemory refused
+of_upgrade upgrade.CertificateWrite = CertificateWrite

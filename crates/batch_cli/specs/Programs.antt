@@ -11,21 +11,23 @@ use Rattle.batch_runs.specs.Batches.{ReportsLines}
 use Rattle.batch_runs.specs.Setups.{SetupState}
 use Rattle.certificate_runs.specs.declared.faults.CertifyFault.{CertifyFault}
 use Rattle.certificate_runs.specs.declared.faults.CheckFault.{CheckFault}
+use Rattle.certificate_runs.specs.declared.faults.UpgradeFault.{UpgradeFault}
 use Rattle.certificate_runs.specs.Certifying.{Replies}
 use Rattle.certificate_runs.specs.Checking.{Checks}
+use Rattle.certificate_runs.specs.Upgrading.{Upgrades}
 use Rattle.replay_runs.specs.Replays.{Replays}
 use Rattle.replay_runs.specs.Openings.{setup_jobs}
 use Rattle.setup_runs.specs.Solving.{rules_of}
 use Rattle.command_line.specs.declared.faults.NoRequest.{NoRequest}
 use Rattle.command_line.specs.declared.requests.Options.{Options}
 use Rattle.command_line.specs.declared.requests.Request.{Request}
-use Rattle.command_line.specs.declared.requests.Request.TheVariants.{Solve, Certify, Check, Replay, Help, Version}
+use Rattle.command_line.specs.declared.requests.Request.TheVariants.{Solve, Certify, Check, Upgrade, Replay, Help, Version}
 use Rattle.command_line.specs.Requests.{WordsAsk, WordsFail}
 use Rattle.batch_cli.specs.declared.faults.BatchFault.{BatchFault}
 use Rattle.batch_cli.specs.declared.faults.BatchFault.TheVariants.{Write}
 use Rattle.batch_cli.specs.declared.endings.Ending.{Ending}
 use Rattle.batch_cli.specs.declared.endings.Ending.TheVariants.{Refused, NoMemory, Ran, Answered, Shown, Faulted}
-use Rattle.batch_cli.specs.Faults.{of_lines, of_certify, of_check}
+use Rattle.batch_cli.specs.Faults.{of_lines, of_certify, of_check, of_upgrade}
 use Rattle.batch_cli.specs.Setups.{IsSetupOf}
 
 -- nothing was read or written
@@ -50,6 +52,10 @@ Certifies source setup sink ending = (result : Result ℕ CertifyFault) × Repli
 -- a certificate is checked
 abbrev pub Judges : Change SourceState → Change SinkState → Ending → Type 0
 Judges source sink ending = (result : Result ℕ CheckFault) × Checks source sink result × (ending ≡ ending_of Answered of_check result)
+
+-- a certificate is written in version 2
+abbrev pub Rewrites : Change SourceState → Change SinkState → Ending → Type 0
+Rewrites source sink ending = (result : Result ℕ UpgradeFault) × Upgrades source sink result × (ending ≡ ending_of Answered of_upgrade result)
 
 -- steps are taken one by one
 abbrev pub TakesSteps : Change SourceState → SetupState → Change SinkState → Ending → Type 0
@@ -93,6 +99,7 @@ abbrev pub EndsRequest : Request → Change SourceState → Change SinkState →
 EndsRequest (Solve o) source sink ending = EndsSetup o (Solves source) source sink ending
 EndsRequest (Certify o) source sink ending = EndsSetup o (Certifies source) source sink ending
 EndsRequest Check source sink ending = EndsRun (Judges source) sink ending
+EndsRequest Upgrade source sink ending = EndsRun (Rewrites source) sink ending
 EndsRequest (Replay o) source sink ending = EndsSetup o (TakesSteps source) source sink ending
 EndsRequest (Help text) source sink ending = (source.after ≡ source.before) × EndsRun (Shows (string_bytes text)) sink ending
 EndsRequest (Version text) source sink ending = (source.after ≡ source.before) × EndsRun (Shows (string_bytes text)) sink ending

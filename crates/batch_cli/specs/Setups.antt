@@ -10,7 +10,7 @@ use Rattle.batch_runs.specs.declared.setup.SpreadKind.TheVariants.{Zobrist}
 use Rattle.table_sets.specs.Built.{AreTrueTables, AreBuilt, AreBuiltFolded}
 use Rattle.command_line.specs.declared.requests.Options.{Options}
 use Rattle.command_line.specs.declared.requests.Request.{Request}
-use Rattle.command_line.specs.declared.requests.Request.TheVariants.{Solve, Certify, Check, Replay, Help, Version}
+use Rattle.command_line.specs.declared.requests.Request.TheVariants.{Solve, Certify, Check, Upgrade, Replay, Help, Version}
 
 -- the costs and the groups are of the goal's shape, and there are workers, not too many
 pub record AreFit (o : Options) : Type 0 where
@@ -24,6 +24,7 @@ abbrev pub IsFit : Request → Type 0
 IsFit (Solve o) = AreFit o
 IsFit (Certify o) = AreFit o
 IsFit Check = ⊤
+IsFit Upgrade = ⊤
 IsFit (Replay o) = AreFit o
 IsFit (Help text) = ⊤
 IsFit (Version text) = ⊤

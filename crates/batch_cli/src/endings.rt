@@ -20,7 +20,7 @@ pub enum Ending {
     NoMemory,
     /// All lines were answered or refused.
     Ran(Summary),
-    /// A certificate was written or judged, or a replay answered, with this status.
+    /// A certificate was written, judged or upgraded, or a replay answered, with this status.
     Answered(u8),
     /// A text of help was written.
     Shown,

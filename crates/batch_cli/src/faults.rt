@@ -4,7 +4,7 @@ ghost use Rattle.std.specs.Prelude.{◌≡◌};
 ghost use Rattle.batch_cli.specs.Faults.{batch_code};
 
 use batch_runs::LinesFault;
-use certificate_runs::{CertifyFault, CheckFault};
+use certificate_runs::{CertifyFault, CheckFault, UpgradeFault};
 use memory::OutOfMemory;
 use reports::NoReport;
 use thiserror::Error;
@@ -107,6 +107,25 @@ impl From<CheckFault> for BatchFault {
             CheckFault::CertificateMemory(refused) => BatchFault::CertificateMemory(refused),
             CheckFault::Write => BatchFault::Write,
             CheckFault::Memory(lacking) => BatchFault::Memory(lacking),
+        }
+    }
+}
+
+impl From<UpgradeFault> for BatchFault {
+    ghost use Rattle.std.specs.Prelude.{◌≡◌};
+    ghost use Rattle.certificate_runs.specs.Faults.{upgrade_code};
+    ghost use Rattle.batch_cli.specs.Faults.{batch_code, of_upgrade};
+
+    ghost from_gives = { λ fault sum. sum ≡ of_upgrade fault };
+
+    fn from(fault: UpgradeFault) -> BatchFault
+        ensures given { result ≡ of_upgrade fault }
+        ensures code { batch_code result ≡ upgrade_code fault }
+    {
+        match fault {
+            UpgradeFault::CertificateRead => BatchFault::CertificateRead,
+            UpgradeFault::CertificateMemory(refused) => BatchFault::CertificateMemory(refused),
+            UpgradeFault::CertificateWrite => BatchFault::CertificateWrite,
         }
     }
 }

@@ -1,5 +1,5 @@
 //! The library of the program `tilesolve`: boards in, reports or a certificate out, certificates
-//! checked, and runs replayed step by step.
+//! checked and upgraded, and runs replayed step by step.
 #![tactic(auto)]
 
 mod endings;
@@ -13,7 +13,9 @@ pub use batch_lines::{
     Entry, EntryFault, INPUT_LIMIT, LINE_LIMIT, Line, LineKind, LineReader, read_entry,
 };
 pub use batch_runs::{LinesFault, Ruled, Setup, SpreadKind, Summary, run_lines};
-pub use certificate_runs::{CertifyFault, CheckFault, certify_first, run_check};
+pub use certificate_runs::{
+    CertifyFault, CheckFault, UpgradeFault, certify_first, run_check, run_upgrade,
+};
 pub use command_line::NoRequest;
 pub use endings::Ending;
 pub use faults::BatchFault;
@@ -22,6 +24,7 @@ pub use outcomes::{Cause, Outcome, SolveFault, Want, Why};
 pub use program::{run_program, run_with_progress};
 pub use replay_runs::{Opener, Run, replay_lines, run_replay};
 pub use reports::{
-    NoReport, accepted_report, outcome_report, refused_certificate_report, refused_report,
+    NoReport, accepted_bound_report, accepted_report, outcome_report, refused_certificate_report,
+    refused_report,
 };
 pub use setup_runs::{run_batch, run_cert};

@@ -8,7 +8,8 @@ ghost use Rattle.batch_runs.specs.Batches.{HasFailed};
 ghost use Rattle.batch_cli.specs.declared.endings.Ending.{Ending};
 ghost use Rattle.batch_cli.specs.Endings.{Tells, HasNotBegun};
 ghost use Rattle.batch_cli.specs.Setups.{AreFit, IsFit};
-ghost use Rattle.batch_cli.specs.Programs.{Solves, Certifies, Judges, TakesSteps, Shows};
+ghost use Rattle.batch_cli.specs.Programs.{Solves, Certifies, Judges, Rewrites};
+ghost use Rattle.batch_cli.specs.Programs.{TakesSteps, Shows};
 ghost use Rattle.batch_cli.specs.Programs.{FlushesBehind, EndsRun, EndsSetup, EndsRequest, EndsBy};
 ghost use Rattle.batch_cli.specs.Programs.{after_flush};
 ghost use Rattle.batch_cli.specs.Headline.{IsTrue, IsTrueBy};
@@ -19,7 +20,7 @@ use crate::progress::WhereAsked;
 use crate::setups::setup_of;
 use batch_runs::Setup;
 use byte_streams::{Sink, Source, WriteFailed};
-use certificate_runs::run_check;
+use certificate_runs::{run_check, run_upgrade};
 use command_line::{Options, Request, read_words};
 use hda_run::{Free, Gate};
 use memory::OutOfMemory;
@@ -33,8 +34,8 @@ use std::thread::Threads;
 /// program's name.
 ///
 /// What the words ask for is done, and the sink is flushed: boards are solved or steps replayed with
-/// tables that are built once, a certificate is written or checked, or a text of help is written. No
-/// words at all mean `solve --rows 3 --cols 3`: 3 by 3 boards at unit cost with Korf's goal, and the
+/// tables that are built once, a certificate is written, checked or upgraded, or a text of help is
+/// written. No words at all mean `solve --rows 3 --cols 3`: 3 by 3 boards at unit cost with Korf's goal, and the
 /// tables of the groups `1,2,3,4/5,6,7,8`.
 ///
 /// What is written tells the truth: so say `IsTrueBy`, and `IsTrue` where there are no words. Where
@@ -130,6 +131,7 @@ fn end_request<R: Threads + Wait + Sync, S: Source, K: Sink, G: Gate + Sync>(
         Request::Solve(options) => solve(rt, alloc, options, source, sink, gate),
         Request::Certify(options) => certify(rt, alloc, options, source, sink, gate),
         Request::Check => check(rt, alloc, source, sink),
+        Request::Upgrade => upgrade(alloc, source, sink),
         Request::Replay(options) => replay(rt, alloc, options, source, sink),
         Request::Help(text) | Request::Version(text) => show(sink, text.as_str()),
     }
@@ -251,6 +253,27 @@ fn judge<R: Threads + Sync, S: Source, K: Sink>(
         result }
 {
     match run_check(rt, alloc, source, sink) {
+        Ok(status) => Ending::Answered(status),
+        Err(fault) => Ending::Faulted(BatchFault::from(fault)),
+    }
+}
+
+// Writes the certificate of the source in version 2.
+fn upgrade<S: Source, K: Sink>(alloc: Global, source: &mut S, sink: &mut K) -> Ending
+    ensures ended { EndsRun (Rewrites (change S.state source.old source.new))
+        (change K.state sink.old sink.new) result }
+    ensures flushed { K.is_flushed sink.new ⊎ HasFailed (K.state sink.new) }
+{
+    let ending = rewrite(alloc, source, sink);
+    flush_behind(sink, ending)
+}
+
+// The same, but for the flush.
+fn rewrite<S: Source, K: Sink>(alloc: Global, source: &mut S, sink: &mut K) -> Ending
+    ensures { Rewrites (change S.state source.old source.new) (change K.state sink.old sink.new)
+        result }
+{
+    match run_upgrade(alloc, source, sink) {
         Ok(status) => Ending::Answered(status),
         Err(fault) => Ending::Faulted(BatchFault::from(fault)),
     }

@@ -1,4 +1,4 @@
-//! The five runs, with each call of each stream failing in turn.
+//! The six runs, with each call of each stream failing in turn.
 
 ghost use Rattle.std.specs.Prelude.{◌≡◌, false};
 ghost use Rattle.byte_streams.specs.ByteSink.{sink_has_failed};
@@ -7,7 +7,7 @@ ghost use Rattle.board.specs.CostRules.{unit_rule};
 use crate::certificates::{BOUND, ONE_MOVE, ONE_MOVE_ONE, SOLVED, THREE_MOVES};
 use batch_cli::{
     BatchFault, Cause, Free, LinesFault, Ruled, Setup, Summary, Why, run_batch, run_cert,
-    run_check, run_lines, run_program,
+    run_check, run_lines, run_program, run_upgrade,
 };
 use board::{Board, Move, Shape, Weights};
 use byte_streams::{ByteSink, ByteSource};
@@ -69,6 +69,8 @@ enum Run {
     Certify,
     // `run_check`.
     Check,
+    // `run_upgrade`.
+    Upgrade,
 }
 
 // A line for each answer of `ByBlank`, one that is refused before it is asked, and one that is
@@ -88,7 +90,7 @@ struct Case {
     unwritten: &'static str,
 }
 
-fn cases() -> [Case; 13] {
+fn cases() -> [Case; 16] {
     [
         Case {
             run: Run::Lines,
@@ -201,13 +203,37 @@ fn cases() -> [Case; 13] {
             status: 5,
             unwritten: "tilesolve: B2\n",
         },
+        Case {
+            run: Run::Upgrade,
+            input: &ONE_MOVE_ONE,
+            reads: 46,
+            output: &ONE_MOVE,
+            status: 0,
+            unwritten: "tilesolve: F8\n",
+        },
+        Case {
+            run: Run::Upgrade,
+            input: &BOUND,
+            reads: 42,
+            output: &BOUND,
+            status: 0,
+            unwritten: "tilesolve: F8\n",
+        },
+        Case {
+            run: Run::Upgrade,
+            input: b"TILECRT3",
+            reads: 8,
+            output: b"",
+            status: 5,
+            unwritten: "",
+        },
     ]
 }
 
 impl Case {
     // What is told where the input cannot be read.
     fn unread(&self) -> &'static str {
-        if self.run == Run::Check {
+        if matches!(self.run, Run::Check | Run::Upgrade) {
             "tilesolve: F6\n"
         } else {
             "tilesolve: B1\n"
@@ -217,7 +243,7 @@ impl Case {
     // What is due where the read after so many others fails: of a batch the reports of the lines
     // that are whole, and else nothing.
     fn due_before(&self, read: usize) -> &'static [u8] {
-        if matches!(self.run, Run::Certify | Run::Check) {
+        if matches!(self.run, Run::Certify | Run::Check | Run::Upgrade) {
             return b"";
         }
         first_lines(self.output, lines_of(beginning(self.input, read)))
@@ -244,7 +270,7 @@ impl Case {
     fn calls(&self) -> usize {
         let flushes_last = match self.run {
             Run::Program => true,
-            Run::Certify => !self.output.is_empty(),
+            Run::Certify | Run::Upgrade => !self.output.is_empty(),
             _ => false,
         };
         self.calls_for(self.output)
@@ -371,6 +397,7 @@ fn start<R: Threads + Wait + AllocGlobal + Sync>(
             tell_status(run_cert(rt, alloc, source, sink, &setup, &Free), errors)
         }
         Run::Check => tell_status(run_check(rt, alloc, source, sink), errors),
+        Run::Upgrade => tell_status(run_upgrade(alloc, source, sink), errors),
     }
 }
 

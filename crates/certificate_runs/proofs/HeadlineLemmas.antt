@@ -6,7 +6,7 @@ use Rattle.std.proofs.lemmas.List.Elements.{recursion_from_All}
 use Rattle.serde_json.specs.Data.{Data, null, boolean, number, string, array, object}
 use Rattle.serde_json.specs.Written.{compact_text}
 use Rattle.byte_streams.specs.Streams.{SourceState, SinkState, Change}
-use Rattle.byte_streams.specs.Sink.{Puts}
+use Rattle.byte_streams.specs.Sink.{Puts, PutsNone}
 use Rattle.board.specs.declared.moves.Move.{Move}
 use Rattle.board.specs.Positions.{Position}
 use Rattle.board.specs.CostRules.{CostRule}
@@ -38,11 +38,14 @@ use Rattle.batch_runs.proofs.TruthLemmas.{truth}
 use Rattle.certificate_runs.specs.Outputs.{Output, IsUntouched}
 use Rattle.certificate_runs.specs.declared.faults.CertifyFault.{CertifyFault}
 use Rattle.certificate_runs.specs.declared.faults.CheckFault.{CheckFault}
+use Rattle.certificate_runs.specs.declared.faults.UpgradeFault.{UpgradeFault}
+use Rattle.certificate_runs.specs.declared.faults.UpgradeFault.TheVariants.{CertificateRead, CertificateMemory}
+use Rattle.certificate_runs.specs.Upgrading.{EndsUpgrade, Upgrades}
 use Rattle.certificate_runs.specs.Certifying.{IsPassedOver, IsCertificateOf, FindsFirst, PassesAll, RepliesTo, Replies, first_line}
 use Rattle.certificate_runs.specs.Checking.{claim_data, IsJudgement, IsVerdict, Checks}
-use Rattle.certificate_runs.specs.Headline.{CertifiesLeast, AnswersFirst, WritesAnswer, IsTrueAnswer, IsRefusedBy, SaysOf, IsTrueVerdict, WritesVerdict, IsTrueCheck}
+use Rattle.certificate_runs.specs.Headline.{CertifiesLeast, AnswersFirst, WritesAnswer, IsTrueAnswer, IsRefusedBy, SaysOf, IsTrueVerdict, WritesVerdict, IsTrueCheck, WritesUpgrade, IsTrueUpgrade}
 use Rattle.certificate_runs.specs.Headline.AnswersFirst.{by_none, by_certificate, by_report}
-use Rattle.std.proofs.KnownBytes.{Appends-nil}
+use Rattle.std.proofs.KnownBytes.{Appends-nil, Keeps-refl}
 
 -- ---- the lines that ask
 
@@ -263,3 +266,39 @@ known (Some input) sink output read tells put verdict = verdict_written sink inp
 pub check_true : (source : Change SourceState) (sink : Change SinkState) (result : Result ℕ CheckFault) → Checks source sink result → IsTrueCheck source sink result
 check_true source sink (Ok status) (read, reads, (output, verdict, put, told)) = known source.before.left sink output read reads.tells put.0 verdict
 check_true source sink (Err fault) checks = tt
+
+-- ---- a certificate in, the same in version 2 out
+
+abbrev answered_by : ℕ → Result ℕ UpgradeFault
+answered_by status = Ok status
+
+status_in : Result ℕ UpgradeFault → ℕ
+status_in (Ok status) = status
+status_in (Err fault) = 0
+
+-- an answer has one status
+one_status : (status n : ℕ) → answered_by status ≡ answered_by n → status ≡ n
+unfolding status_in
+one_status status n is = ap status_in is
+
+-- and is no fault
+no_status : (status : ℕ) (fault : UpgradeFault) → answered_by status ≡ Err fault → ⊥
+no_status status fault is = absurd (cc)
+
+none_put : (sink : Change SinkState) → IsUntouched sink → PutsNone sink
+none_put sink same = subst (λ (after : SinkState). PutsNone (record { before = sink.before; after = after })) (sym same) (Keeps-refl sink.before.contents)
+
+module _ (sink : Change SinkState) (status : ℕ) where
+  upgrade_written : (input : List ℕ) (read : Result Statement ReadFault) → Tells read input → EndsUpgrade read sink (Ok status) → WritesUpgrade sink status input
+  upgrade_written input (Ok c) tells ends = inl (c, spelled_read input c tells, ends.0.0, ends.1)
+  upgrade_written input (Err (Format fault)) tells ends = inr (fault, tells, none_put sink ends.0, one_status status 5 ends.1)
+  upgrade_written input (Err Failed) tells ends = absurd (no_status status CertificateRead ends.1)
+  upgrade_written input (Err (NoMemory refused)) tells ends = absurd (no_status status (CertificateMemory refused) ends.1)
+
+  upgrade_known : (input : Option (List ℕ)) (read : Result Statement ReadFault) → IfSome input (Tells read) → EndsUpgrade read sink (Ok status) → IfSome input (WritesUpgrade sink status)
+  upgrade_known None read tells ends = tt
+  upgrade_known (Some input) read tells ends = upgrade_written input read tells ends
+
+pub upgrade_true : (source : Change SourceState) (sink : Change SinkState) (result : Result ℕ UpgradeFault) → Upgrades source sink result → IsTrueUpgrade source sink result
+upgrade_true source sink (Ok status) (read, reads, ends) = upgrade_known sink status source.before.left read reads.tells ends
+upgrade_true source sink (Err fault) upgrades = tt

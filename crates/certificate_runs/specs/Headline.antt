@@ -2,14 +2,15 @@
 use Rattle.std.specs.Prelude.{ℕ, ◌≡◌, ◌⊎◌, List, [], ◌∷◌, ◌++◌, Option, Some, None, Result, Ok, IfOk, IfSome, codes}
 use Rattle.serde_json.specs.Data.{Data}
 use Rattle.byte_streams.specs.Streams.{SourceState, SinkState, Change}
-use Rattle.byte_streams.specs.Sink.{Puts}
+use Rattle.byte_streams.specs.Sink.{Puts, PutsNone}
 use Rattle.board.specs.declared.moves.Move.{Move}
 use Rattle.board.specs.Positions.{Position}
 use Rattle.board.specs.Plans.{Leads, NothingBelow, IsLeast}
 use Rattle.pattern_index.specs.Splits.{Split}
 use Rattle.outcomes.specs.Outcomes.{Task}
 use Rattle.reports.specs.Readings.{Reads, SaysText, SaysNumber, HasStatus}
-use Rattle.certificate.specs.Certificates.{Statement}
+use Rattle.certificate.specs.Certificates.{Statement, upgraded}
+use Rattle.certificate.specs.Spellings.{spelling}
 use Rattle.certificate.specs.Readings.{certificate, IsFirstFault}
 use Rattle.certificate.specs.Faults.{format_code}
 use Rattle.certificate.specs.declared.faults.FormatFault.{FormatFault}
@@ -22,6 +23,7 @@ use Rattle.lower_bound.specs.Tables.{Tables}
 use Rattle.certificate_runs.specs.Built.{AreBuiltFor}
 use Rattle.certificate_runs.specs.declared.faults.CertifyFault.{CertifyFault}
 use Rattle.certificate_runs.specs.declared.faults.CheckFault.{CheckFault}
+use Rattle.certificate_runs.specs.declared.faults.UpgradeFault.{UpgradeFault}
 
 -- ---- a line in, a certificate out
 
@@ -89,3 +91,15 @@ pub record WritesVerdict (sink : Change SinkState) (input : List ℕ) : Type 0 w
 -- a run that ends well wrote such a line, where the input is known
 abbrev pub IsTrueCheck : Change SourceState → Change SinkState → Result ℕ CheckFault → Type 0
 IsTrueCheck source sink result = IfOk result (λ status. IfSome source.before.left (WritesVerdict sink))
+
+-- ---- a certificate in, the same in version 2 out
+
+-- the input is a certificate, and its spelling in version 2 was written, with the status 0; or it is none, and nothing was written, with the status 5
+abbrev pub WritesUpgrade : Change SinkState → ℕ → List ℕ → Type 0
+WritesUpgrade sink status input =
+    ((c : Statement) × (certificate input ≡ Ok (c, [])) × Puts sink (spelling (upgraded c)) × (status ≡ 0))
+    ⊎ ((fault : FormatFault) × IsFirstFault input fault × PutsNone sink × (status ≡ 5))
+
+-- a run that ends well did so, where the input is known
+abbrev pub IsTrueUpgrade : Change SourceState → Change SinkState → Result ℕ UpgradeFault → Type 0
+IsTrueUpgrade source sink result = IfOk result (λ status. IfSome source.before.left (WritesUpgrade sink status))

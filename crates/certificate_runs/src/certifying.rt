@@ -329,7 +329,10 @@ fn put_reply<K: Sink>(sink: &mut K, reply: &Reply) -> Result<u8, CertifyFault>
 }
 
 // Writes a certificate and passes it on.
-fn put_certificate<K: Sink>(sink: &mut K, certificate: &Certificate) -> Result<(), WriteFault>
+pub(crate) fn put_certificate<K: Sink>(
+    sink: &mut K,
+    certificate: &Certificate,
+) -> Result<(), WriteFault>
     ensures writes { Writes (change K.state sink.old sink.new) (spelling certificate.now) result }
     ensures last { OnOk result (K.is_flushed sink.new) }
 {

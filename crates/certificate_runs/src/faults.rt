@@ -1,7 +1,7 @@
 //! Why a run that writes or checks a certificate ends early.
 
 ghost use Rattle.std.specs.Prelude.{◌≡◌};
-ghost use Rattle.certificate_runs.specs.Faults.{certify_code, check_code};
+ghost use Rattle.certificate_runs.specs.Faults.{certify_code, check_code, upgrade_code};
 
 use memory::OutOfMemory;
 use reports::NoReport;
@@ -68,6 +68,33 @@ impl CheckFault {
             CheckFault::CertificateMemory(_) => "F7",
             CheckFault::Write => "B2",
             CheckFault::Memory(_) => "B3",
+        }
+    }
+}
+
+/// Why a run that upgrades a certificate ended early.
+#[derive(Clone, Copy, Debug, PartialEq, Eq, Error)]
+pub enum UpgradeFault {
+    /// F6
+    #[error("the certificate cannot be read")]
+    CertificateRead,
+    /// F7
+    #[error("no memory for the certificate")]
+    CertificateMemory(OutOfMemory),
+    /// F8
+    #[error("the certificate cannot be written")]
+    CertificateWrite,
+}
+
+impl UpgradeFault {
+    /// The code that the fault is reported by: `F6` to `F8`.
+    pub fn code(self) -> &'static str
+        ensures { result.now ≡ upgrade_code self }
+    {
+        match self {
+            UpgradeFault::CertificateRead => "F6",
+            UpgradeFault::CertificateMemory(_) => "F7",
+            UpgradeFault::CertificateWrite => "F8",
         }
     }
 }

@@ -18,7 +18,7 @@ name_beside (Some b) = refl
 pub names_agree : (m : ArgMatches) → option_map (λ p. p.0) (subcommand_rows_of m) ≡ subcommand_name_of m
 names_agree m = name_beside (out-ArgMatches m).subcommand
 
--- where it is not `check` memory may be refused
-pub memory_fails : (subcommand : Option (Text × List Row)) → (option_map (λ p. p.0) subcommand ≢ Some (codes "check")) → RunFails subcommand Memory
-memory_fails None other = refl
-memory_fails (Some p) other = (λ is. other (ap Some is), tt)
+-- where it is neither `check` nor `upgrade` memory may be refused
+pub memory_fails : (subcommand : Option (Text × List Row)) → (option_map (λ p. p.0) subcommand ≢ Some (codes "check")) → (option_map (λ p. p.0) subcommand ≢ Some (codes "upgrade")) → RunFails subcommand Memory
+memory_fails None other another = refl
+memory_fails (Some p) other another = (λ is. other (ap Some is), λ is. another (ap Some is), tt)

@@ -51,7 +51,8 @@ top_app =
 abbrev pub program_app : Choices → App
 program_app spreads =
     let solve = with_rule (with_rule (puzzle_app spreads (codes "solve")) (flag_rule (codes "cert"))) (flag_rule (codes "progress")) in
-    with_subcommand (with_subcommand (with_subcommand top_app solve.top) (new_app (codes "check")).top) (puzzle_app spreads (codes "replay")).top
+    let checks = with_subcommand (with_subcommand (with_subcommand top_app solve.top) (new_app (codes "check")).top) (new_app (codes "upgrade")).top in
+    with_subcommand checks (puzzle_app spreads (codes "replay")).top
 
 -- the words that `--spread` may have
 abbrev pub AreChoices : Choices → Type 0

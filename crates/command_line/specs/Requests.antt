@@ -20,7 +20,7 @@ use Rattle.board.specs.declared.faults.TilesFault.{TilesFault}
 use Rattle.board.specs.declared.faults.WeightsFault.{WeightsFault}
 use Rattle.command_line.specs.declared.requests.Options.{Options}
 use Rattle.command_line.specs.declared.requests.Request.{Request}
-use Rattle.command_line.specs.declared.requests.Request.TheVariants.{Solve, Certify, Check, Replay, Help, Version}
+use Rattle.command_line.specs.declared.requests.Request.TheVariants.{Solve, Certify, Check, Upgrade, Replay, Help, Version}
 use Rattle.command_line.specs.declared.values.Values.{Values}
 use Rattle.command_line.specs.declared.faults.NoRequest.{NoRequest}
 use Rattle.command_line.specs.declared.faults.NoRequest.TheVariants.{Usage, Goal, Costs, Groups, Memory}
@@ -126,14 +126,15 @@ AsksRun None request = ⊥
 AsksRun (Some p) (Solve o) = (p.0 ≡ codes "solve") × AreOptions p.1 o × (first_of (codes "cert") p.1 ≢ Some (codes "true"))
 AsksRun (Some p) (Certify o) = (p.0 ≡ codes "solve") × AreOptions p.1 o × (first_of (codes "cert") p.1 ≡ Some (codes "true"))
 AsksRun (Some p) Check = p.0 ≡ codes "check"
+AsksRun (Some p) Upgrade = p.0 ≡ codes "upgrade"
 AsksRun (Some p) (Replay o) = (p.0 ≡ codes "replay") × AreOptions p.1 o
 AsksRun (Some p) (Help text) = ⊥
 AsksRun (Some p) (Version text) = ⊥
 
--- why the values of a subcommand's options ask for no run; `check`, which has no options, always asks for its own
+-- why the values of a subcommand's options ask for no run; `check` and `upgrade`, which have no options, always ask for their own
 abbrev pub RunFails : Option (Text × List Row) → NoRequest → Type 0
 RunFails None refusal = refusal ≡ Memory
-RunFails (Some p) refusal = (p.0 ≢ codes "check") × OptionsFail p.1 refusal
+RunFails (Some p) refusal = (p.0 ≢ codes "check") × (p.0 ≢ codes "upgrade") × OptionsFail p.1 refusal
 
 -- a text that a parse with these faults asks for
 abbrev pub AsksText : Kinds → Request → Type 0

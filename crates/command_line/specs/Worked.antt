@@ -18,10 +18,11 @@ OptionsStandOnce =
     → (fault_of (program_app spreads) (codes "solve" ∷ codes "--rows" ∷ codes "3" ∷ codes "--rows" ∷ codes "3" ∷ []) ≡ ArgumentConflict ∷ [])
     × (fault_of (program_app spreads) (codes "replay" ∷ codes "--cert" ∷ []) ≡ UnknownArgument ∷ [])
 
--- help and the version are asked for; `check` alone is at no fault
+-- help and the version are asked for; `check` alone is at no fault, and neither is `upgrade`
 abbrev pub TextsAreAskedFor : Type 0
 TextsAreAskedFor =
     (spreads : Choices)
     → (fault_of (program_app spreads) (codes "solve" ∷ codes "--help" ∷ []) ≡ DisplayHelp ∷ [])
     × (fault_of (program_app spreads) (codes "--version" ∷ []) ≡ DisplayVersion ∷ [])
     × (fault_of (program_app spreads) (codes "check" ∷ []) ≡ [])
+    × (fault_of (program_app spreads) (codes "upgrade" ∷ []) ≡ [])

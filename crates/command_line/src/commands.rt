@@ -12,8 +12,8 @@ use clap::builder::ValueParser;
 use clap::{Arg, ArgAction, Command, Error};
 use std::alloc::Global;
 
-/// `tilesolve` with its subcommands `solve`, `check` and `replay`. The error is that memory was
-/// refused.
+/// `tilesolve` with its subcommands `solve`, `check`, `upgrade` and `replay`. The error is that memory
+/// was refused.
 pub(crate) fn program<'a>(alloc: Global, spreads: &'a [&'a str]) -> Result<Command<'a>, Error>
     ensures app { IfOk result (λ c. app_of c ≡ program_app spreads.entry) }
     ensures refused { IfErr result (λ e. kind_of e ≡ OutOfMemory) }
@@ -28,6 +28,10 @@ pub(crate) fn program<'a>(alloc: Global, spreads: &'a [&'a str]) -> Result<Comma
         .about(help::CHECK)
         .long_about(help::CHECK_LONG)
         .after_help(help::CHECK_AFTER);
+    let upgrade = Command::new(alloc, "upgrade")
+        .about(help::UPGRADE)
+        .long_about(help::UPGRADE_LONG)
+        .after_help(help::UPGRADE_AFTER);
     let replay = puzzle(alloc, "replay", spreads)?
         .about(help::REPLAY)
         .long_about(help::REPLAY_LONG)
@@ -43,6 +47,7 @@ pub(crate) fn program<'a>(alloc: Global, spreads: &'a [&'a str]) -> Result<Comma
         .disable_help_subcommand(true)
         .subcommand(solve)?
         .subcommand(check)?
+        .subcommand(upgrade)?
         .subcommand(replay)?;
     Ok(command)
 }

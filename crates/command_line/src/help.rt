@@ -10,7 +10,7 @@ pub(crate) const PROGRAM: &str =
 /// The same, in two sentences.
 pub(crate) const PROGRAM_LONG: &str = "\
 Finds plans of least cost for sliding-tile puzzles of 2 by 2 to 5 by 5 cells, and checks the
-certificates of such plans. It reads standard input and writes standard output: a board is a line
+certificates of such plans, and of bounds. It reads standard input and writes standard output: a board is a line
 of an id and of the tiles, cell by cell, with 0 for the blank.";
 
 /// Examples of the program, its statuses, and where the formats stand.
@@ -23,7 +23,7 @@ Examples:
 Without words it is: tilesolve solve --rows 3 --cols 3
 
 Exit status:
-  0  every line is optimal or unsolvable, or the certificate is accepted
+  0  every line is optimal or unsolvable, or the certificate is accepted or upgraded
   1  some line is bounded or refused, or a replay's step was none
   2  the words are at fault, with --goal, --cost and --groups among them
   3  standard input can't be read (B1, F6), or standard output can't be written (B2, F8)
@@ -82,9 +82,10 @@ pub(crate) const CHECK: &str = "Checks a certificate";
 
 /// The same, in two sentences.
 pub(crate) const CHECK_LONG: &str = "\
-Checks whether the certificate on standard input proves that its plan is one of least cost, and
-trusts nothing of the run that wrote it. It builds the tables of the certificate's own groups, and
-reports that the certificate is accepted or by which code it is refused.";
+Checks whether the certificate on standard input proves that its plan is one of least cost, or that
+no plan undercuts its bound, and trusts nothing of the run that wrote it. It builds the tables of the
+certificate's own groups, and reports that the certificate is accepted or by which code it is
+refused.";
 
 /// Examples of `check`, its statuses, and where the formats stand.
 pub(crate) const CHECK_AFTER: &str = "\
@@ -98,7 +99,30 @@ Exit status:
   2  the words are at fault
   3  standard input can't be read (F6), or standard output can't be written (B2)
   4  no memory for the certificate or its tables (F7), or for the report (B3)
-  5  the certificate is refused: it is spelled wrong (F1 to F5), or proves no least cost (C1 to C7)
+  5  the certificate is refused: it is spelled wrong (F1 to F5), or proves too little (C1 to C7)
+
+The codes and formats stand in docs/FORMATS.md.";
+
+/// What `upgrade` does.
+pub(crate) const UPGRADE: &str = "Writes a certificate in version 2";
+
+/// The same, in two sentences.
+pub(crate) const UPGRADE_LONG: &str = "\
+Reads a certificate of version 1 or 2 on standard input, and writes the same in version 2. What it
+claims is not checked.";
+
+/// Examples of `upgrade`, its statuses, and where the formats stand.
+pub(crate) const UPGRADE_AFTER: &str = "\
+Examples:
+  tilesolve upgrade < old.cert > new.cert
+  tilesolve upgrade < old.cert | tilesolve check
+
+Exit status:
+  0  the certificate is written
+  2  the words are at fault
+  3  standard input can't be read (F6), or standard output can't be written (F8)
+  4  no memory for the certificate (F7)
+  5  standard input is no certificate, and nothing is written (F1 to F5)
 
 The codes and formats stand in docs/FORMATS.md.";
 

@@ -32,6 +32,9 @@ pub(crate) fn run_in(alloc: Global, matches: &ArgMatches<'_>) -> Result<Request,
     if matches.subcommand_matches("check").is_some() {
         return Ok(Request::Check);
     }
+    if matches.subcommand_matches("upgrade").is_some() {
+        return Ok(Request::Upgrade);
+    }
     Err(NoRequest::Memory)
 }
 

@@ -51,6 +51,8 @@ pub enum Request {
     Certify(Options),
     /// That a certificate is checked.
     Check,
+    /// That a certificate is written in version 2.
+    Upgrade,
     /// That steps are taken one by one.
     Replay(Options),
     /// This text of help.

@@ -12,7 +12,7 @@ pub fn options_stand_once()
     ensures { OptionsStandOnce }
 {}
 
-/// Help and the version are asked for; `check` alone is at no fault.
+/// Help and the version are asked for; `check` alone is at no fault, and neither is `upgrade`.
 pub fn texts_are_asked_for()
     ensures { TextsAreAskedFor }
 {}

@@ -57,6 +57,7 @@ fn print_request(rt: &impl Print, request: &Request) -> io::Result<()> {
         Request::Solve(options) => print_options(rt, "solve", options),
         Request::Certify(options) => print_options(rt, "certify", options),
         Request::Check => rt.println("check"),
+        Request::Upgrade => rt.println("upgrade"),
         Request::Replay(options) => print_options(rt, "replay", options),
         Request::Help(text) => print_lines(rt, "> ", text.as_str()),
         Request::Version(text) => print_lines(rt, "> ", text.as_str()),

@@ -19,14 +19,17 @@ returns-clause-app c =
     let solve_local = stays_local _ _ _ c.in_ok-solve.ensures c.flag-2.ensures.local cert_local in
     let check = ap app_of_fields c.after_help-check.ensures ∙ ap app_of_fields c.long_about-2.ensures ∙ ap app_of_fields c.about-2.ensures ∙ c.new.ensures.app in
     let check_local = ap globals c.after_help-check.ensures ∙ ap globals c.long_about-2.ensures ∙ ap globals c.about-2.ensures ∙ c.new.ensures.local in
-    let replay = ap app_of_fields c.after_help-replay.ensures ∙ ap app_of_fields c.long_about-3.ensures ∙ ap app_of_fields c.about-3.ensures ∙ c.in_ok-puzzle-2.ensures.app in
-    let replay_local = ap globals c.after_help-replay.ensures ∙ ap globals c.long_about-3.ensures ∙ ap globals c.about-3.ensures ∙ c.in_ok-puzzle-2.ensures.local in
-    let bare = ap app_of_fields c.in_ok-bin_name.ensures.0 ∙ c.new-2.ensures.app in
+    let upgrade = ap app_of_fields c.after_help-upgrade.ensures ∙ ap app_of_fields c.long_about-3.ensures ∙ ap app_of_fields c.about-3.ensures ∙ c.new-2.ensures.app in
+    let upgrade_local = ap globals c.after_help-upgrade.ensures ∙ ap globals c.long_about-3.ensures ∙ ap globals c.about-3.ensures ∙ c.new-2.ensures.local in
+    let replay = ap app_of_fields c.after_help-replay.ensures ∙ ap app_of_fields c.long_about-4.ensures ∙ ap app_of_fields c.about-4.ensures ∙ c.in_ok-puzzle-2.ensures.app in
+    let replay_local = ap globals c.after_help-replay.ensures ∙ ap globals c.long_about-4.ensures ∙ ap globals c.about-4.ensures ∙ c.in_ok-puzzle-2.ensures.local in
+    let bare = ap app_of_fields c.in_ok-bin_name.ensures.0 ∙ c.new-3.ensures.app in
     let version = ap app_of_fields c.version.ensures ∙ ap (on_top (λ (s : Shape). record s { has_version = true })) bare in
-    let texts = ap app_of_fields c.after_help-2.ensures ∙ ap app_of_fields c.long_about-4.ensures ∙ ap app_of_fields c.about-4.ensures ∙ version in
+    let texts = ap app_of_fields c.after_help-2.ensures ∙ ap app_of_fields c.long_about-5.ensures ∙ ap app_of_fields c.about-5.ensures ∙ version in
     let named = ap app_of_fields c.no_binary_name.ensures ∙ ap (on_top (λ (s : Shape). record s { no_binary_name = true })) texts in
     let required = ap app_of_fields c.subcommand_required.ensures ∙ ap (on_top (λ (s : Shape). record s { subcommand_required = true })) named in
     let top = ap app_of_fields c.disable_help_subcommand.ensures ∙ ap (on_top (λ (s : Shape). record s { disable_help_subcommand = true })) required in
     let with_solve = adds_subcommand _ _ _ c.in_ok-subcommand.ensures solve_local top solve in
     let with_check = adds_subcommand _ _ _ c.in_ok-subcommand-2.ensures check_local with_solve check in
-    adds_subcommand _ _ _ c.in_ok-command.ensures replay_local with_check replay
+    let with_upgrade = adds_subcommand _ _ _ c.in_ok-subcommand-3.ensures upgrade_local with_check upgrade in
+    adds_subcommand _ _ _ c.in_ok-command.ensures replay_local with_upgrade replay
