@@ -37,7 +37,7 @@ module _ (p : Problem) (cost cost' : ℕ) (plan plan' : Vec Move Global) (rows r
 pub nothing_claimed : (p : Problem) (tables : Tables) (outcome : Outcome) → ((cost : ℕ) (plan : Vec Move Global) (rows : Vec (Position × ℕ) Global) → outcome ≢ Optimal cost plan rows) → IsProvedWith p tables outcome
 nothing_claimed p tables (Optimal cost plan rows) other = absurd (other cost plan rows refl)
 nothing_claimed p tables (Unsolvable why) other = tt
-nothing_claimed p tables (Bounded bound best cause) other = tt
+nothing_claimed p tables (Bounded bound best cause rows) other = tt
 
 -- the refusal in a fault
 refusal_in : Result Outcome CheckedFault → Refusal → Refusal

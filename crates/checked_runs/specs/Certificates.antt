@@ -1,5 +1,5 @@
 -- The certificates of a problem's plans, and the tables that they are checked with.
-use Rattle.std.specs.Prelude.{ℕ, ◌≡◌, ◌≤◌, List, Some}
+use Rattle.std.specs.Prelude.{ℕ, ◌≡◌, ◌≤◌, List, None, Some}
 use Rattle.board.specs.declared.moves.Move.{Move}
 use Rattle.board.specs.Positions.{Position, IsBoard}
 use Rattle.lower_bound.specs.Tables.{Tables, ArePotentials, AreWhole}
@@ -12,6 +12,10 @@ use Rattle.checked_runs.specs.declared.checking.Proved.{Proved}
 -- the certificate that this plan leads from the problem's start to its goal at this cost, which the rows prove to be least with the sums of the problem's groups
 abbrev pub certificate_in : Problem → ℕ → List Move → List (Position × ℕ) → Statement
 certificate_in p cost plan rows = record { version = Two; grid = p.goal.grid; costs = p.rule; groups = p.tables.split; start = p.start; goal = p.goal; cost = cost; plan = Some plan; rows = rows }
+
+-- the certificate that no plan costs less than this bound, which the rows prove with the sums of the problem's groups
+abbrev pub bound_certificate_in : Problem → ℕ → List (Position × ℕ) → Statement
+bound_certificate_in p bound rows = record { version = Two; grid = p.goal.grid; costs = p.rule; groups = p.tables.split; start = p.start; goal = p.goal; cost = bound; plan = None; rows = rows }
 
 -- these are the cost, the plan and the rows of the certificate
 pub record IsPartOf (c : Statement) (proved : Proved) : Type 0 where

@@ -19,13 +19,13 @@ use Rattle.checked_runs.specs.Certificates.{certificate_in}
 abbrev pub IsProvedWith : Problem → Tables → Outcome → Type 0
 IsProvedWith p tables (Optimal cost plan rows) = IsProved (certificate_in p cost plan.items rows.items) tables
 IsProvedWith p tables (Unsolvable why) = ⊤
-IsProvedWith p tables (Bounded bound best cause) = ⊤
+IsProvedWith p tables (Bounded bound best cause rows) = ⊤
 
 -- a plan of n workers, or of one alone, has this cost, and memory was refused for the groups of its certificate: the cost is given as a bound
 abbrev pub IsUncertified : {S : Type 0} → (S → Position → ℕ) → Problem → S → ℕ → Outcome → Type 0
 IsUncertified hash_of p owners n outcome =
     (cost : ℕ) × (plan : Vec Move Global) × (rows : Vec (Position × ℕ) Global) × (refused : OutOfMemory)
-    × IsSolved hash_of p owners n (Optimal cost plan rows) × (outcome ≡ Bounded cost None (Memory (Refused refused)))
+    × IsSolved hash_of p owners n (Optimal cost plan rows) × (outcome ≡ Bounded cost None (Memory (Refused refused)) None)
 
 -- the outcome is that of n workers, or of one alone, or it has the cost of theirs as its bound
 abbrev pub IsCheckedRun : {S : Type 0} → (S → Position → ℕ) → Problem → S → ℕ → Outcome → Type 0

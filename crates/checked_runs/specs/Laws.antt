@@ -1,9 +1,17 @@
 -- The laws of the tables that plans are checked with. Each is the contract of a function that does nothing.
-use Rattle.std.specs.Prelude.{◌≡◌}
+use Rattle.std.specs.Prelude.{◌≡◌, ℕ, Option, Some, Vec}
+use Rattle.std.specs.declared.alloc.Global.{Global}
+use Rattle.board.specs.declared.moves.Move.{Move}
+use Rattle.board.specs.Positions.{Position}
+use Rattle.outcomes.specs.declared.outcome.Cause.{Cause}
+use Rattle.outcomes.specs.declared.outcome.Outcome.TheVariants.{Bounded}
+use Rattle.outcomes.specs.Outcomes.{Answers}
 use Rattle.lower_bound.specs.Tables.{Tables, IsTables, ArePotentials, AreWhole}
 use Rattle.lower_bound.specs.Lists.{IsFoldedBound}
-use Rattle.hda_run.specs.Problems.{Problem}
-use Rattle.checked_runs.specs.Certificates.{AreAsGood}
+use Rattle.world_model.specs.Shapes.{IsTask}
+use Rattle.certificate_check.specs.Refusals.{IsProved}
+use Rattle.hda_run.specs.Problems.{Problem, task_in}
+use Rattle.checked_runs.specs.Certificates.{AreAsGood, bound_certificate_in}
 
 -- whole tables are as good as themselves, where they are potentials
 abbrev pub OwnTablesAreAsGood : Type 0
@@ -19,3 +27,12 @@ TablesFoldedFromAreAsGood =
     → ArePotentials p.rule p.goal tables
     → IsFoldedBound tables p.tables
     → AreAsGood p tables
+
+-- the certificate of a bound that answers a problem with its rows is accepted with tables that are as good as the problem's
+abbrev pub BoundsAreAccepted : Type 0
+BoundsAreAccepted =
+    (p : Problem) (tables : Tables) (bound : ℕ) (best : Option (ℕ × Vec Move Global)) (cause : Cause) (rows : Vec (Position × ℕ) Global)
+    → IsTask (task_in p)
+    → AreAsGood p tables
+    → Answers (task_in p) (Bounded bound best cause (Some rows))
+    → IsProved (bound_certificate_in p bound rows.items) tables

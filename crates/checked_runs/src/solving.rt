@@ -29,7 +29,7 @@ use thread_runs::solve;
 /// checker accepts its certificate with these tables. The certificate names the groups of the job's
 /// own tables. The checker refuses folded tables, so a job that these guide is to be checked with
 /// whole ones, as those that its own were folded from. Where memory was refused for the copy of the
-/// groups, the cost is answered as a bound, without the plan.
+/// groups, the cost is answered as a bound, without the plan and its rows.
 ///
 /// Faults: V2 the workers are not from 1 to `WORKER_LIMIT`, V3 memory was refused for the world of
 /// one worker, V4 the checker refused the certificate, which it never does with tables that are as
@@ -80,6 +80,7 @@ pub fn solve_checked<'a, R: Threads + Wait + Sync, S: Spread + Drop + Sync, G: G
                 bound: cost,
                 best: None,
                 cause: Cause::Memory(Want::Refused(refused)),
+                rows: None,
             });
         }
     };

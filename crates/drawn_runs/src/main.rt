@@ -2,8 +2,8 @@
 //! random, and prints for each board what they answered: how many bounds and how many plans, and
 //! the greatest bound.
 //!
-//! An answer is wrong that is a bound above the least cost, a plan at another cost, a plan whose
-//! certificate is refused, or the word that there is no plan.
+//! An answer is wrong that is a bound above the least cost, a bound without rows, a plan at another
+//! cost, a bound or a plan whose certificate is refused, or the word that there is no plan.
 #![tactic(auto)]
 
 mod drawing;

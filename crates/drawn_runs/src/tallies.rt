@@ -2,7 +2,7 @@
 
 ghost use Rattle.std.specs.Prelude.{◌≡◌, []};
 
-use board::{Board, Move, Shape, Weights};
+use board::{Board, Shape, Weights};
 use certificate::{Certificate, Claim, Parts, Version};
 use certificate_check::check;
 use hda_run::{Job, World, run_steps};
@@ -78,14 +78,15 @@ fn count(
     match outcome {
         Outcome::Optimal { cost, plan, rows } => {
             tally.plans = tally.plans.saturating_add(1);
-            if cost != least || !is_accepted(alloc, tables, start, cost, plan, rows) {
+            let claim = Claim::Least { cost, plan };
+            if cost != least || !is_accepted(alloc, tables, start, claim, rows) {
                 tally.wrong = tally.wrong.saturating_add(1);
             }
         }
-        Outcome::Bounded { bound, .. } => {
+        Outcome::Bounded { bound, rows, .. } => {
             tally.bounds = tally.bounds.saturating_add(1);
             tally.greatest = tally.greatest.max(bound);
-            if bound > least {
+            if bound > least || !is_proved(alloc, tables, start, bound, rows) {
                 tally.wrong = tally.wrong.saturating_add(1);
             }
         }
@@ -93,13 +94,26 @@ fn count(
     }
 }
 
-// Whether the checker accepts the certificate of a plan to Korf's goal with these rows.
+// Whether there are rows of a bound, and the checker accepts its certificate with them.
+fn is_proved(
+    alloc: Global,
+    tables: &Bound,
+    start: Board,
+    bound: u32,
+    rows: Option<Vec<(Board, u32)>>,
+) -> bool {
+    match rows {
+        Some(rows) => is_accepted(alloc, tables, start, Claim::Bound { bound }, rows),
+        None => false,
+    }
+}
+
+// Whether the checker accepts the certificate of a claim on plans to Korf's goal with these rows.
 fn is_accepted(
     alloc: Global,
     tables: &Bound,
     start: Board,
-    cost: u32,
-    plan: Vec<Move>,
+    claim: Claim,
     rows: Vec<(Board, u32)>,
 ) -> bool {
     let shape = start.shape();
@@ -110,7 +124,7 @@ fn is_accepted(
         groups: Partition::new(shape, Vec::new(alloc)).unwrap(),
         start,
         goal: Board::goal(shape),
-        claim: Claim::Least { cost, plan },
+        claim,
         rows,
     };
     match Certificate::new(parts) {

@@ -1,10 +1,14 @@
 -- The laws of runs by one worker, and of what a reader may believe.
-use Rattle.std.proofs.Common.{ℕ, ◌≡◌, ◌⊎◌, List, [], ◌∷◌, ◌++◌, length, map, get_or, Option, None, refl, sym, ap, subst, inl, inr, arith}
-use Rattle.std.specs.Prelude.{Contains}
+use Rattle.std.proofs.Common.{ℕ, ◌≡◌, ◌⊎◌, List, [], ◌∷◌, ◌++◌, length, map, get_or, Option, Some, None, refl, sym, ap, subst, inl, inr, arith}
+use Rattle.std.specs.Prelude.{Contains, Vec}
+use Rattle.std.specs.declared.alloc.Global.{Global}
 use Rattle.std.proofs.lemmas.List.Elements.{All-contains, Contains-append_cases, Contains-append_right}
 use Rattle.board.specs.declared.moves.Move.{Move}
+use Rattle.board.specs.Positions.{Position}
+use Rattle.outcomes.specs.declared.outcome.Cause.{Cause}
 use Rattle.outcomes.specs.declared.outcome.Cause.TheVariants.{Limit as ForLimit}
 use Rattle.outcomes.specs.declared.outcome.Outcome.{Outcome}
+use Rattle.outcomes.specs.declared.outcome.Outcome.TheVariants.{Bounded}
 use Rattle.world_model.specs.declared.steps.HaltCause.{HaltCause}
 use Rattle.world_model.specs.declared.steps.Refusal.{Refusal}
 use Rattle.world_model.specs.declared.steps.Step.{Step}
@@ -17,7 +21,8 @@ use Rattle.world_model.specs.Worlds.{WorldState}
 use Rattle.world_model.proofs.KeptLemmas.{causes_stop}
 use Rattle.world_model.proofs.ListLemmas.{cons_cases, none_in_empty}
 use Rattle.hda_run.specs.Alone.{AreLast, HaltsNowhere, IsHalt}
-use Rattle.hda_run.specs.Laws.{BoundsSpendTheLimit, BoundTruthsAreBelow, HaltsAreDue, OptimalTruthsAgree, OutcomesAreOfTheirSteps, QuietRunsHaveNoHalt, RunsAloneStop, TrueRowsProve, UnsolvableTruthsHaveNoPlan}
+use Rattle.hda_run.specs.Laws.{BoundsSpendTheLimit, BoundTruthsAreBelow, HaltsAreDue, OptimalTruthsAgree, OutcomesAreOfTheirSteps, QuietRunsHaveNoHalt, RunsAloneStop, TrueRowsProve, TrueRowsProveBounds, UnsolvableTruthsHaveNoPlan}
+use Rattle.hda_run.specs.Headline.{TellsTruth}
 use Rattle.hda_run.proofs.AloneOutcomes.{has_stopped}
 use Rattle.hda_run.proofs.RunLemmas.{Made}
 
@@ -72,13 +77,21 @@ optimal p c d plan plan' rows rows' one other =
     omega arith
 
 pub bounded : BoundTruthsAreBelow
-bounded p c bound plan rows best cause one other = other.0 plan.items c one.0
+bounded p c bound plan rows best cause (Some below) one other = other.0 plan.items c one.0
+bounded p c bound plan rows best cause None one other = other.0 plan.items c one.0
 
 pub unsolvable : UnsolvableTruthsHaveNoPlan
-unsolvable p why none = ((λ cost plan rows told. none plan.items cost told.0), (λ bound cost plan cause told. none plan.items cost told.1))
+unsolvable p why none = ((λ cost plan rows told. none plan.items cost told.0), beside)
+  where
+    beside : (bound cost : ℕ) (plan : Vec Move Global) (cause : Cause) (rows : Option (Vec (Position × ℕ) Global)) → ¬ TellsTruth p (Bounded bound (Some (cost, plan)) cause rows)
+    beside bound cost plan cause (Some rows) told = none plan.items cost told.1
+    beside bound cost plan cause None told = let e : ◌≡◌ {A = Option (ℕ × Vec Move Global)} (Some (cost, plan)) None = told.1.0 in absurd (cc)
 
 pub rows_prove : TrueRowsProve
 rows_prove p cost plan rows told = told.2.proves
+
+pub bounds_prove : TrueRowsProveBounds
+bounds_prove p bound best cause rows told = told.2.proves
 
 -- the step, with its answer, leads to a world that gives the outcome
 abbrev IsOfOne : Job → Step → Outcome → Type 0

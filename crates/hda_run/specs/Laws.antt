@@ -20,7 +20,7 @@ use Rattle.world_model.specs.declared.steps.Step.TheVariants.{Expand, Grant, Hal
 use Rattle.world_model.specs.declared.steps.Stop.TheVariants as stops
 use Rattle.world_model.specs.Credit.{expansion_count}
 use Rattle.world_model.specs.Openings.{Job, opening}
-use Rattle.world_model.specs.Outcomes.{IsGiven}
+use Rattle.world_model.specs.Outcomes.{IsGiven, IsBounded}
 use Rattle.world_model.specs.Steps.{IsRun, Next}
 use Rattle.world_model.specs.Turns.{turn}
 use Rattle.world_model.specs.Worlds.{WorldState}
@@ -62,7 +62,7 @@ BoundsSpendTheLimit =
     (job : Job) (w : WorldState)
     → IsRunAlone job w
     → (expansion_count w ≤ job.limit)
-    × ((bound : ℕ) (best : Option (ℕ × Vec Move Global)) → IsGiven w (Bounded bound best ForLimit) → expansion_count w ≡ job.limit)
+    × ((bound : ℕ) (best : Option (ℕ × Vec Move Global)) → IsBounded w bound best ForLimit → expansion_count w ≡ job.limit)
 
 -- ---- what a reader may believe
 
@@ -77,9 +77,9 @@ OptimalTruthsAgree =
 -- and no bound that tells it is above that cost
 abbrev pub BoundTruthsAreBelow : Type 0
 BoundTruthsAreBelow =
-    (p : Problem) (c bound : ℕ) (plan : Vec Move Global) (rows : Vec (Position × ℕ) Global) (best : Option (ℕ × Vec Move Global)) (cause : Cause)
+    (p : Problem) (c bound : ℕ) (plan : Vec Move Global) (rows : Vec (Position × ℕ) Global) (best : Option (ℕ × Vec Move Global)) (cause : Cause) (below : Option (Vec (Position × ℕ) Global))
     → TellsTruth p (Optimal c plan rows)
-    → TellsTruth p (Bounded bound best cause)
+    → TellsTruth p (Bounded bound best cause below)
     → bound ≤ c
 
 -- where it is true that there is no plan, no outcome that tells the truth has one
@@ -88,7 +88,7 @@ UnsolvableTruthsHaveNoPlan =
     (p : Problem) (why : Why)
     → TellsTruth p (Unsolvable why)
     → ((cost : ℕ) (plan : Vec Move Global) (rows : Vec (Position × ℕ) Global) → ¬ TellsTruth p (Optimal cost plan rows))
-    × ((bound cost : ℕ) (plan : Vec Move Global) (cause : Cause) → ¬ TellsTruth p (Bounded bound (Some (cost, plan)) cause))
+    × ((bound cost : ℕ) (plan : Vec Move Global) (cause : Cause) (rows : Option (Vec (Position × ℕ) Global)) → ¬ TellsTruth p (Bounded bound (Some (cost, plan)) cause rows))
 
 -- the rows of an optimal outcome prove its cost with the sums of the problem's tables
 abbrev pub TrueRowsProve : Type 0
@@ -96,6 +96,13 @@ TrueRowsProve =
     (p : Problem) (cost : ℕ) (plan : Vec Move Global) (rows : Vec (Position × ℕ) Global)
     → TellsTruth p (Optimal cost plan rows)
     → Proves p.rule rows.items (task_in p).sum p.start p.goal cost
+
+-- and those of a bound prove the bound
+abbrev pub TrueRowsProveBounds : Type 0
+TrueRowsProveBounds =
+    (p : Problem) (bound : ℕ) (best : Option (ℕ × Vec Move Global)) (cause : Cause) (rows : Vec (Position × ℕ) Global)
+    → TellsTruth p (Bounded bound best cause (Some rows))
+    → Proves p.rule rows.items (task_in p).sum p.start p.goal bound
 
 -- the outcome of one step is given by a world to which just that step leads, with some answer, from the opening one
 abbrev pub OutcomesAreOfTheirSteps : Type 0

@@ -2,6 +2,7 @@
 
 ghost use Rattle.std.specs.Prelude.{ℕ, ◌≡◌, ◌≢◌, ◌↔◌, ◌<◌, Ok, IfOk, IfErr, IsOk, IsTrue, Option, Vec};
 ghost use Rattle.std.specs.declared.alloc.Global.{Global};
+ghost use Rattle.board.specs.Positions.{Position};
 ghost use Rattle.board.specs.Classes.{SameClass};
 ghost use Rattle.board.specs.declared.moves.Move.{Move};
 ghost use Rattle.outcomes.specs.Outcomes.{Answers};
@@ -61,7 +62,8 @@ pub fn solve_one<'a, S: Spread + Drop, G: Gate>(
         → IfOk result (IsByOne S.hash_of job.entry spread) }
     ensures answers { IfOk result (Answers (task_in job.entry)) }
     ensures kept { IfOk result (λ outcome. (bound : ℕ) (best : Option (ℕ × Vec Move Global))
-        (cause : Cause) → outcome ≡ Bounded bound best cause → (cause ≢ Cut) × (cause ≢ Start)) }
+        (cause : Cause) (rows : Option (Vec (Position × ℕ) Global))
+        → outcome ≡ Bounded bound best cause rows → (cause ≢ Cut) × (cause ≢ Start)) }
 {
     // By this law no plan leads from a board to another class.
     plans_keep_the_class();

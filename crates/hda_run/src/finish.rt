@@ -29,8 +29,9 @@ use world_model::laws::outcomes_answer;
 
 impl<'a, S: Spread + Drop> World<'a, S> {
     /// The outcome that the world gives, at any moment: a plan of least cost with rows that prove
-    /// it, the word that there is no plan, or a bound that no plan undercuts. It takes memory for
-    /// the plan and the rows alone.
+    /// it, the word that there is no plan, or a bound that no plan undercuts, with rows that prove
+    /// it. It takes memory for the plan and the rows alone: none where the goal is unknown, if the
+    /// frontier is empty or the bound is the start's sum (`bounds_have_rows` of `world_model`).
     pub fn finish(self, alloc: Global) -> Outcome
         ensures given { IsGiven (world_of S.hash_of self.entry) result }
         ensures answers { Answers (task_in self.entry.job) result }

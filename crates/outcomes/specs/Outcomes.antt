@@ -1,6 +1,7 @@
 -- When an outcome answers a task.
-use Rattle.std.specs.Prelude.{ℕ, ◌≡◌, ◌≤◌, ◌<◌, ⊤, List, Option, None, Some, Vec, length, All, AllPairs}
+use Rattle.std.specs.Prelude.{ℕ, ◌≡◌, ◌+◌, ◌≤◌, ◌<◌, ⊤, List, Option, None, Some, Vec, length, All, AllPairs}
 use Rattle.std.specs.declared.alloc.Global.{Global}
+use Rattle.memory.specs.declared.OutOfMemory.{OutOfMemory}
 use Rattle.board.specs.declared.costs.TheConstants.{GREATEST_COST, GREATEST_EXPANDED_COST}
 use Rattle.board.specs.declared.moves.Move.{Move}
 use Rattle.board.specs.Positions.{Position, IsBoard}
@@ -13,6 +14,7 @@ use Rattle.outcomes.specs.declared.outcome.Why.{Why}
 use Rattle.outcomes.specs.declared.outcome.Why.TheVariants.{Parity, Exhausted}
 use Rattle.outcomes.specs.declared.outcome.Cause.{Cause}
 use Rattle.outcomes.specs.declared.outcome.Cause.TheVariants.{Limit, Memory, Start, Cost, Cut}
+use Rattle.outcomes.specs.declared.outcome.Want.TheVariants.{Refused}
 use Rattle.outcomes.specs.declared.outcome.Outcome.{Outcome}
 use Rattle.outcomes.specs.declared.outcome.Outcome.TheVariants.{Optimal, Unsolvable, Bounded}
 
@@ -53,12 +55,27 @@ abbrev pub best_of : Option (ℕ × Vec Move Global) → Option (ℕ × List Mov
 best_of None = None
 best_of (Some best) = Some (best.0, best.1.items)
 
+-- no board of the goal's shape has a greater sum
+abbrev pub IsAboveSums : Task → ℕ → Type 0
+IsAboveSums task most = (b : Position) → IsBoard b → b.grid ≡ task.goal.grid → task.sum b ≤ most
+
+-- No plan costs less than the bound, which is at least the heuristic of the start, and at most the sum of `GREATEST_COST` and of what no
+-- board's heuristic is above; and the best plan and the cause are as they may be.
+abbrev pub IsTrueBound : Task → ℕ → Option (ℕ × Vec Move Global) → Cause → Type 0
+IsTrueBound task bound best cause =
+    NothingBelow task.rule task.start task.goal bound × (task.sum task.start ≤ bound) × ((most : ℕ) → IsAboveSums task most → bound ≤ GREATEST_COST + most)
+    × IsBestPlan task bound (best_of best) × AllowsCause bound cause
+
+-- the bound stands without rows and without a plan, since memory was refused
+abbrev pub StandsAlone : Option (ℕ × Vec Move Global) → Cause → Type 0
+StandsAlone best cause = (best ≡ None) × ((refused : OutOfMemory) × (cause ≡ Memory (Refused refused)))
+
 -- What an outcome says is true: that its plan is least and its rows prove it, of which neither the cost nor the count of moves is
--- above `GREATEST_COST`; that no plan leads to the goal; or that no plan costs less than a bound, which is at least the heuristic of
--- the start.
+-- above `GREATEST_COST`; that no plan leads to the goal; or that no plan costs less than a bound, which its rows prove where memory was
+-- not refused for them.
 abbrev pub Answers : Task → Outcome → Type 0
 Answers task (Optimal cost plan rows) =
     Leads task.rule task.start plan.items task.goal cost × IsLeast task.rule task.start task.goal cost × AreRowsOf task rows.items cost × (cost ≤ GREATEST_COST) × (length plan.items ≤ GREATEST_COST)
 Answers task (Unsolvable why) = ((plan : List Move) (cost : ℕ) → ¬ Leads task.rule task.start plan task.goal cost) × AllowsWhy task why
-Answers task (Bounded bound best cause) =
-    NothingBelow task.rule task.start task.goal bound × (task.sum task.start ≤ bound) × IsBestPlan task bound (best_of best) × AllowsCause bound cause
+Answers task (Bounded bound best cause (Some rows)) = IsTrueBound task bound best cause × AreRowsOf task rows.items bound
+Answers task (Bounded bound best cause None) = IsTrueBound task bound best cause × StandsAlone best cause

@@ -2,7 +2,8 @@
 
 ghost use Rattle.outcomes.specs.Laws.{OptimalsAgree, OptimalsAreSolvable, BoundsAreBelow};
 ghost use Rattle.outcomes.specs.Laws.{ParityIsOfAnotherClass, BestPlansAreAbove};
-ghost use Rattle.outcomes.specs.Laws.{RowsCanBeLeft};
+ghost use Rattle.outcomes.specs.Laws.{RowsProveBounds, BoundsLackRowsForMemory};
+ghost use Rattle.outcomes.specs.Laws.{BoundsAreLow, BoundsReachTheStart, RowsCanBeLeft};
 
 /// Optimal outcomes of one task have one cost.
 pub fn optimals_agree()
@@ -27,6 +28,18 @@ pub fn parity_is_of_another_class()
 /// The best plan beside a bound leads to the goal, at a cost above the bound.
 pub fn best_plans_are_above()
     ensures { BestPlansAreAbove }
+{}
+
+/// The rows of a bound prove it by themselves; it has some unless memory was refused.
+pub fn rows_prove_bounds()
+    ensures rows { RowsProveBounds }
+    ensures none { BoundsLackRowsForMemory }
+{}
+
+/// No bound is above the greatest cost and the greatest sum together, or below the start's sum.
+pub fn bounds_are_low()
+    ensures low { BoundsAreLow }
+    ensures start { BoundsReachTheStart }
 {}
 
 /// What answers a task does so without rows too.

@@ -80,11 +80,13 @@ pub enum Outcome {
     Unsolvable {
         why: Why,
     },
-    /// No plan costs less than the bound; the best plan found, with its cost, if there is one.
+    /// No plan costs less than the bound; the best plan found, with its cost, if there is one; and
+    /// rows that prove the bound, where memory was there for them.
     Bounded {
         bound: u32,
         best: Option<(u32, Vec<Move>)>,
         cause: Cause,
+        rows: Option<Vec<(Board, u32)>>,
     },
 }
 
@@ -96,7 +98,12 @@ impl Outcome {
         match self {
             Outcome::Optimal { cost, plan, .. } => Ending::Optimal { cost, plan },
             Outcome::Unsolvable { why } => Ending::Unsolvable { why },
-            Outcome::Bounded { bound, best, cause } => Ending::Bounded { bound, best, cause },
+            Outcome::Bounded {
+                bound,
+                best,
+                cause,
+                ..
+            } => Ending::Bounded { bound, best, cause },
         }
     }
 }

@@ -102,7 +102,7 @@ fn solve(
     }
 }
 // Judges an outcome. Where memory was refused it is a bound, which is no higher than the least
-// cost, with no plan or one that costs more than the bound.
+// cost, with no plan or one that costs more than the bound, and with rows or without.
 fn judge(outcome: &Outcome, start: &Board, weights: &Weights, least: Option<u32>) -> Answer
     requires { weights.now.grid ≡ start.now.grid }
 {
@@ -115,7 +115,12 @@ fn judge(outcome: &Outcome, start: &Board, weights: &Weights, least: Option<u32>
             least.is_none() && *why == Why::Parity,
             "no plan is said to be",
         ),
-        Outcome::Bounded { bound, best, cause } => {
+        Outcome::Bounded {
+            bound,
+            best,
+            cause,
+            ..
+        } => {
             let is_bound = *bound <= least.unwrap_or(u32::MAX);
             let is_best = match best {
                 Some((cost, plan)) => {

@@ -1,5 +1,5 @@
-//! Prints what is answered where one worker solves a job alone, with rows that prove the cost and
-//! without, and where two workers take a list of steps.
+//! Prints what is answered where one worker solves a job alone, with rows that prove the cost or
+//! the bound and without, and where two workers take a list of steps.
 #![tactic(auto)]
 
 mod cases;

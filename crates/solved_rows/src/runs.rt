@@ -68,9 +68,23 @@ fn print_outcome(rt: &impl Print, outcome: &Outcome) -> io::Result<()> {
             print_rows(rt, rows)
         }
         Outcome::Unsolvable { why } => println!(rt; "run_and_finish: unsolvable, {why:?}"),
-        Outcome::Bounded { bound, best, cause } => {
-            println!(rt; "run_and_finish: bound {bound}, best {best:?}, cause {cause:?}")
+        Outcome::Bounded {
+            bound,
+            best,
+            cause,
+            rows,
+        } => {
+            println!(rt; "run_and_finish: bound {bound}, best {best:?}, cause {cause:?}")?;
+            print_bound_rows(rt, rows)
         }
+    }
+}
+
+// Prints the rows of a bound, or that there are none for want of memory.
+fn print_bound_rows(rt: &impl Print, rows: &Option<Vec<(Board, u32)>>) -> io::Result<()> {
+    match rows {
+        Some(rows) => print_rows(rt, rows),
+        None => rt.println("without rows"),
     }
 }
 

@@ -118,9 +118,23 @@ fn print_outcome(rt: &impl Print, case: &Case, outcome: &Outcome) -> io::Result<
             println!(rt; ", {} rows", rows.len())
         }
         Outcome::Unsolvable { why } => println!(rt; "solve_one: unsolvable, {why:?}"),
-        Outcome::Bounded { bound, best, cause } => {
-            println!(rt; "solve_one: bound {bound}, best {best:?}, cause {cause:?}")
+        Outcome::Bounded {
+            bound,
+            best,
+            cause,
+            rows,
+        } => {
+            print!(rt; "solve_one: bound {bound}, best {best:?}, cause {cause:?}")?;
+            print_row_count(rt, rows)
         }
+    }
+}
+
+// Prints how many rows prove a bound, or that there are none for want of memory.
+fn print_row_count(rt: &impl Print, rows: &Option<Vec<(Board, u32)>>) -> io::Result<()> {
+    match rows {
+        Some(rows) => println!(rt; ", {} rows", rows.len()),
+        None => rt.println(", without rows"),
     }
 }
 

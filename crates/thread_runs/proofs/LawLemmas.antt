@@ -1,5 +1,5 @@
 -- What so many workers answer.
-use Rattle.std.proofs.Common.{ℕ, refl, inl, inr, arith}
+use Rattle.std.proofs.Common.{ℕ, None, Some, refl, inl, inr, arith}
 use Rattle.board.specs.Positions.{Position}
 use Rattle.outcomes.specs.declared.outcome.Cause.{Cause}
 use Rattle.outcomes.specs.declared.outcome.Cause.TheVariants.{Limit, Memory, Start, Cost, Cut}
@@ -10,9 +10,9 @@ use Rattle.outcomes.specs.Endings.{without_rows}
 use Rattle.world_model.specs.Outcomes.{IsGiven}
 use Rattle.world_model.specs.Worlds.{WorldState}
 use Rattle.world_ends.specs.Endings.{EndsIn}
-use Rattle.world_ends.proofs.LawLemmas.{rows_alone}
+use Rattle.world_ends.proofs.LawLemmas.{bounds_alone, rows_alone}
 use Rattle.thread_runs.specs.Solved.{IsOfWholeRun}
-use Rattle.thread_runs.specs.Laws.{IsLimitCostOrMemory, WholeRunsSayWhy, WholeEndsSayWhy, OneSolvesAlone, OneEndsAlone, SolvedRunsEnd, LimitsAreKept, ThreadsAreAsAsked, EndsAreAsAsked}
+use Rattle.thread_runs.specs.Laws.{HasItsRows, IsLimitCostOrMemory, WholeRunsSayWhy, WholeEndsSayWhy, OneSolvesAlone, OneEndsAlone, SolvedRunsEnd, LimitsAreKept, ThreadsAreAsAsked, EndsAreAsAsked}
 
 named : (cause : Cause) → IsOfWholeRun cause → IsLimitCostOrMemory cause
 named Limit whole = inl refl
@@ -23,16 +23,17 @@ named Start whole = absurd (whole.1 refl)
 named Cut whole = absurd (whole.0 refl)
 
 pub runs_say_why : WholeRunsSayWhy
-runs_say_why bound best cause kept = named cause (kept bound best cause refl)
+runs_say_why bound best cause rows kept = named cause (kept bound best cause rows refl)
 
 pub ends_say_why : WholeEndsSayWhy
 ends_say_why bound best cause kept = named cause (kept bound best cause refl)
 
--- a world that gives an outcome ends with what it says, but for rows
-ends_in : (w : WorldState) (it : Outcome) → IsGiven w it → EndsIn w (without_rows it)
-ends_in w (outcome.Optimal cost plan rows) given = (rows_alone w cost plan rows given.4.2).1 given
-ends_in w (outcome.Unsolvable why) given = given
-ends_in w (outcome.Bounded bound best cause) given = given
+-- a world that gives an outcome with its rows ends with what it says, but for these
+ends_in : (w : WorldState) (it : Outcome) → IsGiven w it → HasItsRows it → EndsIn w (without_rows it)
+ends_in w (outcome.Optimal cost plan rows) given has = (rows_alone w cost plan rows given.4.2).1 given
+ends_in w (outcome.Unsolvable why) given has = given
+ends_in w (outcome.Bounded bound best cause (Some rows)) given has = (bounds_alone w bound best cause rows given.4.1).1 (inl given)
+ends_in w (outcome.Bounded bound best cause None) given has = absurd (cc has)
 
 module _ {S : Type 0} (hash_of : S → Position → ℕ) where
   pub one_solves : OneSolvesAlone hash_of
@@ -44,8 +45,8 @@ module _ {S : Type 0} (hash_of : S → Position → ℕ) where
   one_ends p owners it (inr run) = run
 
   pub solved_ends : SolvedRunsEnd hash_of
-  solved_ends p owners n it (inl (several, (w, joined, kept, given))) = inl (several, (w, joined, kept, ends_in w it given))
-  solved_ends p owners n it (inr (w, run, given)) = inr (w, run, ends_in w it given)
+  solved_ends p owners n it (inl (several, (w, joined, kept, given))) has = inl (several, (w, joined, kept, ends_in w it given has))
+  solved_ends p owners n it (inr (w, run, given)) has = inr (w, run, ends_in w it given has)
 
   pub limits_kept : LimitsAreKept hash_of
   limits_kept p owners n it (inl (several, (w, joined, kept, given))) = (w, given, joined.within_limit)

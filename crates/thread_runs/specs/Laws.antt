@@ -1,5 +1,5 @@
 -- The laws of what so many workers answer. Each is the contract of a function that does nothing.
-use Rattle.std.specs.Prelude.{ℕ, ◌≡◌, ◌⊎◌, ◌%◌, ◌≤◌, Option, Vec, length}
+use Rattle.std.specs.Prelude.{ℕ, ◌≡◌, ◌⊎◌, ◌%◌, ◌≤◌, ⊤, Option, IsSome, Vec, length}
 use Rattle.std.specs.declared.alloc.Global.{Global}
 use Rattle.memory.specs.declared.OutOfMemory.{OutOfMemory}
 use Rattle.board.specs.declared.moves.Move.{Move}
@@ -27,11 +27,18 @@ IsLimitCostOrMemory cause = (cause ≡ Limit) ⊎ (cause ≡ Cost) ⊎ ((refused
 
 -- the bounds of runs that stopped by themselves have one of these causes
 abbrev pub WholeRunsSayWhy : Type 0
-WholeRunsSayWhy = (bound : ℕ) (best : Option (ℕ × Vec Move Global)) (cause : Cause) → HasWholeRun (outcome.Bounded bound best cause) → IsLimitCostOrMemory cause
+WholeRunsSayWhy =
+    (bound : ℕ) (best : Option (ℕ × Vec Move Global)) (cause : Cause) (rows : Option (Vec (Position × ℕ) Global)) → HasWholeRun (outcome.Bounded bound best cause rows) → IsLimitCostOrMemory cause
 
 -- so it is without rows
 abbrev pub WholeEndsSayWhy : Type 0
 WholeEndsSayWhy = (bound : ℕ) (best : Option (ℕ × Vec Move Global)) (cause : Cause) → EndsWholeRun (ending.Bounded bound best cause) → IsLimitCostOrMemory cause
+
+-- the outcome is no bound that stands without rows, for which memory was refused
+abbrev pub HasItsRows : Outcome → Type 0
+HasItsRows (outcome.Optimal cost plan rows) = ⊤
+HasItsRows (outcome.Unsolvable why) = ⊤
+HasItsRows (outcome.Bounded bound best cause rows) = IsSome rows
 
 module _ {S : Type 0} (hash_of : S → Position → ℕ) where
   -- what is solved by one worker is solved by it alone
@@ -41,9 +48,9 @@ module _ {S : Type 0} (hash_of : S → Position → ℕ) where
   abbrev pub OneEndsAlone : Type 0
   OneEndsAlone = (p : Problem) (owners : S) (it : Ending) → IsEnded hash_of p owners 1 it → EndsByOne hash_of p owners it
 
-  -- what is solved ends so, but for its rows
+  -- what is solved, with its rows, ends so but for these
   abbrev pub SolvedRunsEnd : Type 0
-  SolvedRunsEnd = (p : Problem) (owners : S) (n : ℕ) (it : Outcome) → IsSolved hash_of p owners n it → IsEnded hash_of p owners n (without_rows it)
+  SolvedRunsEnd = (p : Problem) (owners : S) (n : ℕ) (it : Outcome) → IsSolved hash_of p owners n it → HasItsRows it → IsEnded hash_of p owners n (without_rows it)
 
   -- the world that gives what is solved has expanded no more boards than the problem's limit
   abbrev pub LimitsAreKept : Type 0

@@ -28,7 +28,8 @@ IsOfWholeRun cause = (cause ≢ Cut) × (cause ≢ Start) × (cause ≢ Memory S
 
 -- a bound has such a cause
 abbrev pub HasWholeRun : Outcome → Type 0
-HasWholeRun it = (bound : ℕ) (best : Option (ℕ × Vec Move Global)) (cause : Cause) → it ≡ outcome.Bounded bound best cause → IsOfWholeRun cause
+HasWholeRun it =
+    (bound : ℕ) (best : Option (ℕ × Vec Move Global)) (cause : Cause) (rows : Option (Vec (Position × ℕ) Global)) → it ≡ outcome.Bounded bound best cause rows → IsOfWholeRun cause
 
 abbrev pub EndsWholeRun : Ending → Type 0
 EndsWholeRun it = (bound : ℕ) (best : Option (ℕ × Vec Move Global)) (cause : Cause) → it ≡ ending.Bounded bound best cause → IsOfWholeRun cause

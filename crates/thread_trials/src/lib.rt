@@ -1,5 +1,5 @@
-//! What workers in threads answer, for programs that try them. A plan with rows counts as found
-//! where the checker accepts its certificate.
+//! What workers in threads answer, for programs that try them. A plan with rows, or a bound with
+//! rows, counts as found where the checker accepts its certificate.
 #![tactic(auto)]
 
 mod gates;

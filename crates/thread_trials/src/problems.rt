@@ -50,8 +50,10 @@ pub enum Answer {
     NoPlan,
     /// No plan costs less than this, and why no more was found.
     Bound(u32, Cause),
-    /// A plan whose certificate the checker refuses.
+    /// A plan or a bound whose certificate the checker refuses.
     Refused,
+    /// A bound without rows, though memory is not its cause.
+    NoRows,
     /// Memory was refused before the first step, or for the certificate.
     NoMemory,
     /// The parts of the problem are not of one shape, or the workers are not from 1 to 16.

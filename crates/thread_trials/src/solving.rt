@@ -3,19 +3,19 @@
 ghost use Rattle.lower_bound.specs.Tables.{ArePotentials};
 
 use crate::problems::{Answer, Division, Problem, Team};
-use board::{Board, Move};
+use board::Board;
 use certificate::{Certificate, Claim, Parts, Version};
 use certificate_check::check;
 use hda_run::{Gate, Job, WorldFault};
 use lower_bound::Bound;
-use outcomes::{Ending, Outcome};
+use outcomes::{Cause, Ending, Outcome};
 use owners::{ByBlank, Spread, Zobrist};
 use std::alloc::Global;
 use std::sync::Wait;
 use std::thread::Threads;
 use thread_runs::{end, solve};
 
-/// What `solve` answers. A plan's rows are looked at by the checker.
+/// What `solve` answers. The rows of a plan, and those of a bound, are looked at by the checker.
 pub fn answer_with_rows<R: Threads + Wait + Sync, G: Gate + Sync>(
     rt: &R,
     alloc: Global,
@@ -111,9 +111,17 @@ fn job_of<'a>(problem: &Problem, bound: &'a Bound) -> Option<Job<'a>>
 
 fn answer_of_outcome(alloc: Global, problem: &Problem, bound: &Bound, outcome: Outcome) -> Answer {
     match outcome {
-        Outcome::Optimal { cost, plan, rows } => judge(alloc, problem, bound, cost, plan, rows),
+        Outcome::Optimal { cost, plan, rows } => {
+            let claim = Claim::Least { cost, plan };
+            judge(alloc, problem, bound, claim, rows, Answer::Plan(cost))
+        }
         Outcome::Unsolvable { .. } => Answer::NoPlan,
-        Outcome::Bounded { bound, cause, .. } => Answer::Bound(bound, cause),
+        Outcome::Bounded {
+            bound: least,
+            cause,
+            rows,
+            ..
+        } => judge_bound(alloc, problem, bound, least, cause, rows),
     }
 }
 
@@ -132,14 +140,35 @@ fn answer_of_fault(fault: WorldFault) -> Answer {
     }
 }
 
-// A plan, as far as the checker accepts its certificate.
+// A bound, as far as it has rows with which the checker accepts its certificate; without rows only
+// where memory is its cause.
+fn judge_bound(
+    alloc: Global,
+    problem: &Problem,
+    bound: &Bound,
+    least: u32,
+    cause: Cause,
+    rows: Option<Vec<(Board, u32)>>,
+) -> Answer {
+    let answer = Answer::Bound(least, cause);
+    match rows {
+        Some(rows) => {
+            let claim = Claim::Bound { bound: least };
+            judge(alloc, problem, bound, claim, rows, answer)
+        }
+        None if matches!(cause, Cause::Memory(_)) => answer,
+        None => Answer::NoRows,
+    }
+}
+
+// An answer, as far as the checker accepts the certificate of what it claims.
 fn judge(
     alloc: Global,
     problem: &Problem,
     bound: &Bound,
-    cost: u32,
-    plan: Vec<Move>,
+    claim: Claim,
     rows: Vec<(Board, u32)>,
+    answer: Answer,
 ) -> Answer {
     let Ok(groups) = bound.partition().copy(alloc) else {
         return Answer::NoMemory;
@@ -151,11 +180,11 @@ fn judge(
         groups,
         start: problem.start,
         goal: problem.goal,
-        claim: Claim::Least { cost, plan },
+        claim,
         rows,
     };
     match Certificate::new(parts) {
-        Some(certificate) if check(&certificate, bound).is_ok() => Answer::Plan(cost),
+        Some(certificate) if check(&certificate, bound).is_ok() => answer,
         _ => Answer::Refused,
     }
 }

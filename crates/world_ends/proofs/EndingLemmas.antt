@@ -19,12 +19,12 @@ use Rattle.world_model.specs.declared.steps.Stop.{Stop}
 use Rattle.world_model.specs.Costs.{lesser}
 use Rattle.world_model.specs.Workers.{WorkerState, IsTaskBoard}
 use Rattle.world_model.specs.Worlds.{WorldState}
-use Rattle.world_model.specs.Outcomes.{End, IsBoundOf, IsFollowedBack, IsByLastMoves, IsGiven, IsGivenAt, cause_of, cause_at}
+use Rattle.world_model.specs.Outcomes.{End, IsBoundOf, IsFollowedBack, IsByLastMoves, IsGiven, IsGivenAt, IsStoppedAt, cause_of, cause_at}
 use Rattle.outcomes.specs.declared.outcome.Ending.TheVariants.{Optimal, Unsolvable, Bounded}
 use Rattle.world_ends.specs.Parts.{HasParts, known_in}
 use Rattle.world_ends.specs.Lowest.{IsLeastBeside, IsOfWorkers, IsLowestInLanes}
 use Rattle.world_ends.specs.Plans.{IsTraced}
-use Rattle.world_ends.specs.Endings.{EndsIn}
+use Rattle.world_ends.specs.Endings.{EndsWhole, HasPlanAbove}
 use Rattle.world_ends.proofs.PartLemmas.{lowest_is, reached_is}
 
 -- the cost of what is known
@@ -43,6 +43,11 @@ module _ (task : Task) (hash : Position → ℕ) (states : List WorkerState) (w 
   given result is =
       (lowest, cost_in known, lowest_is task hash states w parts lanes lowest laned least, reached_is task hash states w parts known goal_board found, is)
 
+  -- the world stops early at this end
+  stopped_at : (bound : ℕ) (best : Option (ℕ × Vec Move Global)) (cause : Cause) → IsStoppedAt at bound best cause → EndsWhole w (Bounded bound best cause)
+  stopped_at bound best cause is =
+      (lowest, cost_in known, lowest_is task hash states w parts lanes lowest laned least, reached_is task hash states w parts known goal_board found, is)
+
   bound_is : (n bound : ℕ) → lesser lowest (cost_in known) ≡ Some n → bound ≡ max (task.sum task.start) n → IsBoundOf at bound
   bound_is n bound is most = (n, is, most ∙ ap (λ (t : Task). max (t.sum t.start) n) (sym parts.asks))
 
@@ -50,18 +55,18 @@ module _ (task : Task) (hash : Position → ℕ) (states : List WorkerState) (w 
   cause_is stop cause stopped is = is ∙ ap (λ (s : Option Stop). cause_of s lowest) (sym stopped)
 
   -- neither the frontier nor the goal is known
-  pub no_plan : lesser lowest (cost_in known) ≡ None → EndsIn w (Unsolvable Exhausted)
+  pub no_plan : lesser lowest (cost_in known) ≡ None → EndsWhole w (Unsolvable Exhausted)
   no_plan none = given (outcome.Unsolvable Exhausted) (none, refl)
 
   -- the goal is unknown
-  pub no_goal : (n bound : ℕ) (stop : Option Stop) (cause : Cause) → lesser lowest (cost_in known) ≡ Some n → bound ≡ max (task.sum task.start) n → w.book.stop ≡ stop → cause ≡ cause_of stop lowest → known ≡ None → EndsIn w (Bounded bound None cause)
+  pub no_goal : (n bound : ℕ) (stop : Option Stop) (cause : Cause) → lesser lowest (cost_in known) ≡ Some n → bound ≡ max (task.sum task.start) n → w.book.stop ≡ stop → cause ≡ cause_of stop lowest → known ≡ None → EndsWhole w (Bounded bound None cause)
   no_goal n bound stop cause is most stopped caused none =
-      given (outcome.Bounded bound None cause) (bound_is n bound is most, inl (ap cost_in none, cause_is stop cause stopped caused))
+      stopped_at bound None cause (bound_is n bound is most, ap cost_in none, cause_is stop cause stopped caused)
 
-  -- memory was refused for the plan, or for its rows
-  pub no_memory : (n bound : ℕ) (there : Known) (refused : OutOfMemory) → lesser lowest (cost_in known) ≡ Some n → bound ≡ max (task.sum task.start) n → known ≡ Some there → EndsIn w (Bounded bound None (Memory (Refused refused)))
-  no_memory n bound there refused is most some =
-      given (outcome.Bounded bound None (Memory (Refused refused))) (bound_is n bound is most, inr ((λ none. none-some there.cost (sym none ∙ ap cost_in some)), (refused, refl)))
+  -- the goal is known, so there is a plan
+  pub no_memory : (n bound : ℕ) (there : Known) → lesser lowest (cost_in known) ≡ Some n → bound ≡ max (task.sum task.start) n → known ≡ Some there → HasPlanAbove w bound
+  no_memory n bound there is most some =
+      (lowest, cost_in known, lowest_is task hash states w parts lanes lowest laned least, reached_is task hash states w parts known goal_board found, bound_is n bound is most, λ none. none-some there.cost (sym none ∙ ap cost_in some))
 
   followed : (there : Known) (cost : ℕ) (plan : List Move) → known ≡ Some there → IsTraced task hash states there.cost cost plan → IsFollowedBack at cost plan
   followed there cost plan some traced = record {
@@ -73,12 +78,12 @@ module _ (task : Task) (hash : Position → ℕ) (states : List WorkerState) (w 
   }
 
   -- the plan costs more than the bound
-  pub plan_above : (n bound : ℕ) (stop : Option Stop) (cause : Cause) (there : Known) (best : ℕ × Vec Move Global) → lesser lowest (cost_in known) ≡ Some n → bound ≡ max (task.sum task.start) n → w.book.stop ≡ stop → cause ≡ cause_of stop lowest → known ≡ Some there → IsTraced task hash states there.cost best.0 best.1.items → best.0 ≢ bound → EndsIn w (Bounded bound (Some best) cause)
+  pub plan_above : (n bound : ℕ) (stop : Option Stop) (cause : Cause) (there : Known) (best : ℕ × Vec Move Global) → lesser lowest (cost_in known) ≡ Some n → bound ≡ max (task.sum task.start) n → w.book.stop ≡ stop → cause ≡ cause_of stop lowest → known ≡ Some there → IsTraced task hash states there.cost best.0 best.1.items → best.0 ≢ bound → EndsWhole w (Bounded bound (Some best) cause)
   plan_above n bound stop cause there best is most stopped caused some traced other =
-      given (outcome.Bounded bound (Some best) cause) (bound_is n bound is most, followed there best.0 best.1.items some traced, other, cause_is stop cause stopped caused)
+      stopped_at bound (Some best) cause (bound_is n bound is most, followed there best.0 best.1.items some traced, other, cause_is stop cause stopped caused)
 
   -- the plan costs the bound
-  pub plan_least : (n bound : ℕ) (there : Known) (best : ℕ × Vec Move Global) → lesser lowest (cost_in known) ≡ Some n → bound ≡ max (task.sum task.start) n → known ≡ Some there → IsTraced task hash states there.cost best.0 best.1.items → best.0 ≡ bound → EndsIn w (Optimal best.0 best.1)
+  pub plan_least : (n bound : ℕ) (there : Known) (best : ℕ × Vec Move Global) → lesser lowest (cost_in known) ≡ Some n → bound ≡ max (task.sum task.start) n → known ≡ Some there → IsTraced task hash states there.cost best.0 best.1.items → best.0 ≡ bound → EndsWhole w (Optimal best.0 best.1)
   plan_least n bound there best is most some traced same = record {
     lowest = lowest;
     reached = cost_in known;

@@ -1,10 +1,13 @@
 -- What a world gives, but for rows.
-use Rattle.std.specs.Prelude.{ℕ, List, Option}
+use Rattle.std.specs.Prelude.{ℕ, ◌≡◌, ◌≢◌, ◌⊎◌, List, Option, None}
+use Rattle.memory.specs.declared.OutOfMemory.{OutOfMemory}
 use Rattle.board.specs.declared.moves.Move.{Move}
+use Rattle.outcomes.specs.declared.outcome.Cause.TheVariants.{Memory}
+use Rattle.outcomes.specs.declared.outcome.Want.TheVariants.{Refused}
 use Rattle.outcomes.specs.declared.outcome.Outcome.TheVariants as outcome
 use Rattle.world_model.specs.Worlds.{WorldState}
 use Rattle.world_model.specs.Frontiers.{IsLowest, IsReached}
-use Rattle.world_model.specs.Outcomes.{End, IsBoundOf, IsFollowedBack, IsGiven}
+use Rattle.world_model.specs.Outcomes.{End, IsBoundOf, IsFollowedBack, IsGiven, IsStoppedAt}
 use Rattle.outcomes.specs.declared.outcome.Ending.{Ending}
 use Rattle.outcomes.specs.declared.outcome.Ending.TheVariants.{Optimal, Unsolvable, Bounded}
 
@@ -21,8 +24,22 @@ pub record IsProvedPlan (w : WorldState) (cost : ℕ) (plan : List Move) : Type 
   pub bound : IsBoundOf (end_at w lowest reached) cost
   pub followed : IsFollowedBack (end_at w lowest reached) cost plan
 
--- The world ends so: as an outcome that it gives, but for rows.
+-- the world ends so where no memory is refused, but for the rows
+abbrev pub EndsWhole : WorldState → Ending → Type 0
+EndsWhole w (Optimal cost plan) = IsProvedPlan w cost plan.items
+EndsWhole w (Unsolvable why) = IsGiven w (outcome.Unsolvable why)
+EndsWhole w (Bounded bound best cause) =
+    (lowest : Option ℕ) × (reached : Option ℕ) × IsLowest w lowest × IsReached w reached × IsStoppedAt (end_at w lowest reached) bound best cause
+
+-- the world has this bound, and knows the goal, so there is a plan to be followed back
+abbrev pub HasPlanAbove : WorldState → ℕ → Type 0
+HasPlanAbove w bound =
+    (lowest : Option ℕ) × (reached : Option ℕ) × IsLowest w lowest × IsReached w reached × IsBoundOf (end_at w lowest reached) bound × (reached ≢ None)
+
+-- The world ends so: as an outcome that it gives, but for rows, for which no memory is taken. Where it is refused for the plan, the bound
+-- stands alone.
 abbrev pub EndsIn : WorldState → Ending → Type 0
-EndsIn w (Optimal cost plan) = IsProvedPlan w cost plan.items
-EndsIn w (Unsolvable why) = IsGiven w (outcome.Unsolvable why)
-EndsIn w (Bounded bound best cause) = IsGiven w (outcome.Bounded bound best cause)
+EndsIn w (Optimal cost plan) = EndsWhole w (Optimal cost plan)
+EndsIn w (Unsolvable why) = EndsWhole w (Unsolvable why)
+EndsIn w (Bounded bound best cause) =
+    EndsWhole w (Bounded bound best cause) ⊎ (HasPlanAbove w bound × (best ≡ None) × ((refused : OutOfMemory) × (cause ≡ Memory (Refused refused))))

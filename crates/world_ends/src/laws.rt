@@ -1,7 +1,9 @@
 //! The laws of endings: each is the contract of a function that does nothing.
 
 ghost use Rattle.world_ends.specs.Laws.{EndingsLackRowsAlone, WantedRowsLeaveABound};
-ghost use Rattle.world_ends.specs.Laws.{RowsMakeAnAnswer, EndingsAnswer};
+ghost use Rattle.world_ends.specs.Laws.{BoundsLackRowsAlone, WantedRowsLeaveTheBound};
+ghost use Rattle.world_ends.specs.Laws.{EndsAreBounds, MemoryEndsAreWanted};
+ghost use Rattle.world_ends.specs.Laws.{RowsMakeAnAnswer, RowsMakeABoundAnswer, EndingsAnswer};
 
 use world_model::laws::outcomes_answer;
 
@@ -10,6 +12,15 @@ pub fn endings_lack_rows_alone()
     ensures rows { EndingsLackRowsAlone }
     ensures memory { WantedRowsLeaveABound }
     ensures answers { RowsMakeAnAnswer }
+{}
+
+/// So it is of a bound; and without rows memory is asked for but for the plan of a known goal.
+pub fn bounds_lack_rows_alone()
+    ensures rows { BoundsLackRowsAlone }
+    ensures memory { WantedRowsLeaveTheBound }
+    ensures answers { RowsMakeABoundAnswer }
+    ensures bounded { EndsAreBounds }
+    ensures wanted { MemoryEndsAreWanted }
 {}
 
 /// The ending that a sound world gives answers its task.

@@ -1,13 +1,15 @@
 //! The outcome of a run.
 
-ghost use Rattle.std.specs.Prelude.{◌≡◌, option_map, if◌then◌else◌};
-ghost use Rattle.outcomes.specs.declared.outcome.Cause.TheVariants.{Cost, Cut};
+ghost use Rattle.std.specs.Prelude.{◌≡◌, None, IfOk, IfErr, option_map, if◌then◌else◌};
+ghost use Rattle.outcomes.specs.declared.outcome.Cause.TheVariants.{Cost, Cut, Memory};
+ghost use Rattle.outcomes.specs.declared.outcome.Want.TheVariants.{Refused};
+ghost use Rattle.outcomes.specs.declared.outcome.Outcome.TheVariants.{Bounded};
 ghost use Rattle.search_lists.specs.Orders.{Guide};
 ghost use Rattle.world_model.specs.Outcomes.{IsGiven, cause_of, is_too_high};
 ghost use Rattle.world_model.specs.Worlds.{WorldState};
 ghost use Rattle.world_ends.specs.Parts.{task_in, states_of, AreGuided, HasParts};
 ghost use Rattle.world_ends.specs.Lowest.{IsLowestInLanes};
-ghost use Rattle.world_ends.specs.Endings.{EndsIn};
+ghost use Rattle.world_ends.specs.Endings.{EndsIn, EndsWhole, HasPlanAbove};
 
 use crate::asked::Asked;
 use crate::lowest::{lesser, lowest_of_workers};
@@ -41,17 +43,37 @@ pub fn outcome_of<C: Counting, S: Spread>(
         → IsLowestInLanes w lanes → w.book.stop ≡ stop → IsGiven w result }
     ensures same { states_of workers.new ≡ states_of workers.old }
 {
-    match ending_of(alloc, asked, owners, workers, lanes, stop) {
+    let ending = match whole_ending(alloc, asked, owners, workers, lanes, stop) {
+        Ok(ending) => ending,
+        Err(lacking) => return bound_alone(lacking.bound, lacking.refused),
+    };
+    match ending {
         Ending::Optimal { cost, plan } => match rows_for(alloc, asked, workers, cost) {
             Ok(rows) => Outcome::Optimal { cost, plan, rows },
-            Err(refused) => Outcome::Bounded {
-                bound: cost,
-                best: None,
-                cause: Cause::Memory(Want::Refused(refused)),
-            },
+            Err(refused) => bound_alone(cost, refused),
         },
         Ending::Unsolvable { why } => Outcome::Unsolvable { why },
-        Ending::Bounded { bound, best, cause } => Outcome::Bounded { bound, best, cause },
+        Ending::Bounded { bound, best, cause } => match rows_for(alloc, asked, workers, bound) {
+            Ok(rows) => Outcome::Bounded {
+                bound,
+                best,
+                cause,
+                rows: Some(rows),
+            },
+            Err(refused) => bound_alone(bound, refused),
+        },
+    }
+}
+
+// The bound for whose plan or rows memory was refused.
+fn bound_alone(bound: u32, refused: OutOfMemory) -> Outcome
+    ensures { result ≡ Bounded bound None (Memory (Refused refused)) None }
+{
+    Outcome::Bounded {
+        bound,
+        best: None,
+        cause: Cause::Memory(Want::Refused(refused)),
+        rows: None,
     }
 }
 
@@ -73,43 +95,75 @@ pub fn ending_of<C: Counting, S: Spread>(
         → IsLowestInLanes w lanes → w.book.stop ≡ stop → EndsIn w result }
     ensures same { states_of workers.new ≡ states_of workers.old }
 {
+    match whole_ending(alloc, asked, owners, workers, lanes, stop) {
+        Ok(ending) => ending,
+        Err(lacking) => Ending::Bounded {
+            bound: lacking.bound,
+            best: None,
+            cause: Cause::Memory(Want::Refused(lacking.refused)),
+        },
+    }
+}
+
+// The bound of a run for the plan of which memory was refused.
+#[derive(Clone, Copy, Debug)]
+struct PlanLacking {
+    bound: u32,
+    refused: OutOfMemory,
+}
+
+// The ending, or the bound for whose plan memory was refused.
+fn whole_ending<C: Counting, S: Spread>(
+    alloc: Global,
+    asked: &Asked<'_>,
+    owners: &S,
+    workers: &mut [Worker<C>],
+    lanes: Option<u32>,
+    stop: Option<Stop>,
+) -> Result<Ending, PlanLacking>
+    requires sides { asked.now.bound.now.split.grid ≡ asked.now.goal.grid }
+    requires guided { (guide : Guide) × AreGuided (task_in asked.now) guide workers.old }
+    requires world { (w : WorldState)
+        × HasParts (task_in asked.now) (S.hash_of owners.now) (states_of workers.old) w }
+    ensures given { IfOk result (λ ending. (w : WorldState)
+        → HasParts (task_in asked.now) (S.hash_of owners.now) (states_of workers.old) w
+        → IsLowestInLanes w lanes → w.book.stop ≡ stop → EndsWhole w ending) }
+    ensures lacking { IfErr result (λ lacking. (w : WorldState)
+        → HasParts (task_in asked.now) (S.hash_of owners.now) (states_of workers.old) w
+        → IsLowestInLanes w lanes → HasPlanAbove w lacking.bound) }
+    ensures same { states_of workers.new ≡ states_of workers.old }
+{
     let lowest = lowest_of_workers(asked, workers, lanes);
     let reached = known_of(owners, workers, &asked.goal);
     let Some(floor) = lesser(lowest, cost_of(reached)) else {
-        return Ending::Unsolvable {
+        return Ok(Ending::Unsolvable {
             why: Why::Exhausted,
-        };
+        });
     };
     let bound = asked.bound.of(&asked.start).max(floor);
     let cause = cause_of(stop, lowest);
     let Some(known) = reached else {
-        return Ending::Bounded {
+        return Ok(Ending::Bounded {
             bound,
             best: None,
             cause,
-        };
+        });
     };
     let found = match plan_back(alloc, asked, owners, workers, known) {
         Ok(found) => found,
-        Err(refused) => {
-            return Ending::Bounded {
-                bound,
-                best: None,
-                cause: Cause::Memory(Want::Refused(refused)),
-            };
-        }
+        Err(refused) => return Err(PlanLacking { bound, refused }),
     };
     if found.0 != bound {
-        return Ending::Bounded {
+        return Ok(Ending::Bounded {
             bound,
             best: Some(found),
             cause,
-        };
+        });
     }
-    Ending::Optimal {
+    Ok(Ending::Optimal {
         cost: found.0,
         plan: found.1,
-    }
+    })
 }
 
 // The cost at which a board is known, where it is.

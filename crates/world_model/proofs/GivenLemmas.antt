@@ -136,11 +136,12 @@ module _ (w : WorldState) (shaped : IsShaped w) (sound : IsSound w) (none : (mov
   unreached : (lowest : Option ℕ) → IsLowest w lowest → IsReached w None → ⊥
   unreached None low reached = none [] [] (λ plan rows moves listed. (Unsolvable Exhausted, (None, None, low, reached, (refl, refl))))
   unreached (Some f) low reached =
-      none [] []
-      (λ plan rows moves listed. (
-        Bounded (max (w.task.sum w.task.start) f) None (cause_at (end_at w (Some f) None)),
-        (Some f, None, low, reached, ((f, refl, refl), inl (refl, refl))),
-      ))
+      no_rows_for w shaped (max (w.task.sum w.task.start) f)
+      (λ rows are. none [] rows
+      (λ plan vector is_plan is_rows. (
+        Bounded (max (w.task.sum w.task.start) f) None (cause_at (end_at w (Some f) None)) (Some vector),
+        (Some f, None, low, reached, (((f, refl, refl), refl, refl), subst (AreRowsFor w (max (w.task.sum w.task.start) f)) (sym is_rows) are)),
+      )))
 
   reached_at : (lowest : Option ℕ) (goal : ℕ) → IsLowest w lowest → IsReached w (Some goal) → ⊥
   reached_at lowest goal low reached =
@@ -166,17 +167,21 @@ module _ (w : WorldState) (shaped : IsShaped w) (sound : IsSound w) (none : (mov
 
       bounded : (moves : List Move) (cost : ℕ) → LeadsAt moves cost → TracedBy moves → cost ≤ goal → (n : ℕ) → lesser lowest (Some goal) ≡ Some n → cost ≢ max (w.task.sum w.task.start) n → ⊥
       bounded moves cost leads traced under n is other =
-          none moves []
+          no_rows_for w shaped (max (w.task.sum w.task.start) n)
+          (λ rows are. none moves rows
           (λ plan vector is_plan is_rows. (
-            Bounded (max (w.task.sum w.task.start) n) (Some (cost, plan)) (cause_at (end_at w lowest (Some goal))),
+            Bounded (max (w.task.sum w.task.start) n) (Some (cost, plan)) (cause_at (end_at w lowest (Some goal))) (Some vector),
             (
               lowest,
               Some goal,
               low,
               reached,
-              ((n, is, refl), record { goal = goal; is = refl; traced = subst TracedBy (sym is_plan) traced; leads = subst (λ ms. LeadsAt ms cost) (sym is_plan) leads; within = under }, other, refl),
+              (
+                ((n, is, refl), record { goal = goal; is = refl; traced = subst TracedBy (sym is_plan) traced; leads = subst (λ ms. LeadsAt ms cost) (sym is_plan) leads; within = under }, other, refl),
+                subst (AreRowsFor w (max (w.task.sum w.task.start) n)) (sym is_rows) are,
+              ),
             ),
-          ))
+          )))
 
   split : (lowest reached : Option ℕ) → IsLowest w lowest → IsReached w reached → ⊥
   split lowest None low reached = unreached lowest low reached

@@ -1,5 +1,5 @@
 -- What quiet and kept worlds give, and the causes of bounds.
-use Rattle.std.proofs.Common.{◌≡◌, ◌≢◌, ◌⊎◌, ℕ, ◌≤◌, Bool, true, false, List, [], length, refl, sym, ap, ◌∙◌, subst, inl, inr, arith, Option, Some, None}
+use Rattle.std.proofs.Common.{◌≡◌, ◌≢◌, ◌⊎◌, ℕ, ◌<◌, ◌≤◌, Bool, true, false, List, [], length, refl, sym, ap, ◌∙◌, subst, inl, inr, arith, Option, Some, None}
 use Rattle.std.specs.Prelude.{All, if◌then◌else◌, slice_get, sum_by, Vec}
 use Rattle.std.specs.declared.alloc.Global.{Global}
 use Rattle.std.proofs.lemmas.List.Sums.{sum_by-le}
@@ -10,19 +10,22 @@ use Rattle.outcomes.specs.declared.outcome.Cause.{Cause}
 use Rattle.outcomes.specs.declared.outcome.Cause.TheVariants.{Limit as ForLimit, Memory as ForMemory, Start as ForStart, Cost as ForCost, Cut as ForCut}
 use Rattle.outcomes.specs.declared.outcome.Want.{Want}
 use Rattle.outcomes.specs.declared.outcome.Want.TheVariants.{Refused}
-use Rattle.outcomes.specs.declared.outcome.Outcome.TheVariants.{Bounded}
+use Rattle.outcomes.specs.declared.outcome.Why.{Why}
+use Rattle.outcomes.specs.declared.outcome.Why.TheVariants.{Exhausted}
+use Rattle.outcomes.specs.declared.outcome.Outcome.{Outcome}
+use Rattle.outcomes.specs.declared.outcome.Outcome.TheVariants.{Optimal, Unsolvable, Bounded}
 use Rattle.world_model.specs.declared.parts.Item.{Item}
 use Rattle.world_model.specs.declared.parts.Known.{Known}
 use Rattle.world_model.specs.declared.steps.Stop.{Stop}
 use Rattle.world_model.specs.declared.steps.Stop.TheVariants.{Quiet, Limit, Memory, Start}
-use Rattle.world_model.specs.Frontiers.{IsReached}
-use Rattle.world_model.specs.KeptLaws.{CausesAreTheStops, KeptWorldsAreNeverCut, KeptWorldsHaveBegun, LimitBoundsAreSpent, MemoryBoundsAreWanted, QuietWorldsAreAtRest, RunsStayWithinLimits, IsWithinReach, PlansAreWithinReach}
-use Rattle.world_model.specs.Outcomes.{IsFollowedBack, IsGivenAt, LacksMemory, cause_of, is_too_high}
+use Rattle.world_model.specs.Frontiers.{IsInFrontier, IsLowest, IsReached}
+use Rattle.world_model.specs.KeptLaws.{BoundRowsProve, BoundsAreGiven, CausesAreTheStops, KeptWorldsAreNeverCut, KeptWorldsHaveBegun, KnowsGoal, LimitBoundsAreSpent, MemoryBoundsAreWanted, QuietWorldsAreAtRest, RowsAreLeftOutForMemory, RunsStayWithinLimits, UnknownGoalsWantNoMemory, IsWithinReach, PlansAreWithinReach}
+use Rattle.world_model.specs.Outcomes.{AreRowsFor, AsksForMemory, IsAloneAt, IsBounded, IsBoundOf, IsFollowedBack, IsGiven, IsStoppedAt, cause_of, is_too_high}
 use Rattle.world_model.specs.Quiet.{IsKeptAt, IsQuiet}
 use Rattle.world_model.specs.Workers.{Lane, WorkerState}
 use Rattle.world_model.specs.Worlds.{IsUnderWay, Knows, LiesIn, WorldState}
 use Rattle.world_model.proofs.ListLemmas.{all_from_places, none_in_empty, part_le}
-use Rattle.world_model.proofs.OutcomeLemmas.{end_at}
+use Rattle.world_model.proofs.OutcomeLemmas.{end_at, outcomes_answer}
 use Rattle.world_model.proofs.RunLemmas.{runs_sound}
 use Rattle.world_model.proofs.ShapeLemmas.{knows_owned, offer_owned}
 use Rattle.board.specs.Positions.{Position}
@@ -78,39 +81,106 @@ module _ (lowest : Option ℕ) where
   memory_only want None is = absurd (cc)
 
 -- the cause is that of the stop, or memory was refused
-abbrev IsCaused : WorldState → Option ℕ → Option ℕ → Option (ℕ × Vec Move Global) → Cause → Type 0
-IsCaused w lowest reached best cause = (cause ≡ cause_of w.book.stop lowest) ⊎ ((best ≡ None) × LacksMemory (end_at w lowest reached) cause)
+abbrev IsCaused : WorldState → Option ℕ → Option (ℕ × Vec Move Global) → Cause → Type 0
+IsCaused w lowest best cause = (cause ≡ cause_of w.book.stop lowest) ⊎ ((best ≡ None) × ((refused : OutOfMemory) × (cause ≡ ForMemory (Refused refused))))
 
-caused : (w : WorldState) (lowest reached : Option ℕ) (bound : ℕ) (best : Option (ℕ × Vec Move Global)) (cause : Cause) → IsGivenAt (end_at w lowest reached) (Bounded bound best cause) → IsCaused w lowest reached best cause
-caused w lowest reached bound None cause (is, inl given) = inl given.1
-caused w lowest reached bound None cause (is, inr lacks) = inr (refl, lacks)
-caused w lowest reached bound (Some best) cause given = inl given.3
+caused : (w : WorldState) (lowest reached : Option ℕ) (bound : ℕ) (best : Option (ℕ × Vec Move Global)) (cause : Cause) → IsStoppedAt (end_at w lowest reached) bound best cause ⊎ IsAloneAt (end_at w lowest reached) bound best cause → IsCaused w lowest best cause
+caused w lowest reached bound None cause (inl stopped) = inl stopped.2
+caused w lowest reached bound (Some best) cause (inl stopped) = inl stopped.3
+caused w lowest reached bound best cause (inr alone) = inr (alone.1, alone.2)
 
 pub causes_stop : CausesAreTheStops
 causes_stop w bound best cause given = (λ is. limit_at is (caused w given.0 given.1 bound best cause given.4), λ is. start_at is (caused w given.0 given.1 bound best cause given.4))
   where
-    limit_at : cause ≡ ForLimit → IsCaused w given.0 given.1 best cause → w.book.stop ≡ Some Limit
+    limit_at : cause ≡ ForLimit → IsCaused w given.0 best cause → w.book.stop ≡ Some Limit
     limit_at is (inl by) = limit_only given.0 w.book.stop (sym by ∙ is)
-    limit_at is (inr lacks) = absurd (let e : ForLimit ≡ ForMemory (Refused lacks.1.1.0) = sym is ∙ lacks.1.1.1 in cc)
+    limit_at is (inr lacks) = absurd (let e : ForLimit ≡ ForMemory (Refused lacks.1.0) = sym is ∙ lacks.1.1 in cc)
 
-    start_at : cause ≡ ForStart → IsCaused w given.0 given.1 best cause → w.book.stop ≡ Some Start
+    start_at : cause ≡ ForStart → IsCaused w given.0 best cause → w.book.stop ≡ Some Start
     start_at is (inl by) = start_only given.0 w.book.stop (sym by ∙ is)
-    start_at is (inr lacks) = absurd (let e : ForStart ≡ ForMemory (Refused lacks.1.1.0) = sym is ∙ lacks.1.1.1 in cc)
+    start_at is (inr lacks) = absurd (let e : ForStart ≡ ForMemory (Refused lacks.1.0) = sym is ∙ lacks.1.1 in cc)
 
 pub limit_bounds : LimitBoundsAreSpent
 limit_bounds w bound best credited given = limit_spent w credited ((causes_stop w bound best ForLimit given).0 refl)
 
 -- where a goal has a cost, it is known
-goal_there : (w : WorldState) (reached : Option ℕ) → IsReached w reached → reached ≢ None → (i : ℕ) × (known : Known) × Knows w i w.task.goal known
+pub goal_there : (w : WorldState) (reached : Option ℕ) → IsReached w reached → reached ≢ None → KnowsGoal w
 goal_there w None is some = absurd (some refl)
-goal_there w (Some cost) is some = (w.owner w.task.goal, is.0.0, is.0.1)
+goal_there w (Some cost) is some = (is.0.0, is.0.1)
+
+-- a bound is for memory where the run was halted so; or memory was refused, and there is no plan
+pub memory_bounded : (w : WorldState) (bound : ℕ) (best : Option (ℕ × Vec Move Global)) (want : Want) → IsBounded w bound best (ForMemory want) → (w.book.stop ≡ Some (Memory want)) ⊎ ((best ≡ None) × ((refused : OutOfMemory) × (want ≡ Refused refused)))
+memory_bounded w bound best want given = split (caused w given.0 given.1 bound best (ForMemory want) given.4)
+  where
+    split : IsCaused w given.0 best (ForMemory want) → (w.book.stop ≡ Some (Memory want)) ⊎ ((best ≡ None) × ((refused : OutOfMemory) × (want ≡ Refused refused)))
+    split (inl by) = inl (memory_only given.0 want w.book.stop (sym by))
+    split (inr lacks) = let e : want ≡ Refused lacks.1.0 = cc (lacks.1.1) in inr (lacks.0, (lacks.1.0, e))
+
+-- a bound is asked memory for
+asked : (w : WorldState) (lowest reached : Option ℕ) (bound : ℕ) → IsReached w reached → AsksForMemory (end_at w lowest reached) bound → KnowsGoal w ⊎ (w.task.sum w.task.start < bound)
+asked w lowest reached bound is (inl some) = inl (goal_there w reached is some)
+asked w lowest reached bound is (inr above) = inr above
+
+pub bounds_given : BoundsAreGiven
+bounds_given w bound best cause (Some rows) given = (given.0, given.1, given.2, given.3, inl given.4.0)
+bounds_given w bound best cause None given = (given.0, given.1, given.2, given.3, inr given.4.0)
+
+pub rows_left : RowsAreLeftOutForMemory
+rows_left w bound best cause given = let alone = given.4.0 in (alone.1, alone.2, asked w given.0 given.1 bound given.3 given.4.1)
+
+-- a run that stopped early for memory was halted so
+pub stopped_for_memory : (w : WorldState) (lowest reached : Option ℕ) (bound : ℕ) (best : Option (ℕ × Vec Move Global)) (want : Want) → IsStoppedAt (end_at w lowest reached) bound best (ForMemory want) → w.book.stop ≡ Some (Memory want)
+stopped_for_memory w lowest reached bound None want stopped = memory_only lowest want w.book.stop (sym stopped.2)
+stopped_for_memory w lowest reached bound (Some best) want stopped = memory_only lowest want w.book.stop (sym stopped.3)
 
 pub memory_bounds : MemoryBoundsAreWanted
-memory_bounds w bound best want given = split (caused w given.0 given.1 bound best (ForMemory want) given.4)
-  where
-    split : IsCaused w given.0 given.1 best (ForMemory want) → (w.book.stop ≡ Some (Memory want)) ⊎ ((best ≡ None) × ((refused : OutOfMemory) × (want ≡ Refused refused)) × ((i : ℕ) × (known : Known) × Knows w i w.task.goal known))
-    split (inl by) = inl (memory_only given.0 want w.book.stop (sym by))
-    split (inr lacks) = let e : want ≡ Refused lacks.1.1.0 = cc (lacks.1.1.1) in inr (lacks.0, (lacks.1.1.0, e), goal_there w given.1 given.3 lacks.1.0)
+memory_bounds w bound best want (Some rows) given = inl (stopped_for_memory w given.0 given.1 bound best want given.4.0)
+memory_bounds w bound best want None given =
+    let left = rows_left w bound best (ForMemory want) given in
+    let e : want ≡ Refused left.1.0 = cc (left.1.1) in
+    inr (left.0, refl, (left.1.0, e), left.2)
+
+-- where nothing is in the frontier there is no lowest
+no_lowest : (w : WorldState) (lowest : Option ℕ) → ((b : Position) (cost : ℕ) → ¬ IsInFrontier w b cost) → IsLowest w lowest → lowest ≡ None
+no_lowest w None empty least = refl
+no_lowest w (Some f) empty least = absurd (empty least.0.0 least.0.1 least.0.2)
+
+not_reached : (w : WorldState) (reached : Option ℕ) → ¬ KnowsGoal w → IsReached w reached → reached ≡ None
+not_reached w None unknown is = refl
+not_reached w (Some cost) unknown is = absurd (unknown (goal_there w (Some cost) is (λ e. cc)))
+
+-- where neither the frontier nor the goal is known there is no bound
+no_bound : (w : WorldState) (lowest reached : Option ℕ) (bound : ℕ) → lowest ≡ None → reached ≡ None → IsBoundOf (end_at w lowest reached) bound → ⊥
+no_bound w None None bound low at is = let e : ◌≡◌ {A = Option ℕ} None (Some is.0) = is.1 in cc
+no_bound w (Some f) reached bound low at is = cc
+no_bound w lowest (Some c) bound low at is = cc
+
+module _ (w : WorldState) (unknown : ¬ KnowsGoal w) where
+  exhausted : ((b : Position) (cost : ℕ) → ¬ IsInFrontier w b cost) → (outcome : Outcome) → IsGiven w outcome → outcome ≡ Unsolvable Exhausted
+  exhausted empty (Optimal cost plan rows) given = absurd (no_bound w given.0 given.1 cost (no_lowest w given.0 empty given.2) (not_reached w given.1 unknown given.3) given.4.0)
+  exhausted empty (Unsolvable why) given = ap (λ (y : Why). Unsolvable y) given.4.1
+  exhausted empty (Bounded bound None cause (Some rows)) given = absurd (no_bound w given.0 given.1 bound (no_lowest w given.0 empty given.2) (not_reached w given.1 unknown given.3) given.4.0.0)
+  exhausted empty (Bounded bound (Some best) cause (Some rows)) given = absurd (no_bound w given.0 given.1 bound (no_lowest w given.0 empty given.2) (not_reached w given.1 unknown given.3) given.4.0.0)
+  exhausted empty (Bounded bound best cause None) given = absurd (no_bound w given.0 given.1 bound (no_lowest w given.0 empty given.2) (not_reached w given.1 unknown given.3) given.4.0.0)
+
+  -- the rows of the start's sum are none
+  none_for_sum : (rows : Vec (Position × ℕ) Global) → AreRowsFor w (w.task.sum w.task.start) rows.items → rows.items ≡ []
+  none_for_sum rows (inl few) = few.1
+  none_for_sum rows (inr many) = absurd (omega (arith, many.0))
+
+  with_rows : (best : Option (ℕ × Vec Move Global)) (cause : Cause) (rows : Option (Vec (Position × ℕ) Global)) → IsGiven w (Bounded (w.task.sum w.task.start) best cause rows) → (listed : Vec (Position × ℕ) Global) × (rows ≡ Some listed) × (listed.items ≡ [])
+  with_rows best cause (Some rows) given = (rows, refl, none_for_sum rows given.4.1)
+  with_rows best cause None given = absurd (none_asked (asked w given.0 given.1 (w.task.sum w.task.start) given.3 given.4.1))
+    where
+      none_asked : KnowsGoal w ⊎ (w.task.sum w.task.start < w.task.sum w.task.start) → ⊥
+      none_asked (inl known) = unknown known
+      none_asked (inr above) = omega arith
+
+pub unknown_goals : UnknownGoalsWantNoMemory
+unknown_goals w unknown = (λ outcome empty given. exhausted w unknown empty outcome given, with_rows w unknown)
+
+pub bound_rows_prove : BoundRowsProve
+bound_rows_prove w bound best cause rows shaped sound lower given = (outcomes_answer w (Bounded bound best cause (Some rows)) shaped sound lower given).1.proves
 
 -- kept worlds
 not_cut : (cause : Cause) (best : Option (ℕ × Vec Move Global)) → (cause ≡ ForCost) ⊎ ((best ≡ None) × ((refused : OutOfMemory) × (cause ≡ ForMemory (Refused refused)))) → (cause ≢ ForCut) × (cause ≢ ForStart)
@@ -126,9 +196,9 @@ lacking cause refused is = plain cause (ForMemory (Refused refused)) is (λ e. c
 pub kept_never_cut : KeptWorldsAreNeverCut
 kept_never_cut w bound best cause shaped sound kept lower given = at w.book.stop refl kept
   where
-    by_stop : (stop : Option Stop) → w.book.stop ≡ stop → (other : Cause) → cause_of stop given.0 ≡ other → other ≢ ForCut → other ≢ ForStart → IsCaused w given.0 given.1 best cause → (cause ≢ ForCut) × (cause ≢ ForStart)
+    by_stop : (stop : Option Stop) → w.book.stop ≡ stop → (other : Cause) → cause_of stop given.0 ≡ other → other ≢ ForCut → other ≢ ForStart → IsCaused w given.0 best cause → (cause ≢ ForCut) × (cause ≢ ForStart)
     by_stop stop is other same cut start (inl by) = plain cause other (by ∙ ap (λ (s : Option Stop). cause_of s given.0) is ∙ same) cut start
-    by_stop stop is other same cut start (inr lacks) = lacking cause lacks.1.1.0 lacks.1.1.1
+    by_stop stop is other same cut start (inr lacks) = lacking cause lacks.1.0 lacks.1.1
 
     at : (stop : Option Stop) → w.book.stop ≡ stop → IsKeptAt w stop → (cause ≢ ForCut) × (cause ≢ ForStart)
     at None is kept = absurd kept
@@ -155,8 +225,13 @@ within_reach w lowest reached cost plan at followed =
     let there : IsReached w (Some followed.goal) = subst (IsReached w) followed.is at in
     (followed.leads, followed.traced, (there.0.0, there.0.1, omega (arith, followed.within, there.0.2)))
 
+-- a plan beside a bound is such a one
+beside : (w : WorldState) (bound : ℕ) (best : ℕ × Vec Move Global) (cause : Cause) (lowest reached : Option ℕ) → IsReached w reached → IsStoppedAt (end_at w lowest reached) bound (Some best) cause ⊎ IsAloneAt (end_at w lowest reached) bound (Some best) cause → IsWithinReach w best.0 best.1
+beside w bound best cause lowest reached at (inl stopped) = within_reach w lowest reached best.0 best.1 at stopped.1
+beside w bound best cause lowest reached at (inr alone) = absurd (let e : ◌≡◌ {A = Option (ℕ × Vec Move Global)} (Some best) None = alone.1 in cc)
+
 pub plans_within : PlansAreWithinReach
 plans_within = (
   λ w cost plan rows given. within_reach w given.0 given.1 cost plan given.3 given.4.1,
-  λ w bound best cause given. within_reach w given.0 given.1 best.0 best.1 given.3 given.4.1,
+  λ w bound best cause given. beside w bound best cause given.0 given.1 given.3 given.4,
 )

@@ -1,6 +1,7 @@
 -- The outcome that a sound world gives answers its task.
 use Rattle.std.proofs.Common.{◌≡◌, ◌≢◌, ◌⊎◌, ℕ, suc, ◌+◌, ◌<◌, ◌≤◌, true, false, List, [], length, get_or, refl, sym, ap, ◌∙◌, subst, inl, inr, ⊎_elim, arith, Option, Some, None}
-use Rattle.std.specs.Prelude.{min, Contains, AllPairs}
+use Rattle.std.specs.Prelude.{min, Contains, AllPairs, Vec}
+use Rattle.std.specs.declared.alloc.Global.{Global}
 use Rattle.std.proofs.lemmas.Bool.{cases_lt, cases_Bool, cond-true, cond-false, ltb-true}
 use Rattle.std.proofs.lemmas.List.Elements.{Contains-get_or}
 use Rattle.board.specs.declared.moves.Move.{Move}
@@ -9,7 +10,7 @@ use Rattle.world_model.specs.declared.steps.Stop.TheVariants.{Quiet, Limit, Memo
 use Rattle.board.specs.Positions.{Position}
 use Rattle.board.specs.Plans.{Leads, NothingBelow}
 use Rattle.board.specs.Rows.{HasRow, Proves, IsLowerBound}
-use Rattle.outcomes.specs.Outcomes.{Answers, AllowsCause, AllowsWhy, AreRowsOf}
+use Rattle.outcomes.specs.Outcomes.{Answers, AllowsCause, AllowsWhy, AreRowsOf, IsAboveSums, IsBestPlan, IsTrueBound, best_of}
 use Rattle.world_model.specs.declared.parts.Known.{Known}
 use Rattle.board.specs.Keys.{key_of}
 use Rattle.outcomes.specs.declared.outcome.Cause.{Cause}
@@ -18,11 +19,12 @@ use Rattle.board.specs.declared.costs.TheConstants.{GREATEST_COST, GREATEST_EXPA
 use Rattle.outcomes.specs.declared.outcome.Outcome.TheVariants.{Optimal, Unsolvable, Bounded}
 use Rattle.world_model.specs.Costs.{IsLeastWith, lesser}
 use Rattle.world_model.specs.Frontiers.{IsInFrontier, IsLowest, IsReached}
-use Rattle.world_model.specs.Outcomes.{AreRowsBelow, AreRowsFor, End, IsBoundOf, IsFollowedBack, IsGiven, IsGivenAt, IsKnownBelow, cause_of, is_too_high}
+use Rattle.world_model.specs.Laws.{BoundsAreTrue}
+use Rattle.world_model.specs.Outcomes.{AreRowsBelow, AreRowsFor, End, IsAloneAt, IsBoundOf, IsFollowedBack, IsGiven, IsGivenAt, IsKnownBelow, IsStoppedAt, cause_of, is_too_high}
 use Rattle.world_model.specs.Shapes.{IsShaped}
 use Rattle.world_model.specs.Soundness.{IsCovered, IsSound}
 use Rattle.world_model.specs.Worlds.{Knows, WorldState}
-use Rattle.world_model.proofs.ShapeLemmas.{knows_owned, plan_short}
+use Rattle.world_model.proofs.ShapeLemmas.{knows_owned, offer_owned, plan_short}
 use Rattle.world_model.proofs.SearchLemmas.{BelowFrontier, BelowReached, offer_low, frontier_bounds}
 
 abbrev pub end_at : WorldState → Option ℕ → Option ℕ → End
@@ -187,18 +189,65 @@ module _ (w : WorldState) (shaped : IsShaped w) (sound : IsSound w) (bound : IsL
   pub above_bound : (n cost : ℕ) (plan : List Move) → IsBoundOf (end_at w lowest reached) n → IsFollowedBack (end_at w lowest reached) cost plan → cost ≢ n → n < cost
   above_bound n cost plan is followed other = let le = bound_holds n is plan cost followed.leads in omega arith
 
+  stopped_bound : (n : ℕ) (best : Option (ℕ × Vec Move Global)) (cause : Cause) → IsStoppedAt (end_at w lowest reached) n best cause → IsBoundOf (end_at w lowest reached) n
+  stopped_bound n None cause stopped = stopped.0
+  stopped_bound n (Some best) cause stopped = stopped.0
+
+  -- what is known or under way has a cost plus sum that isn't high
+  sum_low : (most : ℕ) → IsAboveSums w.task most → (b : Position) (cost : ℕ) → IsInFrontier w b cost → cost + w.task.sum b ≤ GREATEST_COST + most
+  sum_low most above b cost (inl (i, known, knows, closed, other, at)) =
+      let low = (knows_owned w shaped i b known knows).1 in
+      let le = above b knows.board.0 knows.board.1 in
+      omega (arith, at)
+  sum_low most above b cost (inr (to, item, way, is, at)) =
+      let owned = offer_owned w shaped to item way in
+      let le : w.task.sum b ≤ most = subst (λ (x : Position). w.task.sum x ≤ most) is (above item.board owned.0.0 owned.0.1) in
+      omega (arith, at, owned.2)
+
+  low_of : (most : ℕ) → IsAboveSums w.task most → (f : ℕ) → IsLowest w (Some f) → f ≤ GREATEST_COST + most
+  low_of most above f least = let le = sum_low most above least.0.0 least.0.1 least.0.2 in omega (arith, least.0.3)
+
+  reached_low : (c : ℕ) → IsReached w (Some c) → c ≤ GREATEST_COST
+  reached_low c at = let low = (knows_owned w shaped (w.owner w.task.goal) w.task.goal at.0.0 at.0.1).1 in omega (arith, at.0.2)
+
+  -- so neither is the floor
+  floor_low : (most : ℕ) → IsAboveSums w.task most → (f r : Option ℕ) (n : ℕ) → IsLowest w f → IsReached w r → lesser f r ≡ Some n → n ≤ GREATEST_COST + most
+  floor_low most above None None n low at is = absurd (cc)
+  floor_low most above None (Some c) n low at is = let e : c ≡ n = cc in let le = reached_low c at in omega arith
+  floor_low most above (Some f) None n low at is = let e : f ≡ n = cc in let le = low_of most above f low in omega arith
+  floor_low most above (Some f) (Some c) n low at is = let e : min f c ≡ n = cc in let le = reached_low c at in omega arith
+
+  bound_low : (n : ℕ) → IsBoundOf (end_at w lowest reached) n → (most : ℕ) → IsAboveSums w.task most → n ≤ GREATEST_COST + most
+  bound_low n is most above =
+      let le = floor_low most above lowest reached is.0 is_lowest is_reached is.1 in
+      let le' = above w.task.start shaped.task.start shaped.task.sides in
+      omega (arith, is.2)
+
+  stopped_true : (n : ℕ) (best : Option (ℕ × Vec Move Global)) (cause : Cause) → IsStoppedAt (end_at w lowest reached) n best cause → IsTrueBound w.task n best cause
+  stopped_true n None cause (is, unknown, caused) = (bound_holds n is, above_sum n is, bound_low n is, tt, cause_allowed n w.book.stop lowest cause (high_alone w lowest reached n is unknown) caused)
+  stopped_true n (Some best) cause (is, followed, other, caused) =
+      let above = above_bound n best.0 best.1.items is followed other in
+      (bound_holds n is, above_sum n is, bound_low n is, (followed.leads, above), cause_allowed n w.book.stop lowest cause (high_beside w lowest reached n followed.goal is followed.is (omega (arith, followed.within))) caused)
+
+  alone_true : (n : ℕ) (best : Option (ℕ × Vec Move Global)) (cause : Cause) → IsAloneAt (end_at w lowest reached) n best cause → IsTrueBound w.task n best cause
+  alone_true n best cause (is, none, lacks) =
+      (bound_holds n is, above_sum n is, bound_low n is, subst (λ (b : Option (ℕ × Vec Move Global)). IsBestPlan w.task n (best_of b)) (sym none) tt, subst (AllowsCause n) (sym lacks.1) tt)
+
   answers_at : (outcome : Outcome) → IsGivenAt (end_at w lowest reached) outcome → Answers w.task outcome
   answers_at (Optimal cost plan rows) given =
       let low = followed_low cost plan.items given.1 in
       let short = plan_short w.task shaped.task w.task.start (shaped.task.start, shaped.task.sides) plan.items w.task.goal cost given.1.leads in
       (given.1.leads, record { reached = (plan.items, given.1.leads); none_below = bound_holds cost given.0 }, rows_of cost rows.items given.0 given.2, low, omega (arith, low, short))
   answers_at (Unsolvable why) given = (no_plan w shaped sound bound lowest reached is_lowest is_reached given.0, subst (AllowsWhy w.task) (sym given.1) tt)
-  answers_at (Bounded n None cause) (is, inl given) = (bound_holds n is, above_sum n is, tt, cause_allowed n w.book.stop lowest cause (high_alone w lowest reached n is given.0) given.1)
-  answers_at (Bounded n None cause) (is, inr lacks) = (bound_holds n is, above_sum n is, tt, subst (AllowsCause n) (sym lacks.1.1) tt)
-  answers_at (Bounded n (Some best) cause) given =
-      let followed = given.1 in
-      let above = above_bound n best.0 best.1.items given.0 followed given.2 in
-      (bound_holds n given.0, above_sum n given.0, (followed.leads, above), cause_allowed n w.book.stop lowest cause (high_beside w lowest reached n followed.goal given.0 followed.is (omega (arith, followed.within))) given.3)
+  answers_at (Bounded n best cause (Some rows)) given = (stopped_true n best cause given.0, rows_of n rows.items (stopped_bound n best cause given.0) given.1)
+  answers_at (Bounded n best cause None) given = (alone_true n best cause given.0, (given.0.1, given.0.2))
+
+  bounded_true : (n : ℕ) (best : Option (ℕ × Vec Move Global)) (cause : Cause) → IsStoppedAt (end_at w lowest reached) n best cause ⊎ IsAloneAt (end_at w lowest reached) n best cause → IsTrueBound w.task n best cause
+  bounded_true n best cause (inl stopped) = stopped_true n best cause stopped
+  bounded_true n best cause (inr alone) = alone_true n best cause alone
+
+pub bounds_true : BoundsAreTrue
+bounds_true w n best cause shaped sound bound bounded = bounded_true w shaped sound bound bounded.0 bounded.1 bounded.2 bounded.3 n best cause bounded.4
 
 -- the outcome of a sound world answers its task
 pub outcomes_answer : (w : WorldState) (outcome : Outcome) → IsShaped w → IsSound w → IsLowerBound w.task.rule w.task.sum w.task.goal → IsGiven w outcome → Answers w.task outcome

@@ -14,11 +14,10 @@ use Rattle.memory.specs.declared.OutOfMemory.{OutOfMemory}
 use Rattle.std.specs.Prelude.{Vec}
 use Rattle.std.specs.declared.alloc.Global.{Global}
 use Rattle.outcomes.specs.declared.outcome.Cause.TheVariants.{Memory as ForMemory, Cost as ForCost, Cut as ForCut}
-use Rattle.outcomes.specs.declared.outcome.Outcome.TheVariants.{Bounded}
 use Rattle.world_model.specs.Costs.{IsLeastWith, IsNotBelow, limit_of}
 use Rattle.world_model.specs.Credit.{IsCredited, expansion_count, packet_count}
 use Rattle.world_model.specs.Frontiers.{IsInFrontier, IsLowest, IsReached}
-use Rattle.world_model.specs.Outcomes.{IsBoundOf, IsGiven, IsGivenAt, cause_of, is_too_high}
+use Rattle.world_model.specs.Outcomes.{IsAloneAt, IsBounded, IsBoundOf, IsStoppedAt, cause_of, is_too_high}
 use Rattle.world_model.specs.Quiet.{IsQuiet}
 use Rattle.world_model.specs.Shapes.{IsShaped}
 use Rattle.world_model.specs.Soundness.{IsSound}
@@ -119,27 +118,26 @@ module _ (w : WorldState) (shaped : IsShaped w) (sound : IsSound w) (quiet : IsQ
   quiet_cause : (cause : Cause) → is_too_high lowest ≡ true → cause ≡ cause_of w.book.stop lowest → cause ≡ ForCost
   quiet_cause cause high is = is ∙ ap (λ (o : Option Stop). cause_of o lowest) stop ∙ cond-true _ _ _ high
 
-  for_cost_at : (bound : ℕ) (best : Option (ℕ × Vec Move Global)) (cause : Cause) → IsGivenAt (end_at w lowest reached) (Bounded bound best cause) → (cause ≡ ForCost) ⊎ ((best ≡ None) × ((refused : OutOfMemory) × (cause ≡ ForMemory (Refused refused))))
-  for_cost_at bound None cause (is, inl given) =
-      inl (quiet_cause cause (too_high w lowest reached bound frontier_high is (λ goal at. let e : ◌≡◌ {A = Option ℕ} None (Some goal) = sym given.0 ∙ at in cc)) given.1)
-  for_cost_at bound None cause (is, inr lacks) = inr (refl, lacks.1)
-  for_cost_at bound (Some best) cause given =
-      let followed = given.1 in
-      let above = above_bound w shaped sound lower lowest reached is_lowest is_reached bound best.0 best.1.items given.0 followed given.2 in
-      inl (quiet_cause cause (too_high w lowest reached bound frontier_high given.0 (λ goal at. let e : Some followed.goal ≡ Some goal = sym followed.is ∙ at in let e' : followed.goal ≡ goal = cc in omega (arith, followed.within))) given.3)
+  for_cost_at : (bound : ℕ) (best : Option (ℕ × Vec Move Global)) (cause : Cause) → IsStoppedAt (end_at w lowest reached) bound best cause ⊎ IsAloneAt (end_at w lowest reached) bound best cause → (cause ≡ ForCost) ⊎ ((best ≡ None) × ((refused : OutOfMemory) × (cause ≡ ForMemory (Refused refused))))
+  for_cost_at bound None cause (inl (is, unknown, caused)) =
+      inl (quiet_cause cause (too_high w lowest reached bound frontier_high is (λ goal at. let e : ◌≡◌ {A = Option ℕ} None (Some goal) = sym unknown ∙ at in cc)) caused)
+  for_cost_at bound (Some best) cause (inl (is, followed, other, caused)) =
+      let above = above_bound w shaped sound lower lowest reached is_lowest is_reached bound best.0 best.1.items is followed other in
+      inl (quiet_cause cause (too_high w lowest reached bound frontier_high is (λ goal at. let e : Some followed.goal ≡ Some goal = sym followed.is ∙ at in let e' : followed.goal ≡ goal = cc in omega (arith, followed.within))) caused)
+  for_cost_at bound best cause (inr alone) = inr (alone.1, alone.2)
 
 -- and so for each world that is quiet
-pub quiet_bounds : (w : WorldState) (bound : ℕ) (best : Option (ℕ × Vec Move Global)) (cause : Cause) → IsShaped w → IsSound w → IsQuiet w → IsLowerBound w.task.rule w.task.sum w.task.goal → w.book.stop ≡ Some Quiet → IsGiven w (Bounded bound best cause) → (cause ≡ ForCost) ⊎ ((best ≡ None) × ((refused : OutOfMemory) × (cause ≡ ForMemory (Refused refused))))
+pub quiet_bounds : (w : WorldState) (bound : ℕ) (best : Option (ℕ × Vec Move Global)) (cause : Cause) → IsShaped w → IsSound w → IsQuiet w → IsLowerBound w.task.rule w.task.sum w.task.goal → w.book.stop ≡ Some Quiet → IsBounded w bound best cause → (cause ≡ ForCost) ⊎ ((best ≡ None) × ((refused : OutOfMemory) × (cause ≡ ForMemory (Refused refused))))
 quiet_bounds w bound best cause shaped sound quiet lower stop given = for_cost_at w shaped sound quiet lower stop given.0 given.1 given.2 given.3 bound best cause given.4
 
-pub quiet_for_cost : (w : WorldState) (bound : ℕ) (best : Option (ℕ × Vec Move Global)) (cause : Cause) → IsShaped w → IsSound w → IsCredited w → IsLowerBound w.task.rule w.task.sum w.task.goal → w.book.stop ≡ Some Quiet → IsGiven w (Bounded bound best cause) → (cause ≡ ForCost) ⊎ ((best ≡ None) × ((refused : OutOfMemory) × (cause ≡ ForMemory (Refused refused))))
+pub quiet_for_cost : (w : WorldState) (bound : ℕ) (best : Option (ℕ × Vec Move Global)) (cause : Cause) → IsShaped w → IsSound w → IsCredited w → IsLowerBound w.task.rule w.task.sum w.task.goal → w.book.stop ≡ Some Quiet → IsBounded w bound best cause → (cause ≡ ForCost) ⊎ ((best ≡ None) × ((refused : OutOfMemory) × (cause ≡ ForMemory (Refused refused))))
 quiet_for_cost w bound best cause shaped sound credited lower stop given = quiet_bounds w bound best cause shaped sound (quiet_true w shaped credited stop) lower stop given
 
 not_cut : (best : Option (ℕ × Vec Move Global)) → (ForCut ≡ ForCost) ⊎ ((best ≡ None) × ((refused : OutOfMemory) × (ForCut ≡ ForMemory (Refused refused)))) → ⊥
 not_cut best (inl cost) = cc
 not_cut best (inr memory) = let e = memory.1.1 in cc
 
-pub quiet_never_cut : (w : WorldState) (bound : ℕ) (best : Option (ℕ × Vec Move Global)) → IsShaped w → IsSound w → IsCredited w → IsLowerBound w.task.rule w.task.sum w.task.goal → w.book.stop ≡ Some Quiet → ¬ IsGiven w (Bounded bound best ForCut)
+pub quiet_never_cut : (w : WorldState) (bound : ℕ) (best : Option (ℕ × Vec Move Global)) → IsShaped w → IsSound w → IsCredited w → IsLowerBound w.task.rule w.task.sum w.task.goal → w.book.stop ≡ Some Quiet → ¬ IsBounded w bound best ForCut
 quiet_never_cut w bound best shaped sound credited lower stop given = not_cut best (quiet_for_cost w bound best ForCut shaped sound credited lower stop given)
 
 pub expansions_limited : (w : WorldState) → IsCredited w → expansion_count w ≤ w.book.limit

@@ -40,7 +40,7 @@ in_place [] i x at = absurd (cc)
 in_place (y ∷ xs) zero x at = inl (cc)
 in_place (y ∷ xs) (suc i) x at = inr (in_place xs i x at)
 
-place_in : {X : Type 0} (xs : List X) (x : X) → In xs x → (i : ℕ) × (slice_get xs i ≡ Some x)
+pub place_in : {X : Type 0} (xs : List X) (x : X) → In xs x → (i : ℕ) × (slice_get xs i ≡ Some x)
 place_in [] x has = absurd has
 place_in (y ∷ xs) x (inl same) = (0, ap Some same)
 place_in (y ∷ xs) x (inr later) = let h = place_in xs x later in (suc h.0, h.1)
@@ -56,12 +56,12 @@ abbrev pub gather : {X Y : Type 0} → (X → List Y) → List X → List Y
 gather f [] = []
 gather f (x ∷ xs) = f x ++ gather f xs
 
-gather_in : {X Y : Type 0} (f : X → List Y) (xs : List X) (x : X) (y : Y) → In xs x → In (f x) y → In (gather f xs) y
+pub gather_in : {X Y : Type 0} (f : X → List Y) (xs : List X) (x : X) (y : Y) → In xs x → In (f x) y → In (gather f xs) y
 gather_in f [] x y has inside = absurd has
 gather_in f (z ∷ xs) x y (inl same) inside = in_left (f z) (gather f xs) y (subst (λ w. In (f w) y) (sym same) inside)
 gather_in f (z ∷ xs) x y (inr later) inside = in_right (f z) (gather f xs) y (gather_in f xs x y later inside)
 
-gather_from : {X Y : Type 0} (f : X → List Y) (xs : List X) (y : Y) → In (gather f xs) y → (x : X) × In xs x × In (f x) y
+pub gather_from : {X Y : Type 0} (f : X → List Y) (xs : List X) (y : Y) → In (gather f xs) y → (x : X) × In xs x × In (f x) y
 gather_from f [] y has = absurd has
 gather_from f (z ∷ xs) y has = ⊎_elim (λ here. (z, inl refl, here)) (λ later. let h = gather_from f xs y later in (h.0, inr h.1, h.2)) (in_cases (f z) (gather f xs) y has)
 

@@ -1,8 +1,7 @@
 -- The worked runs: each is computed, and what it ends with.
-use Rattle.std.proofs.Common.{◌≡◌, ◌≢◌, ℕ, zero, suc, ◌-◌, ◌<◌, ◌≤◌, Bool, true, false, List, [], ◌∷◌, ◌++◌, length, refl, sym, ap, ◌∙◌, subst, inl, inr, arith, Some, None, replicate}
+use Rattle.std.proofs.Common.{◌≡◌, ◌≢◌, ℕ, zero, suc, ◌-◌, ◌<◌, ◌≤◌, Bool, true, false, List, [], ◌∷◌, ◌++◌, length, refl, sym, ap, ◌∙◌, subst, inl, arith, Some, None, replicate}
 use Rattle.std.specs.Prelude.{All, AllPairs, ◌==◌, ◌&&◌, nat_lt, not, slice_get, slice_set, slice_index, option_map, Option}
 use Rattle.std.proofs.Common.{lit<}
-use Rattle.std.specs.Prelude.{Contains}
 use Rattle.std.specs.FinMap as map
 use Rattle.std.specs.Ordering.{nat_cmp}
 use Rattle.std.proofs.lemmas.Bool.{cond-true, cond-false}
@@ -11,11 +10,10 @@ use Rattle.board.specs.declared.moves.Move.{Move}
 use Rattle.world_model.specs.Frontiers.{IsLowest, IsReached}
 use Rattle.world_model.specs.Knowledge.{Knowledge, is_news, relaxation_at}
 use Rattle.world_model.specs.Openings.{IsJob, Job, opening}
-use Rattle.world_model.specs.Outcomes.{AreRowsFor, IsByLastMoves, IsKnownBelow}
+use Rattle.world_model.specs.Outcomes.{AreRowsFor, IsByLastMoves}
 use Rattle.world_model.specs.Shapes.{IsShaped}
 use Rattle.world_model.specs.Steps.{IsRun}
 use Rattle.world_model.specs.Worked.{BoardIsExpandedAgain, CutIsGiven, HaltIsGiven, LimitIsGiven, PlanIsGiven, RefusalsAreGiven, RefusalsOnTheWayAreGiven, RelaxationsLower, far_goal, one_move, one_way, other_way}
-use Rattle.world_model.specs.Workers.{WorkerState}
 use Rattle.world_model.specs.Worlds.{WorldState}
 use Rattle.world_model.proofs.TableLemmas.{get_inserted}
 use Rattle.board.specs.Plans.{Leads}
@@ -23,7 +21,7 @@ use Rattle.std.proofs.lemmas.List.{length-replicate}
 use Rattle.std.proofs.lemmas.List.Elements.{All-cons}
 use Rattle.std.proofs.lemmas.List.Kept.{AllPairs-cons}
 use Rattle.std.proofs.Math.Nat.{mod-lt}
-use Rattle.board.specs.declared.moves.Move.TheVariants.{U, L, D}
+use Rattle.board.specs.declared.moves.Move.TheVariants.{U, L}
 use Rattle.board.specs.Grids.{Grid, IsShape, cell_count}
 use Rattle.board.specs.Positions.{Position, IsBoard, blank_of, goal_of}
 use Rattle.board.specs.CostRules.{IsCostRule, unit_rule}
@@ -34,10 +32,11 @@ use Rattle.world_model.specs.declared.steps.HaltCause.TheVariants.{Limit, Memory
 use Rattle.world_model.specs.declared.steps.Step.{Step}
 use Rattle.world_model.specs.declared.steps.Step.TheVariants.{Expand, Settle, Send, Deliver, Draw, Announce, Grant, Rest, Halt}
 use Rattle.world_model.proofs.OpeningLemmas.{opening_shaped}
-use Rattle.world_model.proofs.SmallWorkers.{In, Small, worker_of, look_up, found, current, current_complete}
+use Rattle.world_model.proofs.SmallWorkers.{Small, look_up}
 use Rattle.world_model.proofs.SmallSteps.{eq_tests, lt_tests, not_tests}
-use Rattle.world_model.proofs.SmallWorlds.{SmallWorld, AllBoards, boards_at, known_first, world_of, made, end_of, run_is}
-use Rattle.world_model.proofs.SmallFrontiers.{in_place, in_contained, contained_in, small_worker, all_costs, least_number, lowest_is, reached_is}
+use Rattle.world_model.proofs.SmallWorlds.{SmallWorld, AllBoards, known_first, world_of, made, end_of, run_is}
+use Rattle.world_model.proofs.SmallFrontiers.{all_costs, least_number, lowest_is, reached_is}
+use Rattle.world_model.proofs.RowsOfSmallWorlds.{Row, are_rows, both, rows_for}
 
 -- whether a list of numbers is a board's
 abbrev all_below : ℕ → List ℕ → Bool
@@ -51,10 +50,6 @@ none_is t (x ∷ xs) = not (t == x) && none_is t xs
 abbrev all_differ : List ℕ → Bool
 all_differ [] = true
 all_differ (t ∷ ts) = none_is t ts && all_differ ts
-
-both : (a b : Bool) → (a && b) ≡ true → (a ≡ true) × (b ≡ true)
-both true b e = (refl, e)
-both false b e = absurd (cc)
 
 below_is : (n : ℕ) (ts : List ℕ) → all_below n ts ≡ true → All (λ t. t < n) ts
 below_is n [] e = λ k d lt. absurd (omega arith)
@@ -140,8 +135,16 @@ module _ (job : Job) (is : IsJob job) (same : world_of job.task job.owner (small
   pub reached_by : (x : Small) → slice_get end_by.workers (job.owner job.task.goal) ≡ Some x → IsReached (world_of job.task job.owner end_by) (option_map (λ (k : Known). k.cost) (look_up x.entries (key_of job.task.goal)))
   reached_by x at = reached_is job.task job.owner is.task.goal end_by run_by.1 x at
 
+  -- the rows of its end below k, by test
+  pub rows_by : (k : ℕ) (wanted rows : List Row) → rows ≡ wanted → job.task.sum job.task.start < k → are_rows job.task k end_by wanted ≡ true → AreRowsFor (world_of job.task job.owner end_by) k rows
+  rows_by k wanted rows listed above e = rows_for job.task job.owner is.task.goal end_by run_by.1 k wanted rows listed above e
+
 one_boards : AllBoards one_move.task (small_opening one_move).workers
 one_boards = (tt, (((one_move_is.task.start, refl), tt), tt))
+
+-- the start as the one row
+abbrev start_row : List Row
+start_row = (two_by_two 1 0 2 3, 0) ∷ []
 
 module _ (steps : List Step) where
   abbrev pub one_end : SmallWorld
@@ -156,32 +159,36 @@ module _ (steps : List Step) where
   pub one_reached : (x : Small) → slice_get one_end.workers 0 ≡ Some x → IsReached (world_of one_move.task one_move.owner one_end) (option_map (λ (k : Known). k.cost) (look_up x.entries (key_of one_move.task.goal)))
   one_reached x at = reached_by one_move one_move_is refl one_boards steps x at
 
+  -- the start is the one row below 1, by test
+  pub one_row : (rows : List Row) → rows ≡ start_row → are_rows one_move.task 1 one_end start_row ≡ true → AreRowsFor (world_of one_move.task one_move.owner one_end) 1 rows
+  one_row rows listed e = rows_by one_move one_move_is refl one_boards steps 1 start_row rows listed (omega arith) e
+
 abbrev sent_steps : List Step
 sent_steps = Grant 1 ∷ Expand 1 ∷ Send 1 0 ∷ Draw 1 ∷ Send 1 0 ∷ []
 
 pub cut_given : CutIsGiven
-cut_given = (
+cut_given rows listed = (
   world_of one_move.task one_move.owner (one_end sent_steps),
   (one_run sent_steps).0,
-  (Some 1, None, one_lowest sent_steps, one_reached sent_steps _ refl, ((1, refl, refl), inl (refl, refl))),
+  (Some 1, None, one_lowest sent_steps, one_reached sent_steps _ refl, (((1, refl, refl), refl, refl), one_row sent_steps rows.items listed refl)),
 )
 
 pub halt_given : HaltIsGiven
-halt_given want =
+halt_given want rows listed =
     let steps : List Step = Grant 1 ∷ Halt 1 Limit ∷ Halt 0 (Memory want) ∷ Rest 1 ∷ [] in (
       world_of one_move.task one_move.owner (one_end steps),
       (one_run steps).0,
-      (Some 0, None, one_lowest steps, one_reached steps _ refl, ((0, refl, refl), inl (refl, refl))),
+      (Some 0, None, one_lowest steps, one_reached steps _ refl, (((0, refl, refl), refl, refl), inl (omega arith, listed))),
     )
 
 abbrev refused_steps : List Step
 refused_steps = Settle 0 ∷ Deliver 0 1 ∷ Rest 0 ∷ Draw 0 ∷ Grant 0 ∷ Expand 0 ∷ Expand 1 ∷ Announce 1 ∷ Announce 0 ∷ Send 0 1 ∷ Send 0 0 ∷ Halt 2 Limit ∷ Rest 1 ∷ []
 
 pub refusals_given : RefusalsAreGiven
-refusals_given = (
+refusals_given rows listed = (
   world_of one_move.task one_move.owner (one_end refused_steps),
   (one_run refused_steps).0,
-  (Some 0, None, one_lowest refused_steps, one_reached refused_steps _ refl, ((0, refl, refl), inl (refl, refl))),
+  (Some 0, None, one_lowest refused_steps, one_reached refused_steps _ refl, (((0, refl, refl), refl, refl), inl (omega arith, listed))),
 )
 
 abbrev way_steps : List Step
@@ -217,82 +224,6 @@ all_end = one_end all_steps
 abbrev pub all_world : WorldState
 all_world = world_of one_move.task one_move.owner all_end
 
-first_small : Small
-first_small = record {
-  entries = (two_by_two 0 1 2 3, record { cost = 1; expanded = false; via = L }) ∷ [];
-  held = [];
-  unsent = [] ∷ [] ∷ [];
-  purse = 0;
-  allowance = 0;
-  expansions = 0;
-  best = Some 1;
-}
-
-second_small : Small
-second_small = record {
-  entries = (two_by_two 1 3 2 0, record { cost = 1; expanded = false; via = D }) ∷ (two_by_two 1 0 2 3, record { cost = 0; expanded = true; via = U }) ∷ (two_by_two 1 0 2 3, record { cost = 0; expanded = false; via = U }) ∷ [];
-  held = [];
-  unsent = [] ∷ [] ∷ [];
-  purse = 0;
-  allowance = 255;
-  expansions = 1;
-  best = Some 1;
-}
-
-workers_are : all_end.workers ≡ first_small ∷ second_small ∷ []
-unfolding first_small second_small
-workers_are = refl
-
-start_known : IsKnownBelow all_world 1 (two_by_two 1 0 2 3) 0
-unfolding second_small
-start_known = (
-  1,
-  record { cost = 0; expanded = true; via = U },
-  record { worker = worker_of second_small; is = refl; board = (one_move_is.task.start, refl); knows = found second_small.entries (key_of (two_by_two 1 0 2 3)) },
-  refl,
-  omega arith,
-)
-
--- what a worker knows at 0 is the start
-abbrev OnlyStart : Small → Type 0
-OnlyStart x = (e : Position × Known) → In (current x.entries x.entries) e → e.1.cost < 1 → e.0 ≡ two_by_two 1 0 2 3
-
-first_only : OnlyStart first_small
-unfolding first_small
-first_only e (inl same) low = absurd (let n = ap (λ (x : Position × Known). x.1.cost) same in omega arith)
-first_only e (inr none) low = absurd none
-
-second_only : OnlyStart second_small
-unfolding second_small
-second_only e (inl same) low = absurd (let n = ap (λ (x : Position × Known). x.1.cost) same in omega arith)
-second_only e (inr (inl same)) low = sym (ap (λ (x : Position × Known). x.0) same)
-second_only e (inr (inr (inl same))) low = sym (ap (λ (x : Position × Known). x.0) same)
-second_only e (inr (inr (inr none))) low = absurd none
-
-all_only : (x : Small) → In (first_small ∷ second_small ∷ []) x → OnlyStart x
-all_only x (inl same) = subst OnlyStart same first_only
-all_only x (inr (inl same)) = subst OnlyStart same second_only
-all_only x (inr (inr none)) = absurd none
-
-abbrev start_row : List (Position × ℕ)
-start_row = (two_by_two 1 0 2 3, 0) ∷ []
-
-start_alone : (b : Position) (cost : ℕ) → IsKnownBelow all_world 1 b cost → Contains {X = Position × ℕ} start_row (b, cost)
-start_alone b cost (i, known, knows, same, low) =
-    let x = small_worker one_move.task one_move.owner one_move_is.task.goal all_end (one_run all_steps).1 i knows.worker knows.is in
-    let looked : look_up x.0.entries (key_of b) ≡ Some known = sym (found x.0.entries (key_of b)) ∙ ap (λ (y : WorkerState). map.get y.known (key_of b)) (sym x.2) ∙ knows.knows in
-    let listed = current_complete one_move.task x.0.entries (boards_at one_move.task all_end.workers i x.0 (one_run all_steps).1 x.1) b known knows.board looked in
-    let is = all_only x.0 (subst (λ (xs : List Small). In xs x.0) workers_are (in_place all_end.workers i x.0 x.1)) (b, known) listed (omega (arith, same)) in
-    let none : 0 ≡ cost = omega arith in
-    contained_in {X = Position × ℕ} start_row (b, cost) (inl (λ t. (sym is t, none t)))
-
-start_listed : (b : Position) (cost : ℕ) → Contains {X = Position × ℕ} start_row (b, cost) → IsKnownBelow all_world 1 b cost
-start_listed b cost has = at (in_contained {X = Position × ℕ} start_row (b, cost) has)
-  where
-    at : In {X = Position × ℕ} start_row (b, cost) → IsKnownBelow all_world 1 b cost
-    at (inl same) = subst (λ (p : Position × ℕ). IsKnownBelow all_world 1 p.0 p.1) same start_known
-    at (inr none) = absurd none
-
 pub plan_given : PlanIsGiven
 plan_given plan rows moves listed = (
   all_world,
@@ -312,7 +243,7 @@ plan_given plan rows moves listed = (
         leads = subst (λ ms. Leads one_move.task.rule one_move.task.start ms one_move.task.goal 1) (sym moves) (goal_of (grid_of 2 2), 1, 0, record { cell = 0; towards = (lit< tt, refl, refl); after = refl; cost = refl }, (refl, refl), refl);
         within = omega arith;
       },
-      subst (AreRowsFor all_world 1) (sym listed) (inr (omega arith, record { rising = λ i j d lt j_in. absurd (omega arith); each = λ b cost. (start_listed b cost, start_alone b cost) })),
+      one_row all_steps rows.items listed refl,
     ),
   ),
 )
@@ -343,11 +274,21 @@ far_steps = one_way ++ other_way
 abbrev far_end : SmallWorld
 far_end = end_of far_goal.task far_goal.owner far_steps (small_opening far_goal)
 
+-- the start and its two successors
+abbrev far_rows : List Row
+far_rows = (two_by_three (0 ∷ 1 ∷ 2 ∷ 3 ∷ 4 ∷ 5 ∷ []), 0) ∷ (two_by_three (1 ∷ 0 ∷ 2 ∷ 3 ∷ 4 ∷ 5 ∷ []), 1) ∷ (two_by_three (3 ∷ 1 ∷ 2 ∷ 0 ∷ 4 ∷ 5 ∷ []), 1) ∷ []
+
 pub again_given : BoardIsExpandedAgain
-again_given = (
+again_given rows listed = (
   world_of far_goal.task far_goal.owner far_end,
   (run_by far_goal far_goal_is refl far_boards far_steps).0,
-  (Some 2, None, lowest_by far_goal far_goal_is refl far_boards far_steps, reached_by far_goal far_goal_is refl far_boards far_steps _ refl, ((2, refl, refl), inl (refl, refl))),
+  (
+    Some 2,
+    None,
+    lowest_by far_goal far_goal_is refl far_boards far_steps,
+    reached_by far_goal far_goal_is refl far_boards far_steps _ refl,
+    (((2, refl, refl), refl, refl), rows_by far_goal far_goal_is refl far_boards far_steps 2 far_rows rows.items listed (omega arith) refl),
+  ),
 )
 
 abbrev limited_move : Job
@@ -360,8 +301,14 @@ abbrev limit_steps : List Step
 limit_steps = Grant 1 ∷ Halt 1 Limit ∷ Expand 1 ∷ Expand 1 ∷ Grant 1 ∷ Halt 1 Limit ∷ []
 
 pub limit_given : LimitIsGiven
-limit_given = (
+limit_given rows listed = (
   world_of limited_move.task limited_move.owner (end_of limited_move.task limited_move.owner limit_steps (small_opening limited_move)),
   (run_by limited_move limited_is refl one_boards limit_steps).0,
-  (Some 1, None, lowest_by limited_move limited_is refl one_boards limit_steps, reached_by limited_move limited_is refl one_boards limit_steps _ refl, ((1, refl, refl), inl (refl, refl))),
+  (
+    Some 1,
+    None,
+    lowest_by limited_move limited_is refl one_boards limit_steps,
+    reached_by limited_move limited_is refl one_boards limit_steps _ refl,
+    (((1, refl, refl), refl, refl), rows_by limited_move limited_is refl one_boards limit_steps 1 start_row rows.items listed (omega arith) refl),
+  ),
 )

@@ -1,10 +1,8 @@
 -- The worked outcomes: each run is computed, and what it ends with.
-use Rattle.std.proofs.Common.{◌≡◌, ℕ, zero, suc, ◌+◌, ◌<◌, Bool, true, false, List, [], ◌∷◌, ◌++◌, refl, sym, ap, ◌∙◌, subst, inl, inr, arith, Some, None, replicate, lit<}
-use Rattle.std.specs.Prelude.{AllPairs, Contains, Option, nat_lt}
+use Rattle.std.proofs.Common.{◌≡◌, ℕ, zero, suc, ◌+◌, Bool, true, false, List, [], ◌∷◌, ◌++◌, refl, sym, ap, ◌∙◌, subst, inl, inr, arith, Some, None, replicate, lit<}
+use Rattle.std.specs.Prelude.{Option}
 use Rattle.std.specs.FinMap as map
 use Rattle.std.specs.Ordering.{nat_cmp}
-use Rattle.std.proofs.lemmas.List.Elements.{All-cons}
-use Rattle.std.proofs.lemmas.List.Kept.{AllPairs-cons}
 use Rattle.std.proofs.Math.Nat.{mod-lt}
 use Rattle.board.specs.declared.costs.TheConstants.{GREATEST_EXPANDED_COST}
 use Rattle.board.specs.declared.moves.Move.{Move}
@@ -23,19 +21,18 @@ use Rattle.world_model.specs.Openings.{IsJob, Job, first_worker, idle_worker, op
 use Rattle.world_model.specs.Quiet.{HasBegun}
 use Rattle.world_model.specs.declared.steps.Stop.{Stop}
 use Rattle.world_model.specs.declared.steps.Stop.TheVariants.{Limit as StopLimit}
-use Rattle.world_model.specs.Outcomes.{AreRowsFor, IsByLastMoves, IsKnownBelow}
+use Rattle.world_model.specs.Outcomes.{IsByLastMoves}
 use Rattle.world_model.specs.Steps.{IsRun}
 use Rattle.world_model.specs.Worked.{first_half, one_move, plain_job}
 use Rattle.world_model.specs.WorkedOutcomes.{CostIsGiven, EmptyPlanIsGiven, JobsAreOfAllCounts, MemoryIsGiven, NoRowsAreGiven, OpeningsAreNotKept, PlanAboveIsGiven, StartIsGiven, ThreeRowsAreGiven, UnsolvableIsGiven, WorldsAreReached, far_start, halfway, known_start, two_expansions, two_moves}
 use Rattle.world_model.specs.Workers.{IsTaskBoard, WorkerState}
 use Rattle.world_model.proofs.TableLemmas.{get_inserted}
-use Rattle.world_model.proofs.SmallSteps.{lt_tests}
 use Rattle.world_model.specs.Worlds.{Knows, WorldState}
 use Rattle.world_model.proofs.RunLemmas.{runs_sound}
-use Rattle.world_model.proofs.SmallWorkers.{In, Small, current, current_complete, found, look_first, look_up, worker_of}
-use Rattle.world_model.proofs.SmallFrontiers.{contained_in, in_contained, in_place, small_worker}
-use Rattle.world_model.proofs.SmallWorlds.{AllBoards, SmallWorld, boards_at, end_of, known_first, made, run_is, world_of}
-use Rattle.world_model.proofs.WorkedLemmas.{all_steps, all_world, board_is, lowest_by, one_end, one_lowest, one_move_is, one_reached, one_run, reached_by, run_by, small_opening, two_shape}
+use Rattle.world_model.proofs.SmallWorkers.{look_first}
+use Rattle.world_model.proofs.SmallWorlds.{AllBoards, SmallWorld, end_of, known_first, made, run_is, world_of}
+use Rattle.world_model.proofs.WorkedLemmas.{all_steps, all_world, board_is, lowest_by, one_end, one_lowest, one_move_is, one_reached, one_run, reached_by, rows_by, run_by, small_opening, two_shape}
+use Rattle.world_model.proofs.RowsOfSmallWorlds.{Row}
 
 abbrev second_steps : List Step
 second_steps = Deliver 0 1 ∷ Settle 0 ∷ Announce 0 ∷ Rest 0 ∷ Rest 1 ∷ []
@@ -54,17 +51,24 @@ worlds_reached = (half_run, (run_is one_move.task one_move.owner one_move_is.tas
 
 pub memory_given : MemoryIsGiven
 memory_given refused = (
-  all_world,
-  (one_run all_steps).0,
-  (Some 1, Some 1, one_lowest all_steps, one_reached all_steps _ refl, ((1, refl, refl), inr ((λ e. cc), (refused, refl)))),
+  (
+    all_world,
+    (one_run all_steps).0,
+    (Some 1, Some 1, one_lowest all_steps, one_reached all_steps _ refl, (((1, refl, refl), refl, (refused, refl)), inl (λ e. cc))),
+  ),
+  (
+    halfway,
+    half_run,
+    (Some 1, None, one_lowest first_steps, one_reached first_steps _ refl, (((1, refl, refl), refl, (refused, refl)), inr (omega arith))),
+  ),
 )
 
 pub start_given : StartIsGiven
-start_given =
+start_given rows listed =
     let steps : List Step = Halt 0 Start ∷ [] in (
       world_of one_move.task one_move.owner (one_end steps),
       (one_run steps).0,
-      (Some 0, None, one_lowest steps, one_reached steps _ refl, ((0, refl, refl), inl (refl, refl))),
+      (Some 0, None, one_lowest steps, one_reached steps _ refl, (((0, refl, refl), refl, refl), inl (omega arith, listed))),
     )
 
 -- jobs of one worker on boards of 2 by 2
@@ -167,7 +171,7 @@ traced_at job s rule goal first second own own' moves is =
     (subst (λ (i : ℕ). Knows w i (two_by_two 0 3 1 2) (known_as 2 false U)) (sym own') (known_first job.task job.owner s (two_by_two 0 3 1 2) (known_as 2 false U) second (two_is.task.goal, sides))))
 
 pub above_given : PlanAboveIsGiven
-above_given plan moves = (
+above_given plan rows moves listed = (
   world_of two_moves.task two_moves.owner (end_of two_moves.task two_moves.owner two_expansions (small_opening two_moves)),
   (run_by two_moves two_is refl two_boards two_expansions).0,
   (
@@ -175,7 +179,10 @@ above_given plan moves = (
     Some 2,
     lowest_by two_moves two_is refl two_boards two_expansions,
     reached_by two_moves two_is refl two_boards two_expansions _ refl,
-    ((1, refl, refl), record { goal = 2; is = refl; traced = traced_at two_moves (end_of two_moves.task two_moves.owner two_expansions (small_opening two_moves)) refl refl refl refl refl refl plan.items moves; leads = subst LeadsTwice (sym moves) leads_twice; within = omega arith }, (λ e. omega (arith, e)), refl),
+    (
+      ((1, refl, refl), record { goal = 2; is = refl; traced = traced_at two_moves (end_of two_moves.task two_moves.owner two_expansions (small_opening two_moves)) refl refl refl refl refl refl plan.items moves; leads = subst LeadsTwice (sym moves) leads_twice; within = omega arith }, (λ e. omega (arith, e)), refl),
+      rows_by two_moves two_is refl two_boards two_expansions 1 ((two_by_two 1 3 2 0, 0) ∷ []) rows.items listed (omega arith) refl,
+    ),
   ),
 )
 
@@ -250,7 +257,7 @@ abbrev low_steps : List Step
 low_steps = Rest 0 ∷ Grant 0 ∷ []
 
 pub cost_given : CostIsGiven
-cost_given = (
+cost_given rows listed = (
   (
     world_of (far_start high_sum).task (far_start high_sum).owner (end_of (far_start high_sum).task (far_start high_sum).owner high_steps (small_opening (far_start high_sum))),
     (run_by (far_start high_sum) (far_is high_sum) refl (far_boards high_sum) high_steps).0,
@@ -259,7 +266,7 @@ cost_given = (
       None,
       lowest_by (far_start high_sum) (far_is high_sum) refl (far_boards high_sum) high_steps,
       reached_by (far_start high_sum) (far_is high_sum) refl (far_boards high_sum) high_steps _ refl,
-      ((high_sum, refl, refl), inl (refl, refl)),
+      (((high_sum, refl, refl), refl, refl), inl (omega arith, listed)),
     ),
   ),
   (
@@ -270,7 +277,7 @@ cost_given = (
       None,
       lowest_by (far_start GREATEST_EXPANDED_COST) (far_is GREATEST_EXPANDED_COST) refl (far_boards GREATEST_EXPANDED_COST) low_steps,
       reached_by (far_start GREATEST_EXPANDED_COST) (far_is GREATEST_EXPANDED_COST) refl (far_boards GREATEST_EXPANDED_COST) low_steps _ refl,
-      ((GREATEST_EXPANDED_COST, refl, refl), inl (refl, refl)),
+      (((GREATEST_EXPANDED_COST, refl, refl), refl, refl), inl (omega arith, listed)),
     ),
   ),
 )
@@ -285,103 +292,11 @@ three_end = end_of two_moves.task two_moves.owner three_steps (small_opening two
 abbrev three_world : WorldState
 three_world = world_of two_moves.task two_moves.owner three_end
 
-three_small : Small
-three_small = record {
-  entries =
-      (two_by_two 0 1 2 3, known_as 2 false L)
-      ∷ (two_by_two 1 0 2 3, known_as 1 true U)
-      ∷ (two_by_two 0 3 1 2, known_as 2 false U)
-      ∷ (two_by_two 1 3 0 2, known_as 1 true L)
-      ∷ (two_by_two 1 3 0 2, known_as 1 false L)
-      ∷ (two_by_two 1 0 2 3, known_as 1 false U)
-      ∷ (two_by_two 1 3 2 0, known_as 0 true U)
-      ∷ (two_by_two 1 3 2 0, known_as 0 false U)
-      ∷ [];
-  held = [];
-  unsent = [] ∷ [];
-  purse = 1;
-  allowance = 253;
-  expansions = 3;
-  best = None;
-}
-
-three_is : three_end.workers ≡ three_small ∷ []
-unfolding three_small
-three_is = refl
-
-abbrev Row : Type 0
-Row = Position × ℕ
-
-abbrev three_rows : List Row
-three_rows = (two_by_two 1 0 2 3, 1) ∷ (two_by_two 1 3 0 2, 1) ∷ (two_by_two 1 3 2 0, 0) ∷ []
-
-abbrev row_of : Position × Known → Row
-row_of e = (e.0, e.1.cost)
-
-abbrev OnlyRows : Small → Type 0
-OnlyRows x = (e : Position × Known) → In (current x.entries x.entries) e → e.1.cost < 2 → In three_rows (row_of e)
-
--- what is known at 2 has no row
-too_dear : (cost : ℕ) (e : Position × Known) (x : Position × Known) → x ≡ e → x.1.cost ≡ 2 → e.1.cost < 2 → ⊥
-too_dear cost e x same two low = let n = ap (λ (y : Position × Known). y.1.cost) same in omega arith
-
-only_rows : OnlyRows three_small
-unfolding three_small
-only_rows e (inl same) low = absurd (too_dear 2 e _ same refl low)
-only_rows e (inr (inl same)) low = inl (ap row_of same)
-only_rows e (inr (inr (inl same))) low = absurd (too_dear 2 e _ same refl low)
-only_rows e (inr (inr (inr (inl same)))) low = inr (inl (ap row_of same))
-only_rows e (inr (inr (inr (inr (inl same))))) low = inr (inl (ap row_of same))
-only_rows e (inr (inr (inr (inr (inr (inl same)))))) low = inl (ap row_of same)
-only_rows e (inr (inr (inr (inr (inr (inr (inl same))))))) low = inr (inr (inl (ap row_of same)))
-only_rows e (inr (inr (inr (inr (inr (inr (inr (inl same)))))))) low = inr (inr (inl (ap row_of same)))
-only_rows e (inr (inr (inr (inr (inr (inr (inr (inr none)))))))) low = absurd none
-
 three_run : IsRun (opening two_moves U) (made two_moves.task two_moves.owner three_steps (small_opening two_moves)) three_world × AllBoards two_moves.task three_end.workers
 three_run = run_by two_moves two_is refl two_boards three_steps
 
-all_rows : (x : Small) → In (three_small ∷ []) x → OnlyRows x
-all_rows x (inl same) = subst OnlyRows same only_rows
-all_rows x (inr none) = absurd none
-
-rows_alone : (b : Position) (cost : ℕ) → IsKnownBelow three_world 2 b cost → Contains three_rows (b, cost)
-rows_alone b cost (i, known, knows, same, low) =
-    let x = small_worker two_moves.task two_moves.owner two_is.task.goal three_end three_run.1 i knows.worker knows.is in
-    let looked : look_up x.0.entries (key_of b) ≡ Some known = sym (found x.0.entries (key_of b)) ∙ ap (λ (y : WorkerState). map.get y.known (key_of b)) (sym x.2) ∙ knows.knows in
-    let listed = current_complete two_moves.task x.0.entries (boards_at two_moves.task three_end.workers i x.0 three_run.1 x.1) b known knows.board looked in
-    let is = all_rows x.0 (subst (λ (xs : List Small). In xs x.0) three_is (in_place three_end.workers i x.0 x.1)) (b, known) listed (omega (arith, same)) in
-    contained_in three_rows (b, cost) (subst (λ n. In three_rows (b, n)) same is)
-
-abbrev KnownBelow : Row → Type 0
-KnownBelow row = IsKnownBelow three_world 2 row.0 row.1
-
-three_knows : (b : Position) (known : Known) → IsTaskBoard two_moves.task b → look_up three_small.entries (key_of b) ≡ Some known → Knows three_world 0 b known
-unfolding three_small
-three_knows b known board at = record { worker = worker_of three_small; is = refl; board = board; knows = found three_small.entries (key_of b) ∙ at }
-
-rows_listed : (b : Position) (cost : ℕ) → Contains three_rows (b, cost) → IsKnownBelow three_world 2 b cost
-unfolding three_small
-rows_listed b cost has = at (in_contained three_rows (b, cost) has)
-  where
-    at : In three_rows (b, cost) → IsKnownBelow three_world 2 b cost
-    at (inl same) = subst KnownBelow same (0, known_as 1 true U, three_knows (two_by_two 1 0 2 3) (known_as 1 true U) (one_move_is.task.start, refl) refl, refl, omega arith)
-    at (inr (inl same)) = subst KnownBelow same (0, known_as 1 true L, three_knows (two_by_two 1 3 0 2) (known_as 1 true L) (board_is (two_by_two 1 3 0 2) two_shape refl refl refl, refl) refl, refl, omega arith)
-    at (inr (inr (inl same))) = subst KnownBelow same (0, known_as 0 true U, three_knows (two_by_two 1 3 2 0) (known_as 0 true U) (two_is.task.start, refl) refl, refl, omega arith)
-    at (inr (inr (inr none))) = absurd none
-
-abbrev Rises : Row → Row → Type 0
-Rises row later = key_of row.0 < key_of later.0
-
-rises_to : (row later : Row) → nat_lt (key_of row.0) (key_of later.0) ≡ true → Rises row later
-rises_to row later e = (lt_tests (key_of row.0) (key_of later.0)).0 e
-
-rows_rise : AllPairs Rises three_rows
-rows_rise =
-    let a : Row = (two_by_two 1 0 2 3, 1) in
-    let b : Row = (two_by_two 1 3 0 2, 1) in
-    let c : Row = (two_by_two 1 3 2 0, 0) in
-    AllPairs-cons Rises a (b ∷ c ∷ []) (All-cons (Rises a) b (c ∷ []) (rises_to a b refl) (All-cons (Rises a) c [] (rises_to a c refl) (λ k d lt. absurd (omega arith))))
-    (AllPairs-cons Rises b (c ∷ []) (All-cons (Rises b) c [] (rises_to b c refl) (λ k d lt. absurd (omega arith))) (AllPairs-cons Rises c [] (λ k d lt. absurd (omega arith)) (λ i j d lt j_in. absurd (omega arith))))
+abbrev three_rows : List Row
+three_rows = (two_by_two 1 0 2 3, 1) ∷ (two_by_two 1 3 0 2, 1) ∷ (two_by_two 1 3 2 0, 0) ∷ []
 
 pub three_given : ThreeRowsAreGiven
 three_given plan rows moves listed = (
@@ -395,7 +310,7 @@ three_given plan rows moves listed = (
     (
       (2, refl, refl),
       record { goal = 2; is = refl; traced = traced_at two_moves three_end refl refl refl refl refl refl plan.items moves; leads = subst LeadsTwice (sym moves) leads_twice; within = omega arith },
-      subst (AreRowsFor three_world 2) (sym listed) (inr (omega arith, record { rising = rows_rise; each = λ b cost. (rows_listed b cost, rows_alone b cost) })),
+      rows_by two_moves two_is refl two_boards three_steps 2 three_rows rows.items listed (omega arith) refl,
     ),
   ),
 )

@@ -1,18 +1,19 @@
 -- The laws of worlds whose outcome is a run's own: what quiet and kept worlds give, and which cause a bound has.
-use Rattle.std.specs.Prelude.{◌≡◌, ◌≢◌, ◌⊎◌, ℕ, ◌+◌, ◌*◌, ◌-◌, ◌^◌, ◌≤◌, ◌<◌, false, List, length, Contains, Vec, Option, Some, None, slice_get}
+use Rattle.std.specs.Prelude.{◌≡◌, ◌≢◌, ◌⊎◌, ℕ, ◌+◌, ◌*◌, ◌-◌, ◌^◌, ◌≤◌, ◌<◌, false, List, [], length, Contains, Vec, Option, Some, None, slice_get}
 use Rattle.std.specs.declared.alloc.Global.{Global}
 use Rattle.memory.specs.declared.OutOfMemory.{OutOfMemory}
 use Rattle.board.specs.declared.costs.TheConstants.{GREATEST_COST}
 use Rattle.board.specs.declared.moves.Move.{Move}
 use Rattle.board.specs.Positions.{Position}
 use Rattle.board.specs.Plans.{Leads}
-use Rattle.board.specs.Rows.{IsLowerBound}
+use Rattle.board.specs.Rows.{Proves, IsLowerBound}
 use Rattle.outcomes.specs.declared.outcome.Cause.{Cause}
 use Rattle.outcomes.specs.declared.outcome.Cause.TheVariants.{Limit as ForLimit, Memory as ForMemory, Start as ForStart, Cost as ForCost, Cut as ForCut}
 use Rattle.outcomes.specs.declared.outcome.Want.{Want}
 use Rattle.outcomes.specs.declared.outcome.Want.TheVariants.{Refused}
 use Rattle.outcomes.specs.declared.outcome.Outcome.{Outcome}
-use Rattle.outcomes.specs.declared.outcome.Outcome.TheVariants.{Optimal, Bounded}
+use Rattle.outcomes.specs.declared.outcome.Outcome.TheVariants.{Optimal, Unsolvable, Bounded}
+use Rattle.outcomes.specs.declared.outcome.Why.TheVariants.{Exhausted}
 use Rattle.world_model.specs.declared.limits.TheConstants.{LANE_LIMIT, PACKET_LIMIT, CREDIT_DRAWN, GREATEST_GRANT}
 use Rattle.world_model.specs.declared.parts.Item.{Item}
 use Rattle.world_model.specs.declared.parts.Known.{Known}
@@ -30,7 +31,8 @@ use Rattle.world_model.specs.Shapes.{IsShaped}
 use Rattle.world_model.specs.Soundness.{IsSound}
 use Rattle.world_model.specs.Credit.{IsCredited, purse_total, packet_count, expansion_count}
 use Rattle.world_model.specs.Quiet.{IsQuiet, IsKept, HasBegun}
-use Rattle.world_model.specs.Outcomes.{IsByLastMoves, IsGiven}
+use Rattle.world_model.specs.Frontiers.{IsInFrontier}
+use Rattle.world_model.specs.Outcomes.{IsByLastMoves, IsGiven, IsBounded}
 
 -- in a quiet world nothing is under way, and no credit is left
 abbrev pub QuietWorldsAreAtRest : Type 0
@@ -45,7 +47,7 @@ QuietWorldsBoundForCost =
     → IsQuiet w
     → IsLowerBound w.task.rule w.task.sum w.task.goal
     → w.book.stop ≡ Some Quiet
-    → IsGiven w (Bounded bound best cause)
+    → IsBounded w bound best cause
     → (cause ≡ ForCost) ⊎ ((best ≡ None) × ((refused : OutOfMemory) × (cause ≡ ForMemory (Refused refused))))
 
 -- no kept world gives a bound for which the run was cut, or a thread could not be started
@@ -56,7 +58,7 @@ KeptWorldsAreNeverCut =
     → IsSound w
     → IsKept w
     → IsLowerBound w.task.rule w.task.sum w.task.goal
-    → IsGiven w (Bounded bound best cause)
+    → IsBounded w bound best cause
     → (cause ≢ ForCut) × (cause ≢ ForStart)
 
 -- a kept world that stopped for the limit has begun, where that is above one grant for each worker
@@ -67,7 +69,7 @@ KeptWorldsHaveBegun = (w : WorldState) → IsKept w → w.book.stop ≡ Some Lim
 abbrev pub CausesAreTheStops : Type 0
 CausesAreTheStops =
     (w : WorldState) (bound : ℕ) (best : Option (ℕ × Vec Move Global)) (cause : Cause)
-    → IsGiven w (Bounded bound best cause)
+    → IsBounded w bound best cause
     → (cause ≡ ForLimit → w.book.stop ≡ Some Limit) × (cause ≡ ForStart → w.book.stop ≡ Some Start)
 
 -- so where it is for the limit, all of that is granted, and spent but for one grant for each worker but one
@@ -75,15 +77,54 @@ abbrev pub LimitBoundsAreSpent : Type 0
 LimitBoundsAreSpent =
     (w : WorldState) (bound : ℕ) (best : Option (ℕ × Vec Move Global))
     → IsCredited w
-    → IsGiven w (Bounded bound best ForLimit)
+    → IsBounded w bound best ForLimit
     → (w.book.granted ≡ w.book.limit) × (w.book.limit ≤ expansion_count w + GREATEST_GRANT * (length w.workers - 1))
 
--- a bound is for memory only where the run was halted so; or where memory was refused for a plan to a goal that is known, or its rows
+-- what an outcome says of a bound is what the world gives, whatever rows beside it
+abbrev pub BoundsAreGiven : Type 0
+BoundsAreGiven =
+    (w : WorldState) (bound : ℕ) (best : Option (ℕ × Vec Move Global)) (cause : Cause) (rows : Option (Vec (Position × ℕ) Global))
+    → IsGiven w (Bounded bound best cause rows)
+    → IsBounded w bound best cause
+
+-- the goal's owner knows it
+abbrev pub KnowsGoal : WorldState → Type 0
+KnowsGoal w = (known : Known) × Knows w (w.owner w.task.goal) w.task.goal known
+
+-- A bound is for memory only where the run was halted so; or where memory was refused. Then it has neither plan nor rows, and was asked
+-- for: for a plan to a goal that is known, or for rows of a bound above the start's sum.
 abbrev pub MemoryBoundsAreWanted : Type 0
 MemoryBoundsAreWanted =
-    (w : WorldState) (bound : ℕ) (best : Option (ℕ × Vec Move Global)) (want : Want)
-    → IsGiven w (Bounded bound best (ForMemory want))
-    → (w.book.stop ≡ Some (Memory want)) ⊎ ((best ≡ None) × ((refused : OutOfMemory) × (want ≡ Refused refused)) × ((i : ℕ) × (known : Known) × Knows w i w.task.goal known))
+    (w : WorldState) (bound : ℕ) (best : Option (ℕ × Vec Move Global)) (want : Want) (rows : Option (Vec (Position × ℕ) Global))
+    → IsGiven w (Bounded bound best (ForMemory want) rows)
+    → (w.book.stop ≡ Some (Memory want))
+    ⊎ ((best ≡ None) × (rows ≡ None) × ((refused : OutOfMemory) × (want ≡ Refused refused)) × (KnowsGoal w ⊎ (w.task.sum w.task.start < bound)))
+
+-- and a bound has no rows only where memory was refused so
+abbrev pub RowsAreLeftOutForMemory : Type 0
+RowsAreLeftOutForMemory =
+    (w : WorldState) (bound : ℕ) (best : Option (ℕ × Vec Move Global)) (cause : Cause)
+    → IsGiven w (Bounded bound best cause None)
+    → (best ≡ None) × ((refused : OutOfMemory) × (cause ≡ ForMemory (Refused refused))) × (KnowsGoal w ⊎ (w.task.sum w.task.start < bound))
+
+-- Where the goal is unknown, no memory is asked for if the frontier is empty, or if the bound is the start's sum: there is no plan, or the
+-- bound has its rows, of which there is none.
+abbrev pub UnknownGoalsWantNoMemory : Type 0
+UnknownGoalsWantNoMemory =
+    (w : WorldState)
+    → ¬ KnowsGoal w
+    → ((outcome : Outcome) → ((b : Position) (cost : ℕ) → ¬ IsInFrontier w b cost) → IsGiven w outcome → outcome ≡ Unsolvable Exhausted)
+    × ((best : Option (ℕ × Vec Move Global)) (cause : Cause) (rows : Option (Vec (Position × ℕ) Global)) → IsGiven w (Bounded (w.task.sum w.task.start) best cause rows) → (listed : Vec (Position × ℕ) Global) × (rows ≡ Some listed) × (listed.items ≡ []))
+
+-- the rows of a bound prove it
+abbrev pub BoundRowsProve : Type 0
+BoundRowsProve =
+    (w : WorldState) (bound : ℕ) (best : Option (ℕ × Vec Move Global)) (cause : Cause) (rows : Vec (Position × ℕ) Global)
+    → IsShaped w
+    → IsSound w
+    → IsLowerBound w.task.rule w.task.sum w.task.goal
+    → IsGiven w (Bounded bound best cause (Some rows))
+    → Proves w.task.rule rows.items w.task.sum w.task.start w.task.goal bound
 
 -- a sound world gives some outcome, if vectors have the plan and the rows
 abbrev pub WorldsGiveOutcomes : Type 0
@@ -128,7 +169,7 @@ IsWithinReach w cost plan =
 abbrev pub PlansAreWithinReach : Type 0
 PlansAreWithinReach =
     ((w : WorldState) (cost : ℕ) (plan : Vec Move Global) (rows : Vec (Position × ℕ) Global) → IsGiven w (Optimal cost plan rows) → IsWithinReach w cost plan)
-    × ((w : WorldState) (bound : ℕ) (best : ℕ × Vec Move Global) (cause : Cause) → IsGiven w (Bounded bound (Some best) cause) → IsWithinReach w best.0 best.1)
+    × ((w : WorldState) (bound : ℕ) (best : ℕ × Vec Move Global) (cause : Cause) → IsBounded w bound (Some best) cause → IsWithinReach w best.0 best.1)
 
 -- In no world that a run reaches is the credit above 2^63 and what is drawn at once. So no purse is the greatest u64 there, and no packet
 -- is refused for a full purse.

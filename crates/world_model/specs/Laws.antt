@@ -10,8 +10,7 @@ use Rattle.outcomes.specs.declared.outcome.Cause.{Cause}
 use Rattle.outcomes.specs.declared.outcome.Cause.TheVariants.{Memory as ForMemory, Cost as ForCost, Cut as ForCut}
 use Rattle.outcomes.specs.declared.outcome.Want.TheVariants.{Refused}
 use Rattle.outcomes.specs.declared.outcome.Outcome.{Outcome}
-use Rattle.outcomes.specs.declared.outcome.Outcome.TheVariants.{Bounded}
-use Rattle.outcomes.specs.Outcomes.{Answers}
+use Rattle.outcomes.specs.Outcomes.{Answers, IsTrueBound}
 use Rattle.world_model.specs.declared.limits.TheConstants.{GREATEST_GRANT}
 use Rattle.world_model.specs.declared.parts.Item.{Item}
 use Rattle.world_model.specs.declared.parts.Known.{Known}
@@ -31,7 +30,7 @@ use Rattle.world_model.specs.Soundness.{IsSound, IsLedTo}
 use Rattle.world_model.specs.Frontiers.{IsInFrontier}
 use Rattle.world_model.specs.Credit.{IsCredited, expansion_count}
 use Rattle.world_model.specs.Quiet.{IsQuiet, IsKept}
-use Rattle.world_model.specs.Outcomes.{IsGiven}
+use Rattle.world_model.specs.Outcomes.{IsGiven, IsBounded}
 
 -- a refused step leaves the world as it was
 abbrev pub RefusalsChangeNothing : Type 0
@@ -135,6 +134,16 @@ OutcomesAnswer =
     → IsGiven w outcome
     → Answers w.task outcome
 
+-- so is what it says of a bound, whatever rows beside it
+abbrev pub BoundsAreTrue : Type 0
+BoundsAreTrue =
+    (w : WorldState) (bound : ℕ) (best : Option (ℕ × Vec Move Global)) (cause : Cause)
+    → IsShaped w
+    → IsSound w
+    → IsLowerBound w.task.rule w.task.sum w.task.goal
+    → IsBounded w bound best cause
+    → IsTrueBound w.task bound best cause
+
 -- each world that a run reaches from the opening world is shaped, sound and credited
 abbrev pub RunsKeepSound : Type 0
 RunsKeepSound =
@@ -203,7 +212,7 @@ QuietBoundsAreForCost =
     → IsCredited w
     → IsLowerBound w.task.rule w.task.sum w.task.goal
     → w.book.stop ≡ Some Quiet
-    → IsGiven w (Bounded bound best cause)
+    → IsBounded w bound best cause
     → (cause ≡ ForCost) ⊎ ((best ≡ None) × ((refused : OutOfMemory) × (cause ≡ ForMemory (Refused refused))))
 
 -- so it gives no bound for which the run was cut
@@ -215,4 +224,4 @@ QuietIsNeverCut =
     → IsCredited w
     → IsLowerBound w.task.rule w.task.sum w.task.goal
     → w.book.stop ≡ Some Quiet
-    → ¬ IsGiven w (Bounded bound best ForCut)
+    → ¬ IsBounded w bound best ForCut

@@ -1,5 +1,6 @@
 -- Which outcome a world gives, at any moment.
-use Rattle.std.specs.Prelude.{ℕ, ◌≡◌, ◌≢◌, ◌⊎◌, ◌↔◌, ◌+◌, ◌≤◌, ◌<◌, nat_lt, max, Bool, true, List, [], ◌∷◌, AllPairs, Contains, Option, Some, None, if◌then◌else◌}
+use Rattle.std.specs.Prelude.{ℕ, ◌≡◌, ◌≢◌, ◌⊎◌, ◌↔◌, ◌+◌, ◌≤◌, ◌<◌, nat_lt, max, Bool, true, List, [], ◌∷◌, AllPairs, Contains, Option, Some, None, Vec, if◌then◌else◌}
+use Rattle.std.specs.declared.alloc.Global.{Global}
 use Rattle.memory.specs.declared.OutOfMemory.{OutOfMemory}
 use Rattle.board.specs.declared.costs.TheConstants.{GREATEST_EXPANDED_COST}
 use Rattle.board.specs.declared.moves.Move.{Move}
@@ -78,22 +79,37 @@ cause_of None lowest = ForCut
 abbrev pub cause_at : End → Cause
 cause_at end = cause_of end.world.book.stop end.lowest
 
--- memory was refused for the plan of a goal that is known, or for its rows
-abbrev pub LacksMemory : End → Cause → Type 0
-LacksMemory end cause = (end.reached ≢ None) × ((refused : OutOfMemory) × (cause ≡ ForMemory (Refused refused)))
+-- the run stopped early with this bound; beside it stands the plan that is followed back, which costs more, if the goal is known
+abbrev pub IsStoppedAt : End → ℕ → Option (ℕ × Vec Move Global) → Cause → Type 0
+IsStoppedAt end bound None cause = IsBoundOf end bound × (end.reached ≡ None) × (cause ≡ cause_at end)
+IsStoppedAt end bound (Some best) cause = IsBoundOf end bound × IsFollowedBack end best.0 best.1.items × (best.0 ≢ bound) × (cause ≡ cause_at end)
+
+-- the bound stands alone, since memory was refused
+abbrev pub IsAloneAt : End → ℕ → Option (ℕ × Vec Move Global) → Cause → Type 0
+IsAloneAt end bound best cause = IsBoundOf end bound × (best ≡ None) × ((refused : OutOfMemory) × (cause ≡ ForMemory (Refused refused)))
+
+-- memory is asked for: for the plan of a goal that is known, or for rows, which no bound needs that is the start's sum
+abbrev pub AsksForMemory : End → ℕ → Type 0
+AsksForMemory end bound = (end.reached ≢ None) ⊎ (end.world.task.sum end.world.task.start < bound)
 
 -- Neither the frontier nor the goal is known: no plan. Else the bound is given. Where the plan that is followed back costs just that,
--- it is optimal, and has its rows. Else the bound is given with the plan, if the goal is known. Where the plan or the rows find no
--- memory, it is given alone.
+-- it is optimal, and has its rows. Else the bound is given with its rows, and with the plan, if the goal is known. Where the plan or the
+-- rows find no memory, it is given alone.
 abbrev pub IsGivenAt : End → Outcome → Type 0
 IsGivenAt end (Optimal cost plan rows) = IsBoundOf end cost × IsFollowedBack end cost plan.items × AreRowsFor end.world cost rows.items
 IsGivenAt end (Unsolvable why) = (floor end ≡ None) × (why ≡ Exhausted)
-IsGivenAt end (Bounded bound None cause) = IsBoundOf end bound × (((end.reached ≡ None) × (cause ≡ cause_at end)) ⊎ LacksMemory end cause)
-IsGivenAt end (Bounded bound (Some best) cause) =
-    IsBoundOf end bound × IsFollowedBack end best.0 best.1.items × (best.0 ≢ bound) × (cause ≡ cause_at end)
+IsGivenAt end (Bounded bound best cause (Some rows)) = IsStoppedAt end bound best cause × AreRowsFor end.world bound rows.items
+IsGivenAt end (Bounded bound best cause None) = IsAloneAt end bound best cause × AsksForMemory end bound
 
 -- the world gives this outcome
 abbrev pub IsGiven : WorldState → Outcome → Type 0
 IsGiven w outcome =
     (lowest : Option ℕ) × (reached : Option ℕ) × IsLowest w lowest × IsReached w reached
     × IsGivenAt (record { world = w; lowest = lowest; reached = reached }) outcome
+
+-- the world gives this bound, whatever rows beside it
+abbrev pub IsBounded : WorldState → ℕ → Option (ℕ × Vec Move Global) → Cause → Type 0
+IsBounded w bound best cause =
+    let at : Option ℕ → Option ℕ → End = λ lowest reached. record { world = w; lowest = lowest; reached = reached } in
+    (lowest : Option ℕ) × (reached : Option ℕ) × IsLowest w lowest × IsReached w reached
+    × (IsStoppedAt (at lowest reached) bound best cause ⊎ IsAloneAt (at lowest reached) bound best cause)

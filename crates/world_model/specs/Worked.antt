@@ -73,28 +73,33 @@ PlanIsGiven =
     → rows.items ≡ (two_by_two 1 0 2 3, 0) ∷ []
     → (w : WorldState) × IsRun (opening one_move U) (first_half ++ second_half) w × HasEnded w × IsGiven w (Optimal 1 plan rows)
 
--- with the goal on its way, the run is cut with the bound 1
+-- with the goal on its way, the run is cut with the bound 1, and the start is its one row
 abbrev pub CutIsGiven : Type 0
-CutIsGiven = Gives one_move first_half (Bounded 1 None ForCut)
+CutIsGiven = (rows : Vec (Position × ℕ) Global) → rows.items ≡ (two_by_two 1 0 2 3, 0) ∷ [] → Gives one_move first_half (Bounded 1 None ForCut (Some rows))
 
 -- a worker with an allowance can't halt for the limit, each can for memory, and then no step on the book is accepted
 abbrev pub HaltIsGiven : Type 0
 HaltIsGiven =
-    (want : Want)
+    (want : Want) (rows : Vec (Position × ℕ) Global)
+    → rows.items ≡ []
     → Gives one_move (ok (Grant 1) ∷ not_ok (Halt 1 Limit) AllowanceLeft ∷ ok (Halt 0 (Memory want)) ∷ not_ok (Rest 1) Stopped ∷ [])
-    (Bounded 0 None (ForMemory want))
+    (Bounded 0 None (ForMemory want) (Some rows))
 
--- with a limit of one expansion the worker that made it halts the run
+-- with a limit of one expansion the worker that made it halts the run, with the start as its one row
 abbrev pub LimitIsGiven : Type 0
 LimitIsGiven =
-    Gives (record one_move { limit = 1 })
+    (rows : Vec (Position × ℕ) Global)
+    → rows.items ≡ (two_by_two 1 0 2 3, 0) ∷ []
+    → Gives (record one_move { limit = 1 })
     (ok (Grant 1) ∷ not_ok (Halt 1 Limit) AllowanceLeft ∷ ok (Expand 1) ∷ not_ok (Expand 1) NoAllowance ∷ not_ok (Grant 1) NoAllowance ∷ ok (Halt 1 Limit) ∷ [])
-    (Bounded 1 None ForLimit)
+    (Bounded 1 None ForLimit (Some rows))
 
--- what is refused in the opening world
+-- what is refused in the opening world, whose bound needs no rows
 abbrev pub RefusalsAreGiven : Type 0
 RefusalsAreGiven =
-    Gives one_move
+    (rows : Vec (Position × ℕ) Global)
+    → rows.items ≡ []
+    → Gives one_move
     (not_ok (Settle 0) NothingThere
     ∷ not_ok (Deliver 0 1) RingEmpty
     ∷ not_ok (Rest 0) PurseEmpty
@@ -109,7 +114,7 @@ RefusalsAreGiven =
     ∷ not_ok (Halt 2 Limit) NoSuchWorker
     ∷ not_ok (Rest 1) NotIdle
     ∷ [])
-    (Bounded 0 None ForCut)
+    (Bounded 0 None ForCut (Some rows))
 
 -- who has spent the purse, still has something to do, holds a packet or was granted enough is refused, and the goal is announced once
 abbrev pub RefusalsOnTheWayAreGiven : Type 0
@@ -170,6 +175,9 @@ other_way =
     ++ (Deliver 0 1 ∷ Settle 0 ∷ Settle 0 ∷ Settle 0 ∷ Expand 0 ∷ Send 0 3 ∷ [])
     ++ (Deliver 3 0 ∷ Settle 3 ∷ Expand 3 ∷ [])
 
--- all these steps are accepted, and the bound is then 2
+-- all these steps are accepted, and the bound is then 2, with the start and its two successors as rows
 abbrev pub BoardIsExpandedAgain : Type 0
-BoardIsExpandedAgain = Gives far_goal (each_of ok (one_way ++ other_way)) (Bounded 2 None ForCut)
+BoardIsExpandedAgain =
+    (rows : Vec (Position × ℕ) Global)
+    → rows.items ≡ (two_by_three (0 ∷ 1 ∷ 2 ∷ 3 ∷ 4 ∷ 5 ∷ []), 0) ∷ (two_by_three (1 ∷ 0 ∷ 2 ∷ 3 ∷ 4 ∷ 5 ∷ []), 1) ∷ (two_by_three (3 ∷ 1 ∷ 2 ∷ 0 ∷ 4 ∷ 5 ∷ []), 1) ∷ []
+    → Gives far_goal (each_of ok (one_way ++ other_way)) (Bounded 2 None ForCut (Some rows))

@@ -69,13 +69,16 @@ ended =
 abbrev pub WorldsAreReached : Type 0
 WorldsAreReached = IsRun (opening one_move U) first_half halfway × IsRun halfway second_half ended
 
--- where memory is refused for the plan or its rows, that world gives the bound alone
+-- where memory is refused for the plan or its rows, that world gives the bound alone; and so does the one half-way, if it is for its rows
 abbrev pub MemoryIsGiven : Type 0
-MemoryIsGiven = (refused : OutOfMemory) → Gives one_move (first_half ++ second_half) (Bounded 1 None (ForMemory (Refused refused)))
+MemoryIsGiven =
+    (refused : OutOfMemory)
+    → Gives one_move (first_half ++ second_half) (Bounded 1 None (ForMemory (Refused refused)) None)
+    × Gives one_move first_half (Bounded 1 None (ForMemory (Refused refused)) None)
 
 -- of the same start, a run that was halted because a thread could not be started
 abbrev pub StartIsGiven : Type 0
-StartIsGiven = Gives one_move (ok (Halt 0 Start) ∷ []) (Bounded 0 None ForStart)
+StartIsGiven = (rows : Vec (Position × ℕ) Global) → rows.items ≡ [] → Gives one_move (ok (Halt 0 Start) ∷ []) (Bounded 0 None ForStart (Some rows))
 
 -- the start is the goal: nothing is expanded, and the empty plan is optimal, without rows
 abbrev pub EmptyPlanIsGiven : Type 0
@@ -95,9 +98,13 @@ two_moves = plain_job (two_by_two 1 3 2 0) (two_by_two 0 3 1 2) 1
 abbrev pub two_expansions : List Step
 two_expansions = Grant 0 ∷ Expand 0 ∷ Expand 0 ∷ []
 
--- so the plan at 2 is above the bound 1
+-- so the plan at 2 is above the bound 1, which the start proves
 abbrev pub PlanAboveIsGiven : Type 0
-PlanAboveIsGiven = (plan : Vec Move Global) → plan.items ≡ L ∷ U ∷ [] → Gives two_moves (each_of ok two_expansions) (Bounded 1 (Some (2, plan)) ForCut)
+PlanAboveIsGiven =
+    (plan : Vec Move Global) (rows : Vec (Position × ℕ) Global)
+    → plan.items ≡ L ∷ U ∷ []
+    → rows.items ≡ (two_by_two 1 3 2 0, 0) ∷ []
+    → Gives two_moves (each_of ok two_expansions) (Bounded 1 (Some (2, plan)) ForCut (Some rows))
 
 -- the same where the start's sum is 2: then this alone proves the plan least, without rows
 abbrev pub known_start : Job
@@ -134,8 +141,10 @@ far_start sum =
 -- where it is above the greatest cost at which a board is expanded, the run is quiet at once, and the bound is for the cost
 abbrev pub CostIsGiven : Type 0
 CostIsGiven =
-    Gives (far_start (GREATEST_EXPANDED_COST + 1)) (not_ok (Grant 0) NothingBelowLimit ∷ ok (Rest 0) ∷ []) (Bounded (GREATEST_EXPANDED_COST + 1) None ForCost)
-    × Gives (far_start GREATEST_EXPANDED_COST) (not_ok (Rest 0) NotIdle ∷ ok (Grant 0) ∷ []) (Bounded GREATEST_EXPANDED_COST None ForCut)
+    (rows : Vec (Position × ℕ) Global)
+    → rows.items ≡ []
+    → Gives (far_start (GREATEST_EXPANDED_COST + 1)) (not_ok (Grant 0) NothingBelowLimit ∷ ok (Rest 0) ∷ []) (Bounded (GREATEST_EXPANDED_COST + 1) None ForCost (Some rows))
+    × Gives (far_start GREATEST_EXPANDED_COST) (not_ok (Rest 0) NotIdle ∷ ok (Grant 0) ∷ []) (Bounded GREATEST_EXPANDED_COST None ForCut (Some rows))
 
 -- the opening world is not kept: it has not stopped; nor where a thread could not be started; nor for the limit, as nothing was expanded
 abbrev pub OpeningsAreNotKept : Type 0

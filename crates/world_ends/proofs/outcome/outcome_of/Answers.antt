@@ -1,21 +1,40 @@
-use Rattle.std.proofs.Common.{List, sym, subst}
+use Rattle.std.proofs.Common.{◌≡◌, ◌<◌, ◌≤◌, List, sym, subst, ⊎_elim, refl}
+use Rattle.std.proofs.lemmas.Bool.{cases_lt}
+use Rattle.outcomes.specs.Outcomes.{Task}
+use Rattle.world_model.specs.Outcomes.{IsGiven}
 use Rattle.world_model.specs.Workers.{WorkerState}
 use Rattle.world_ends.specs.Parts.{task_in, HasParts}
-use Rattle.world_ends.specs.Endings.{EndsIn}
-use Rattle.world_ends.proofs.LawLemmas.{rows_alone, bound_left}
+use Rattle.world_ends.specs.Endings.{EndsWhole}
+use Rattle.world_ends.proofs.LawLemmas.{rows_alone, bound_left, bound_rows, plan_lacking, rows_lacking}
 use Rattle.world_ends.proofs.outcome.outcome_of.Goals as goal
 
--- src/outcome.rt:47:1
-pub returns-in-Ok-clause-given : goal.returns-in-Ok-clause-given
-returns-in-Ok-clause-given g c = λ w parts laned stopped.
+pub returns-in-Ok-rows_for-clause-given : goal.returns-in-Ok-rows_for-clause-given
+returns-in-Ok-rows_for-clause-given g c = λ w parts laned stopped.
     let task = task_in c.args.asked.now in
     let hash = g.S.Spread.hash_of c.args.owners.now in
-    let ends = subst (EndsIn w) c.in-Optimal.is (c.ending_of.ensures.given w parts laned stopped) in
-    let after = subst (λ (ws : List WorkerState). HasParts task hash ws w) (sym c.ending_of.ensures.same) parts in
-    (rows_alone w c.in-Optimal.cost c.in-Optimal.plan c.in-Ok.rows (c.in-Ok.ensures.rows hash w after)).0 ends
+    let ends = subst (EndsWhole w) c.in-Optimal.is (c.in-Ok.ensures.given w parts laned stopped) in
+    let after = subst (λ (ws : List WorkerState). HasParts task hash ws w) (sym c.in-Ok.ensures.same) parts in
+    (rows_alone w c.in-Optimal.cost c.in-Optimal.plan c.in-Ok-rows_for.rows (c.in-Ok-rows_for.ensures.rows hash w after)).0 ends
 
--- src/outcome.rt:47:1
-pub returns-in-Err-clause-given : goal.returns-in-Err-clause-given
-returns-in-Err-clause-given g c = λ w parts laned stopped.
-    let ends = subst (EndsIn w) c.in-Optimal.is (c.ending_of.ensures.given w parts laned stopped) in
-    bound_left w c.in-Optimal.cost c.in-Optimal.plan c.in-Err.refused ends
+pub returns-in-Err-rows_for-clause-given : goal.returns-in-Err-rows_for-clause-given
+returns-in-Err-rows_for-clause-given g c = λ w parts laned stopped.
+    let ends = subst (EndsWhole w) c.in-Optimal.is (c.in-Ok.ensures.given w parts laned stopped) in
+    subst (IsGiven w) (sym c.bound_alone-in-Err-rows_for.ensures) (bound_left w c.in-Optimal.cost c.in-Optimal.plan c.in-Err-rows_for.refused ends)
+
+pub returns-in-Unsolvable-clause-given : goal.returns-in-Unsolvable-clause-given
+returns-in-Unsolvable-clause-given g c = λ w parts laned stopped. subst (EndsWhole w) c.in-Unsolvable.is (c.in-Ok.ensures.given w parts laned stopped)
+
+pub returns-in-Ok-rows_for-2-clause-given : goal.returns-in-Ok-rows_for-2-clause-given
+returns-in-Ok-rows_for-2-clause-given g c = λ w parts laned stopped.
+    let task = task_in c.args.asked.now in
+    let hash = g.S.Spread.hash_of c.args.owners.now in
+    let ends = subst (EndsWhole w) c.in-Bounded.is (c.in-Ok.ensures.given w parts laned stopped) in
+    let after = subst (λ (ws : List WorkerState). HasParts task hash ws w) (sym c.in-Ok.ensures.same) parts in
+    bound_rows w c.in-Bounded.bound c.in-Bounded.best c.in-Bounded.cause c.in-Ok-rows_for-2.rows (c.in-Ok-rows_for-2.ensures.rows hash w after) ends
+
+pub returns-in-Err-rows_for-2-clause-given : goal.returns-in-Err-rows_for-2-clause-given
+returns-in-Err-rows_for-2-clause-given g c = λ w parts laned stopped.
+    let ends = subst (EndsWhole w) c.in-Bounded.is (c.in-Ok.ensures.given w parts laned stopped) in
+    let above : w.task.sum w.task.start < c.in-Bounded.bound = subst (λ (t : Task). t.sum t.start < c.in-Bounded.bound) (sym parts.asks)
+    (⊎_elim (λ (lt : (task_in c.args.asked.now).sum (task_in c.args.asked.now).start < c.in-Bounded.bound). lt) (λ (le : c.in-Bounded.bound ≤ (task_in c.args.asked.now).sum (task_in c.args.asked.now).start). absurd (cc (c.in-Err-rows_for-2.ensures.free le))) (cases_lt ((task_in c.args.asked.now).sum (task_in c.args.asked.now).start) c.in-Bounded.bound)) in
+    subst (IsGiven w) (sym c.bound_alone-in-Err-rows_for-2.ensures) (rows_lacking w c.in-Bounded.bound c.in-Bounded.best c.in-Bounded.cause c.in-Err-rows_for-2.refused above ends)

@@ -6,7 +6,7 @@ use Rattle.world_ends.specs.Parts.{task_in, states_of, known_in}
 use Rattle.world_ends.specs.Plans.{IsTraced}
 use Rattle.world_ends.proofs.PartLemmas.{items_are}
 use Rattle.world_ends.proofs.EndingLemmas.{cost_in, no_plan, no_goal, no_memory, plan_above, plan_least}
-use Rattle.world_ends.proofs.outcome.ending_of.Goals as goal
+use Rattle.world_ends.proofs.outcome.whole_ending.Goals as goal
 
 -- src/outcome.rt:96:9
 pub lowest_of_workers-lowest-requires-clause-items : goal.lowest_of_workers-lowest-requires-clause-items
@@ -37,8 +37,8 @@ returns-in_default-reached-clause-given g c = λ w parts laned stopped.
     no_goal task hash states w parts c.args.lanes c.lowest_of_workers-lowest.result laned least c.known_of-reached.result found c.in-Some.floor c.max-bound.result c.args.stop c.cause_of-cause.result some most stopped c.cause_of-cause.ensures c.in_default-reached.is
 
 -- src/outcome.rt:115:13
-pub returns-in-Err-clause-given : goal.returns-in-Err-clause-given
-returns-in-Err-clause-given g c = λ w parts laned stopped.
+pub returns-in-Err-clause-lacking : goal.returns-in-Err-clause-lacking
+returns-in-Err-clause-lacking g c = λ w parts laned.
     let task = task_in c.args.asked.now in
     let hash = g.S.Spread.hash_of c.args.owners.now in
     let states = states_of c.args.workers.now in
@@ -46,7 +46,7 @@ returns-in-Err-clause-given g c = λ w parts laned stopped.
     let found : known_in hash states task.goal ≡ c.known_of-reached.result = ap (λ (ws : List WorkerState). known_in hash ws task.goal) (sym c.lowest_of_workers-lowest.ensures.same) ∙ sym c.known_of-reached.ensures in
     let some : lesser c.lowest_of_workers-lowest.result (cost_in c.known_of-reached.result) ≡ Some c.in-Some.floor = ap (lesser c.lowest_of_workers-lowest.result) (sym c.cost_of.ensures) ∙ sym c.lesser.ensures ∙ c.in-Some.is in
     let most : c.max-bound.result ≡ max (task.sum task.start) c.in-Some.floor = c.max-bound.ensures ∙ ap (λ (n : ℕ). max n c.in-Some.floor) c.of.ensures.value in
-    no_memory task hash states w parts c.args.lanes c.lowest_of_workers-lowest.result laned least c.known_of-reached.result found c.in-Some.floor c.max-bound.result c.in-Some-reached.known c.in-Err.refused some most c.in-Some-reached.is
+    no_memory task hash states w parts c.args.lanes c.lowest_of_workers-lowest.result laned least c.known_of-reached.result found c.in-Some.floor c.max-bound.result c.in-Some-reached.known some most c.in-Some-reached.is
 
 -- src/outcome.rt:123:9
 pub returns-then-found-bound-clause-given : goal.returns-then-found-bound-clause-given

@@ -1,0 +1,5 @@
+use Rattle.checked_runs.proofs.CertificateLemmas.{bounds_accepted}
+use Rattle.checked_runs.proofs.laws.bounds_are_accepted.Goals as goal
+
+pub returns : goal.returns
+returns c = bounds_accepted
