@@ -17,7 +17,7 @@ use Rattle.certificate.specs.Faults.{format_code}
 use Rattle.certificate.specs.Sources.{Tells}
 use Rattle.certificate.proofs.LawLemmas.{spelled_read}
 use Rattle.certificate_check.specs.Refusals.{refusal_code}
-use Rattle.setup_runs.specs.Solving.{rules_of}
+use Rattle.setup_runs.specs.Solving.{rules_of, certifying_rules_of}
 use Rattle.batch_runs.specs.Setups.{SetupState}
 use Rattle.batch_runs.specs.Batches.{Rules, IsTruthful, AreAll, AreFirst}
 use Rattle.batch_runs.specs.Headline.{WritesTruth, BeginsTruth, IsTrueRun}
@@ -110,6 +110,9 @@ whole rules source sink (Err (lines.Memory lacking)) status told fine some = abs
 truthful : (setup : SetupState) → IsTruthful (rules_of setup)
 truthful setup = λ b ending allowed. allowed.0
 
+truthful_certifying : (setup : SetupState) → IsTruthful (certifying_rules_of setup)
+truthful_certifying setup b outcome allowed = allowed.0
+
 module _ (source : Change SourceState) (sink : Change SinkState) (ending : Ending) (status : ℕ) (told : status ≡ status_of ending) where
   solved : (setup : SetupState) → EndsRun (Solves source setup) sink ending → BeginsTruth (rules_of setup) source sink × (status < 2 → WritesTruth (rules_of setup) source sink status)
   solved setup ended =
@@ -136,12 +139,12 @@ answered split rules truthful source sink (Err (certify.GroupsMemory wanting)) s
 answered split rules truthful source sink (Err certify.CertificateWrite) status told fine replies = absurd (omega (arith, told))
 
 module _ (source : Change SourceState) (sink : Change SinkState) (ending : Ending) (status : ℕ) (told : status ≡ status_of ending) where
-  certified : (setup : SetupState) → EndsRun (Certifies source setup) sink ending → status < 2 → WritesAnswer setup.tables.split (rules_of setup) source sink
+  certified : (setup : SetupState) → EndsRun (Certifies source setup) sink ending → status < 2 → WritesAnswer setup.tables.split (certifying_rules_of setup) source sink
   certified setup ended fine =
       let last = from_to ended.between sink.after in
       let is = status_ran ended.ran last ending status ended.flush told (λ three. omega (arith, fine, three)) ∙ ap status_of ended.run.2 in
-      WritesAnswer-kept setup.tables.split (rules_of setup) source sink.before ended.between sink.after
-      (answered setup.tables.split (rules_of setup) (truthful setup) source (from_to sink.before ended.between) ended.run.0 status is fine ended.run.1)
+      WritesAnswer-kept setup.tables.split (certifying_rules_of setup) source sink.before ended.between sink.after
+      (answered setup.tables.split (certifying_rules_of setup) (truthful_certifying setup) source (from_to sink.before ended.between) ended.run.0 status is fine ended.run.1)
       (behind_none ended.ran last ending ended.flush)
 
 -- ---- a verdict

@@ -12,7 +12,7 @@ use Rattle.batch_runs.specs.Setups.{SetupState}
 use Rattle.certificate_runs.specs.Headline.{WritesAnswer, WritesVerdict, IsRefusedBy, WritesUpgrade}
 use Rattle.replay_runs.specs.Replays.{Jobs, PassesAll, WritesRefusal, WritesPlay}
 use Rattle.replay_runs.specs.Openings.{setup_jobs}
-use Rattle.setup_runs.specs.Solving.{rules_of}
+use Rattle.setup_runs.specs.Solving.{rules_of, certifying_rules_of}
 use Rattle.command_line.specs.declared.faults.NoRequest.{NoRequest}
 use Rattle.command_line.specs.declared.requests.Request.{Request}
 use Rattle.command_line.specs.declared.requests.Request.TheVariants.{Solve, Certify, Check, Upgrade, Replay, Help, Version}
@@ -52,7 +52,7 @@ WritesReplay jobs source sink status = PassesAll source sink status ⊎ WritesRe
 abbrev pub IsTrueOf : Request → ℕ → Change SourceState → Change SinkState → Type 0
 IsTrueOf (Solve o) status source sink =
     (setup : SetupState) × IsSetupOf o setup × BeginsTruth (rules_of setup) source sink × (status < 2 → WritesTruth (rules_of setup) source sink status)
-IsTrueOf (Certify o) status source sink = (setup : SetupState) × IsSetupOf o setup × (status < 2 → WritesAnswer setup.tables.split (rules_of setup) source sink)
+IsTrueOf (Certify o) status source sink = (setup : SetupState) × IsSetupOf o setup × (status < 2 → WritesAnswer setup.tables.split (certifying_rules_of setup) source sink)
 IsTrueOf Check status source sink = IfSome source.before.left (JudgesTruly status sink)
 IsTrueOf Upgrade status source sink = IfSome source.before.left (UpgradesTruly status sink)
 IsTrueOf (Replay o) status source sink = (setup : SetupState) × IsSetupOf o setup × (status < 2 → WritesReplay (setup_jobs setup) source sink status)

@@ -17,7 +17,7 @@ use Rattle.certificate_runs.specs.Checking.{Checks}
 use Rattle.certificate_runs.specs.Upgrading.{Upgrades}
 use Rattle.replay_runs.specs.Replays.{Replays}
 use Rattle.replay_runs.specs.Openings.{setup_jobs}
-use Rattle.setup_runs.specs.Solving.{rules_of}
+use Rattle.setup_runs.specs.Solving.{rules_of, certifying_rules_of}
 use Rattle.command_line.specs.declared.faults.NoRequest.{NoRequest}
 use Rattle.command_line.specs.declared.requests.Options.{Options}
 use Rattle.command_line.specs.declared.requests.Request.{Request}
@@ -47,7 +47,7 @@ Solves source setup sink ending = (result : Result Summary LinesFault) × Report
 
 -- the first board is solved, and its certificate is written
 abbrev pub Certifies : Change SourceState → SetupState → Change SinkState → Ending → Type 0
-Certifies source setup sink ending = (result : Result ℕ CertifyFault) × Replies setup.tables.split (rules_of setup) source sink result × (ending ≡ ending_of Answered of_certify result)
+Certifies source setup sink ending = (result : Result ℕ CertifyFault) × Replies setup.tables.split (certifying_rules_of setup) source sink result × (ending ≡ ending_of Answered of_certify result)
 
 -- a certificate is checked
 abbrev pub Judges : Change SourceState → Change SinkState → Ending → Type 0

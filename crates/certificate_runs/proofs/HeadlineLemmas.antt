@@ -43,7 +43,7 @@ use Rattle.certificate_runs.specs.declared.faults.UpgradeFault.TheVariants.{Cert
 use Rattle.certificate_runs.specs.Upgrading.{EndsUpgrade, Upgrades}
 use Rattle.certificate_runs.specs.Certifying.{IsPassedOver, IsCertificateOf, FindsFirst, PassesAll, RepliesTo, Replies, first_line}
 use Rattle.certificate_runs.specs.Checking.{claim_data, IsJudgement, IsVerdict, Checks}
-use Rattle.certificate_runs.specs.Headline.{CertifiesLeast, AnswersFirst, WritesAnswer, IsTrueAnswer, IsRefusedBy, SaysOf, IsTrueVerdict, WritesVerdict, IsTrueCheck, WritesUpgrade, IsTrueUpgrade}
+use Rattle.certificate_runs.specs.Headline.{CertifiesTruly, ClaimsTruly, AnswersFirst, WritesAnswer, IsTrueAnswer, IsRefusedBy, SaysOf, IsTrueVerdict, WritesVerdict, IsTrueCheck, WritesUpgrade, IsTrueUpgrade}
 use Rattle.certificate_runs.specs.Headline.AnswersFirst.{by_none, by_certificate, by_report}
 use Rattle.std.proofs.KnownBytes.{Appends-nil, Keeps-refl}
 
@@ -124,24 +124,21 @@ moved : (P : CostRule → Position → Position → Type 0) (task : Task) (c : S
 moved P task c costs start goal fact =
     subst (λ (q : Position). P task.rule task.start q) goal (subst (λ (b : Position). P task.rule b c.goal) start (subst (λ (rule : CostRule). P rule c.start c.goal) costs fact))
 
-its_plan : (c : Statement) → IsSome c.plan → (plan : List Move) × (c.plan ≡ Some plan)
-its_plan c some = by_plan c.plan refl some
-  where
-    by_plan : (o : Option (List Move)) → c.plan ≡ o → IsSome o → (plan : List Move) × (c.plan ≡ Some plan)
-    by_plan None is some = absurd cc
-    by_plan (Some plan) is some = (plan, is)
+-- what a certificate claims is true of the task
+claims_truly : (task : Task) (cost : ℕ) (plan : Option (List Move)) → IfSome plan (λ moves. Leads task.rule task.start moves task.goal cost) → NothingBelow task.rule task.start task.goal cost → ClaimsTruly task cost plan
+claims_truly task cost (Some plan) leads below = (leads, record { reached = (plan, leads); none_below = below })
+claims_truly task cost None leads below = below
 
-certifies_least : (split : Split) (task : Task) (c : Statement) → IsCertificateOf split task c → CertifiesLeast split task c (spelling c)
-certifies_least split task c of = record {
+certifies_truly : (split : Split) (task : Task) (c : Statement) → IsCertificateOf split task c → CertifiesTruly split task c (spelling c)
+certifies_truly split task c of = record {
   read = spelled_read (spelling c) c (of.certificate, refl);
   groups = of.groups;
   start = of.start;
   goal = of.goal;
   costs = of.costs;
-  plan = (its_plan c of.plan).0;
-  claimed = (its_plan c of.plan).1;
-  leads = moved (λ rule b q. Leads rule b (its_plan c of.plan).0 q c.cost) task c of.costs of.start of.goal (subst (λ (o : Option (List Move)). IfSome o (λ plan. Leads c.costs c.start plan c.goal c.cost)) (its_plan c of.plan).1 of.leads);
-  least = moved (λ rule b q. IsLeast rule b q c.cost) task c of.costs of.start of.goal of.least;
+  claim = claims_truly task c.cost c.plan
+      (moved (λ rule b q. IfSome c.plan (λ moves. Leads rule b moves q c.cost)) task c of.costs of.start of.goal of.leads)
+      (moved (λ rule b q. NothingBelow rule b q c.cost) task c of.costs of.start of.goal of.below);
   proved = of.proved;
 }
 
@@ -165,10 +162,10 @@ module _ (split : Split) (rules : Rules) (truthful : IsTruthful rules) (source :
   }
 
   first_answered : (output : Output) (first : FindsFirst source) → RepliesTo split rules (first_line source first) (without_return first.line) output → AnswersFirst split rules (first.passed ++ first.line ∷ []) output.text
-  first_answered output first (inl (within, (c, (id, b, entry, of), written))) =
+  first_answered output first (inl (within, (c, (id, b, ending, entry, allowed, claims, of), written))) =
       let over = recursion_from_All IsPassedOver first.passed first.before in
       by_certificate (1 + length first.passed) first.line id b c (one_asks 1 first.passed first.line over first.here) (within, entry)
-      (subst (CertifiesLeast split (rules.task b) c) (sym (ap (λ (o : Output). o.text) written)) (certifies_least split (rules.task b) c of))
+      (subst (CertifiesTruly split (rules.task b) c) (sym (ap (λ (o : Output). o.text) written)) (certifies_truly split (rules.task b) c of))
   first_answered output first (inr (answer, is, other, written)) =
       let over = recursion_from_All IsPassedOver first.passed first.before in
       by_report (1 + length first.passed) first.line (one_asks 1 first.passed first.line over first.here)

@@ -1,8 +1,11 @@
 -- What faults leave.
-use Rattle.std.proofs.Common.{inl, inr, Ok, Err, refl}
+use Rattle.std.proofs.Common.{◌≡◌, List, Option, None, Some, inl, inr, Ok, Err, refl, sym, subst, arith}
+use Rattle.std.specs.Prelude.{◌↔◌, IsSome}
+use Rattle.board.specs.declared.moves.Move.{Move}
 use Rattle.batch_runs.specs.Batches.{Rules}
 use Rattle.certificate.specs.declared.faults.ReadFault.TheVariants.{Format, Failed, NoMemory}
-use Rattle.certificate_runs.specs.Laws.{LeastPlansAreCertified, OtherFaultsLeaveTheSink, OtherFaultsWriteNoVerdict, VerdictsAreOnWhatWasRead, WantsAreForVerdicts}
+use Rattle.certificate_runs.specs.Certifying.{claim_status}
+use Rattle.certificate_runs.specs.Laws.{BoundsAreCertified, ClaimsAreOfEndings, LeastPlansAreCertified, StatusesTellClaims, OtherFaultsLeaveTheSink, OtherFaultsWriteNoVerdict, VerdictsAreOnWhatWasRead, WantsAreForVerdicts}
 use Rattle.certificate_runs.specs.declared.faults.CertifyFault.TheVariants as certify
 use Rattle.certificate_runs.specs.declared.faults.CheckFault.TheVariants as check
 
@@ -21,6 +24,19 @@ no_verdict source sink (check.Memory lacking) other checks = checks.2.1
 
 pub certified : LeastPlansAreCertified
 certified id cost plan none = none
+
+pub bounds_certified : BoundsAreCertified
+bounds_certified id bound best cause alone = alone
+
+pub claims_of_endings : ClaimsAreOfEndings
+claims_of_endings = ((λ c cost plan claims. claims), (λ c why claims. claims), (λ c bound best cause claims. claims))
+
+pub statuses_tell : StatusesTellClaims
+statuses_tell c = by_plan c.plan refl
+  where
+    by_plan : (plan : Option (List Move)) → c.plan ≡ plan → ((claim_status c.plan ≡ 0) ↔ IsSome c.plan) × ((claim_status c.plan ≡ 1) ↔ (c.plan ≡ None))
+    by_plan (Some plan) is = subst (λ (o : Option (List Move)). ((claim_status o ≡ 0) ↔ IsSome o) × ((claim_status o ≡ 1) ↔ (o ≡ None))) (sym is) (((λ e. refl), (λ e. refl)), ((λ e. absurd (omega (arith, e))), (λ e. absurd (cc))))
+    by_plan None is = subst (λ (o : Option (List Move)). ((claim_status o ≡ 0) ↔ IsSome o) × ((claim_status o ≡ 1) ↔ (o ≡ None))) (sym is) (((λ e. absurd (omega (arith, e))), (λ e. absurd (cc))), ((λ e. refl), (λ e. refl)))
 
 pub on_what_was_read : VerdictsAreOnWhatWasRead
 on_what_was_read (Ok c) output verdict = inl (c, refl)

@@ -1,9 +1,10 @@
 -- Rows that prove a cost with the sums of potentials prove it with those of the tables that are built for their groups.
-use Rattle.std.proofs.Common.{◌≡◌, ℕ, ◌<◌, ◌≤◌, List, [], ◌∷◌, map, length, drop, get_or, sym, ap, ◌∙◌, subst, ⊎_elim, arith}
+use Rattle.std.proofs.Common.{◌≡◌, ℕ, ◌*◌, ◌<◌, ◌≤◌, List, [], ◌∷◌, map, length, drop, get_or, sym, ap, ◌∙◌, subst, ⊎_elim, arith}
 use Rattle.std.specs.Prelude.{All}
 use Rattle.std.specs.List.{AllByRecursion}
 use Rattle.std.proofs.lemmas.Bool.{cases_lt}
 use Rattle.std.proofs.lemmas.List.Elements.{recursion_from_All}
+use Rattle.std.proofs.lemmas.List.{length-map}
 use Rattle.std.proofs.lemmas.List.Sums.{sum_by-cons}
 use Rattle.board.specs.Grids.{Grid}
 use Rattle.board.specs.Positions.{Position, IsBoard}
@@ -17,6 +18,7 @@ use Rattle.database_build.specs.Values.{IsPotential}
 use Rattle.database_build.specs.Tables.{Lookup, HoldsValues, value_in}
 use Rattle.database_build.specs.Folds.{Fold}
 use Rattle.database_build.proofs.PotentialLemmas.{potential_below, values_potential}
+use Rattle.lower_bound.specs.declared.bound.TheConstants.{GREATEST_SUM}
 use Rattle.lower_bound.specs.Bounds.{Part, sum_of}
 use Rattle.lower_bound.specs.Folded.{AreFoldsOf, IsFoldedPotential, folded_parts, part_folded, value_for}
 use Rattle.lower_bound.specs.Tables.{Tables, IsTables, AreTablesOf, ArePotentials, AreWhole, part_of, parts_of}
@@ -139,3 +141,36 @@ true_potentials rule goal tables board built = record {
       (sym (table_grids tables built.tables_there k d k_in ∙ built.sides));
   folded = λ k d k_in. let none : length tables.folds ≡ 0 = ap length built.whole in absurd (omega (arith, k_in, none));
 }
+
+-- no sum of tables with small entries is above the greatest value for each
+whole_low : (lookups : List Lookup) (b : Position) → AllByRecursion HasSmallEntries lookups → sum_of (map part_of lookups) b ≤ length lookups * NO_VALUE
+whole_low [] b small = omega arith
+whole_low (t ∷ ts) b small =
+    let first : value_in t (view_of t.selection.tiles b) ≤ NO_VALUE = small.0 (rank_in t.selection.grid (view_of t.selection.tiles b)) in
+    let rest = whole_low ts b small.1 in
+    let all = sum_by-cons (λ (p : Part). p.value (view_of p.tiles b)) (part_of t) (map part_of ts) in
+    omega (arith, first, rest, all)
+
+folds_low : (folds : List Fold) (b : Position) → AllByRecursion HasSmallFolds folds → sum_of (folded_parts folds) b ≤ length folds * NO_VALUE
+folds_low [] b small = omega arith
+folds_low (f ∷ fs) b small =
+    let first : value_for b f ≤ NO_VALUE = small.0 (place_in f.selection.grid (view_of f.selection.tiles b)) in
+    let rest = folds_low fs b small.1 in
+    let all = sum_by-cons (λ (p : Part). p.value (view_of p.tiles b)) (part_folded f) (folded_parts fs) in
+    omega (arith, first, rest, all)
+
+-- so no sum is above that of the greatest value for 24 groups
+pub sums_low : (tables : Tables) (b : Position) → IsTables tables → HaveSmallEntries tables → sum_of (parts_of tables) b ≤ GREATEST_SUM
+sums_low tables b there small =
+    ⊎_elim
+    (λ (whole : AreTablesOf tables.split.groups tables.lookups × AreWhole tables).
+    let low = whole_low tables.lookups b (recursion_from_All HasSmallEntries tables.lookups small.whole) in
+    let count = sym (length-map tables.lookups (λ (t : Lookup). t.selection)) ∙ ap (λ (ss : List Selection). length ss) whole.0 in
+    let few = there.partition.few in
+    subst (λ (ps : List Part). sum_of ps b ≤ GREATEST_SUM) (sym (whole_parts tables whole.1)) (omega (arith, low, count, few)))
+    (λ (folded : AreFoldsOf tables.split.groups tables.folds × (tables.lookups ≡ [])).
+    let low = folds_low tables.folds b (recursion_from_All HasSmallFolds tables.folds small.folded) in
+    let count = sym (length-map tables.folds (λ (f : Fold). f.selection)) ∙ ap (λ (ss : List Selection). length ss) folded.0 in
+    let few = there.partition.few in
+    subst (λ (ps : List Part). sum_of ps b ≤ GREATEST_SUM) (sym (all_folded_parts tables folded.1)) (omega (arith, low, count, few)))
+    there.one_each

@@ -1,12 +1,12 @@
 -- What is written for the first line of an input that isn't passed over: a certificate, or a report.
-use Rattle.std.specs.Prelude.{ℕ, ◌≡◌, ◌⊎◌, ◌+◌, ◌^◌, ◌<◌, List, [], ◌∷◌, ◌++◌, length, Option, None, Some, Result, Ok, Err, Vec, All, IsSome, string_bytes, ⊤}
-use Rattle.std.specs.declared.alloc.Global.{Global}
+use Rattle.std.specs.Prelude.{ℕ, ◌≡◌, ◌⊎◌, ◌+◌, ◌^◌, ◌<◌, ◌≤◌, List, [], ◌∷◌, ◌++◌, length, Option, None, Some, Result, Ok, Err, All, IfSome, string_bytes, ⊤}
 use Rattle.byte_streams.specs.Streams.{SourceState, SinkState, Change}
 use Rattle.byte_streams.specs.Sink.{WritesAll, FailsWriting}
 use Rattle.byte_streams.specs.declared.source.ReadFailed.{ReadFailed}
 use Rattle.board.specs.declared.moves.Move.{Move}
 use Rattle.board.specs.Positions.{Position}
-use Rattle.board.specs.Plans.{IsLeast}
+use Rattle.board.specs.declared.costs.TheConstants.{GREATEST_COST}
+use Rattle.board.specs.Plans.{Leads, NothingBelow}
 use Rattle.batch_lines.specs.Lines.{without_return, kind_of}
 use Rattle.batch_lines.specs.Readings.{IsJudged}
 use Rattle.batch_lines.specs.Words.{IsEntry}
@@ -17,10 +17,12 @@ use Rattle.certificate.specs.Certificates.{Statement, IsCertificate}
 use Rattle.certificate.specs.Spellings.{spelling}
 use Rattle.certificate_check.specs.Refusals.{ItsPlanLeads, IsProved}
 use Rattle.pattern_index.specs.Splits.{Split}
+use Rattle.outcomes.specs.declared.outcome.Ending.{Ending}
 use Rattle.outcomes.specs.declared.outcome.Ending.TheVariants.{Optimal, Unsolvable, Bounded}
 use Rattle.outcomes.specs.declared.outcome.Outcome.{Outcome}
+use Rattle.outcomes.specs.declared.outcome.Outcome.TheVariants as outcome
 use Rattle.outcomes.specs.Endings.{without_rows}
-use Rattle.outcomes.specs.Outcomes.{Task, Answers}
+use Rattle.outcomes.specs.Outcomes.{Task, Answers, AreRowsOf, IsAboveSums, StandsAlone}
 use Rattle.memory.specs.declared.OutOfMemory.{OutOfMemory}
 use Rattle.batch_runs.specs.Batches.{Rules, IsTruthful, Answer, AnswersKind, AreRead, AreAll, TakesSome, LosesLine, IsReadable, answer_text, with_answer, no_lines, status_of_counts}
 use Rattle.batch_runs.specs.Batches.Answer.{passed_over, refused, answered}
@@ -28,6 +30,8 @@ use Rattle.batch_runs.specs.Setups.{SetupState, task_of}
 use Rattle.lower_bound.specs.Tables.{Tables}
 use Rattle.certificate_runs.specs.Outputs.{Output, IsUntouched}
 use Rattle.certificate_runs.specs.Built.{AreBuiltFor}
+use Rattle.certificate_runs.specs.declared.certifying.Made.{Made}
+use Rattle.certificate_runs.specs.declared.certifying.Made.TheVariants.{Certificate, Plain}
 use Rattle.certificate_runs.specs.declared.certifying.Reply.{Reply}
 use Rattle.certificate_runs.specs.declared.certifying.Reply.TheVariants.{Certified, Reported}
 use Rattle.certificate_runs.specs.declared.faults.CertifyFault.{CertifyFault}
@@ -44,7 +48,7 @@ pub record AreRulesFor (setup : SetupState) (rules : Rules) : Type 0 where
   pub task : rules.task ≡ task_of setup
   pub truthful : IsTruthful rules
 
--- A certificate that answers this task with these groups. Its plan leads from the start to the goal at its cost, and no plan costs less. Its rows prove it with the sums of the groups' tables, whoever builds them.
+-- A certificate that answers this task with these groups. Its plan, if it claims one, leads from the start to the goal at its cost, and no plan costs less than it states. Its rows prove that with the sums of the groups' tables, whoever builds them.
 pub record IsCertificateOf (split : Split) (task : Task) (c : Statement) : Type 0 where
   pub sides : c.grid ≡ task.goal.grid
   pub costs : c.costs ≡ task.rule
@@ -53,40 +57,83 @@ pub record IsCertificateOf (split : Split) (task : Task) (c : Statement) : Type 
   pub goal : c.goal ≡ task.goal
   pub certificate : IsCertificate c
   pub version : c.version ≡ Two
-  pub plan : IsSome c.plan
   pub leads : ItsPlanLeads c
-  pub least : IsLeast c.costs c.start c.goal c.cost
+  pub below : NothingBelow c.costs c.start c.goal c.cost
   pub proved : (tables : Tables) → AreBuiltFor c tables → IsProved c tables
 
--- a certificate of the board that these bytes name
-abbrev pub IsCertificateFor : Split → Rules → List ℕ → Statement → Type 0
-IsCertificateFor split rules bytes c = (id : List ℕ) × (b : Position) × IsEntry rules.grid bytes id b × IsCertificateOf split (rules.task b) c
+-- what an outcome that answers the task says of its plan and cost, or of its bound, and of its rows; none of it is above what a certificate can state
+pub record IsAnswerOf (task : Task) (cost : ℕ) (plan : Option (List Move)) (listed : List (Position × ℕ)) : Type 0 where
+  pub leads : IfSome plan (λ plan. Leads task.rule task.start plan task.goal cost × (cost ≤ GREATEST_COST) × (length plan ≤ GREATEST_COST))
+  pub below : NothingBelow task.rule task.start task.goal cost
+  pub low : (most : ℕ) → IsAboveSums task most → cost ≤ GREATEST_COST + most
+  pub rows : AreRowsOf task listed cost
 
--- the bytes name a board for which a plan of least cost may be answered
-abbrev pub NamesLeast : Rules → List ℕ → Type 0
-NamesLeast rules bytes = (id : List ℕ) × (b : Position) × (cost : ℕ) × (plan : Vec Move Global) × IsEntry rules.grid bytes id b × rules.allows b (Some (Optimal cost plan))
+-- it claims what the ending says: the plan at its cost, or the bound
+abbrev pub Claims : Statement → Ending → Type 0
+Claims c (Optimal cost plan) = (c.cost ≡ cost) × (c.plan ≡ Some plan.items)
+Claims c (Unsolvable why) = ⊥
+Claims c (Bounded bound best cause) = (c.cost ≡ bound) × (c.plan ≡ None)
+
+-- a certificate of the board that these bytes name, which claims what that may be answered by
+abbrev pub IsCertificateFor : Split → Rules → List ℕ → Statement → Type 0
+IsCertificateFor split rules bytes c =
+    (id : List ℕ) × (b : Position) × (ending : Ending) × IsEntry rules.grid bytes id b × rules.allows b (Some ending) × Claims c ending × IsCertificateOf split (rules.task b) c
+
+-- what it says can be certified: a plan of least cost, or a bound
+abbrev pub IsCertifiable : Ending → Type 0
+IsCertifiable (Optimal cost plan) = ⊤
+IsCertifiable (Unsolvable why) = ⊥
+IsCertifiable (Bounded bound best cause) = ⊤
+
+-- the bytes name a board for which such a thing may be answered
+abbrev pub NamesCertifiable : Rules → List ℕ → Type 0
+NamesCertifiable rules bytes = (id : List ℕ) × (b : Position) × (ending : Ending) × IsEntry rules.grid bytes id b × rules.allows b (Some ending) × IsCertifiable ending
+
+-- an ending for which there is no certificate: there is no plan, or a bound stands alone, as memory was refused
+abbrev pub IsUncertified : Ending → Type 0
+IsUncertified (Optimal cost plan) = ⊥
+IsUncertified (Unsolvable why) = ⊤
+IsUncertified (Bounded bound best cause) = StandsAlone best cause
+
+-- the outcome names no plan, and a bound has no rows
+abbrev pub LacksRows : Outcome → Type 0
+LacksRows (outcome.Optimal cost plan rows) = ⊥
+LacksRows (outcome.Unsolvable why) = ⊤
+LacksRows (outcome.Bounded bound best cause rows) = rows ≡ None
+
+-- what becomes of an outcome: a certificate of what it says, or the ending that has none
+abbrev pub IsMadeOf : Split → Task → Outcome → Made → Type 0
+IsMadeOf split task given (Certificate c) = Claims c (without_rows given) × IsCertificateOf split task c
+IsMadeOf split task given (Plain ending) = (ending ≡ without_rows given) × LacksRows given × IsUncertified ending
 
 -- ---- what is written for a line
 
--- the certificate of the board that these bytes name, with the status 0
-abbrev pub Certifies : Split → Rules → List ℕ → Output → Type 0
-Certifies split rules bytes output = (c : Statement) × IsCertificateFor split rules bytes c × (output ≡ record { text = spelling c; status = 0 })
+-- 0 for a certificate of a plan, 1 for one of a bound
+abbrev pub claim_status : Option (List Move) → ℕ
+claim_status (Some plan) = 0
+claim_status None = 1
 
--- an answer that names no least plan
-abbrev pub IsNotOptimal : Answer → Type 0
-IsNotOptimal passed_over = ⊤
-IsNotOptimal (refused code) = ⊤
-IsNotOptimal (answered id (Optimal cost plan)) = ⊥
-IsNotOptimal (answered id (Unsolvable why)) = ⊤
-IsNotOptimal (answered id (Bounded bound best cause)) = ⊤
+-- a certificate and its status
+abbrev pub certificate_output : Statement → Output
+certificate_output c = record { text = spelling c; status = claim_status c.plan }
+
+-- the certificate of the board that these bytes name, with its status
+abbrev pub Certifies : Split → Rules → List ℕ → Output → Type 0
+Certifies split rules bytes output = (c : Statement) × IsCertificateFor split rules bytes c × (output ≡ certificate_output c)
+
+-- an answer for which there is no certificate
+abbrev pub NeedsReport : Answer → Type 0
+NeedsReport passed_over = ⊤
+NeedsReport (refused code) = ⊤
+NeedsReport (answered id ending) = IsUncertified ending
 
 -- the report of the answer to line n, with the status of a batch of this line alone
 abbrev pub report_of : ℕ → Answer → Output
 report_of n answer = record { text = answer_text n answer; status = status_of_counts (with_answer no_lines answer) }
 
--- the report of a line with these bytes, as in a batch, but not one of a least plan
+-- the report of a line with these bytes, as in a batch, where there is no certificate
 abbrev pub ReportsLine : Rules → Line → List ℕ → Output → Type 0
-ReportsLine rules line bytes output = (answer : Answer) × AnswersKind rules line.kind bytes answer × IsNotOptimal answer × (output ≡ report_of line.number answer)
+ReportsLine rules line bytes output = (answer : Answer) × AnswersKind rules line.kind bytes answer × NeedsReport answer × (output ≡ report_of line.number answer)
 
 -- the certificate or the report of a line with these bytes
 abbrev pub RepliesTo : Split → Rules → Line → List ℕ → Output → Type 0
@@ -102,12 +149,12 @@ abbrev pub HasNoReply : Rules → Line → List ℕ → CertifyFault → Type 0
 HasNoReply rules line bytes Read = ⊥
 HasNoReply rules line bytes Write = ⊥
 HasNoReply rules line bytes (Memory lacking) = ⊤
-HasNoReply rules line bytes (GroupsMemory wanting) = (line.kind ≡ Within) × NamesLeast rules bytes
+HasNoReply rules line bytes (GroupsMemory wanting) = (line.kind ≡ Within) × NamesCertifiable rules bytes
 HasNoReply rules line bytes CertificateWrite = ⊥
 
 -- what is written of a reply, and its status
 abbrev pub reply_output : Reply → Output
-reply_output (Certified c) = record { text = spelling c; status = 0 }
+reply_output (Certified c) = certificate_output c
 reply_output (Reported text status) = record { text = string_bytes text; status = status }
 
 -- the fault of writing a reply

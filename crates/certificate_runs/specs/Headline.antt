@@ -27,23 +27,25 @@ use Rattle.certificate_runs.specs.declared.faults.UpgradeFault.{UpgradeFault}
 
 -- ---- a line in, a certificate out
 
--- The bytes, read again, are this certificate, which names these groups. Its plan leads from the start to the goal at its cost, and no plan costs less. Its rows prove it with the sums of the groups' tables, so whoever builds these accepts it.
-pub record CertifiesLeast (split : Split) (task : Task) (c : Statement) (bytes : List ℕ) : Type 0 where
+-- of a task a certificate claims a plan that leads from the start to the goal at its cost, and no plan costs less; or a bound, and no plan costs less
+abbrev pub ClaimsTruly : Task → ℕ → Option (List Move) → Type 0
+ClaimsTruly task cost (Some plan) = Leads task.rule task.start plan task.goal cost × IsLeast task.rule task.start task.goal cost
+ClaimsTruly task bound None = NothingBelow task.rule task.start task.goal bound
+
+-- The bytes, read again, are this certificate, which names these groups, and claims something true of this task. Its rows prove it with the sums of the groups' tables, so whoever builds these accepts it.
+pub record CertifiesTruly (split : Split) (task : Task) (c : Statement) (bytes : List ℕ) : Type 0 where
   pub read : certificate bytes ≡ Ok (c, [])
   pub groups : c.groups ≡ split
   pub start : c.start ≡ task.start
   pub goal : c.goal ≡ task.goal
   pub costs : c.costs ≡ task.rule
-  pub plan : List Move
-  pub claimed : c.plan ≡ Some plan
-  pub leads : Leads task.rule task.start plan task.goal c.cost
-  pub least : IsLeast task.rule task.start task.goal c.cost
+  pub claim : ClaimsTruly task c.cost c.plan
   pub proved : (tables : Tables) → AreBuiltFor c tables → IsProved c tables
 
 -- Where all of these lines are passed over, nothing is written. Else one alone is not, and the output is a certificate of the board that it names, with these groups, or a report that tells the truth of it.
 pub data AnswersFirst (split : Split) (rules : Rules) (lines : List (List ℕ)) (output : List ℕ) : Type 0 where
   by_none : questions 1 lines ≡ [] → output ≡ [] → AnswersFirst split rules lines output
-  by_certificate : (n : ℕ) (line id : List ℕ) (b : Position) (c : Statement) → questions 1 lines ≡ (n, line) ∷ [] → Names rules.grid line id b → CertifiesLeast split (rules.task b) c output → AnswersFirst split rules lines output
+  by_certificate : (n : ℕ) (line id : List ℕ) (b : Position) (c : Statement) → questions 1 lines ≡ (n, line) ∷ [] → Names rules.grid line id b → CertifiesTruly split (rules.task b) c output → AnswersFirst split rules lines output
   by_report : (n : ℕ) (line : List ℕ) → questions 1 lines ≡ (n, line) ∷ [] → TellsTheTruth rules lines output → AnswersFirst split rules lines output
 
 -- this was written for the first lines of the input

@@ -4,12 +4,11 @@ ghost use Rattle.std.specs.Prelude.{ℕ, ◌≡◌, ◌≢◌, ◌≤◌, ◌⊎
 ghost use Rattle.database_build.specs.declared.table.TheConstants.{NO_VALUE};
 ghost use Rattle.byte_streams.specs.Streams.{change};
 ghost use Rattle.byte_streams.specs.Sink.{Writes};
-ghost use Rattle.outcomes.specs.declared.outcome.Outcome.TheVariants.{Optimal};
 ghost use Rattle.outcomes.specs.Outcomes.{Answers};
 ghost use Rattle.outcomes.specs.Endings.{without_rows};
 ghost use Rattle.reports.specs.declared.report.NoReport.{NoReport};
 ghost use Rattle.batch_lines.specs.declared.lines.LineKind.TheVariants.{PassedOver, Within};
-ghost use Rattle.certificate.specs.Certificates.{IsBoardOf};
+ghost use Rattle.certificate.specs.Certificates.{IsBoardOf, cost_of, plan_of};
 ghost use Rattle.certificate.specs.Spellings.{spelling};
 ghost use Rattle.certificate_runs.specs.declared.faults.CertifyFault.{CertifyFault};
 ghost use Rattle.batch_runs.specs.Batches.{HasFailed, Rules, no_lines, with_outcome, status_of_counts};
@@ -17,6 +16,8 @@ ghost use Rattle.batch_runs.specs.Setups.{task_of};
 ghost use Rattle.certificate_runs.specs.Certifying.{Replies, SeeksFirst, PutsReply};
 ghost use Rattle.certificate_runs.specs.Headline.{IsTrueAnswer};
 ghost use Rattle.certificate_runs.specs.Certifying.{AreRulesFor, IsCertificateOf, IsReply};
+ghost use Rattle.certificate_runs.specs.Certifying.{IsMadeOf, IsCertifiable, IsAnswerOf};
+ghost use Rattle.certificate_runs.specs.Certifying.{claim_status};
 ghost use Rattle.certificate_runs.specs.Certifying.{IsRefusal, HasNoReply, MayProve};
 ghost use Rattle.certificate_runs.specs.Built.{HasSmallEntries, HasSmallFolds, HaveSmallEntries};
 
@@ -35,15 +36,16 @@ use reports::{outcome_report, refused_report};
 use std::alloc::Global;
 
 /// Answers the first line of the source that isn't passed over, and takes nothing behind it: where
-/// a plan of least cost is found, its certificate is written, else the line's report. A certificate
-/// names the groups of the setup's tables.
+/// a plan of least cost is found, or a bound with its rows, its certificate is written, else the
+/// line's report. A certificate names the groups of the setup's tables.
 ///
 /// A board is solved by the closure, which answers what the rules allow and, where that is a plan of
-/// least cost, the rows that prove it; or it tells a want of memory before the first step.
+/// least cost or a bound, the rows that prove it; or it tells a want of memory before the first step.
 ///
-/// Answers the status: 0 for a certificate, for a board without a plan, and where no line is to be
-/// answered; 1 for a bound and for a line that is refused. Nothing is written where reading fails
-/// or memory is wanting. What is written is flushed; where the flush fails, so has the write.
+/// Answers the status: 0 for a certificate of a plan, for a board without a plan, and where no line
+/// is to be answered; 1 for a bound, certified or not, and for a line that is refused. Nothing is
+/// written where reading fails or memory is wanting. What is written is flushed; where the flush
+/// fails, so has the write.
 ///
 /// What is written tells the truth: so says the clause `truth`, in words of what a reader sees.
 pub fn certify_first<
@@ -179,20 +181,16 @@ fn reply_to_entry<A: Ruled, F: Fn(&Board) -> Result<Outcome, OutOfMemory>>(
         Ok(outcome) => outcome,
         Err(refused) => return refuse(alloc, SolveFault::Memory(refused).code(), number),
     };
-    match outcome {
-        Outcome::Optimal { cost, plan, rows } => {
-            match certify(alloc, setup, entry.board, cost, plan, rows) {
-                Ok(certificate) => Ok(Reply::Certified(certificate)),
-                Err(refused) => Err(CertifyFault::GroupsMemory(refused)),
-            }
-        }
-        other => {
-            let ending = other.without_rows();
-            match outcome_report(alloc, entry.id, &ending) {
-                Ok(text) => Ok(Reply::Reported(text, status_of(&ending))),
-                Err(lacking) => Err(CertifyFault::Memory(lacking)),
-            }
-        }
+    let made = match certify(alloc, setup, entry.board, outcome) {
+        Ok(made) => made,
+        Err(refused) => return Err(CertifyFault::GroupsMemory(refused)),
+    };
+    match made {
+        Made::Certificate(certificate) => Ok(Reply::Certified(certificate)),
+        Made::Plain(ending) => match outcome_report(alloc, entry.id, &ending) {
+            Ok(text) => Ok(Reply::Reported(text, status_of(&ending))),
+            Err(lacking) => Err(CertifyFault::Memory(lacking)),
+        },
     }
 }
 
@@ -240,18 +238,61 @@ fn status_of(ending: &Ending) -> u8
     }
 }
 
-// The certificate of a plan of least cost, with the groups of the setup's tables.
+// What becomes of an outcome: a certificate of what it says, or the ending that has none.
+#[derive(Drop)]
+enum Made {
+    Certificate(Certificate),
+    Plain(Ending),
+}
+
+// The certificate of a plan of least cost, or of a bound that has its rows.
 fn certify(
     alloc: Global,
     setup: &Setup,
     start: Board,
-    cost: u32,
-    plan: Vec<Move>,
+    outcome: Outcome,
+) -> Result<Made, OutOfMemory>
+    requires start { IsBoardOf setup.now.goal.grid start }
+    requires answers { Answers (task_of setup.now start) outcome }
+    ensures made { IfOk result (IsMadeOf setup.now.tables.split (task_of setup.now start) outcome) }
+    ensures lacking { OnErr result (IsCertifiable (without_rows outcome)) }
+{
+    match outcome {
+        Outcome::Optimal { cost, plan, rows } => {
+            match certify_claim(alloc, setup, start, Claim::Least { cost, plan }, rows) {
+                Ok(certificate) => Ok(Made::Certificate(certificate)),
+                Err(refused) => Err(refused),
+            }
+        }
+        Outcome::Unsolvable { why } => Ok(Made::Plain(Ending::Unsolvable { why })),
+        Outcome::Bounded {
+            bound,
+            best,
+            cause,
+            rows,
+        } => match rows {
+            Some(rows) => match certify_claim(alloc, setup, start, Claim::Bound { bound }, rows) {
+                Ok(certificate) => Ok(Made::Certificate(certificate)),
+                Err(refused) => Err(refused),
+            },
+            None => Ok(Made::Plain(Ending::Bounded { bound, best, cause })),
+        },
+    }
+}
+
+// The certificate of a claim, with the groups of the setup's tables.
+fn certify_claim(
+    alloc: Global,
+    setup: &Setup,
+    start: Board,
+    claim: Claim,
     rows: Vec<(Board, u32)>,
 ) -> Result<Certificate, OutOfMemory>
     requires start { IsBoardOf setup.now.goal.grid start }
-    requires answers { Answers (task_of setup.now start) (Optimal cost plan rows) }
-    ensures { IfOk result (IsCertificateOf setup.now.tables.split (task_of setup.now start)) }
+    requires answers { IsAnswerOf (task_of setup.now start) (cost_of claim) (plan_of claim) rows.items }
+    ensures certificate { IfOk result
+        (IsCertificateOf setup.now.tables.split (task_of setup.now start)) }
+    ensures claims { IfOk result (λ c. (c.cost ≡ cost_of claim) × (c.plan ≡ plan_of claim)) }
 {
     // The order of the rows, which is by key, is that of their lists of tiles by this law.
     keys_are_in_order();
@@ -270,7 +311,7 @@ fn certify(
         groups,
         start,
         goal,
-        claim: Claim::Least { cost, plan },
+        claim,
         rows,
     };
     Ok(Certificate::new(parts).unwrap())
@@ -318,13 +359,23 @@ fn put_reply<K: Sink>(sink: &mut K, reply: &Reply) -> Result<u8, CertifyFault>
 {
     match reply {
         Reply::Certified(certificate) => match put_certificate(sink, certificate) {
-            Ok(()) => Ok(0),
+            Ok(()) => Ok(claim_status(certificate)),
             Err(_) => Err(CertifyFault::CertificateWrite),
         },
         Reply::Reported(text, status) => match send_report(sink, text.as_str()) {
             Ok(()) => Ok(*status),
             Err(_) => Err(CertifyFault::Write),
         },
+    }
+}
+
+// 0 for a plan, 1 for a bound.
+fn claim_status(certificate: &Certificate) -> u8
+    ensures { result ≡ claim_status certificate.now.plan }
+{
+    match certificate.claim() {
+        Claim::Least { .. } => 0,
+        Claim::Bound { .. } => 1,
     }
 }
 

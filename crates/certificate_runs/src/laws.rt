@@ -2,6 +2,8 @@
 
 ghost use Rattle.certificate_runs.specs.Laws.{OtherFaultsLeaveTheSink, OtherFaultsWriteNoVerdict};
 ghost use Rattle.certificate_runs.specs.Laws.{SilenceIsUnasked, LeastPlansAreCertified};
+ghost use Rattle.certificate_runs.specs.Laws.{BoundsAreCertified, ClaimsAreOfEndings};
+ghost use Rattle.certificate_runs.specs.Laws.{StatusesTellClaims};
 ghost use Rattle.certificate_runs.specs.Laws.{VerdictsAreOnWhatWasRead, WantsAreForVerdicts};
 
 use batch_runs::Ruled;
@@ -25,9 +27,13 @@ pub fn silence_is_unasked<A: Ruled>(asked: &A)
     let _ = asked;
 }
 
-/// No report names a least plan: of such an answer the certificate is written.
+/// No report names a least plan, or a bound but for want of memory: of such an answer the
+/// certificate is written, and its status tells which.
 pub fn least_plans_are_certified()
-    ensures { LeastPlansAreCertified }
+    ensures plans { LeastPlansAreCertified }
+    ensures bounds { BoundsAreCertified }
+    ensures claims { ClaimsAreOfEndings }
+    ensures status { StatusesTellClaims }
 {}
 
 /// A verdict is given, or memory is wanting for one, only where a certificate was read or a fault

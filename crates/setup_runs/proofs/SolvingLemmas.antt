@@ -47,11 +47,11 @@ is_no_error : (refused : OutOfMemory) → ending_error refused ≡ Ok (Unsolvabl
 is_no_error refused e = absurd (cc)
 
 -- the owner of a board among one worker
-abbrev owner_by : (Position → ℕ) → Position → ℕ
+abbrev pub owner_by : (Position → ℕ) → Position → ℕ
 owner_by hash b = hash b % 1
 
 -- one worker owns all boards, whatever they are spread by
-lone_owner : (hash other : Position → ℕ) → owner_by hash ≡ owner_by other
+pub lone_owner : (hash other : Position → ℕ) → owner_by hash ≡ owner_by other
 lone_owner hash other = λ t b. (mod-one (hash b) ∙ sym (mod-one (other b))) t
 
 -- so do as many workers as there are, where there is one

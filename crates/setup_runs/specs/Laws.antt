@@ -1,5 +1,5 @@
 -- The laws of the definitions. Each is the contract of a function that does nothing.
-use Rattle.std.specs.Prelude.{ℕ, ◌≡◌, ◌≢◌, ◌≤◌, ◌+◌, ◌*◌, List, Option, None, Some, Vec}
+use Rattle.std.specs.Prelude.{ℕ, ◌≡◌, ◌≢◌, ◌⊎◌, ◌≤◌, ◌+◌, ◌*◌, List, Option, None, Some, Vec}
 use Rattle.std.specs.declared.alloc.Global.{Global}
 use Rattle.board.specs.declared.moves.Move.{Move}
 use Rattle.board.specs.Positions.{Position}
@@ -8,7 +8,8 @@ use Rattle.outcomes.specs.declared.outcome.Ending.{Ending}
 use Rattle.outcomes.specs.declared.outcome.Cause.{Cause}
 use Rattle.outcomes.specs.declared.outcome.Cause.TheVariants.{Limit, Start, Cut, Memory}
 use Rattle.outcomes.specs.declared.outcome.Want.TheVariants.{Stated}
-use Rattle.outcomes.specs.declared.outcome.Ending.TheVariants.{Unsolvable, Bounded}
+use Rattle.outcomes.specs.declared.outcome.Ending.TheVariants.{Optimal, Unsolvable, Bounded}
+use Rattle.outcomes.specs.Outcomes.{StandsAlone}
 use Rattle.outcomes.specs.declared.outcome.Why.TheVariants.{Parity}
 use Rattle.world_ends.specs.Endings.{EndsIn}
 use Rattle.world_model.specs.declared.limits.TheConstants.{GREATEST_GRANT}
@@ -19,7 +20,7 @@ use Rattle.world_model.specs.Openings.{Job, opening}
 use Rattle.world_model.specs.Steps.{IsRun}
 use Rattle.world_model.specs.Worlds.{WorldState}
 use Rattle.batch_runs.specs.Setups.{SetupState, task_of}
-use Rattle.setup_runs.specs.Solving.{MayAnswer}
+use Rattle.setup_runs.specs.Solving.{MayAnswer, MayCertify}
 
 -- a board of the other class is refused for no want of memory
 abbrev pub ParityWantsNoMemory : Type 0
@@ -56,3 +57,20 @@ LimitsAreNearlySpent =
     → MayAnswer setup b (Some (Bounded bound best Limit))
     → (w : WorldState) × EndsIn w (Bounded bound best Limit)
     × (expansion_count w ≤ setup.limit) × (setup.limit ≤ expansion_count w + GREATEST_GRANT * setup.workers)
+
+-- the same holds where rows are asked for: a board of the other class is refused for no want of memory, and answered by its parity
+abbrev pub ParityIsCertified : Type 0
+ParityIsCertified =
+    (setup : SetupState) (b : Position)
+    → ¬ SameClass b setup.goal
+    → (¬ MayCertify setup b None) × ((ending : Ending) → MayCertify setup b (Some ending) → ending ≡ Unsolvable Parity)
+
+-- a bound that stands alone, as memory was refused
+abbrev pub IsAloneBound : Ending → Type 0
+IsAloneBound (Optimal cost plan) = ⊥
+IsAloneBound (Unsolvable why) = ⊥
+IsAloneBound (Bounded bound best cause) = StandsAlone best cause
+
+-- what may be certified may be answered without rows too, but for such a bound
+abbrev pub CertifiedEndsAreAnswered : Type 0
+CertifiedEndsAreAnswered = (setup : SetupState) (b : Position) (ending : Ending) → MayCertify setup b (Some ending) → MayAnswer setup b (Some ending) ⊎ IsAloneBound ending

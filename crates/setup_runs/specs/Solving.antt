@@ -5,9 +5,10 @@ use Rattle.board.specs.Classes.{SameClass}
 use Rattle.outcomes.specs.declared.outcome.Ending.{Ending}
 use Rattle.outcomes.specs.declared.outcome.Ending.TheVariants.{Unsolvable}
 use Rattle.outcomes.specs.declared.outcome.Why.TheVariants.{Parity}
-use Rattle.outcomes.specs.Endings.{EndAnswers}
+use Rattle.outcomes.specs.declared.outcome.Outcome.{Outcome}
+use Rattle.outcomes.specs.Endings.{EndAnswers, without_rows}
 use Rattle.hda_run.specs.Problems.{Problem, problem}
-use Rattle.thread_runs.specs.Solved.{IsEnded, EndsWholeRun}
+use Rattle.thread_runs.specs.Solved.{IsSolved, IsEnded, HasWholeRun, EndsWholeRun}
 use Rattle.batch_runs.specs.Setups.{SetupState, hash_by, task_of}
 use Rattle.batch_runs.specs.Batches.{Rules}
 
@@ -26,6 +27,22 @@ MayAnswer setup start (Some ending) =
     EndAnswers (task_of setup start) ending
     × ((SameClass start setup.goal × IsOfRun setup start ending) ⊎ ((¬ SameClass start setup.goal) × (ending ≡ Unsolvable Parity)))
 
+-- the ending is what an outcome of such a run says, but for its rows
+abbrev pub IsOfProvedRun : SetupState → Position → Ending → Type 0
+IsOfProvedRun setup start ending =
+    (given : Outcome) × (without_rows given ≡ ending) × IsSolved hash_by (problem_of setup start) setup.spread setup.workers given × HasWholeRun given
+
+-- How a board is answered where the rows are asked for too: the same, by a run that gives an outcome.
+abbrev pub MayCertify : SetupState → Position → Option Ending → Type 0
+MayCertify setup start None = SameClass start setup.goal
+MayCertify setup start (Some ending) =
+    EndAnswers (task_of setup start) ending
+    × ((SameClass start setup.goal × IsOfProvedRun setup start ending) ⊎ ((¬ SameClass start setup.goal) × (ending ≡ Unsolvable Parity)))
+
 -- the boards of the setup's shape, what is asked of them, and how they may be answered
 abbrev pub rules_of : SetupState → Rules
 rules_of setup = record { grid = setup.goal.grid; task = task_of setup; allows = MayAnswer setup }
+
+-- and how where the rows are asked for
+abbrev pub certifying_rules_of : SetupState → Rules
+certifying_rules_of setup = record { grid = setup.goal.grid; task = task_of setup; allows = MayCertify setup }

@@ -7,10 +7,10 @@ ghost use Rattle.batch_runs.specs.Batches.{HasFailed};
 ghost use Rattle.batch_runs.specs.Setups.{hash_by};
 ghost use Rattle.certificate_runs.specs.Certifying.{Replies, MayProve};
 ghost use Rattle.certificate_runs.specs.Headline.{IsTrueAnswer};
-ghost use Rattle.setup_runs.specs.Solving.{rules_of};
+ghost use Rattle.setup_runs.specs.Solving.{certifying_rules_of};
 
-use crate::solving::{Guided, job_for};
-use batch_runs::{Setup, SpreadKind};
+use crate::solving::job_for;
+use batch_runs::{Ruled, Setup, SpreadKind};
 use board::Board;
 use byte_streams::{Sink, Source};
 use certificate_runs::{CertifyFault, certify_first};
@@ -24,6 +24,18 @@ use std::sync::Wait;
 use std::thread::Threads;
 use thread_runs::solve_by_workers;
 
+// The boards of a setup, and how its workers may answer them with rows.
+#[derive(Drop)]
+struct Proving<'a> {
+    setup: &'a Setup,
+}
+
+impl<'a> Ruled for Proving<'a> {
+    ghost use Rattle.setup_runs.specs.Solving.{certifying_rules_of};
+
+    ghost rules = { λ proving. certifying_rules_of proving.setup.now };
+}
+
 // The outcome of a board by the setup's workers, as `end_board` has its ending.
 fn prove_board<R: Threads + Wait + Sync, G: Gate + Sync>(
     rt: &R,
@@ -33,7 +45,7 @@ fn prove_board<R: Threads + Wait + Sync, G: Gate + Sync>(
     gate: &G,
 ) -> Result<Outcome, OutOfMemory>
     requires { start.now.grid ≡ setup.now.goal.grid }
-    ensures { MayProve (rules_of setup.now) start.now result }
+    ensures { MayProve (certifying_rules_of setup.now) start.now result }
 {
     // One worker owns all boards, whatever they are spread by.
     if setup.worker_count() == 1 {
@@ -60,7 +72,7 @@ fn prove_spread<R: Threads + Wait + Sync, S: Spread + Drop + Sync, G: Gate + Syn
     requires sides { start.now.grid ≡ setup.now.goal.grid }
     requires owners { (b : Position)
         → S.hash_of spread b % setup.now.workers ≡ hash_by setup.now.spread b % setup.now.workers }
-    ensures { MayProve (rules_of setup.now) start.now result }
+    ensures { MayProve (certifying_rules_of setup.now) start.now result }
 {
     // By this law what answers a task does so without rows too.
     rows_can_be_left();
@@ -69,13 +81,14 @@ fn prove_spread<R: Threads + Wait + Sync, S: Spread + Drop + Sync, G: Gate + Syn
 }
 
 /// Answers the first line of the source that isn't passed over, and takes nothing behind it: where
-/// a plan of least cost is found, its certificate is written, else the line's report. The board is
-/// solved as those of a batch are, but with the rows that prove the plan; a certificate names the
-/// groups of the setup's tables, with whose sums they do.
+/// a plan of least cost is found, or a bound with its rows, its certificate is written, else the
+/// line's report. The board is solved as those of a batch are, but with the rows that prove the plan
+/// or the bound; a certificate names the groups of the setup's tables, with whose sums they do.
 ///
-/// Answers the status: 0 for a certificate, for a board without a plan, and where no line is to be
-/// answered; 1 for a bound and for a line that is refused. Nothing is written where reading fails
-/// or memory is wanting. What is written is flushed; where the flush fails, so has the write.
+/// Answers the status: 0 for a certificate of a plan, for a board without a plan, and where no line
+/// is to be answered; 1 for a bound, certified or not, and for a line that is refused. Nothing is
+/// written where reading fails or memory is wanting. What is written is flushed; where the flush
+/// fails, so has the write.
 ///
 /// What is written tells the truth: so says the clause `truth`, in words of what a reader sees.
 pub fn run_cert<R: Threads + Wait + Sync, S: Source, K: Sink, G: Gate + Sync>(
@@ -86,17 +99,17 @@ pub fn run_cert<R: Threads + Wait + Sync, S: Source, K: Sink, G: Gate + Sync>(
     setup: &Setup,
     gate: &G,
 ) -> Result<u8, CertifyFault>
-    ensures replies { Replies setup.now.tables.split (rules_of setup.now)
+    ensures replies { Replies setup.now.tables.split (certifying_rules_of setup.now)
         (change S.state source.old source.new) (change K.state sink.old sink.new) result }
-    ensures truth { IsTrueAnswer setup.now.tables.split (rules_of setup.now)
+    ensures truth { IsTrueAnswer setup.now.tables.split (certifying_rules_of setup.now)
         (change S.state source.old source.new) (change K.state sink.old sink.new) result }
     ensures flushed { K.is_flushed sink.new ⊎ (sink.new ≡ sink.old)
         ⊎ HasFailed (K.state sink.new) }
 {
-    let guided = Guided { setup };
+    let proving = Proving { setup };
     let prove = |start: &Board| -> Result<Outcome, OutOfMemory>
         requires { start.now.grid ≡ setup.now.goal.grid }
-        ensures { MayProve (rules_of setup.entry.now) start.now result }
+        ensures { MayProve (certifying_rules_of setup.entry.now) start.now result }
     { prove_board(rt, alloc, setup, start, gate) };
-    certify_first(alloc, source, sink, setup, &guided, prove)
+    certify_first(alloc, source, sink, setup, &proving, prove)
 }

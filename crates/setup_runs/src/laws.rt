@@ -2,6 +2,7 @@
 
 ghost use Rattle.setup_runs.specs.Laws.{ParityWantsNoMemory, ParityIsAnswered};
 ghost use Rattle.setup_runs.specs.Laws.{BoundsAreNeverCut, LimitsAreTheSetups, LimitsAreNearlySpent};
+ghost use Rattle.setup_runs.specs.Laws.{ParityIsCertified, CertifiedEndsAreAnswered};
 
 /// A board of the other class is refused for no want of memory.
 pub fn parity_wants_no_memory()
@@ -19,4 +20,11 @@ pub fn bounds_are_due()
     ensures kept { BoundsAreNeverCut }
     ensures limit { LimitsAreTheSetups }
     ensures nearly { LimitsAreNearlySpent }
+{}
+
+/// What may be certified of a board may be answered too, but for a bound for which memory was
+/// refused.
+pub fn certified_ends_are_answered()
+    ensures parity { ParityIsCertified }
+    ensures answered { CertifiedEndsAreAnswered }
 {}

@@ -1,4 +1,4 @@
-use Rattle.std.proofs.Common.{refl, rules, string_bytes, sym, subst, ◌≡◌, Some}
+use Rattle.std.proofs.Common.{refl, string_bytes, sym, subst, ◌≡◌, Some}
 use Rattle.outcomes.specs.declared.outcome.Ending.{Ending}
 use Rattle.outcomes.specs.Endings.{without_rows}
 use Rattle.std.proofs.lemmas.Result.{IfOk-weaker, IfErr-weaker}
@@ -6,8 +6,9 @@ use Rattle.reports.specs.declared.report.NoReport.{NoReport}
 use Rattle.board.specs.Grids.{Grid}
 use Rattle.batch_lines.specs.Words.{IsEntry, IsFirstEntryFault}
 use Rattle.certificate_runs.specs.declared.faults.CertifyFault.TheVariants.{Memory}
-use Rattle.certificate_runs.specs.Certifying.{IsReply, IsRefusal, HasNoReply, IsNotOptimal}
-use Rattle.batch_runs.specs.Batches.Answer.{answered}
+use Rattle.certificate_runs.specs.Certifying.{IsCertificateOf, IsReply, IsRefusal, HasNoReply}
+use Rattle.board.specs.Positions.{Position}
+use Rattle.outcomes.specs.Outcomes.{Task}
 use Rattle.certificate_runs.proofs.CertifyLemmas.{within, refused_entry, refused_board, reported_entry, report_lacks}
 use Rattle.certificate_runs.proofs.certifying.reply_to_entry.Goals as goal
 
@@ -39,23 +40,30 @@ returns-in-Err-prove-clause-lacking g c =
     IfErr-weaker c.refuse-in-Err-prove.result (λ fault. (lacking : NoReport) × (fault ≡ Memory lacking)) (HasNoReply prover (within c.args.number) c.args.bytes.now)
     (λ fault lacks. report_lacks prover (within c.args.number) c.args.bytes.now fault lacks) c.refuse-in-Err-prove.ensures.lacking
 
-pub returns-in-Optimal-clause-lacking : goal.returns-in-Optimal-clause-lacking
-returns-in-Optimal-clause-lacking g c =
+pub returns-in-Err-certify-clause-lacking : goal.returns-in-Err-certify-clause-lacking
+returns-in-Err-certify-clause-lacking g c =
     let prover = g.A.Ruled.rules c.args.asked.now in
     let entry = c.in-Ok.entry in
     let named = subst (λ (grid : Grid). IsEntry grid c.args.bytes.now entry.id.now entry.board) (sym c.requires.rules.grid) (rw c.shape.ensures at c.in-Ok.ensures.entry) in
-    (refl, (entry.id.now, entry.board, c.in-Optimal.cost, c.in-Optimal.plan, named, rw c.in-Optimal.is at c.in-Ok-prove.ensures.allowed))
+    (refl, (entry.id.now, entry.board, without_rows c.in-Ok-prove.outcome, named, c.in-Ok-prove.ensures.allowed, c.in-Err-certify.ensures.lacking))
+
+pub returns-in-Certificate-clause-reply : goal.returns-in-Certificate-clause-reply
+returns-in-Certificate-clause-reply g c =
+    let prover = g.A.Ruled.rules c.args.asked.now in
+    let entry = c.in-Ok.entry in
+    let named = subst (λ (grid : Grid). IsEntry grid c.args.bytes.now entry.id.now entry.board) (sym c.requires.rules.grid) (rw c.shape.ensures at c.in-Ok.ensures.entry) in
+    let made = rw c.in-Certificate.is at c.in-Ok-certify.ensures.made in
+    (refl, (entry.id.now, entry.board, without_rows c.in-Ok-prove.outcome, named, c.in-Ok-prove.ensures.allowed, made.0, subst (λ (task : Position → Task). IsCertificateOf c.args.setup.now.tables.split (task entry.board) c.in-Certificate.certificate) (sym c.requires.rules.task) made.1))
 
 pub returns-in-Ok-outcome_report : goal.returns-in-Ok-outcome_report
 returns-in-Ok-outcome_report g c =
     let prover = g.A.Ruled.rules c.args.asked.now in
     let entry = c.in-Ok.entry in
-    let ending = c.without_rows-ending.result in
+    let ending = c.in-Plain.ending in
     let named = subst (λ (grid : Grid). IsEntry grid c.args.bytes.now entry.id.now entry.board) (sym c.requires.rules.grid) (rw c.shape.ensures at c.in-Ok.ensures.entry) in
-    let is : ending ≡ without_rows c.in-Ok-prove.outcome = c.without_rows-ending.ensures in
-    let allowed : prover.allows entry.board (Some ending) = subst (λ (e : Ending). prover.allows entry.board (Some e)) (sym is) c.in-Ok-prove.ensures.allowed in
-    let other : IsNotOptimal (answered entry.id.now ending) = subst (λ (e : Ending). IsNotOptimal (answered entry.id.now e)) (sym is) (search rules) in
+    let made = rw c.in-Plain.is at c.in-Ok-certify.ensures.made in
+    let allowed : prover.allows entry.board (Some ending) = subst (λ (e : Ending). prover.allows entry.board (Some e)) (sym made.0) c.in-Ok-prove.ensures.allowed in
     record {
-      reply = reported_entry prover c.args.number c.args.bytes.now entry.id.now (string_bytes c.in-Ok-outcome_report.text) entry.board ending c.status_of.result named allowed c.in-Ok-outcome_report.ensures.small other c.in-Ok-outcome_report.ensures.text c.status_of.ensures;
+      reply = reported_entry prover c.args.number c.args.bytes.now entry.id.now (string_bytes c.in-Ok-outcome_report.text) entry.board ending c.status_of.result named allowed c.in-Ok-outcome_report.ensures.small made.2 c.in-Ok-outcome_report.ensures.text c.status_of.ensures;
       lacking = tt;
     }
