@@ -1,5 +1,5 @@
 -- From an outcome to a certificate, and from a reply to what is written.
-use Rattle.std.proofs.Common.{◌≡◌, ◌≢◌, ◌⊎◌, OnOk, ℕ, ◌+◌, ◌<◌, ◌^◌, List, Option, get_or, None, Some, Result, Ok, Err, Vec, length, codes, refl, sym, ap, subst, ◌∙◌, inl, inr, arith}
+use Rattle.std.proofs.Common.{◌≡◌, ◌≢◌, ◌⊎◌, OnOk, ℕ, ◌+◌, ◌<◌, ◌^◌, List, Option, get_or, None, Some, Result, Ok, Err, length, codes, refl, sym, ap, subst, ◌∙◌, inl, inr, arith}
 use Rattle.std.specs.Prelude.{◌≤◌, IfSome}
 use Rattle.byte_streams.specs.Streams.{SourceState, SinkState, Change}
 use Rattle.board.specs.Positions.{Position, IsBoard}
@@ -13,11 +13,8 @@ use Rattle.certificate_runs.specs.Built.{AreBuiltFor, HaveSmallEntries}
 use Rattle.certificate_check.proofs.SumLemmas.{proved_above}
 use Rattle.certificate_runs.proofs.TableLemmas.{AreTrue, sums_below, sums_low, true_potentials}
 use Rattle.reports.specs.declared.report.NoReport.{NoReport}
-use Rattle.outcomes.specs.Outcomes.{Task, Answers}
-use Rattle.outcomes.specs.declared.outcome.Cause.{Cause}
-use Rattle.outcomes.specs.declared.outcome.Outcome.TheVariants.{Optimal, Bounded}
+use Rattle.outcomes.specs.Outcomes.{Task}
 use Rattle.board.specs.declared.moves.Move.{Move}
-use Rattle.std.specs.declared.alloc.Global.{Global}
 use Rattle.batch_lines.specs.Lines.{without_return}
 use Rattle.batch_lines.specs.Readings.{IsJudged}
 use Rattle.batch_lines.specs.Words.{IsEntry, IsFirstEntryFault, entry_code}
@@ -42,11 +39,10 @@ use Rattle.batch_runs.specs.Batches.{Rules}
 use Rattle.certificate_runs.specs.declared.faults.CertifyFault.{CertifyFault}
 use Rattle.certificate_runs.specs.declared.faults.CertifyFault.TheVariants.{Read, Write, Memory, GroupsMemory, CertificateWrite}
 use Rattle.batch_runs.proofs.BatchLemmas.{answer_is}
-use Rattle.certificate_runs.specs.declared.certifying.Made.TheVariants.{Certificate}
 use Rattle.certificate_runs.specs.declared.certifying.Reply.{Reply}
 use Rattle.certificate_runs.specs.declared.certifying.Reply.TheVariants.{Certified, Reported}
 use Rattle.certificate_runs.specs.Outputs.{Output}
-use Rattle.certificate_runs.specs.Certifying.{IsAnswerOf, IsCertificateOf, IsCertificateFor, IsMadeOf, IsUncertified, NamesCertifiable, HasNoReply, ReportsLine, IsReply, IsRefusal, FindsFirst, FindsLine, PutsReply, EndsReplying, first_line, report_of, reply_output}
+use Rattle.certificate_runs.specs.Certifying.{IsAnswerOf, IsCertificateOf, IsCertificateFor, IsUncertified, NamesCertifiable, HasNoReply, ReportsLine, IsReply, IsRefusal, FindsFirst, FindsLine, PutsReply, EndsReplying, first_line, report_of, reply_output}
 
 -- a line that is to be read
 abbrev pub within : ℕ → Line

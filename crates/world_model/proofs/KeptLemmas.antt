@@ -15,7 +15,6 @@ use Rattle.outcomes.specs.declared.outcome.Why.TheVariants.{Exhausted}
 use Rattle.outcomes.specs.declared.outcome.Outcome.{Outcome}
 use Rattle.outcomes.specs.declared.outcome.Outcome.TheVariants.{Optimal, Unsolvable, Bounded}
 use Rattle.world_model.specs.declared.parts.Item.{Item}
-use Rattle.world_model.specs.declared.parts.Known.{Known}
 use Rattle.world_model.specs.declared.steps.Stop.{Stop}
 use Rattle.world_model.specs.declared.steps.Stop.TheVariants.{Quiet, Limit, Memory, Start}
 use Rattle.world_model.specs.Frontiers.{IsInFrontier, IsLowest, IsReached}
