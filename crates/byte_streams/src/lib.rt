@@ -5,12 +5,14 @@
 //! contracts say what stands then.
 #![tactic(auto)]
 
+mod buffered;
 pub mod laws;
 mod reader;
 mod sink;
 mod source;
 mod writer;
 
+pub use buffered::BufferedSource;
 pub use reader::Reader;
 pub use sink::{ByteSink, Sink, WriteFailed};
 pub use source::{ByteSource, ReadFailed, Source};

@@ -3,6 +3,7 @@
 ghost use Rattle.std.specs.Prelude.{◌≡◌, ℕ, true, false, IfOk, List, OnErr, Option};
 ghost use Rattle.byte_streams.specs.Streams.{SourceState, change};
 ghost use Rattle.byte_streams.specs.Source.{GivesNext, GivenByRead};
+ghost use Rattle.byte_streams.specs.Buffered.{AreNext};
 ghost use Rattle.byte_streams.specs.ByteSource.{inner_reader, source_has_failed, byte_source_state};
 
 use crate::reader::Reader;
@@ -24,6 +25,14 @@ pub trait Source {
     /// call fails too.
     fn next_byte(&mut self) -> Result<Option<u8>, ReadFailed>
         ensures { GivesNext (change state self.old self.new) result };
+
+    /// The next bytes, as far as they were read already: whoever looks at them waits for nothing.
+    /// A source that reads no more than it gives holds none.
+    fn held(&self) -> &[u8]
+        ensures { AreNext (state self.now).left result.now }
+    {
+        &[]
+    }
 }
 
 /// The bytes of a reader, up to its first failure.
