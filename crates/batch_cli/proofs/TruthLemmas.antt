@@ -31,6 +31,7 @@ use Rattle.certificate_runs.specs.declared.faults.CheckFault.{CheckFault}
 use Rattle.certificate_runs.specs.declared.faults.UpgradeFault.{UpgradeFault}
 use Rattle.certificate_runs.specs.declared.faults.UpgradeFault.TheVariants as upgrade
 use Rattle.certificate_runs.specs.declared.faults.CheckFault.TheVariants as check
+use Rattle.certificate_runs.specs.Rules.{ProofRules, ProvesTruly}
 use Rattle.certificate_runs.specs.Outputs.{Output}
 use Rattle.certificate_runs.specs.Certifying.{Replies}
 use Rattle.certificate_runs.specs.Checking.{Checks, IsVerdict}
@@ -68,7 +69,7 @@ BeginsTruth-kept rules source a b c some kept = record {
 WritesTruth-kept : (rules : Rules) (source : Change SourceState) (a b c : SinkState) (status : ℕ) → WritesTruth rules source (from_to a b) status → PutsNone (from_to b c) → WritesTruth rules source (from_to a c) status
 WritesTruth-kept rules source a b c status all kept = record { lines = all.lines; output = all.output; all = all.all; put = Appends-kept a.contents b.contents c.contents all.output all.put kept; truth = all.truth; settled = all.settled }
 
-WritesAnswer-kept : (split : Split) (rules : Rules) (source : Change SourceState) (a b c : SinkState) → WritesAnswer split rules source (from_to a b) → PutsNone (from_to b c) → WritesAnswer split rules source (from_to a c)
+WritesAnswer-kept : (split : Split) (rules : ProofRules) (source : Change SourceState) (a b c : SinkState) → WritesAnswer split rules source (from_to a b) → PutsNone (from_to b c) → WritesAnswer split rules source (from_to a c)
 WritesAnswer-kept split rules source a b c all kept = record { lines = all.lines; output = all.output; first = all.first; put = Appends-kept a.contents b.contents c.contents all.output all.put kept; answer = all.answer }
 
 WritesVerdict-kept : (a b c : SinkState) (input : List ℕ) → WritesVerdict (from_to a b) input → PutsNone (from_to b c) → WritesVerdict (from_to a c) input
@@ -110,7 +111,7 @@ whole rules source sink (Err (lines.Memory lacking)) status told fine some = abs
 truthful : (setup : SetupState) → IsTruthful (rules_of setup)
 truthful setup = λ b ending allowed. allowed.0
 
-truthful_certifying : (setup : SetupState) → IsTruthful (certifying_rules_of setup)
+truthful_certifying : (setup : SetupState) → ProvesTruly (certifying_rules_of setup)
 truthful_certifying setup b outcome allowed = allowed.0
 
 module _ (source : Change SourceState) (sink : Change SinkState) (ending : Ending) (status : ℕ) (told : status ≡ status_of ending) where
@@ -130,7 +131,7 @@ module _ (source : Change SourceState) (sink : Change SinkState) (ending : Endin
 
 -- ---- a certificate
 
-answered : (split : Split) (rules : Rules) → IsTruthful rules → (source : Change SourceState) (sink : Change SinkState) (result : Result ℕ CertifyFault) (status : ℕ) → status ≡ status_of (ending_of Answered of_certify result) → status < 2 → Replies split rules source sink result → WritesAnswer split rules source sink
+answered : (split : Split) (rules : ProofRules) → ProvesTruly rules → (source : Change SourceState) (sink : Change SinkState) (result : Result ℕ CertifyFault) (status : ℕ) → status ≡ status_of (ending_of Answered of_certify result) → status < 2 → Replies split rules source sink result → WritesAnswer split rules source sink
 answered split rules truthful source sink (Ok n) status told fine replies = answer_true split rules truthful source sink (Ok n) replies
 answered split rules truthful source sink (Err certify.Read) status told fine replies = absurd (omega (arith, told))
 answered split rules truthful source sink (Err certify.Write) status told fine replies = absurd (omega (arith, told))

@@ -14,7 +14,7 @@ pub use batch_lines::{
 };
 pub use batch_runs::{LinesFault, Ruled, Setup, SpreadKind, Summary, run_lines};
 pub use certificate_runs::{
-    CertifyFault, CheckFault, UpgradeFault, certify_first, run_check, run_upgrade,
+    CertifyFault, CheckFault, ProofRuled, UpgradeFault, certify_first, run_check, run_upgrade,
 };
 pub use command_line::NoRequest;
 pub use endings::Ending;

@@ -1,5 +1,5 @@
 -- What is written for an input: a report for each line that isn't passed over, in order.
-use Rattle.std.specs.Prelude.{ℕ, ◌≡◌, ◌⊎◌, ◌+◌, ◌-◌, ◌<◌, ◌^◌, true, false, List, [], ◌∷◌, ◌++◌, length, Option, None, Some, Result, Ok, Err, ⊤, ◌==◌, ◌&&◌, if◌then◌else◌, codes}
+use Rattle.std.specs.Prelude.{ℕ, ◌≡◌, ◌⊎◌, ◌+◌, ◌-◌, ◌<◌, ◌^◌, true, false, List, [], ◌∷◌, ◌++◌, length, Option, None, Some, Result, Ok, Err, All, ⊤, ◌==◌, ◌&&◌, if◌then◌else◌, codes}
 use Rattle.memory.specs.declared.OutOfMemory.{OutOfMemory}
 use Rattle.board.specs.Grids.{Grid}
 use Rattle.board.specs.Positions.{Position}
@@ -37,6 +37,10 @@ IsTruthful rules = (b : Position) (outcome : Ending) → rules.allows b (Some ou
 abbrev pub MayGive : Rules → Position → Result Ending OutOfMemory → Type 0
 MayGive rules b (Ok ending) = rules.allows b (Some ending)
 MayGive rules b (Err refused) = rules.allows b None
+
+-- each of these boards may be answered by the ending beside it
+abbrev pub AreAllowed : Rules → List (Position × Ending) → Type 0
+AreAllowed rules ready = All (λ it. rules.allows it.0 (Some it.1)) ready
 
 -- ---- the answer to a line
 

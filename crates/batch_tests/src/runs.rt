@@ -10,7 +10,7 @@ use batch_cli::{
     run_check, run_lines, run_program, run_upgrade,
 };
 use board::{Board, Move, Shape, Weights};
-use byte_streams::{ByteSink, ByteSource};
+use byte_streams::{BufferedSource, ByteSink, ByteSource, Sink, Source};
 use failing_streams::{FailingReader, FailingWriter, NEVER};
 use memory::{OutOfMemory, copy_of, with_capacity};
 use outcomes::Ending;
@@ -378,10 +378,7 @@ fn start<R: Threads + Wait + AllocGlobal + Sync>(
         Run::Lines => {
             let shape = square();
             let asked = ByBlank { shape };
-            let counts = run_lines(alloc, source, sink, shape, &asked, |start: &Board| {
-                answer_by_blank(alloc, start)
-            });
-            tell_counts(counts, errors)
+            tell_counts(lines_by_blank(alloc, source, sink, shape, &asked), errors)
         }
         Run::Batch => match setup_of_faces(alloc) {
             Some(setup) => {
@@ -501,20 +498,33 @@ fn each_call_of_a_run_fails_in_turn(rt: HostRuntime) {
     }
 }
 
+// A run over lines, answered by the blank's cell alone, of which none is answered ahead.
+fn lines_by_blank<S: Source, K: Sink>(
+    alloc: Global,
+    source: &mut S,
+    sink: &mut K,
+    shape: Shape,
+    asked: &ByBlank,
+) -> Result<Summary, LinesFault>
+    requires { asked.now.shape ≡ shape }
+{
+    run_lines(
+        alloc,
+        source,
+        sink,
+        shape,
+        asked,
+        |start: &Board| { answer_by_blank(alloc, start) },
+        |_: &Board, _: &[u8]| -> Vec<(Board, Ending)> { Vec::new(alloc) },
+    )
+}
+
 // The counts of the answers to `LINES`.
 fn counts_of_lines(alloc: Global) -> Result<Summary, LinesFault> {
     let shape = square();
     let mut source = ByteSource::new(LINES);
     let mut sink = ByteSink::new(Vec::new(alloc));
-    let asked = ByBlank { shape };
-    run_lines(
-        alloc,
-        &mut source,
-        &mut sink,
-        shape,
-        &asked,
-        |start: &Board| { answer_by_blank(alloc, start) },
-    )
+    lines_by_blank(alloc, &mut source, &mut sink, shape, &ByBlank { shape })
 }
 
 #[test]
@@ -526,4 +536,26 @@ fn answers_are_counted(rt: HostRuntime) {
         refused: 2,
     };
     assert_eq!(rt; counts_of_lines(rt.alloc()), Ok(counts));
+}
+
+// Lines of boards of 2 by 2, so many that several workers solve them side by side where they are
+// held.
+const MANY_LINES: &[u8] = b"a 1 0 2 3\nb 1 3 2 0\nc 1 3 0 2\n# d 1 0 2 3\ne 2 1 0 3\nf 1 0 2\n\
+    g 0 1 2 3\nh 2 1 0 3\ni 1 0 2 3\nj 1 3 2 0\nk 1 3 0 2\nl 0 1 2 3\nm 1 0 2 3\nn 1 3 2 0\n\
+    o 1 3 0 2\np 0 1 2 3\nq 1 0 2 3\nr 1 3 2 0\ns 1 3 0 2\nt 0 1 2 3\nu 1 0 2 3";
+
+// What so many workers report of `MANY_LINES`.
+fn reports_by<R: Threads + Wait + Sync>(rt: &R, alloc: Global, workers: usize) -> Option<Vec<u8>> {
+    let setup = setup_of_square(alloc).workers(workers).ok()?;
+    let mut source = BufferedSource::new(alloc, MANY_LINES).ok()?;
+    let mut sink = ByteSink::new(Vec::new(alloc));
+    run_batch(rt, alloc, &mut source, &mut sink, &setup, &Free).ok()?;
+    Some(sink.into_inner())
+}
+
+#[test]
+fn held_lines_are_reported_alike(rt: HostRuntime) {
+    let one = reports_by(&rt, rt.alloc(), 1);
+    assert!(&rt; one.is_some());
+    assert_eq!(rt; one, reports_by(&rt, rt.alloc(), 3));
 }

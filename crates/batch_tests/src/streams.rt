@@ -4,7 +4,9 @@ ghost use Rattle.std.specs.Prelude.{◌≡◌, ◌<◌, ◌+◌, ◌^◌, ◌++�
 ghost use Rattle.byte_streams.specs.ByteSource.{source_has_failed};
 ghost use Rattle.byte_streams.specs.ByteSink.{inner_writer, sink_has_failed};
 
-use byte_streams::{ByteSink, ByteSource, ReadFailed, Reader, Sink, Source, WriteFailed, Writer};
+use byte_streams::{
+    BufferedSource, ByteSink, ByteSource, ReadFailed, Reader, Sink, Source, WriteFailed, Writer,
+};
 use failing_streams::{FailingReader, FailingWriter};
 use std::alloc::Global;
 use std::io;
@@ -30,6 +32,26 @@ fn reads_up_to_failure(kind: ErrorKind, reads_before: usize) -> bool {
         }
     }
     source.into_inner().bytes.len() == text.len().saturating_sub(reads_before)
+}
+
+// Whether a source that reads many bytes at once gives them one by one, holds those that it has not
+// given yet, and fails for ever after them.
+fn gives_what_it_holds(alloc: Global) -> bool {
+    let text = b"abc";
+    let reader = FailingReader {
+        bytes: text,
+        reads_before: 1,
+        kind: ErrorKind::Other,
+    };
+    let Ok(mut source) = BufferedSource::new(alloc, reader) else {
+        return false;
+    };
+    for place in 0..text.len() {
+        if source.next_byte() != Ok(Some(text[place])) || source.held() != &text[place + 1..] {
+            return false;
+        }
+    }
+    source.next_byte() == Err(ReadFailed) && source.next_byte() == Err(ReadFailed)
 }
 
 // Whether a sink writes the bytes before the write or flush that fails, and fails for ever after
@@ -69,6 +91,7 @@ fn streams_fail_once_and_for_all(rt: HostRuntime) {
             );
         }
     }
+    assert!(rt; gives_what_it_holds(rt.alloc()));
     for kind in [Some(other), Some(interrupted), None] {
         for calls_before in 0..7 {
             assert!(rt;

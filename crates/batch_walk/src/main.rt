@@ -16,11 +16,11 @@ mod setup;
 
 use batch_runs::{Setup, SpreadKind, Summary};
 use board::Shape;
-use byte_streams::{ByteSink, ByteSource, Sink, Source};
+use byte_streams::{BufferedSource, ByteSink, Sink, Source};
 use hda_run::{Gate, Kind};
 use setup::guided_setup;
 use setup_runs::run_batch;
-use std::io::{self, BufReader, BufWriter, Eprint};
+use std::io::{self, BufWriter, Eprint};
 use std::process::ExitCode;
 use std::sync::Wait;
 use std::sync::atomic::{AtomicU64, Ordering};
@@ -149,8 +149,8 @@ fn main(rt: HostRuntime) -> ExitCode {
     let Some(words) = read_words(&rt) else {
         return ExitCode::from(2);
     };
-    let (Ok(reader), Ok(writer)) = (
-        BufReader::new(alloc, rt.stdin()),
+    let (Ok(source), Ok(writer)) = (
+        BufferedSource::new(alloc, rt.stdin()),
         BufWriter::new(alloc, rt.stdout()),
     ) else {
         return ExitCode::from(4);
@@ -162,7 +162,7 @@ fn main(rt: HostRuntime) -> ExitCode {
         return ExitCode::from(2);
     };
     let _ = eprintln!(&rt; "tables are built");
-    let mut source = ByteSource::new(reader);
+    let mut source = source;
     let mut sink = ByteSink::new(writer);
     if run(&rt, &mut source, &mut sink, &setup).is_none() {
         return ExitCode::from(3);

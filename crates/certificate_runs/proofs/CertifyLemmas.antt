@@ -35,7 +35,7 @@ use Rattle.reports.specs.Reports.{outcome_data, report_text}
 use Rattle.outcomes.specs.declared.outcome.Ending.{Ending}
 use Rattle.batch_runs.specs.Batches.AnswersEntry.{by_fault, by_outcome, by_want}
 use Rattle.batch_runs.specs.Setups.{SetupState, Guides, task_of}
-use Rattle.batch_runs.specs.Batches.{Rules}
+use Rattle.certificate_runs.specs.Rules.{ProofRules, MayReport, report_rules}
 use Rattle.certificate_runs.specs.declared.faults.CertifyFault.{CertifyFault}
 use Rattle.certificate_runs.specs.declared.faults.CertifyFault.TheVariants.{Read, Write, Memory, GroupsMemory, CertificateWrite}
 use Rattle.batch_runs.proofs.BatchLemmas.{answer_is}
@@ -58,37 +58,37 @@ no_refusal c code n is = let told = ap (λ (output : Output). get_or output.text
     letters Two told = omega (arith, told)
 
 -- a line that is refused by its first fault
-pub refused_entry : (split : Split) (rules : Rules) (n : ℕ) (bytes : List ℕ) (fault : EntryFault) (reply : Reply) → IsFirstEntryFault rules.grid bytes fault → IsRefusal (entry_code fault) n reply → IsReply split rules (within n) bytes reply
+pub refused_entry : (split : Split) (rules : ProofRules) (n : ℕ) (bytes : List ℕ) (fault : EntryFault) (reply : Reply) → IsFirstEntryFault rules.grid bytes fault → IsRefusal (entry_code fault) n reply → IsReply split rules (within n) bytes reply
 refused_entry split rules n bytes fault (Certified c) first is = absurd (no_refusal c (entry_code fault) n is)
 refused_entry split rules n bytes fault (Reported text status) first is = (refused (entry_code fault), by_fault fault first, tt, is)
 
 -- a board for which memory was wanting before the first step
-pub refused_board : (split : Split) (rules : Rules) (n : ℕ) (bytes id : List ℕ) (b : Position) (reply : Reply) → IsEntry rules.grid bytes id b → rules.allows b None → IsRefusal (codes "V3") n reply → IsReply split rules (within n) bytes reply
+pub refused_board : (split : Split) (rules : ProofRules) (n : ℕ) (bytes id : List ℕ) (b : Position) (reply : Reply) → IsEntry rules.grid bytes id b → rules.allows b None → IsRefusal (codes "V3") n reply → IsReply split rules (within n) bytes reply
 refused_board split rules n bytes id b (Certified c) entry lacking is = absurd (no_refusal c (codes "V3") n is)
 refused_board split rules n bytes id b (Reported text status) entry lacking is = (refused (codes "V3"), by_want id b entry lacking, tt, is)
 
 -- an outcome that has no certificate
-pub reported_entry : (rules : Rules) (n : ℕ) (bytes id text : List ℕ) (b : Position) (outcome : Ending) (status : ℕ) → IsEntry rules.grid bytes id b → rules.allows b (Some outcome) → AreSmall outcome → IsUncertified outcome → text ≡ report_text (outcome_data id outcome) → status ≡ status_of_counts (with_outcome no_lines outcome)
+pub reported_entry : (rules : ProofRules) (n : ℕ) (bytes id text : List ℕ) (b : Position) (outcome : Ending) (status : ℕ) → IsEntry rules.grid bytes id b → MayReport rules b (Some outcome) → AreSmall outcome → IsUncertified outcome → text ≡ report_text (outcome_data id outcome) → status ≡ status_of_counts (with_outcome no_lines outcome)
     → ReportsLine rules (within n) bytes (record { text = text; status = status })
 reported_entry rules n bytes id text b outcome status entry allowed small other written told =
     (answered id outcome, by_outcome id b outcome entry allowed small, other, λ i. record { text = written i; status = told i })
 
 -- a line that is too long
-pub refused_line : (split : Split) (rules : Rules) (n : ℕ) (kind : LineKind) (bytes : List ℕ) (reply : Reply) → kind ≢ PassedOver → kind ≢ Within → IsRefusal (codes "E12") n reply → IsReply split rules (record { number = n; kind = kind }) bytes reply
+pub refused_line : (split : Split) (rules : ProofRules) (n : ℕ) (kind : LineKind) (bytes : List ℕ) (reply : Reply) → kind ≢ PassedOver → kind ≢ Within → IsRefusal (codes "E12") n reply → IsReply split rules (record { number = n; kind = kind }) bytes reply
 refused_line split rules n PassedOver bytes reply here long is = absurd (here refl)
 refused_line split rules n Within bytes reply here long is = absurd (long refl)
 refused_line split rules n TooLong bytes (Certified c) here long is = absurd (no_refusal c (codes "E12") n is)
 refused_line split rules n TooLong bytes (Reported text status) here long is = (refused (codes "E12"), refl, tt, is)
 
 -- the reply to the bytes that were kept is one to the first line
-reply_is : (split : Split) (rules : Rules) (source : Change SourceState) (first : FindsFirst source) (line : Line) (kept : List ℕ) (reply : Reply) → IsJudged first.line line.kind kept → line.number ≡ length first.passed + 1 → IsReply split rules line kept reply
+reply_is : (split : Split) (rules : ProofRules) (source : Change SourceState) (first : FindsFirst source) (line : Line) (kept : List ℕ) (reply : Reply) → IsJudged first.line line.kind kept → line.number ≡ length first.passed + 1 → IsReply split rules line kept reply
     → IsReply split rules (first_line source first) (without_return first.line) reply
 reply_is split rules source first line kept (Certified c) judged at (is, named) = (sym judged.judged ∙ is, subst (λ (bytes : List ℕ). IsCertificateFor split rules bytes c) (judged.whole is) named)
 reply_is split rules source first line kept (Reported text status) judged at (answer, is, other, output) =
-    (answer, answer_is rules first.line line.kind kept answer judged is, other, output ∙ ap (λ (n : ℕ). report_of n answer) at)
+    (answer, answer_is (report_rules rules) first.line line.kind kept answer judged is, other, output ∙ ap (λ (n : ℕ). report_of n answer) at)
 
 -- a reply to the line that was found is written, or a beginning of it
-pub replied : (split : Split) (rules : Rules) (source : Change SourceState) (sink : Change SinkState) (line : Line) (kept : List ℕ) (reply : Reply) (result : Result ℕ CertifyFault) → FindsLine source kept (Ok (Some line)) → IsReply split rules line kept reply → PutsReply sink reply result → EndsReplying split rules source sink result
+pub replied : (split : Split) (rules : ProofRules) (source : Change SourceState) (sink : Change SinkState) (line : Line) (kept : List ℕ) (reply : Reply) (result : Result ℕ CertifyFault) → FindsLine source kept (Ok (Some line)) → IsReply split rules line kept reply → PutsReply sink reply result → EndsReplying split rules source sink result
 replied split rules source sink line kept (Certified c) (Ok status) (readable, (first, judged, at)) reply put =
     let named = reply_is split rules source first line kept (Certified c) judged at reply in
     (readable, inr (reply_output (Certified c), (first, inl (named.0, (c, named.1, refl))), put.0, put.1))
@@ -103,7 +103,7 @@ replied split rules source sink line kept (Reported text told) (Err fault) (read
     subst (λ (f : CertifyFault). EndsReplying split rules source sink (Err f)) (sym put.1) (readable, (reply_output (Reported text told), (first, reported), put.0))
 
 -- there is no reply to the line that was found
-pub unreplied : (split : Split) (rules : Rules) (source : Change SourceState) (sink : Change SinkState) (line : Line) (kept : List ℕ) (fault : CertifyFault) → FindsLine source kept (Ok (Some line)) → HasNoReply rules line kept fault → sink.after ≡ sink.before → EndsReplying split rules source sink (Err fault)
+pub unreplied : (split : Split) (rules : ProofRules) (source : Change SourceState) (sink : Change SinkState) (line : Line) (kept : List ℕ) (fault : CertifyFault) → FindsLine source kept (Ok (Some line)) → HasNoReply rules line kept fault → sink.after ≡ sink.before → EndsReplying split rules source sink (Err fault)
 unreplied split rules source sink line kept Read (readable, (first, judged, at)) lack same = absurd lack
 unreplied split rules source sink line kept Write (readable, (first, judged, at)) lack same = absurd lack
 unreplied split rules source sink line kept (Memory lacking) (readable, (first, judged, at)) lack same = (readable, (first, tt), same)
@@ -112,7 +112,7 @@ unreplied split rules source sink line kept (GroupsMemory wanting) (readable, (f
 unreplied split rules source sink line kept CertificateWrite (readable, (first, judged, at)) lack same = absurd lack
 
 -- a fault of a report is one for which there is no reply
-pub report_lacks : (rules : Rules) (line : Line) (bytes : List ℕ) (fault : CertifyFault) → (lacking : NoReport) × (fault ≡ Memory lacking) → HasNoReply rules line bytes fault
+pub report_lacks : (rules : ProofRules) (line : Line) (bytes : List ℕ) (fault : CertifyFault) → (lacking : NoReport) × (fault ≡ Memory lacking) → HasNoReply rules line bytes fault
 report_lacks rules line bytes fault (lacking, is) = subst (HasNoReply rules line bytes) (sym is) tt
 
 -- what a certificate of the setup's goal states

@@ -1,10 +1,12 @@
 -- What was written for a line, or of a certificate, is true.
-use Rattle.std.proofs.Common.{◌≡◌, ℕ, suc, ◌+◌, ◌^◌, ◌<◌, List, [], ◌∷◌, ◌++◌, Bool, true, false, cond, Option, None, Some, Result, Ok, Err, length, refl, sym, ap, ◌∙◌, subst, inl, inr, arith, append-nil, length-append, get_or, not}
+use Rattle.std.proofs.Common.{◌≡◌, ◌≢◌, ℕ, suc, ◌+◌, ◌^◌, ◌<◌, List, [], ◌∷◌, ◌++◌, Bool, true, false, cond, Option, None, Some, Result, Ok, Err, length, refl, sym, ap, ◌∙◌, subst, inl, inr, arith, append-nil, length-append, get_or, not, slice_get}
 use Rattle.std.specs.Prelude.{◌≤◌, IfSome, IsSome, codes, nat_lt}
 use Rattle.std.specs.List.{AllByRecursion}
 use Rattle.std.proofs.lemmas.List.Elements.{recursion_from_All}
 use Rattle.serde_json.specs.Data.{Data, null, boolean, number, string, array, object}
+use Rattle.serde_json.specs.Read.{read}
 use Rattle.serde_json.specs.Written.{compact_text}
+use Rattle.std.proofs.lemmas.Bool.{ne_eqb}
 use Rattle.byte_streams.specs.Streams.{SourceState, SinkState, Change}
 use Rattle.byte_streams.specs.Sink.{Puts, PutsNone}
 use Rattle.board.specs.declared.moves.Move.{Move}
@@ -12,14 +14,23 @@ use Rattle.board.specs.Positions.{Position}
 use Rattle.board.specs.CostRules.{CostRule}
 use Rattle.board.specs.Plans.{Leads, NothingBelow, IsLeast}
 use Rattle.outcomes.specs.Outcomes.{Task}
-use Rattle.batch_lines.specs.Lines.{without_return, is_passed_over, kind_of}
+use Rattle.outcomes.specs.Endings.{EndAnswers}
+use Rattle.outcomes.specs.declared.outcome.Cause.TheVariants.{Memory}
+use Rattle.outcomes.specs.declared.outcome.Want.TheVariants.{Refused}
+use Rattle.outcomes.specs.declared.outcome.Ending.{Ending}
+use Rattle.outcomes.specs.declared.outcome.Ending.TheVariants.{Optimal, Unsolvable, Bounded}
+use Rattle.outcomes.specs.declared.outcome.Outcome.{Outcome}
+use Rattle.outcomes.specs.declared.outcome.Outcome.TheVariants as outcome
+use Rattle.batch_lines.specs.Words.{entry_code}
+use Rattle.batch_lines.specs.Lines.{lines_of, onto_first, without_return, is_passed_over, kind_of}
 use Rattle.batch_lines.specs.declared.lines.LineKind.{LineKind}
 use Rattle.batch_lines.specs.declared.lines.LineKind.TheVariants.{PassedOver, Within, TooLong}
 use Rattle.batch_lines.specs.declared.lines.TheConstants.{LINE_LIMIT}
-use Rattle.reports.specs.Reports.{refused_certificate_data, report_text}
-use Rattle.reports.specs.Readings.{HasStatus, IsReport, IsSmall}
-use Rattle.reports.specs.Readings.IsReport.{of_cost, of_bound, of_certificate}
+use Rattle.reports.specs.Reports.{outcome_data, refused_data, refused_certificate_data, report_text}
+use Rattle.reports.specs.Readings.{AreSmall, HasStatus, IsReport, IsSmall, SaysNumber}
+use Rattle.reports.specs.Readings.IsReport.{of_outcome, of_line, of_cost, of_bound, of_certificate}
 use Rattle.reports.proofs.ReadLemmas.{report_read}
+use Rattle.reports.proofs.TextLemmas.{text_other}
 use Rattle.certificate.specs.Certificates.{Statement, greatest}
 use Rattle.certificate.specs.Spellings.{Spells, spelling}
 use Rattle.certificate.specs.Faults.{format_code}
@@ -29,21 +40,24 @@ use Rattle.certificate.specs.declared.faults.ReadFault.TheVariants.{Format, Fail
 use Rattle.certificate.proofs.LawLemmas.{spelled_read}
 use Rattle.certificate_check.specs.Refusals.{ItsPlanLeads, refusal_code}
 use Rattle.pattern_index.specs.Splits.{Split}
-use Rattle.batch_runs.specs.Batches.{Rules, IsTruthful, Answer, AnswersKind, AnswersLine, AnswersLines, AreAll, AreFirst, answer_text, answers_text}
+use Rattle.batch_runs.specs.Batches.{Rules, IsTruthful, Answer, AnswersEntry, AnswersKind, AnswersLine, AnswersLines, AreAll, AreFirst, answer_text, answers_text}
+use Rattle.batch_runs.specs.Batches.AnswersEntry.{by_fault, by_outcome, by_want}
 use Rattle.batch_runs.specs.Batches.Answer.{passed_over}
-use Rattle.batch_runs.specs.Meanings.{asks, questions}
+use Rattle.batch_runs.specs.Meanings.{IsReply, Names, asks, questions}
 use Rattle.batch_runs.specs.Headline.{TellsTheTruth}
 use Rattle.batch_runs.proofs.BatchLemmas.{AreFirst-read}
 use Rattle.batch_runs.proofs.TruthLemmas.{truth}
+use Rattle.certificate_runs.specs.Rules.{MayReport, ProofRules, ProvesTruly, report_rules}
+use Rattle.certificate_runs.proofs.RowLemmas.{ends_answered, lone_bound}
 use Rattle.certificate_runs.specs.Outputs.{Output, IsUntouched}
 use Rattle.certificate_runs.specs.declared.faults.CertifyFault.{CertifyFault}
 use Rattle.certificate_runs.specs.declared.faults.CheckFault.{CheckFault}
 use Rattle.certificate_runs.specs.declared.faults.UpgradeFault.{UpgradeFault}
 use Rattle.certificate_runs.specs.declared.faults.UpgradeFault.TheVariants.{CertificateRead, CertificateMemory}
 use Rattle.certificate_runs.specs.Upgrading.{EndsUpgrade, Upgrades}
-use Rattle.certificate_runs.specs.Certifying.{IsPassedOver, IsCertificateOf, FindsFirst, PassesAll, RepliesTo, Replies, first_line}
+use Rattle.certificate_runs.specs.Certifying.{IsPassedOver, IsUncertified, NeedsReport, IsCertificateOf, FindsFirst, PassesAll, RepliesTo, Replies, first_line}
 use Rattle.certificate_runs.specs.Checking.{claim_data, IsJudgement, IsVerdict, Checks}
-use Rattle.certificate_runs.specs.Headline.{CertifiesTruly, ClaimsTruly, AnswersFirst, WritesAnswer, IsTrueAnswer, IsRefusedBy, SaysOf, IsTrueVerdict, WritesVerdict, IsTrueCheck, WritesUpgrade, IsTrueUpgrade}
+use Rattle.certificate_runs.specs.Headline.{BoundsLackRows, CertifiesTruly, ClaimsTruly, AnswersFirst, WritesAnswer, IsTrueAnswer, IsRefusedBy, SaysOf, IsTrueVerdict, WritesVerdict, IsTrueCheck, WritesUpgrade, IsTrueUpgrade}
 use Rattle.certificate_runs.specs.Headline.AnswersFirst.{by_none, by_certificate, by_report}
 use Rattle.std.proofs.KnownBytes.{Appends-nil, Keeps-refl}
 
@@ -144,6 +158,10 @@ certifies_truly split task c of = record {
 
 -- ---- a line in, a certificate out
 
+-- what may be reported is true
+reports_truthful : (rules : ProofRules) → ProvesTruly rules → IsTruthful (report_rules rules)
+reports_truthful rules truthful b ending (given, allowed, says, none) = subst (EndAnswers (rules.task b)) says (ends_answered (rules.task b) given (truthful b given allowed))
+
 first_all : (input : Option (List ℕ)) (lines : List (List ℕ)) → AreAll input lines → AreFirst input lines
 first_all None lines all = tt
 first_all (Some bytes) lines all = ([], all ∙ sym (append-nil lines))
@@ -151,7 +169,74 @@ first_all (Some bytes) lines all = ([], all ∙ sym (append-nil lines))
 untouched : (sink : Change SinkState) → IsUntouched sink → Puts sink []
 untouched sink same = subst (λ (after : SinkState). Puts (record { before = sink.before; after = after }) []) (sym same) (Appends-nil sink.before.contents)
 
-module _ (split : Split) (rules : Rules) (truthful : IsTruthful rules) (source : Change SourceState) (sink : Change SinkState) where
+-- ---- a report of a bound
+
+abbrev text_in : Data → List ℕ
+text_in null = []
+text_in (boolean b) = []
+text_in (number n) = []
+text_in (string s) = s
+text_in (array ds) = []
+text_in (object ms) = []
+
+abbrev first_letter : Option Data → ℕ
+first_letter None = 0
+first_letter (Some d) = get_or (text_in d) 0 0
+
+abbrev data_or : Data → Option Data → Data
+data_or d None = d
+data_or d (Some e) = e
+
+abbrev line_or : Option (List ℕ) → List ℕ
+line_or None = []
+line_or (Some line) = line
+
+feed_ends : (line : List ℕ) → AllByRecursion (λ b. b ≢ 10) line → lines_of (line ++ 10 ∷ []) ≡ line ∷ []
+feed_ends [] none = refl
+feed_ends (b ∷ bs) none = rw (ne_eqb b 10 none.0) (ap (onto_first b) (feed_ends bs none.1))
+
+-- a report is read as what was told
+reply_is : (e d : Data) → IsReport e → IsReply (report_text e) 0 d → e ≡ d
+reply_is e d report (line, at, reads) =
+    let text : compact_text e ≡ line = ap line_or (sym (ap (λ (ls : List (List ℕ)). slice_get ls 0) (feed_ends (compact_text e) (text_other e))) ∙ at) in
+    ap (data_or e) (sym (report_read e report) ∙ ap read text ∙ reads)
+
+module _ (rules : ProofRules) (line : List ℕ) (n : ℕ) (small : n < 2 ^ 64) where
+  refused_lacks : (code : List ℕ) → BoundsLackRows rules line (report_text (refused_data code n))
+  refused_lacks code d reply bounded =
+      let e : HasStatus (refused_data code n) (codes "bounded") = subst (λ (f : Data). HasStatus f (codes "bounded")) (sym (reply_is (refused_data code n) d (of_line code n small) reply)) bounded in
+      let z = ap first_letter e in
+      absurd (omega arith)
+
+  ending_lacks : (id : List ℕ) (b : Position) (ending : Ending) → Names rules.grid line id b → MayReport rules b (Some ending) → AreSmall ending → IsUncertified ending → BoundsLackRows rules line (report_text (outcome_data id ending))
+  ending_lacks id b (Optimal cost plan) names may fits alone d reply bounded = absurd alone
+  ending_lacks id b (Unsolvable why) names may fits alone d reply bounded =
+      let e : HasStatus (outcome_data id (Unsolvable why)) (codes "bounded") = subst (λ (f : Data). HasStatus f (codes "bounded")) (sym (reply_is (outcome_data id (Unsolvable why)) d (of_outcome id (Unsolvable why) fits) reply)) bounded in
+      let z = ap first_letter e in
+      absurd (omega arith)
+  ending_lacks id b (Bounded bound best cause) names (given, allowed, says, none) fits (no_plan, (refused, is)) d reply bounded =
+      let same = reply_is (outcome_data id (Bounded bound best cause)) d (of_outcome id (Bounded bound best cause) fits) reply in
+      let alone : given ≡ outcome.Bounded bound None (Memory (Refused refused)) None = lone_bound given bound best cause says none ∙ (λ i. outcome.Bounded bound (no_plan i) (is i) None) in
+      (id, b, bound, refused, names, subst (λ (f : Data). SaysNumber f (codes "bound") bound) same refl, subst (λ (o : Outcome). rules.allows b (Some o)) alone allowed)
+
+  entry_lacks : (answer : Answer) → kind_of line ≡ Within → AnswersEntry (report_rules rules) (without_return line) answer → NeedsReport answer → BoundsLackRows rules line (answer_text n answer)
+  entry_lacks answer within (by_fault fault first) needs = refused_lacks (entry_code fault)
+  entry_lacks answer within (by_outcome id b ending entry may fits) needs = ending_lacks id b ending (within, entry) may fits needs
+  entry_lacks answer within (by_want id b entry lacking) needs = refused_lacks (codes "V3")
+
+  line_lacks : (answer : Answer) → ¬ IsPassedOver line → AnswersLine (report_rules rules) line answer → NeedsReport answer → BoundsLackRows rules line (answer_text n answer)
+  line_lacks answer here is needs = by_kind (kind_of line) refl
+    where
+      by_kind : (kind : LineKind) → kind_of line ≡ kind → BoundsLackRows rules line (answer_text n answer)
+      by_kind PassedOver over = absurd (here over)
+      by_kind TooLong long =
+          let told = subst (λ (kind : LineKind). AnswersKind (report_rules rules) kind (without_return line) answer) long is in
+          subst (λ (a : Answer). BoundsLackRows rules line (answer_text n a)) (sym told) (refused_lacks (codes "E12"))
+      by_kind Within within = entry_lacks answer within (subst (λ (kind : LineKind). AnswersKind (report_rules rules) kind (without_return line) answer) within is) needs
+
+-- ---- what was written
+
+module _ (split : Split) (rules : ProofRules) (truthful : ProvesTruly rules) (source : Change SourceState) (sink : Change SinkState) where
   none_answered : PassesAll source → IsUntouched sink → WritesAnswer split rules source sink
   none_answered (lines, all, over) same = record {
     lines = lines;
@@ -162,14 +247,15 @@ module _ (split : Split) (rules : Rules) (truthful : IsTruthful rules) (source :
   }
 
   first_answered : (output : Output) (first : FindsFirst source) → RepliesTo split rules (first_line source first) (without_return first.line) output → AnswersFirst split rules (first.passed ++ first.line ∷ []) output.text
-  first_answered output first (inl (within, (c, (id, b, ending, entry, allowed, claims, of), written))) =
+  first_answered output first (inl (within, (c, (id, b, given, entry, allowed, claims, rows, of), written))) =
       let over = recursion_from_All IsPassedOver first.passed first.before in
       by_certificate (1 + length first.passed) first.line id b c (one_asks 1 first.passed first.line over first.here) (within, entry)
       (subst (CertifiesTruly split (rules.task b) c) (sym (ap (λ (o : Output). o.text) written)) (certifies_truly split (rules.task b) c of))
-  first_answered output first (inr (answer, is, other, written)) =
+  first_answered output first (inr (answer, is, needs, written)) =
       let over = recursion_from_All IsPassedOver first.passed first.before in
       by_report (1 + length first.passed) first.line (one_asks 1 first.passed first.line over first.here)
-      (subst (TellsTheTruth rules (first.passed ++ first.line ∷ [])) (sym (ap (λ (o : Output). o.text) written)) (last_true rules truthful first.passed first.line answer first.few over is))
+      (subst (TellsTheTruth (report_rules rules) (first.passed ++ first.line ∷ [])) (sym (ap (λ (o : Output). o.text) written)) (last_true (report_rules rules) (reports_truthful rules truthful) first.passed first.line answer first.few over is))
+      (subst (BoundsLackRows rules first.line) (sym (ap (λ (o : Output). o.text) written)) (line_lacks rules first.line (length first.passed + 1) first.few answer first.here is needs))
 
   pub answer_true : (result : Result ℕ CertifyFault) → Replies split rules source sink result → IsTrueAnswer split rules source sink result
   answer_true (Ok status) (some, (readable, inl (all, same, told))) = none_answered all same
@@ -183,18 +269,6 @@ module _ (split : Split) (rules : Rules) (truthful : IsTruthful rules) (source :
   answer_true (Err fault) replies = tt
 
 -- ---- a certificate in, a verdict out
-
-abbrev text_in : Data → List ℕ
-text_in null = []
-text_in (boolean b) = []
-text_in (number n) = []
-text_in (string s) = s
-text_in (array ds) = []
-text_in (object ms) = []
-
-abbrev first_letter : Option Data → ℕ
-first_letter None = 0
-first_letter (Some d) = get_or (text_in d) 0 0
 
 -- what is said of a claim that is proved
 said_of : (c : Statement) (plan : Option (List Move)) → IfSome plan (λ p. Leads c.costs c.start p c.goal c.cost) → NothingBelow c.costs c.start c.goal c.cost → (IsSome plan → IsLeast c.costs c.start c.goal c.cost) → SaysOf c plan (claim_data plan c.cost)

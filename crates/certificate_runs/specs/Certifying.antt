@@ -1,5 +1,5 @@
 -- What is written for the first line of an input that isn't passed over: a certificate, or a report.
-use Rattle.std.specs.Prelude.{ℕ, ◌≡◌, ◌⊎◌, ◌+◌, ◌^◌, ◌<◌, ◌≤◌, List, [], ◌∷◌, ◌++◌, length, Option, None, Some, Result, Ok, Err, All, IfSome, string_bytes, ⊤}
+use Rattle.std.specs.Prelude.{ℕ, ◌≡◌, ◌⊎◌, ◌+◌, ◌^◌, ◌<◌, ◌≤◌, List, [], ◌∷◌, ◌++◌, length, Option, None, Some, Result, Ok, Err, All, IfSome, IsSome, string_bytes, ⊤}
 use Rattle.byte_streams.specs.Streams.{SourceState, SinkState, Change}
 use Rattle.byte_streams.specs.Sink.{WritesAll, FailsWriting}
 use Rattle.byte_streams.specs.declared.source.ReadFailed.{ReadFailed}
@@ -20,15 +20,14 @@ use Rattle.pattern_index.specs.Splits.{Split}
 use Rattle.outcomes.specs.declared.outcome.Ending.{Ending}
 use Rattle.outcomes.specs.declared.outcome.Ending.TheVariants.{Optimal, Unsolvable, Bounded}
 use Rattle.outcomes.specs.declared.outcome.Outcome.{Outcome}
-use Rattle.outcomes.specs.declared.outcome.Outcome.TheVariants as outcome
 use Rattle.outcomes.specs.Endings.{without_rows}
-use Rattle.outcomes.specs.Outcomes.{Task, Answers, AreRowsOf, IsAboveSums, StandsAlone}
-use Rattle.memory.specs.declared.OutOfMemory.{OutOfMemory}
-use Rattle.batch_runs.specs.Batches.{Rules, IsTruthful, Answer, AnswersKind, AreRead, AreAll, TakesSome, LosesLine, IsReadable, answer_text, with_answer, no_lines, status_of_counts}
+use Rattle.outcomes.specs.Outcomes.{Task, AreRowsOf, IsAboveSums, StandsAlone}
+use Rattle.batch_runs.specs.Batches.{Answer, AnswersKind, AreRead, AreAll, TakesSome, LosesLine, IsReadable, answer_text, with_answer, no_lines, status_of_counts}
 use Rattle.batch_runs.specs.Batches.Answer.{passed_over, refused, answered}
 use Rattle.batch_runs.specs.Setups.{SetupState, task_of}
 use Rattle.lower_bound.specs.Tables.{Tables}
 use Rattle.certificate_runs.specs.Outputs.{Output, IsUntouched}
+use Rattle.certificate_runs.specs.Rules.{ProofRules, ProvesTruly, rows_of, report_rules}
 use Rattle.certificate_runs.specs.Built.{AreBuiltFor}
 use Rattle.certificate_runs.specs.declared.certifying.Made.{Made}
 use Rattle.certificate_runs.specs.declared.certifying.Made.TheVariants.{Certificate, Plain}
@@ -37,16 +36,11 @@ use Rattle.certificate_runs.specs.declared.certifying.Reply.TheVariants.{Certifi
 use Rattle.certificate_runs.specs.declared.faults.CertifyFault.{CertifyFault}
 use Rattle.certificate_runs.specs.declared.faults.CertifyFault.TheVariants.{Read, Write, Memory, GroupsMemory, CertificateWrite}
 
--- who proves a board's plans gives an outcome that answers what is asked, and that it may be answered by but for rows, or tells a want of memory where that may be answered
-abbrev pub MayProve : Rules → Position → Result Outcome OutOfMemory → Type 0
-MayProve rules b (Ok given) = rules.allows b (Some (without_rows given)) × Answers (rules.task b) given
-MayProve rules b (Err lacking) = rules.allows b None
-
--- these rules are of a prover of the setup's boards, whose endings answer what is asked
-pub record AreRulesFor (setup : SetupState) (rules : Rules) : Type 0 where
+-- these rules are of a prover of the setup's boards, whose outcomes answer what is asked
+pub record AreRulesFor (setup : SetupState) (rules : ProofRules) : Type 0 where
   pub grid : rules.grid ≡ setup.goal.grid
   pub task : rules.task ≡ task_of setup
-  pub truthful : IsTruthful rules
+  pub truthful : ProvesTruly rules
 
 -- A certificate that answers this task with these groups. Its plan, if it claims one, leads from the start to the goal at its cost, and no plan costs less than it states. Its rows prove that with the sums of the groups' tables, whoever builds them.
 pub record IsCertificateOf (split : Split) (task : Task) (c : Statement) : Type 0 where
@@ -74,20 +68,18 @@ Claims c (Optimal cost plan) = (c.cost ≡ cost) × (c.plan ≡ Some plan.items)
 Claims c (Unsolvable why) = ⊥
 Claims c (Bounded bound best cause) = (c.cost ≡ bound) × (c.plan ≡ None)
 
--- a certificate of the board that these bytes name, which claims what that may be answered by
-abbrev pub IsCertificateFor : Split → Rules → List ℕ → Statement → Type 0
+-- a certificate of the board that these bytes name, which claims what an outcome says that it may be answered by, and has the rows of this outcome
+abbrev pub IsCertificateFor : Split → ProofRules → List ℕ → Statement → Type 0
 IsCertificateFor split rules bytes c =
-    (id : List ℕ) × (b : Position) × (ending : Ending) × IsEntry rules.grid bytes id b × rules.allows b (Some ending) × Claims c ending × IsCertificateOf split (rules.task b) c
+    (id : List ℕ) × (b : Position) × (given : Outcome) × IsEntry rules.grid bytes id b × rules.allows b (Some given) × Claims c (without_rows given) × (rows_of given ≡ Some c.rows) × IsCertificateOf split (rules.task b) c
 
--- what it says can be certified: a plan of least cost, or a bound
-abbrev pub IsCertifiable : Ending → Type 0
-IsCertifiable (Optimal cost plan) = ⊤
-IsCertifiable (Unsolvable why) = ⊥
-IsCertifiable (Bounded bound best cause) = ⊤
+-- what it says can be certified: it has rows, as a plan of least cost or a bound
+abbrev pub IsCertifiable : Outcome → Type 0
+IsCertifiable given = IsSome (rows_of given)
 
--- the bytes name a board for which such a thing may be answered
-abbrev pub NamesCertifiable : Rules → List ℕ → Type 0
-NamesCertifiable rules bytes = (id : List ℕ) × (b : Position) × (ending : Ending) × IsEntry rules.grid bytes id b × rules.allows b (Some ending) × IsCertifiable ending
+-- the bytes name a board that may be answered by such an outcome
+abbrev pub NamesCertifiable : ProofRules → List ℕ → Type 0
+NamesCertifiable rules bytes = (id : List ℕ) × (b : Position) × (given : Outcome) × IsEntry rules.grid bytes id b × rules.allows b (Some given) × IsCertifiable given
 
 -- an ending for which there is no certificate: there is no plan, or a bound stands alone, as memory was refused
 abbrev pub IsUncertified : Ending → Type 0
@@ -95,16 +87,10 @@ IsUncertified (Optimal cost plan) = ⊥
 IsUncertified (Unsolvable why) = ⊤
 IsUncertified (Bounded bound best cause) = StandsAlone best cause
 
--- the outcome names no plan, and a bound has no rows
-abbrev pub LacksRows : Outcome → Type 0
-LacksRows (outcome.Optimal cost plan rows) = ⊥
-LacksRows (outcome.Unsolvable why) = ⊤
-LacksRows (outcome.Bounded bound best cause rows) = rows ≡ None
-
 -- what becomes of an outcome: a certificate of what it says, or the ending that has none
 abbrev pub IsMadeOf : Split → Task → Outcome → Made → Type 0
-IsMadeOf split task given (Certificate c) = Claims c (without_rows given) × IsCertificateOf split task c
-IsMadeOf split task given (Plain ending) = (ending ≡ without_rows given) × LacksRows given × IsUncertified ending
+IsMadeOf split task given (Certificate c) = Claims c (without_rows given) × (rows_of given ≡ Some c.rows) × IsCertificateOf split task c
+IsMadeOf split task given (Plain ending) = (ending ≡ without_rows given) × (rows_of given ≡ None) × IsUncertified ending
 
 -- ---- what is written for a line
 
@@ -118,7 +104,7 @@ abbrev pub certificate_output : Statement → Output
 certificate_output c = record { text = spelling c; status = claim_status c.plan }
 
 -- the certificate of the board that these bytes name, with its status
-abbrev pub Certifies : Split → Rules → List ℕ → Output → Type 0
+abbrev pub Certifies : Split → ProofRules → List ℕ → Output → Type 0
 Certifies split rules bytes output = (c : Statement) × IsCertificateFor split rules bytes c × (output ≡ certificate_output c)
 
 -- an answer for which there is no certificate
@@ -131,21 +117,21 @@ NeedsReport (answered id ending) = IsUncertified ending
 abbrev pub report_of : ℕ → Answer → Output
 report_of n answer = record { text = answer_text n answer; status = status_of_counts (with_answer no_lines answer) }
 
--- the report of a line with these bytes, as in a batch, where there is no certificate
-abbrev pub ReportsLine : Rules → Line → List ℕ → Output → Type 0
-ReportsLine rules line bytes output = (answer : Answer) × AnswersKind rules line.kind bytes answer × NeedsReport answer × (output ≡ report_of line.number answer)
+-- the report of a line with these bytes, as in a batch, but of an outcome without rows, where there is no certificate
+abbrev pub ReportsLine : ProofRules → Line → List ℕ → Output → Type 0
+ReportsLine rules line bytes output = (answer : Answer) × AnswersKind (report_rules rules) line.kind bytes answer × NeedsReport answer × (output ≡ report_of line.number answer)
 
 -- the certificate or the report of a line with these bytes
-abbrev pub RepliesTo : Split → Rules → Line → List ℕ → Output → Type 0
+abbrev pub RepliesTo : Split → ProofRules → Line → List ℕ → Output → Type 0
 RepliesTo split rules line bytes output = ((line.kind ≡ Within) × Certifies split rules bytes output) ⊎ ReportsLine rules line bytes output
 
 -- the same of what is to be written
-abbrev pub IsReply : Split → Rules → Line → List ℕ → Reply → Type 0
+abbrev pub IsReply : Split → ProofRules → Line → List ℕ → Reply → Type 0
 IsReply split rules line bytes (Certified c) = (line.kind ≡ Within) × IsCertificateFor split rules bytes c
 IsReply split rules line bytes (Reported text status) = ReportsLine rules line bytes (record { text = string_bytes text; status = status })
 
 -- why there is none: memory was wanting for a report, or for the groups of a certificate
-abbrev pub HasNoReply : Rules → Line → List ℕ → CertifyFault → Type 0
+abbrev pub HasNoReply : ProofRules → Line → List ℕ → CertifyFault → Type 0
 HasNoReply rules line bytes Read = ⊥
 HasNoReply rules line bytes Write = ⊥
 HasNoReply rules line bytes (Memory lacking) = ⊤
@@ -210,21 +196,21 @@ SeeksFirst source kept result = TakesSome source × FindsLine source kept result
 -- ---- how the run ends
 
 -- this is written for the first line
-abbrev pub RepliesToFirst : Split → Rules → Change SourceState → Output → Type 0
+abbrev pub RepliesToFirst : Split → ProofRules → Change SourceState → Output → Type 0
 RepliesToFirst split rules source output = (first : FindsFirst source) × RepliesTo split rules (first_line source first) (without_return first.line) output
 
-abbrev pub ReportsFirst : Rules → Change SourceState → Output → Type 0
+abbrev pub ReportsFirst : ProofRules → Change SourceState → Output → Type 0
 ReportsFirst rules source output = (first : FindsFirst source) × ReportsLine rules (first_line source first) (without_return first.line) output
 
-abbrev pub CertifiesFirst : Split → Rules → Change SourceState → Output → Type 0
+abbrev pub CertifiesFirst : Split → ProofRules → Change SourceState → Output → Type 0
 CertifiesFirst split rules source output = (first : FindsFirst source) × (kind_of first.line ≡ Within) × Certifies split rules (without_return first.line) output
 
 -- there is no reply to the first line, by this fault
-abbrev pub LacksReply : Rules → Change SourceState → CertifyFault → Type 0
+abbrev pub LacksReply : ProofRules → Change SourceState → CertifyFault → Type 0
 LacksReply rules source fault = (first : FindsFirst source) × HasNoReply rules (first_line source first) (without_return first.line) fault
 
 -- How the run ends: all lines are passed over, and nothing is written; or the first other one is replied to. Else the line was lost, or memory was wanting, and nothing was written; or writing failed.
-abbrev pub EndsReplying : Split → Rules → Change SourceState → Change SinkState → Result ℕ CertifyFault → Type 0
+abbrev pub EndsReplying : Split → ProofRules → Change SourceState → Change SinkState → Result ℕ CertifyFault → Type 0
 EndsReplying split rules source sink (Ok status) =
     IsReadable source × ((PassesAll source × IsUntouched sink × (status ≡ 0)) ⊎ ((output : Output) × RepliesToFirst split rules source output × WritesAll sink output.text × (status ≡ output.status)))
 EndsReplying split rules source sink (Err Read) = LosesFirst source × IsUntouched sink
@@ -234,5 +220,5 @@ EndsReplying split rules source sink (Err (GroupsMemory wanting)) = IsReadable s
 EndsReplying split rules source sink (Err CertificateWrite) = IsReadable source × ((output : Output) × CertifiesFirst split rules source output × FailsWriting sink output.text)
 
 -- some bytes were taken, from the front, and the run ends so
-abbrev pub Replies : Split → Rules → Change SourceState → Change SinkState → Result ℕ CertifyFault → Type 0
+abbrev pub Replies : Split → ProofRules → Change SourceState → Change SinkState → Result ℕ CertifyFault → Type 0
 Replies split rules source sink result = TakesSome source × EndsReplying split rules source sink result

@@ -7,7 +7,11 @@ use Rattle.board.specs.declared.moves.Move.{Move}
 use Rattle.board.specs.Positions.{Position}
 use Rattle.board.specs.Plans.{Leads, NothingBelow, IsLeast}
 use Rattle.pattern_index.specs.Splits.{Split}
+use Rattle.memory.specs.declared.OutOfMemory.{OutOfMemory}
 use Rattle.outcomes.specs.Outcomes.{Task}
+use Rattle.outcomes.specs.declared.outcome.Cause.TheVariants.{Memory}
+use Rattle.outcomes.specs.declared.outcome.Want.TheVariants.{Refused}
+use Rattle.outcomes.specs.declared.outcome.Outcome.TheVariants.{Bounded}
 use Rattle.reports.specs.Readings.{Reads, SaysText, SaysNumber, HasStatus}
 use Rattle.certificate.specs.Certificates.{Statement, upgraded}
 use Rattle.certificate.specs.Spellings.{spelling}
@@ -16,11 +20,12 @@ use Rattle.certificate.specs.Faults.{format_code}
 use Rattle.certificate.specs.declared.faults.FormatFault.{FormatFault}
 use Rattle.certificate_check.specs.Refusals.{IsProved, IsFirstRefusal, refusal_code}
 use Rattle.certificate_check.specs.declared.refusals.Refusal.{Refusal}
-use Rattle.batch_runs.specs.Batches.{Rules, AreFirst}
-use Rattle.batch_runs.specs.Meanings.{questions, Names}
+use Rattle.batch_runs.specs.Batches.{AreFirst}
+use Rattle.batch_runs.specs.Meanings.{questions, Names, IsReply}
 use Rattle.batch_runs.specs.Headline.{TellsTheTruth}
 use Rattle.lower_bound.specs.Tables.{Tables}
 use Rattle.certificate_runs.specs.Built.{AreBuiltFor}
+use Rattle.certificate_runs.specs.Rules.{ProofRules, report_rules}
 use Rattle.certificate_runs.specs.declared.faults.CertifyFault.{CertifyFault}
 use Rattle.certificate_runs.specs.declared.faults.CheckFault.{CheckFault}
 use Rattle.certificate_runs.specs.declared.faults.UpgradeFault.{UpgradeFault}
@@ -42,14 +47,20 @@ pub record CertifiesTruly (split : Split) (task : Task) (c : Statement) (bytes :
   pub claim : ClaimsTruly task c.cost c.plan
   pub proved : (tables : Tables) → AreBuiltFor c tables → IsProved c tables
 
--- Where all of these lines are passed over, nothing is written. Else one alone is not, and the output is a certificate of the board that it names, with these groups, or a report that tells the truth of it.
-pub data AnswersFirst (split : Split) (rules : Rules) (lines : List (List ℕ)) (output : List ℕ) : Type 0 where
+-- where the output says a bound, the line names a board that may be answered by this bound without rows and without a plan, since memory was refused
+abbrev pub BoundsLackRows : ProofRules → List ℕ → List ℕ → Type 0
+BoundsLackRows rules line output =
+    (d : Data) → IsReply output 0 d → HasStatus d (codes "bounded")
+    → (id : List ℕ) × (b : Position) × (bound : ℕ) × (refused : OutOfMemory) × Names rules.grid line id b × SaysNumber d (codes "bound") bound × rules.allows b (Some (Bounded bound None (Memory (Refused refused)) None))
+
+-- Where all of these lines are passed over, nothing is written. Else one alone is not, and the output is a certificate of the board that it names, with these groups, or a report that tells the truth of it, and says no bound that has rows.
+pub data AnswersFirst (split : Split) (rules : ProofRules) (lines : List (List ℕ)) (output : List ℕ) : Type 0 where
   by_none : questions 1 lines ≡ [] → output ≡ [] → AnswersFirst split rules lines output
   by_certificate : (n : ℕ) (line id : List ℕ) (b : Position) (c : Statement) → questions 1 lines ≡ (n, line) ∷ [] → Names rules.grid line id b → CertifiesTruly split (rules.task b) c output → AnswersFirst split rules lines output
-  by_report : (n : ℕ) (line : List ℕ) → questions 1 lines ≡ (n, line) ∷ [] → TellsTheTruth rules lines output → AnswersFirst split rules lines output
+  by_report : (n : ℕ) (line : List ℕ) → questions 1 lines ≡ (n, line) ∷ [] → TellsTheTruth (report_rules rules) lines output → BoundsLackRows rules line output → AnswersFirst split rules lines output
 
 -- this was written for the first lines of the input
-pub record WritesAnswer (split : Split) (rules : Rules) (source : Change SourceState) (sink : Change SinkState) : Type 0 where
+pub record WritesAnswer (split : Split) (rules : ProofRules) (source : Change SourceState) (sink : Change SinkState) : Type 0 where
   pub lines : List (List ℕ)
   pub output : List ℕ
   pub first : AreFirst source.before.left lines
@@ -57,7 +68,7 @@ pub record WritesAnswer (split : Split) (rules : Rules) (source : Change SourceS
   pub answer : AnswersFirst split rules lines output
 
 -- a run that ends well wrote such an answer
-abbrev pub IsTrueAnswer : Split → Rules → Change SourceState → Change SinkState → Result ℕ CertifyFault → Type 0
+abbrev pub IsTrueAnswer : Split → ProofRules → Change SourceState → Change SinkState → Result ℕ CertifyFault → Type 0
 IsTrueAnswer split rules source sink result = IfOk result (λ status. WritesAnswer split rules source sink)
 
 -- ---- a certificate in, a verdict out

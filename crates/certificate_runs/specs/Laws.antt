@@ -1,24 +1,37 @@
 -- The laws of the definitions. Each is the contract of a function that does nothing.
-use Rattle.std.specs.Prelude.{ℕ, ◌≡◌, ◌≢◌, ◌⊎◌, ◌↔◌, List, [], Option, None, Some, IsSome, Result, Ok, Err, Vec}
+use Rattle.std.specs.Prelude.{ℕ, ◌≡◌, ◌≢◌, ◌⊎◌, ◌↔◌, List, [], Option, None, Some, IsSome, Result, Ok, Err, Vec, codes}
 use Rattle.std.specs.declared.alloc.Global.{Global}
 use Rattle.reports.specs.declared.report.NoReport.{NoReport}
 use Rattle.board.specs.declared.moves.Move.{Move}
 use Rattle.outcomes.specs.declared.outcome.Cause.{Cause}
+use Rattle.outcomes.specs.declared.outcome.Ending.{Ending}
 use Rattle.outcomes.specs.declared.outcome.Ending.TheVariants.{Optimal, Unsolvable, Bounded}
+use Rattle.outcomes.specs.declared.outcome.Outcome.{Outcome}
+use Rattle.outcomes.specs.declared.outcome.Outcome.TheVariants as outcome
 use Rattle.outcomes.specs.declared.outcome.Why.{Why}
+use Rattle.outcomes.specs.declared.outcome.Cause.TheVariants.{Memory}
+use Rattle.outcomes.specs.declared.outcome.Want.TheVariants.{Refused}
+use Rattle.outcomes.specs.Endings.{without_rows}
 use Rattle.outcomes.specs.Outcomes.{StandsAlone}
+use Rattle.memory.specs.declared.OutOfMemory.{OutOfMemory}
+use Rattle.serde_json.specs.Data.{Data}
+use Rattle.reports.specs.Readings.{SaysNumber, HasStatus}
+use Rattle.batch_lines.specs.Words.{IsEntry}
+use Rattle.batch_lines.specs.declared.lines.Line.{Line}
 use Rattle.byte_streams.specs.Streams.{SourceState, SinkState, Change}
-use Rattle.batch_runs.specs.Batches.{Rules}
+use Rattle.batch_runs.specs.Batches.{AnswersLine}
 use Rattle.batch_runs.specs.Batches.Answer.{answered}
-use Rattle.batch_runs.specs.Meanings.{questions}
+use Rattle.batch_runs.specs.Meanings.{questions, Names, IsReply}
 use Rattle.pattern_index.specs.Splits.{Split}
-use Rattle.certificate_runs.specs.Headline.{AnswersFirst}
+use Rattle.certificate_runs.specs.Headline.{AnswersFirst, BoundsLackRows}
+use Rattle.board.specs.Positions.{Position}
 use Rattle.certificate.specs.Certificates.{Statement}
 use Rattle.certificate.specs.declared.faults.FormatFault.{FormatFault}
 use Rattle.certificate.specs.declared.faults.ReadFault.{ReadFault}
 use Rattle.certificate.specs.declared.faults.ReadFault.TheVariants.{Format}
+use Rattle.certificate_runs.specs.Rules.{ProofRules, rows_of, report_rules}
 use Rattle.certificate_runs.specs.Outputs.{Output}
-use Rattle.certificate_runs.specs.Certifying.{Replies, Claims, NeedsReport, certificate_output}
+use Rattle.certificate_runs.specs.Certifying.{Replies, Claims, NeedsReport, HasNoReply, IsCertificateFor, certificate_output}
 use Rattle.certificate_runs.specs.Checking.{Checks, EndsCheck, IsVerdict}
 use Rattle.certificate_runs.specs.declared.faults.CertifyFault.{CertifyFault}
 use Rattle.certificate_runs.specs.declared.faults.CertifyFault.TheVariants as certify
@@ -26,7 +39,7 @@ use Rattle.certificate_runs.specs.declared.faults.CheckFault.{CheckFault}
 use Rattle.certificate_runs.specs.declared.faults.CheckFault.TheVariants as check
 
 -- a run that writes a certificate leaves the sink as it was, but after a fault of writing
-abbrev pub OtherFaultsLeaveTheSink : Rules → Type 0
+abbrev pub OtherFaultsLeaveTheSink : ProofRules → Type 0
 OtherFaultsLeaveTheSink rules =
     (split : Split) (source : Change SourceState) (sink : Change SinkState) (fault : CertifyFault) → fault ≢ certify.Write → fault ≢ certify.CertificateWrite → Replies split rules source sink (Err fault) → sink.after ≡ sink.before
 
@@ -35,7 +48,7 @@ abbrev pub OtherFaultsWriteNoVerdict : Type 0
 OtherFaultsWriteNoVerdict = (source : Change SourceState) (sink : Change SinkState) (fault : CheckFault) → fault ≢ check.Write → Checks source sink (Err fault) → sink.after ≡ sink.before
 
 -- where nothing is written for lines, none of them asks for an answer
-abbrev pub SilenceIsUnasked : Rules → Type 0
+abbrev pub SilenceIsUnasked : ProofRules → Type 0
 SilenceIsUnasked rules = (split : Split) (lines : List (List ℕ)) → AnswersFirst split rules lines [] → questions 1 lines ≡ []
 
 -- no answer that names a least plan is reported: its certificate is written
@@ -46,6 +59,21 @@ LeastPlansAreCertified = (id : List ℕ) (cost : ℕ) (plan : Vec Move Global) �
 abbrev pub BoundsAreCertified : Type 0
 BoundsAreCertified =
     (id : List ℕ) (bound : ℕ) (best : Option (ℕ × Vec Move Global)) (cause : Cause) → NeedsReport (answered id (Bounded bound best cause)) → StandsAlone best cause
+
+-- a bound is reported only where the line names a board that may be answered by this bound without rows
+abbrev pub ReportedBoundsLackRows : ProofRules → Type 0
+ReportedBoundsLackRows rules =
+    (line id : List ℕ) (bound : ℕ) (best : Option (ℕ × Vec Move Global)) (cause : Cause)
+    → AnswersLine (report_rules rules) line (answered id (Bounded bound best cause))
+    → (b : Position) × Names rules.grid line id b × rules.allows b (Some (outcome.Bounded bound best cause None))
+
+-- and where each outcome that a board may be answered by has rows, no ending is reported of it
+abbrev pub OutcomesWithRowsAreCertified : ProofRules → Type 0
+OutcomesWithRowsAreCertified rules =
+    (line id name : List ℕ) (b : Position) (ending : Ending)
+    → Names rules.grid line id b
+    → ((given : Outcome) → rules.allows b (Some given) → IsSome (rows_of given))
+    → ¬ AnswersLine (report_rules rules) line (answered name ending)
 
 -- a certificate that claims what an ending says claims its plan at its cost, or its bound and no plan; of no plan at all there is none
 abbrev pub ClaimsAreOfEndings : Type 0
@@ -69,3 +97,30 @@ VerdictsAreOnWhatWasRead = (read : Result Statement ReadFault) (output : Output)
 -- and memory is wanting for a verdict on these alone
 abbrev pub WantsAreForVerdicts : Type 0
 WantsAreForVerdicts = (read : Result Statement ReadFault) (sink : Change SinkState) (lacking : NoReport) → EndsCheck read sink (Err (check.Memory lacking)) → IsReadOrFaulty read
+
+-- a certificate for a line claims what an outcome says that the board may be answered by, and has this outcome's rows
+abbrev pub CertificatesAreOfOutcomes : ProofRules → Type 0
+CertificatesAreOfOutcomes rules =
+    (split : Split) (bytes : List ℕ) (c : Statement)
+    → IsCertificateFor split rules bytes c
+    → (id : List ℕ) × (b : Position) × (given : Outcome) × IsEntry rules.grid bytes id b × rules.allows b (Some given) × Claims c (without_rows given) × (rows_of given ≡ Some c.rows)
+
+-- V3 may be reported of a board only where memory may be wanting for it
+abbrev pub WantsAreOfRules : ProofRules → Type 0
+WantsAreOfRules rules = (b : Position) → (report_rules rules).allows b None → rules.allows b None
+
+-- memory is wanting for the groups of a certificate only where the line names a board that may be answered by an outcome with rows
+abbrev pub GroupsAreWantedForRows : ProofRules → Type 0
+GroupsAreWantedForRows rules =
+    (line : Line) (bytes : List ℕ) (wanting : OutOfMemory)
+    → HasNoReply rules line bytes (certify.GroupsMemory wanting)
+    → (id : List ℕ) × (b : Position) × (given : Outcome) × IsEntry rules.grid bytes id b × rules.allows b (Some given) × IsSome (rows_of given)
+
+-- where an output says a bound, its board may be answered by it without rows and without a plan, since memory was refused
+abbrev pub SaidBoundsLackRows : ProofRules → Type 0
+SaidBoundsLackRows rules =
+    (line output : List ℕ) (d : Data)
+    → BoundsLackRows rules line output
+    → IsReply output 0 d
+    → HasStatus d (codes "bounded")
+    → (id : List ℕ) × (b : Position) × (bound : ℕ) × (refused : OutOfMemory) × Names rules.grid line id b × SaysNumber d (codes "bound") bound × rules.allows b (Some (outcome.Bounded bound None (Memory (Refused refused)) None))

@@ -1,3 +1,4 @@
+pub mod Rules
 pub mod Outputs
 pub mod Built
 pub mod Faults

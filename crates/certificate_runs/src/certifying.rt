@@ -11,19 +11,20 @@ ghost use Rattle.batch_lines.specs.declared.lines.LineKind.TheVariants.{PassedOv
 ghost use Rattle.certificate.specs.Certificates.{IsBoardOf, cost_of, plan_of};
 ghost use Rattle.certificate.specs.Spellings.{spelling};
 ghost use Rattle.certificate_runs.specs.declared.faults.CertifyFault.{CertifyFault};
-ghost use Rattle.batch_runs.specs.Batches.{HasFailed, Rules, no_lines, with_outcome, status_of_counts};
+ghost use Rattle.batch_runs.specs.Batches.{HasFailed, no_lines, with_outcome, status_of_counts};
 ghost use Rattle.batch_runs.specs.Setups.{task_of};
+ghost use Rattle.certificate_runs.specs.Rules.{ProofRules, MayProve};
 ghost use Rattle.certificate_runs.specs.Certifying.{Replies, SeeksFirst, PutsReply};
 ghost use Rattle.certificate_runs.specs.Headline.{IsTrueAnswer};
 ghost use Rattle.certificate_runs.specs.Certifying.{AreRulesFor, IsCertificateOf, IsReply};
 ghost use Rattle.certificate_runs.specs.Certifying.{IsMadeOf, IsCertifiable, IsAnswerOf};
 ghost use Rattle.certificate_runs.specs.Certifying.{claim_status};
-ghost use Rattle.certificate_runs.specs.Certifying.{IsRefusal, HasNoReply, MayProve};
+ghost use Rattle.certificate_runs.specs.Certifying.{IsRefusal, HasNoReply};
 ghost use Rattle.certificate_runs.specs.Built.{HasSmallEntries, HasSmallFolds, HaveSmallEntries};
 
 use crate::faults::CertifyFault;
 use batch_lines::{EntryFault, Line, LineKind, LineReader, read_entry};
-use batch_runs::{Ruled, Setup, send_report};
+use batch_runs::{Setup, send_report};
 use board::laws::keys_are_in_order;
 use board::{Board, Move};
 use byte_streams::{ReadFailed, Sink, Source};
@@ -34,6 +35,12 @@ use memory::OutOfMemory;
 use outcomes::{Ending, Outcome, SolveFault};
 use reports::{outcome_report, refused_report};
 use std::alloc::Global;
+
+/// What says how boards are answered where rows are asked for.
+pub trait ProofRuled {
+    // The shape of the boards, what is asked of a board, and what it may be answered by.
+    ghost rules: { Self → ProofRules };
+}
 
 /// Answers the first line of the source that isn't passed over, and takes nothing behind it: where
 /// a plan of least cost is found, or a bound with its rows, its certificate is written, else the
@@ -51,7 +58,7 @@ use std::alloc::Global;
 pub fn certify_first<
     S: Source,
     K: Sink,
-    A: Ruled,
+    A: ProofRuled,
     F: Fn(&Board) -> Result<Outcome, OutOfMemory> + Drop,
 >(
     alloc: Global,
@@ -76,7 +83,7 @@ pub fn certify_first<
 }
 
 // The same, by what was replied.
-fn reply_to_first<S: Source, K: Sink, A: Ruled, F: Fn(&Board) -> Result<Outcome, OutOfMemory>>(
+fn reply_to_first<S: Source, K: Sink, A: ProofRuled, F: Fn(&Board) -> Result<Outcome, OutOfMemory>>(
     alloc: Global,
     source: &mut S,
     sink: &mut K,
@@ -132,7 +139,7 @@ fn find_line<S: Source>(source: &mut S, reader: &mut LineReader) -> Result<Optio
 }
 
 // The reply to a line that isn't passed over, whose bytes are given where it is to be read.
-fn reply_to_line<A: Ruled, F: Fn(&Board) -> Result<Outcome, OutOfMemory>>(
+fn reply_to_line<A: ProofRuled, F: Fn(&Board) -> Result<Outcome, OutOfMemory>>(
     alloc: Global,
     setup: &Setup,
     asked: &A,
@@ -156,7 +163,7 @@ fn reply_to_line<A: Ruled, F: Fn(&Board) -> Result<Outcome, OutOfMemory>>(
 }
 
 // The reply to a line that is to be read.
-fn reply_to_entry<A: Ruled, F: Fn(&Board) -> Result<Outcome, OutOfMemory>>(
+fn reply_to_entry<A: ProofRuled, F: Fn(&Board) -> Result<Outcome, OutOfMemory>>(
     alloc: Global,
     setup: &Setup,
     asked: &A,
@@ -195,7 +202,7 @@ fn reply_to_entry<A: Ruled, F: Fn(&Board) -> Result<Outcome, OutOfMemory>>(
 }
 
 // What is answered of a board.
-fn prove<A: Ruled, F: Fn(&Board) -> Result<Outcome, OutOfMemory>>(
+fn prove<A: ProofRuled, F: Fn(&Board) -> Result<Outcome, OutOfMemory>>(
     setup: &Setup,
     asked: &A,
     prover: &F,
@@ -205,9 +212,7 @@ fn prove<A: Ruled, F: Fn(&Board) -> Result<Outcome, OutOfMemory>>(
     requires callable { (start : _) → start.now.grid ≡ setup.now.goal.grid → F.pre prover.now start }
     requires gives { (start result : _) → start.now.grid ≡ setup.now.goal.grid
         → F.post prover.now start result → MayProve (A.rules asked.now) start.now result }
-    ensures allowed { IfOk result (λ outcome.
-        (A.rules asked.now).allows start.now (Some (without_rows outcome))) }
-    ensures answers { IfOk result (Answers ((A.rules asked.now).task start.now)) }
+    ensures allowed { IfOk result (λ outcome. (A.rules asked.now).allows start.now (Some outcome)) }
     ensures lacking { OnErr result ((A.rules asked.now).allows start.now None) }
 {
     // What is known of the setup and of the rules is for the clauses alone.
@@ -255,7 +260,7 @@ fn certify(
     requires start { IsBoardOf setup.now.goal.grid start }
     requires answers { Answers (task_of setup.now start) outcome }
     ensures made { IfOk result (IsMadeOf setup.now.tables.split (task_of setup.now start) outcome) }
-    ensures lacking { OnErr result (IsCertifiable (without_rows outcome)) }
+    ensures lacking { OnErr result (IsCertifiable outcome) }
 {
     match outcome {
         Outcome::Optimal { cost, plan, rows } => {
@@ -292,7 +297,8 @@ fn certify_claim(
     requires answers { IsAnswerOf (task_of setup.now start) (cost_of claim) (plan_of claim) rows.items }
     ensures certificate { IfOk result
         (IsCertificateOf setup.now.tables.split (task_of setup.now start)) }
-    ensures claims { IfOk result (λ c. (c.cost ≡ cost_of claim) × (c.plan ≡ plan_of claim)) }
+    ensures claims { IfOk result (λ c.
+        (c.cost ≡ cost_of claim) × (c.plan ≡ plan_of claim) × (c.rows ≡ rows.items)) }
 {
     // The order of the rows, which is by key, is that of their lists of tiles by this law.
     keys_are_in_order();

@@ -4,12 +4,15 @@ ghost use Rattle.certificate_runs.specs.Laws.{OtherFaultsLeaveTheSink, OtherFaul
 ghost use Rattle.certificate_runs.specs.Laws.{SilenceIsUnasked, LeastPlansAreCertified};
 ghost use Rattle.certificate_runs.specs.Laws.{BoundsAreCertified, ClaimsAreOfEndings};
 ghost use Rattle.certificate_runs.specs.Laws.{StatusesTellClaims};
+ghost use Rattle.certificate_runs.specs.Laws.{ReportedBoundsLackRows, OutcomesWithRowsAreCertified};
+ghost use Rattle.certificate_runs.specs.Laws.{CertificatesAreOfOutcomes, WantsAreOfRules};
+ghost use Rattle.certificate_runs.specs.Laws.{GroupsAreWantedForRows, SaidBoundsLackRows};
 ghost use Rattle.certificate_runs.specs.Laws.{VerdictsAreOnWhatWasRead, WantsAreForVerdicts};
 
-use batch_runs::Ruled;
+use crate::certifying::ProofRuled;
 
 /// A run that writes a certificate leaves the sink as it was, but after a fault of writing.
-pub fn other_faults_leave_the_sink<A: Ruled>(asked: &A)
+pub fn other_faults_leave_the_sink<A: ProofRuled>(asked: &A)
     ensures { OtherFaultsLeaveTheSink (A.rules asked.now) }
 {
     let _ = asked;
@@ -21,7 +24,7 @@ pub fn other_faults_write_no_verdict()
 {}
 
 /// Where nothing is written for lines, none of them asks for an answer.
-pub fn silence_is_unasked<A: Ruled>(asked: &A)
+pub fn silence_is_unasked<A: ProofRuled>(asked: &A)
     ensures { SilenceIsUnasked (A.rules asked.now) }
 {
     let _ = asked;
@@ -35,6 +38,26 @@ pub fn least_plans_are_certified()
     ensures claims { ClaimsAreOfEndings }
     ensures status { StatusesTellClaims }
 {}
+
+/// A bound is reported only of a board that may be answered by it without rows, and nothing of one
+/// that may be answered only by what has rows.
+pub fn outcomes_with_rows_are_certified<A: ProofRuled>(asked: &A)
+    ensures bounds { ReportedBoundsLackRows (A.rules asked.now) }
+    ensures outcomes { OutcomesWithRowsAreCertified (A.rules asked.now) }
+{
+    let _ = asked;
+}
+
+/// A certificate claims what an outcome says that its board may be answered by, and has its rows. V3
+/// is reported, memory is wanting for groups, and a bound is said only where the rules allow it.
+pub fn replies_are_of_rules<A: ProofRuled>(asked: &A)
+    ensures certificates { CertificatesAreOfOutcomes (A.rules asked.now) }
+    ensures wants { WantsAreOfRules (A.rules asked.now) }
+    ensures groups { GroupsAreWantedForRows (A.rules asked.now) }
+    ensures bounds { SaidBoundsLackRows (A.rules asked.now) }
+{
+    let _ = asked;
+}
 
 /// A verdict is given, or memory is wanting for one, only where a certificate was read or a fault
 /// of the bytes.

@@ -15,7 +15,8 @@ use Rattle.certificate_check.specs.declared.refusals.Refusal.{Refusal}
 use Rattle.hda_run.specs.Problems.{Problem}
 use Rattle.thread_runs.specs.Solved.{IsSolved}
 use Rattle.checked_runs.specs.Certificates.{certificate_in}
-use Rattle.checked_runs.specs.Checked.{IsProvedWith}
+use Rattle.checked_runs.specs.Checked.{IsProvedWith, IsCheckedRun, IsRefusedRun}
+use Rattle.checked_runs.specs.Laws.{CheckedRunsAreRuns}
 use Rattle.checked_runs.specs.declared.faults.CheckedFault.{CheckedFault}
 use Rattle.checked_runs.specs.declared.faults.CheckedFault.TheVariants.{WorkerCount, Memory, Refused}
 
@@ -76,3 +77,15 @@ fault_alike D E o d e P iff = ((λ is. absurd (no_fault E o e is)), (λ p. absur
 -- and another outcome alike
 pub outcome_alike : (D E : Type 0) (o o' : Outcome) (P : Type 0) → ((answer D o ≡ answer D o') ↔ P) → (answer E o ≡ answer E o') ↔ P
 outcome_alike D E o o' P iff = ((λ is. iff.0 (ap (answer D) (one_outcome E o o' is))), (λ p. ap (answer E) (one_outcome D o o' (iff.1 p))))
+
+module _ {S : Type 0} (hash_of : S → Position → ℕ) where
+  behind_checked : (p : Problem) (owners : S) (n : ℕ) (outcome : Outcome) → IsCheckedRun hash_of p owners n outcome → (given : Outcome) × IsSolved hash_of p owners n given
+  behind_checked p owners n outcome (inl solved) = (outcome, solved)
+  behind_checked p owners n outcome (inr (cost, plan, rows, refused, solved, is)) = (Optimal cost plan rows, solved)
+
+  behind_refused : (p : Problem) (owners : S) (n : ℕ) (tables : Tables) (refusal : Refusal) → IsRefusedRun hash_of p owners n tables refusal → (given : Outcome) × IsSolved hash_of p owners n given
+  behind_refused p owners n tables refusal (cost, plan, rows, solved, first) = (Optimal cost plan rows, solved)
+
+  -- what a checked run answers, or refuses, stands on a run
+  pub run_behind : CheckedRunsAreRuns hash_of
+  run_behind p owners n outcome tables refusal = (behind_checked p owners n outcome, behind_refused p owners n tables refusal)

@@ -4,13 +4,19 @@ use Rattle.std.specs.declared.alloc.Global.{Global}
 use Rattle.board.specs.declared.moves.Move.{Move}
 use Rattle.board.specs.Positions.{Position}
 use Rattle.outcomes.specs.declared.outcome.Cause.{Cause}
-use Rattle.outcomes.specs.declared.outcome.Outcome.TheVariants.{Bounded}
+use Rattle.outcomes.specs.declared.outcome.Outcome.TheVariants.{Optimal, Bounded}
 use Rattle.outcomes.specs.Outcomes.{Answers}
 use Rattle.lower_bound.specs.Tables.{Tables, IsTables, ArePotentials, AreWhole}
 use Rattle.lower_bound.specs.Lists.{IsFoldedBound}
 use Rattle.world_model.specs.Shapes.{IsTask}
-use Rattle.certificate_check.specs.Refusals.{IsProved}
+use Rattle.board.specs.Plans.{Leads}
+use Rattle.board.specs.Rows.{Proves}
+use Rattle.certificate_check.specs.Refusals.{IsProved, sum_in}
 use Rattle.hda_run.specs.Problems.{Problem, task_in}
+use Rattle.certificate_check.specs.declared.refusals.Refusal.{Refusal}
+use Rattle.thread_runs.specs.Solved.{IsSolved}
+use Rattle.outcomes.specs.declared.outcome.Outcome.{Outcome}
+use Rattle.checked_runs.specs.Checked.{IsProvedWith, IsCheckedRun, IsRefusedRun}
 use Rattle.checked_runs.specs.Certificates.{AreAsGood, bound_certificate_in}
 
 -- whole tables are as good as themselves, where they are potentials
@@ -36,3 +42,18 @@ BoundsAreAccepted =
     → AreAsGood p tables
     → Answers (task_in p) (Bounded bound best cause (Some rows))
     → IsProved (bound_certificate_in p bound rows.items) tables
+
+-- a plan that is called least, and is proved with these tables, leads from the problem's start to its goal at its cost, which its rows prove with their sums
+abbrev pub ProvedPlansAreLeast : Type 0
+ProvedPlansAreLeast =
+    (p : Problem) (tables : Tables) (cost : ℕ) (plan : Vec Move Global) (rows : Vec (Position × ℕ) Global)
+    → IsProvedWith p tables (Optimal cost plan rows)
+    → Leads p.rule p.start plan.items p.goal cost × Proves p.rule rows.items (sum_in tables) p.start p.goal cost
+
+module _ {S : Type 0} (hash_of : S → Position → ℕ) where
+  -- behind the outcome of a checked run, and behind a certificate that is refused, stands what n workers answer, or one alone
+  abbrev pub CheckedRunsAreRuns : Type 0
+  CheckedRunsAreRuns =
+      (p : Problem) (owners : S) (n : ℕ) (outcome : Outcome) (tables : Tables) (refusal : Refusal)
+      → (IsCheckedRun hash_of p owners n outcome → (given : Outcome) × IsSolved hash_of p owners n given)
+      × (IsRefusedRun hash_of p owners n tables refusal → (given : Outcome) × IsSolved hash_of p owners n given)

@@ -1,7 +1,10 @@
 //! The laws of the definitions: each is the contract of a function that does nothing.
 
 ghost use Rattle.checked_runs.specs.Laws.{OwnTablesAreAsGood, TablesFoldedFromAreAsGood};
-ghost use Rattle.checked_runs.specs.Laws.{BoundsAreAccepted};
+ghost use Rattle.checked_runs.specs.Laws.{BoundsAreAccepted, ProvedPlansAreLeast};
+ghost use Rattle.checked_runs.specs.Laws.{CheckedRunsAreRuns};
+
+use owners::Spread;
 
 /// The tables of a problem are as good as themselves, where they are whole and potentials: no
 /// certificate is refused with them.
@@ -18,4 +21,16 @@ pub fn tables_folded_from_are_as_good()
 /// The checker accepts the rows of each bound that answers a problem, with tables as good.
 pub fn bounds_are_accepted()
     ensures { BoundsAreAccepted }
+{}
+
+/// A plan that is called least, and is proved with tables, leads to the goal at its cost, which its
+/// rows prove with the sums of these tables.
+pub fn proved_plans_are_least()
+    ensures { ProvedPlansAreLeast }
+{}
+
+/// Behind the outcome of a checked run, and behind a certificate that is refused, stands what so many
+/// workers answer, or one alone.
+pub fn checked_runs_are_runs<S: Spread>()
+    ensures { CheckedRunsAreRuns S.hash_of }
 {}

@@ -1,5 +1,5 @@
 -- The bounds that a board may be answered.
-use Rattle.std.proofs.Common.{rules, arith, ℕ, ◌≡◌, ◌≤◌, ◌+◌, ◌*◌, ◌++◌, refl, inl, inr}
+use Rattle.std.proofs.Common.{arith, ℕ, ◌≡◌, ◌≤◌, ◌+◌, ◌*◌, ◌++◌, refl, inl, inr}
 use Rattle.outcomes.specs.declared.outcome.Cause.TheVariants.{Limit}
 use Rattle.hda_run.specs.Worlds.{job_of}
 use Rattle.world_model.specs.Credit.{expansion_count}

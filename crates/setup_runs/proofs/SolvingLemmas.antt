@@ -1,5 +1,5 @@
 -- What the setup's workers answer is what its rules allow.
-use Rattle.std.proofs.Common.{ℕ, ◌≡◌, ◌+◌, ◌%◌, ◌==◌, ◌⊎◌, ◌↔◌, Bool, true, false, Some, Result, Ok, Err, IfOk, refl, ap, sym, ◌∙◌, subst, inl, inr}
+use Rattle.std.proofs.Common.{ℕ, ◌≡◌, ◌≢◌, Option, ◌+◌, ◌%◌, ◌==◌, ◌⊎◌, ◌↔◌, Bool, true, false, Result, Ok, Err, IfOk, refl, ap, sym, ◌∙◌, subst, inl, inr}
 use Rattle.std.specs.Bool.{Decides}
 use Rattle.std.proofs.Math.Nat.{mod-one}
 use Rattle.std.proofs.lemmas.Bool.Decides.{Decides-eqb, not_from_Decides}
@@ -7,10 +7,17 @@ use Rattle.board.specs.Positions.{Position, blank_of}
 use Rattle.board.specs.Classes.{SameClass, inversions, taxicab}
 use Rattle.memory.specs.declared.OutOfMemory.{OutOfMemory}
 use Rattle.outcomes.specs.declared.outcome.Ending.{Ending}
-use Rattle.outcomes.specs.declared.outcome.Ending.TheVariants.{Unsolvable}
+use Rattle.outcomes.specs.declared.outcome.Ending.TheVariants.{Unsolvable, Bounded}
+use Rattle.outcomes.specs.declared.outcome.Cause.{Cause}
+use Rattle.outcomes.specs.declared.outcome.Cause.TheVariants.{Cut, Start, Memory}
+use Rattle.outcomes.specs.declared.outcome.Want.{Want}
+use Rattle.outcomes.specs.declared.outcome.Want.TheVariants.{Stated}
+use Rattle.std.specs.Prelude.{Vec}
+use Rattle.std.specs.declared.alloc.Global.{Global}
+use Rattle.board.specs.declared.moves.Move.{Move}
 use Rattle.outcomes.specs.declared.outcome.Why.TheVariants.{Parity}
 use Rattle.outcomes.specs.Endings.{EndAnswers}
-use Rattle.hda_run.specs.Alone.{IsRunAlone}
+use Rattle.hda_run.specs.Alone.{IsRunAlone, EndsByOne}
 use Rattle.hda_run.specs.Problems.{task_in}
 use Rattle.world_model.specs.Openings.{Job}
 use Rattle.world_model.specs.Quiet.{IsKept}
@@ -77,6 +84,10 @@ module _ (setup : SetupState) (start : Position) where
   spread_any hash_of owners other_of others ending same (inl (several, by)) = inl (several, subst (JoinedOwned ending) (λ t b. same b t) by)
   spread_any hash_of owners other_of others ending same (inr run) = inr (subst (AloneOwned ending) (lone_owner (hash_of owners) (other_of others)) run)
 
+  -- what one worker ends, the setup's workers may have ended
+  pub ends_alone : {S : Type 0} (hash_of : S → Position → ℕ) (owners : S) (ending : Ending) → EndsByOne hash_of (problem_of setup start) owners ending → Ends hash_by setup.spread ending
+  ends_alone hash_of owners ending run = inr (subst (AloneOwned ending) (lone_owner (hash_of owners) (hash_by setup.spread)) run)
+
   pub may_give : {S : Type 0} (hash_of : S → Position → ℕ) (owners : S) → ((b : Position) → hash_of owners b % setup.workers ≡ hash_by setup.spread b % setup.workers) → (result : Result Ending OutOfMemory) → (result ≡ Ok (Unsolvable Parity)) ↔ (¬ SameClass start setup.goal) → (SameClass start setup.goal → IfOk result (Ends hash_of owners)) → IfOk result (EndAnswers (task_of setup start)) → IfOk result EndsWholeRun → MayGive (rules_of setup) start result
   may_give hash_of owners same (Err refused) parity run answers kept = of_class (one_class start setup.goal)
     where
@@ -88,6 +99,16 @@ module _ (setup : SetupState) (start : Position) where
       of_class : SameClass start setup.goal ⊎ (¬ SameClass start setup.goal) → (SameClass start setup.goal × (Ends hash_by setup.spread ending × EndsWholeRun ending)) ⊎ ((¬ SameClass start setup.goal) × (ending ≡ Unsolvable Parity))
       of_class (inl together) = inl (together, (spread_any hash_of owners hash_by setup.spread ending same (run together), kept))
       of_class (inr other) = inr (other, ap (value_or ending) (parity.1 other))
+
+-- a bound that no want of memory gave is of a whole run, where it was not cut
+pub never_cut :
+    (ending : Ending)
+    → ((bound : ℕ) (best : Option (ℕ × Vec Move Global)) (cause : Cause) → ending ≡ Bounded bound best cause → (cause ≢ Cut) × (cause ≢ Start))
+    → ((bound : ℕ) (best : Option (ℕ × Vec Move Global)) (want : Want) → ending ≢ Bounded bound best (Memory want))
+    → EndsWholeRun ending
+never_cut ending kept never bound best cause is =
+    let uncut = kept bound best cause is in
+    (uncut.0, uncut.1, λ stated. never bound best Stated (is ∙ ap (Bounded bound best) stated))
 
 -- what a setup allows is true
 pub setup_truthful : (setup : SetupState) → IsTruthful (rules_of setup)

@@ -8,7 +8,10 @@ use Rattle.outcomes.specs.declared.outcome.Ending.{Ending}
 use Rattle.outcomes.specs.declared.outcome.Cause.{Cause}
 use Rattle.outcomes.specs.declared.outcome.Cause.TheVariants.{Limit, Start, Cut, Memory}
 use Rattle.outcomes.specs.declared.outcome.Want.TheVariants.{Stated}
-use Rattle.outcomes.specs.declared.outcome.Ending.TheVariants.{Optimal, Unsolvable, Bounded}
+use Rattle.outcomes.specs.declared.outcome.Ending.TheVariants.{Unsolvable, Bounded}
+use Rattle.outcomes.specs.declared.outcome.Outcome.{Outcome}
+use Rattle.outcomes.specs.declared.outcome.Outcome.TheVariants as outcome
+use Rattle.outcomes.specs.Endings.{without_rows}
 use Rattle.outcomes.specs.Outcomes.{StandsAlone}
 use Rattle.outcomes.specs.declared.outcome.Why.TheVariants.{Parity}
 use Rattle.world_ends.specs.Endings.{EndsIn}
@@ -63,14 +66,14 @@ abbrev pub ParityIsCertified : Type 0
 ParityIsCertified =
     (setup : SetupState) (b : Position)
     → ¬ SameClass b setup.goal
-    → (¬ MayCertify setup b None) × ((ending : Ending) → MayCertify setup b (Some ending) → ending ≡ Unsolvable Parity)
+    → (¬ MayCertify setup b None) × ((given : Outcome) → MayCertify setup b (Some given) → given ≡ outcome.Unsolvable Parity)
 
 -- a bound that stands alone, as memory was refused
-abbrev pub IsAloneBound : Ending → Type 0
-IsAloneBound (Optimal cost plan) = ⊥
-IsAloneBound (Unsolvable why) = ⊥
-IsAloneBound (Bounded bound best cause) = StandsAlone best cause
+abbrev pub IsAloneBound : Outcome → Type 0
+IsAloneBound (outcome.Optimal cost plan rows) = ⊥
+IsAloneBound (outcome.Unsolvable why) = ⊥
+IsAloneBound (outcome.Bounded bound best cause rows) = (rows ≡ None) × StandsAlone best cause
 
--- what may be certified may be answered without rows too, but for such a bound
+-- what may be certified may be answered, but for its rows, by a batch too, if it is no such bound
 abbrev pub CertifiedEndsAreAnswered : Type 0
-CertifiedEndsAreAnswered = (setup : SetupState) (b : Position) (ending : Ending) → MayCertify setup b (Some ending) → MayAnswer setup b (Some ending) ⊎ IsAloneBound ending
+CertifiedEndsAreAnswered = (setup : SetupState) (b : Position) (given : Outcome) → MayCertify setup b (Some given) → MayAnswer setup b (Some (without_rows given)) ⊎ IsAloneBound given

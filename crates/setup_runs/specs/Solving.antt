@@ -6,11 +6,14 @@ use Rattle.outcomes.specs.declared.outcome.Ending.{Ending}
 use Rattle.outcomes.specs.declared.outcome.Ending.TheVariants.{Unsolvable}
 use Rattle.outcomes.specs.declared.outcome.Why.TheVariants.{Parity}
 use Rattle.outcomes.specs.declared.outcome.Outcome.{Outcome}
-use Rattle.outcomes.specs.Endings.{EndAnswers, without_rows}
+use Rattle.outcomes.specs.declared.outcome.Outcome.TheVariants as outcome
+use Rattle.outcomes.specs.Outcomes.{Answers}
+use Rattle.outcomes.specs.Endings.{EndAnswers}
 use Rattle.hda_run.specs.Problems.{Problem, problem}
 use Rattle.thread_runs.specs.Solved.{IsSolved, IsEnded, HasWholeRun, EndsWholeRun}
 use Rattle.batch_runs.specs.Setups.{SetupState, hash_by, task_of}
 use Rattle.batch_runs.specs.Batches.{Rules}
+use Rattle.certificate_runs.specs.Rules.{ProofRules}
 
 -- what is to be solved for a board: the setup says the rest
 abbrev pub problem_of : SetupState → Position → Problem
@@ -27,22 +30,21 @@ MayAnswer setup start (Some ending) =
     EndAnswers (task_of setup start) ending
     × ((SameClass start setup.goal × IsOfRun setup start ending) ⊎ ((¬ SameClass start setup.goal) × (ending ≡ Unsolvable Parity)))
 
--- the ending is what an outcome of such a run says, but for its rows
-abbrev pub IsOfProvedRun : SetupState → Position → Ending → Type 0
-IsOfProvedRun setup start ending =
-    (given : Outcome) × (without_rows given ≡ ending) × IsSolved hash_by (problem_of setup start) setup.spread setup.workers given × HasWholeRun given
+-- the outcome is that of such a run
+abbrev pub IsOfProvedRun : SetupState → Position → Outcome → Type 0
+IsOfProvedRun setup start given = IsSolved hash_by (problem_of setup start) setup.spread setup.workers given × HasWholeRun given
 
--- How a board is answered where the rows are asked for too: the same, by a run that gives an outcome.
-abbrev pub MayCertify : SetupState → Position → Option Ending → Type 0
+-- How a board is answered where the rows are asked for too: the same, by an outcome.
+abbrev pub MayCertify : SetupState → Position → Option Outcome → Type 0
 MayCertify setup start None = SameClass start setup.goal
-MayCertify setup start (Some ending) =
-    EndAnswers (task_of setup start) ending
-    × ((SameClass start setup.goal × IsOfProvedRun setup start ending) ⊎ ((¬ SameClass start setup.goal) × (ending ≡ Unsolvable Parity)))
+MayCertify setup start (Some given) =
+    Answers (task_of setup start) given
+    × ((SameClass start setup.goal × IsOfProvedRun setup start given) ⊎ ((¬ SameClass start setup.goal) × (given ≡ outcome.Unsolvable Parity)))
 
 -- the boards of the setup's shape, what is asked of them, and how they may be answered
 abbrev pub rules_of : SetupState → Rules
 rules_of setup = record { grid = setup.goal.grid; task = task_of setup; allows = MayAnswer setup }
 
 -- and how where the rows are asked for
-abbrev pub certifying_rules_of : SetupState → Rules
+abbrev pub certifying_rules_of : SetupState → ProofRules
 certifying_rules_of setup = record { grid = setup.goal.grid; task = task_of setup; allows = MayCertify setup }

@@ -2,10 +2,11 @@
 
 ghost use Rattle.std.specs.Prelude.{◌≡◌, ◌⊎◌};
 ghost use Rattle.byte_streams.specs.Streams.{change};
-ghost use Rattle.batch_runs.specs.Batches.{ReportsLines, HasFailed, MayGive};
+ghost use Rattle.batch_runs.specs.Batches.{ReportsLines, HasFailed, MayGive, AreAllowed};
 ghost use Rattle.batch_runs.specs.Headline.{IsTrueRun};
 ghost use Rattle.setup_runs.specs.Solving.{rules_of};
 
+use crate::ahead::end_ahead;
 use crate::solving::{Guided, end_board};
 use batch_runs::{LinesFault, Setup, Summary, run_lines};
 use board::Board;
@@ -22,6 +23,10 @@ use std::thread::Threads;
 /// answered without a search; any other one by A* with the setup's tables, within the setup's limit:
 /// by one worker in the calling thread, or by more in threads of their own, which all end before the
 /// next line is read. The gate is passed after each of their steps.
+///
+/// Where a setup has several workers and its boards at most nine cells, the boards of lines that the
+/// source holds already are solved side by side, each by one worker. Their lines are taken, and their
+/// reports written, one after the other as ever.
 ///
 /// The sink is flushed after each report, so that whoever waits for one has it; nothing is flushed
 /// for a line that is passed over.
@@ -51,5 +56,10 @@ pub fn run_batch<R: Threads + Wait + Sync, S: Source, K: Sink, G: Gate + Sync>(
         requires { start.now.grid ≡ setup.now.goal.grid }
         ensures { MayGive (rules_of setup.entry.now) start.now result }
     { end_board(rt, alloc, setup, start, gate) };
-    run_lines(alloc, source, sink, setup.shape(), &guided, solve)
+    let ahead = |start: &Board, held: &[u8]| -> Vec<(Board, Ending)>
+        requires { start.now.grid ≡ setup.now.goal.grid }
+        ensures { AreAllowed (rules_of setup.entry.now) result.items }
+    { end_ahead(rt, alloc, setup, start, held, gate) };
+    let shape = setup.shape();
+    run_lines(alloc, source, sink, shape, &guided, solve, ahead)
 }

@@ -5,19 +5,19 @@ ghost use Rattle.board.specs.Positions.{Position};
 ghost use Rattle.byte_streams.specs.Streams.{change};
 ghost use Rattle.batch_runs.specs.Batches.{HasFailed};
 ghost use Rattle.batch_runs.specs.Setups.{hash_by};
-ghost use Rattle.certificate_runs.specs.Certifying.{Replies, MayProve};
+ghost use Rattle.certificate_runs.specs.Rules.{MayProve};
+ghost use Rattle.certificate_runs.specs.Certifying.{Replies};
 ghost use Rattle.certificate_runs.specs.Headline.{IsTrueAnswer};
 ghost use Rattle.setup_runs.specs.Solving.{certifying_rules_of};
 
 use crate::solving::job_for;
-use batch_runs::{Ruled, Setup, SpreadKind};
+use batch_runs::{Setup, SpreadKind};
 use board::Board;
 use byte_streams::{Sink, Source};
-use certificate_runs::{CertifyFault, certify_first};
+use certificate_runs::{CertifyFault, ProofRuled, certify_first};
 use hda_run::Gate;
 use memory::OutOfMemory;
 use outcomes::Outcome;
-use outcomes::laws::rows_can_be_left;
 use owners::{ByBlank, Spread, Zobrist};
 use std::alloc::Global;
 use std::sync::Wait;
@@ -30,7 +30,7 @@ struct Proving<'a> {
     setup: &'a Setup,
 }
 
-impl<'a> Ruled for Proving<'a> {
+impl<'a> ProofRuled for Proving<'a> {
     ghost use Rattle.setup_runs.specs.Solving.{certifying_rules_of};
 
     ghost rules = { λ proving. certifying_rules_of proving.setup.now };
@@ -74,8 +74,6 @@ fn prove_spread<R: Threads + Wait + Sync, S: Spread + Drop + Sync, G: Gate + Syn
         → S.hash_of spread b % setup.now.workers ≡ hash_by setup.now.spread b % setup.now.workers }
     ensures { MayProve (certifying_rules_of setup.now) start.now result }
 {
-    // By this law what answers a task does so without rows too.
-    rows_can_be_left();
     let workers = setup.worker_count();
     solve_by_workers(rt, alloc, job_for(setup, start), workers, spread, gate)
 }

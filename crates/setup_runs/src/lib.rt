@@ -2,6 +2,7 @@
 //! proves.
 #![tactic(auto)]
 
+mod ahead;
 mod batches;
 mod certifying;
 pub mod laws;

@@ -5,10 +5,10 @@
 #![tactic(auto)]
 
 use batch_cli::{Ending, Gate, Kind, run_with_progress};
-use byte_streams::{ByteSink, ByteSource};
+use byte_streams::{BufferedSource, ByteSink};
 use std::alloc::Global;
 use std::env;
-use std::io::{BufReader, BufWriter, ErrorKind};
+use std::io::{BufWriter, ErrorKind};
 use std::process::ExitCode;
 use std::rt::Env;
 use std::sync::atomic::{AtomicU64, Ordering};
@@ -64,13 +64,13 @@ fn main(rt: HostRuntime) -> ExitCode {
         Ok(words) => words,
         Err(ending) => return ExitCode::from(ending.tell(&mut errors)),
     };
-    let (Ok(reader), Ok(writer)) = (
-        BufReader::new(alloc, rt.stdin()),
+    let (Ok(source), Ok(writer)) = (
+        BufferedSource::new(alloc, rt.stdin()),
         BufWriter::new(alloc, rt.stdout()),
     ) else {
         return ExitCode::from(Ending::NoMemory.tell(&mut errors));
     };
-    let mut source = ByteSource::new(reader);
+    let mut source = source;
     let mut sink = ByteSink::new(writer);
     let progress = Progress {
         rt: &rt,

@@ -14,6 +14,7 @@ lines-init g c =
       taken = counted_at_once source.left 0;
       unfailed = refl;
       flushed = inr refl;
+      ready = search rules;
     })
 
 pub returns-in_default-send_report-clause-reports : goal.returns-in_default-send_report-clause-reports
@@ -22,7 +23,7 @@ returns-in_default-send_report-clause-reports g c =
     let source = g.S.Source.state in
     let sink = g.K.Sink.state in
     let read = rw c.in-Some.is at c.in-Ok.ensures in
-    let report = rw c.bytes.ensures at c.in-Ok-report_line.ensures in
+    let report = rw c.bytes.ensures at c.in-Ok-report_line.ensures.report in
     let text : c.as_str.result.now ≡ answer_text c.in-Some.line.number report.0 = c.as_str.ensures.value ∙ report.2 in
     let next : IsNext allowed (from_to (source c.lines.source) (source c.next_line.new.source)) c.lines.reader.lines c.in-Some.line.number report.0 =
     record { line = read.0; kind = c.in-Some.line.kind; kept = c.next_line.new.self.kept; taken = read.1; judged = read.2; number = read.3; small = search rules; is = report.1 } in
@@ -35,7 +36,7 @@ lines-preserved g c =
     let source = g.S.Source.state in
     let sink = g.K.Sink.state in
     let read = rw c.in-Some.is at c.in-Ok.ensures in
-    let report = rw c.bytes.ensures at c.in-Ok-report_line.ensures in
+    let report = rw c.bytes.ensures at c.in-Ok-report_line.ensures.report in
     let text : c.as_str.result.now ≡ answer_text c.in-Some.line.number report.0 = c.as_str.ensures.value ∙ report.2 in
     let next : IsNext allowed (from_to (source c.lines.source) (source c.next_line.new.source)) c.lines.reader.lines c.in-Some.line.number report.0 =
     record { line = read.0; kind = c.in-Some.line.kind; kept = c.next_line.new.self.kept; taken = read.1; judged = read.2; number = read.3; small = search rules; is = report.1 } in
@@ -46,6 +47,7 @@ lines-preserved g c =
       taken = CountsKnown-more (source c.args.source.now).left (source c.lines.source).left (source c.next_line.new.source).left 0 c.lines.reader.taken c.next_line.new.self.taken c.lines.invariant.taken read.6;
       unfailed = sent.1.1 ∙ sym sent.1.0 ∙ c.lines.invariant.unfailed;
       flushed = inl c.in-Ok-send_report.ensures.last;
+      ready = c.in-Ok-report_line.ensures.ready;
     }
 
 pub lines-preserved-in-PassedOver : goal.lines-preserved-in-PassedOver
@@ -59,4 +61,5 @@ lines-preserved-in-PassedOver g c =
       taken = CountsKnown-more (source c.args.source.now).left (source c.lines.source).left (source c.next_line.new.source).left 0 c.lines.reader.taken c.next_line.new.self.taken c.lines.invariant.taken read.6;
       unfailed = c.lines.invariant.unfailed;
       flushed = c.lines.invariant.flushed;
+      ready = c.lines.invariant.ready;
     }

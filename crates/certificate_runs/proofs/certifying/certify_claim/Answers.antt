@@ -42,5 +42,5 @@ returns c =
     let same : c.unwrap.result ≡ stated setup c.args.start (cost_of c.args.claim) (plan_of c.args.claim) c.args.rows.items = made ∙ (λ i. record { version = Two; grid = shape_is i; costs = costs_is i; groups = groups_is i; start = c.args.start; goal = goal_is i; cost = cost_of c.args.claim; plan = plan_of c.args.claim; rows = c.args.rows.items }) in
     record {
       certificate = certificate_of setup c.args.start (cost_of c.args.claim) (plan_of c.args.claim) c.args.rows.items c.unwrap.result home there guides small c.requires.start c.requires.answers same (subst IsCertificate (sym same) is);
-      claims = (ap (λ (d : Statement). d.cost) same, ap (λ (d : Statement). d.plan) same);
+      claims = (ap (λ (d : Statement). d.cost) same, ap (λ (d : Statement). d.plan) same, ap (λ (d : Statement). d.rows) same);
     }

@@ -2,4 +2,4 @@ use Rattle.certificate_runs.proofs.LawLemmas.{left}
 use Rattle.certificate_runs.proofs.laws.other_faults_leave_the_sink.Goals as goal
 
 pub returns : goal.returns
-returns g c = left (g.A.Ruled.rules c.args.asked.now)
+returns g c = left (g.A.ProofRuled.rules c.args.asked.now)

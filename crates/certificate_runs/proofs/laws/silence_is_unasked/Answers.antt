@@ -2,4 +2,4 @@ use Rattle.certificate_runs.proofs.SilenceLemmas.{silence}
 use Rattle.certificate_runs.proofs.laws.silence_is_unasked.Goals as goal
 
 pub returns : goal.returns
-returns g c = silence (g.A.Ruled.rules c.args.asked.now)
+returns g c = silence (g.A.ProofRuled.rules c.args.asked.now)

@@ -1,0 +1,206 @@
+//! Small boards, which are solved side by side before their lines are taken.
+
+ghost use Rattle.std.specs.Prelude.{◌≡◌, ◌≢◌, ◌<◌, ℕ, All, IfSome, Option, Some, Vec, false};
+ghost use Rattle.std.specs.declared.alloc.Global.{Global};
+ghost use Rattle.board.specs.declared.moves.Move.{Move};
+ghost use Rattle.outcomes.specs.declared.outcome.Cause.TheVariants.{Memory};
+ghost use Rattle.outcomes.specs.declared.outcome.Ending.TheVariants.{Bounded};
+ghost use Rattle.outcomes.specs.declared.outcome.Want.{Want};
+ghost use Rattle.batch_runs.specs.Batches.{AreAllowed};
+ghost use Rattle.setup_runs.specs.Ahead.{Stands, IsAnswered};
+ghost use Rattle.setup_runs.specs.Solving.{MayAnswer, rules_of};
+
+use crate::solving::job_for;
+use batch_lines::{LineKind, LineReader, read_entry};
+use batch_runs::Setup;
+use board::{Board, Shape};
+use byte_streams::ByteSource;
+use hda_run::{Gate, end_one};
+use memory::push;
+use outcomes::{Cause, Ending};
+use owners::{ByBlank, Spread};
+use std::alloc::Global;
+use std::thread::{Threads, for_each_mut};
+
+// The most cells of a small board. One worker ends such a board sooner than several could begin it.
+const SMALL_CELLS: usize = 9;
+
+// The fewest boards that are worth threads of their own.
+const FEWEST_BOARDS: usize = 16;
+
+// The most lines that are looked at ahead.
+const MOST_LINES: u32 = 4096;
+
+/// A board that a line names, and its ending where one was found.
+#[derive(Drop)]
+pub(crate) struct Place {
+    pub(crate) board: Board,
+    pub(crate) ending: Option<Ending>,
+}
+
+/// The endings of a board and of those that the first whole lines among these bytes name, the first
+/// one last: each by one worker, side by side in as many threads as the setup has workers. There are
+/// none where the setup has one worker, the boards are not small or few, or memory is refused.
+pub(crate) fn end_ahead<R: Threads + Sync, G: Gate + Sync>(
+    rt: &R,
+    alloc: Global,
+    setup: &Setup,
+    start: &Board,
+    held: &[u8],
+    gate: &G,
+) -> Vec<(Board, Ending)>
+    requires { start.now.grid ≡ setup.now.goal.grid }
+    ensures { AreAllowed (rules_of setup.now) result.items }
+{
+    let workers = setup.worker_count();
+    let shape = setup.shape();
+    if workers == 1 || SMALL_CELLS < shape.cells() {
+        return Vec::new(alloc);
+    }
+    let mut places = places_among(alloc, start, whole_lines(held));
+    if places.len() < FEWEST_BOARDS {
+        return Vec::new(alloc);
+    }
+    end_places(rt, alloc, setup, places.as_mut_slice(), workers, gate);
+    take_endings(alloc, setup, places)
+}
+
+// The bytes up to the last line feed.
+fn whole_lines(held: &[u8]) -> &[u8] {
+    let mut end = held.len();
+    'bytes: while 0 < end {
+        if held[end - 1] == b'\n' {
+            return &held[..end];
+        }
+        end -= 1;
+    }
+    &[]
+}
+
+// A board and those of its shape that lines name, in their order; not all of them where memory is
+// refused.
+fn places_among(alloc: Global, start: &Board, lines: &[u8]) -> Vec<Place>
+    ensures { All (λ place. Stands start.now.grid place) result.items }
+{
+    let shape = start.shape();
+    let mut places = Vec::new(alloc);
+    let first = Place {
+        board: *start,
+        ending: None,
+    };
+    if push(&mut places, first).is_err() {
+        return places;
+    }
+    let mut reader = LineReader::new();
+    let mut source = ByteSource::new(lines);
+    'lines: for _ in 0..MOST_LINES {
+        let Ok(next) = reader.next_line(&mut source) else {
+            return places;
+        };
+        let Some(line) = next else {
+            return places;
+        };
+        let Some(place) = place_of(shape, line.kind, reader.bytes()) else {
+            continue;
+        };
+        if push(&mut places, place).is_err() {
+            return places;
+        }
+    }
+    places
+}
+
+// The board that a line names, if it names one.
+fn place_of(shape: Shape, kind: LineKind, bytes: &[u8]) -> Option<Place>
+    ensures { IfSome result (Stands shape) }
+{
+    if kind != LineKind::Within {
+        return None;
+    }
+    let Ok(entry) = read_entry(shape, bytes) else {
+        return None;
+    };
+    Some(Place {
+        board: entry.board,
+        ending: None,
+    })
+}
+
+// Solves each board, in so many threads.
+fn end_places<R: Threads + Sync, G: Gate + Sync>(
+    rt: &R,
+    alloc: Global,
+    setup: &Setup,
+    places: &mut [Place],
+    workers: usize,
+    gate: &G,
+)
+    requires some { 0 < workers }
+    requires boards { All (λ place. Stands setup.now.goal.grid place) places.old }
+    ensures { All (λ place. IsAnswered setup.now place) places.new }
+{
+    for_each_mut(
+        rt,
+        places,
+        workers,
+        &|_: usize, place: &mut Place|
+            requires { Stands setup.now.goal.grid place.old }
+            ensures { IsAnswered setup.entry.now place.new }
+        {
+            place.ending = end_alone(alloc, setup, &place.board, ByBlank, gate);
+        },
+    );
+}
+
+// The ending of a board by one worker, if memory sufficed. It owns all boards, whatever they are
+// spread by.
+fn end_alone<S: Spread + Drop, G: Gate>(
+    alloc: Global,
+    setup: &Setup,
+    start: &Board,
+    spread: S,
+    gate: &G,
+) -> Option<Ending>
+    requires { start.now.grid ≡ setup.now.goal.grid }
+    ensures { IfSome result (λ ending. MayAnswer setup.now start.now (Some ending)) }
+{
+    let Ok(ending) = end_one(alloc, job_for(setup, start), spread, gate) else {
+        return None;
+    };
+    if lacked_memory(&ending) {
+        return None;
+    }
+    Some(ending)
+}
+
+// Whether a bound was answered since memory was wanting.
+fn lacked_memory(ending: &Ending) -> bool
+    ensures { result ≡ false → (bound : ℕ) (best : Option (ℕ × Vec Move Global)) (want : Want)
+        → ending.now ≢ Bounded bound best (Memory want) }
+{
+    match ending {
+        Ending::Bounded { cause, .. } => matches!(cause, Cause::Memory(_)),
+        _ => false,
+    }
+}
+
+// The endings of the first boards, up to one that has none, the first one last.
+fn take_endings(alloc: Global, setup: &Setup, places: Vec<Place>) -> Vec<(Board, Ending)>
+    requires { All (λ place. IsAnswered setup.now place) places.items }
+    ensures { AreAllowed (rules_of setup.now) result.items }
+{
+    let _ = setup;
+    let mut rest = places;
+    let mut ready = Vec::new(alloc);
+    'places: while let Some(place) = rest.pop() {
+        let Place { board, ending } = place;
+        let Some(found) = ending else {
+            ready.clear();
+            continue;
+        };
+        if push(&mut ready, (board, found)).is_err() {
+            return Vec::new(alloc);
+        }
+    }
+    ready
+}
