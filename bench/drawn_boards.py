@@ -28,3 +28,5 @@ FAR = {
     "14 10 2 1 13 9 8 11 7 3 6 12 15 5 4 0": 62,
     "12 9 4 11 10 6 8 0 3 7 13 5 15 2 14 1": 60,
 }
+# A board that is far from solved after 6,000,000 expansions with the default groups.
+HARD = "0 12 9 13 15 11 10 14 7 3 2 5 4 8 6 1"
