@@ -19,7 +19,7 @@ const FACTOR: u128 = 0x9E37_79B9_7F4A_7C15_F39C_C060_5CED_C835;
 const ENTRIES: usize = 7;
 
 // How many slots there are for each chain.
-const LOAD: usize = 5;
+const LOAD: usize = 4;
 
 // One known board. Its key is in two halves, so that a slot takes 24 bytes.
 #[derive(Clone, Copy)]
@@ -53,7 +53,7 @@ pub(crate) const NO_BUCKET: Bucket = Bucket {
 };
 
 // Slots in order of arrival, and the chains to which they belong by the hashes of their keys: one
-// chain for five slots. A link leads from a slot that is in no bucket to the one before it in its
+// chain for four slots. A link leads from a slot that is in no bucket to the one before it in its
 // chain.
 #[derive(Drop)]
 pub(crate) struct Index {

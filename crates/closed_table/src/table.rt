@@ -36,7 +36,7 @@ pub enum Relaxed {
 /// Known boards, by their keys.
 ///
 /// They stand in pages, in order of arrival, and belong to chains by the hashes of their keys, to
-/// one chain for five boards. With each fifth board one chain is added and takes its boards from
+/// one chain for four boards. With each fourth board one chain is added and takes its boards from
 /// one other chain: no page is ever copied.
 #[derive(Drop)]
 pub struct Closed {

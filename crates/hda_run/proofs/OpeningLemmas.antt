@@ -1,12 +1,11 @@
 -- The workers of an opening world.
 use Rattle.std.proofs.Common.{◌≡◌, ℕ, zero, suc, ◌+◌, ◌%◌, List, [], ◌∷◌, ◌++◌, length, map, replicate, false, sym, ap, ◌∙◌, subst, arith, Option}
 use Rattle.std.specs.Prelude.{All, slice_set, if◌then◌else◌, Vec}
-use Rattle.std.specs.Vec.{with_item}
 use Rattle.std.specs.declared.alloc.Global.{Global}
 use Rattle.std.specs.Ordering.{nat_cmp}
 use Rattle.std.specs.FinMap as map
 use Rattle.std.proofs.Math.Nat.{mod-lt}
-use Rattle.std.proofs.lemmas.List.{map-append, map-set, length-map, length-set, length-replicate, replicate-append-replicate}
+use Rattle.std.proofs.lemmas.List.{map-append, length-map, length-set, length-replicate, replicate-append-replicate}
 use Rattle.std.proofs.lemmas.List.Elements.{All-append}
 use Rattle.board.specs.declared.moves.Move.{Move}
 use Rattle.board.specs.Keys.{key_of}
@@ -73,11 +72,11 @@ first_is n task worker state item free board begun is =
 pub made_count : (n : ℕ) (all : List W) → map (λ (w : W). state_of w) all ≡ replicate n (idle_worker n) → length all ≡ n
 made_count n all states = sym (length-map all (λ (w : W). state_of w)) ∙ ap length states ∙ length-replicate n (idle_worker n)
 
-pub opens : {S : Type 0} (hash_of : S → Position → ℕ) (owners : S) (p : Problem) (n : ℕ) (all : Vec W Global) (first : W) (owner : ℕ) (book : BookState) (lanes : Vec Row Global) (via : Move) → map (λ (w : W). state_of w) all.items ≡ replicate n (idle_worker n) → state_of first ≡ first_worker n (task_in p) via → owner ≡ hash_of owners p.start % n → book ≡ (opening (job_of hash_of p owners n) via).book → map (λ (row : Row). row.items) lanes.items ≡ replicate n (replicate n []) → world_of hash_of (record { job = p; owners = owners; workers = with_item all owner first; book = book; lanes = lanes }) ≡ opening (job_of hash_of p owners n) via
-opens hash_of owners p n all first owner book lanes via states first_state owner_is book_is lanes_are =
-    let count : length (slice_set all.items owner first) ≡ n = length-set all.items owner first ∙ made_count n all.items states in
-    let workers : map (λ (w : W). state_of w) (slice_set all.items owner first) ≡ (opening (job_of hash_of p owners n) via).workers =
-    map-set (λ (w : W). state_of w) all.items owner first ∙ (λ t. slice_set (states t) (owner_is t) (first_state t)) in
+pub opens : {S : Type 0} (hash_of : S → Position → ℕ) (owners : S) (p : Problem) (n : ℕ) (all : Vec W Global) (state : WorkerState) (owner : ℕ) (book : BookState) (lanes : Vec Row Global) (via : Move) → map (λ (w : W). state_of w) all.items ≡ slice_set (replicate n (idle_worker n)) owner state → state ≡ first_worker n (task_in p) via → owner ≡ hash_of owners p.start % n → book ≡ (opening (job_of hash_of p owners n) via).book → map (λ (row : Row). row.items) lanes.items ≡ replicate n (replicate n []) → world_of hash_of (record { job = p; owners = owners; workers = all; book = book; lanes = lanes }) ≡ opening (job_of hash_of p owners n) via
+opens hash_of owners p n all state owner book lanes via states first_state owner_is book_is lanes_are =
+    let count : length all.items ≡ n = sym (length-map all.items (λ (w : W). state_of w)) ∙ ap length states ∙ length-set (replicate n (idle_worker n)) owner state ∙ length-replicate n (idle_worker n) in
+    let workers : map (λ (w : W). state_of w) all.items ≡ (opening (job_of hash_of p owners n) via).workers =
+    states ∙ (λ t. slice_set (replicate n (idle_worker n)) (owner_is t) (first_state t)) in
     λ t. record {
       task = task_in p;
       owner = λ b. hash_of owners b % count t;

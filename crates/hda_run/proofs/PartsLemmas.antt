@@ -24,7 +24,6 @@ use Rattle.world_model.specs.declared.steps.Refusal.{Refusal}
 use Rattle.world_model.specs.Books.{BookState}
 use Rattle.world_model.specs.BookSteps.{AtBook}
 use Rattle.world_model.specs.Credit.{IsCredited}
-use Rattle.world_model.specs.declared.parts.Known.{Known}
 use Rattle.world_model.specs.Shapes.{IsShaped}
 use Rattle.world_model.specs.Soundness.{IsSound}
 use Rattle.world_model.specs.Steps.{ByWorker, OnBook, with_worker}

@@ -1,6 +1,7 @@
 //! The parts of the world in which a run begins.
 
 ghost use Rattle.std.specs.Prelude.{◌≡◌, ◌≤◌, ◌<◌, [], All, IfOk, length, map, replicate};
+ghost use Rattle.std.specs.Prelude.{slice_set};
 ghost use Rattle.board.specs.declared.moves.Move.{Move};
 ghost use Rattle.outcomes.specs.Outcomes.{Task};
 ghost use Rattle.search_lists.specs.Orders.{Guide};
@@ -42,11 +43,10 @@ pub(crate) fn open_parts<'a, S: Spread + Drop>(
     tasks_have_guides();
     let _ = job.goal();
     let (mut credit, purse) = Credit::plain();
-    let mut all = idle_workers(alloc, workers, &mut credit)?;
     let first = first_worker(alloc, &job, workers, purse)?;
-    let lanes = empty_lanes(alloc, workers)?;
     let owner = owners.owner(job.start(), workers);
-    all[owner] = first;
+    let all = workers_with(alloc, workers, &mut credit, first, owner)?;
+    let lanes = empty_lanes(alloc, workers)?;
     let book = Book::new(credit, Grants::plain(), job.limit(), workers);
     Ok(Parts {
         job,
@@ -55,6 +55,34 @@ pub(crate) fn open_parts<'a, S: Spread + Drop>(
         book,
         lanes,
     })
+}
+
+// So many workers: this one at a place, and at all others one that knows nothing and has nothing.
+// Where there is one alone, which has to be made for each short search, no other is.
+fn workers_with(
+    alloc: Global,
+    workers: usize,
+    credit: &mut Credit<Plain>,
+    first: Worker<Plain>,
+    place: usize,
+) -> Result<Vec<Worker<Plain>>, OutOfMemory>
+    requires few { workers ≤ WORKER_LIMIT }
+    requires there { place < workers }
+    ensures states { IfOk result (λ all. map (λ worker. state_of worker) all.items
+        ≡ slice_set (replicate workers (idle_worker workers)) place (state_of first)) }
+    ensures guided { IfOk result (λ all. (task : Task) (guide : Guide) → IsGuideOf task guide
+        → IsGuided task guide first.lists
+        → All (λ worker. IsGuided task guide worker.lists) all.items) }
+    ensures credit { credit.new ≡ credit.old }
+{
+    if workers == 1 {
+        let mut alone = memory::with_capacity(alloc, 1)?;
+        alone.push_reserved(first);
+        return Ok(alone);
+    }
+    let mut all = idle_workers(alloc, workers, credit)?;
+    all[place] = first;
+    Ok(all)
 }
 
 // So many workers that know nothing and have nothing.

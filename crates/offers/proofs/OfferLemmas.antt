@@ -102,27 +102,26 @@ module _ (rule : CostRule) (parts : List Part) (b : Position) (cost : ℕ) (m : 
   none_offered owner (Some from) found is = absurd (told_there from found is)
 
   -- what is told is offered
-  is_offered : (owner : Position → ℕ) (from : ℕ) (told : Successor) (offer : Offer) → neighbour b.grid m (blank_of b) ≡ Some from → Some told ≡ option_map (told_of parts b) (successor rule b m) → offer.key ≡ told.key → offer.cost ≡ cost + told.cost → offer.via ≡ m → offer.f ≡ cost + told.cost + told.sum → offer.owner ≡ owner (blank_exchange b from) → IsOffered (sum_of parts) owner (item_by rule b cost m) (Some offer)
-  is_offered owner from told offer found is key reached via f owned =
+  is_offered : (owner : Position → ℕ) (from : ℕ) (told : Successor) (offer : Offer) → neighbour b.grid m (blank_of b) ≡ Some from → Some told ≡ option_map (told_of parts b) (successor rule b m) → offer.key ≡ told.key → offer.cost ≡ cost + told.cost → offer.f ≡ cost + told.cost + told.sum → offer.owner ≡ owner (blank_exchange b from) → IsOffered (sum_of parts) owner (item_by rule b cost m) (Some offer)
+  is_offered owner from told offer found is key reached f owned =
       let e : Some told ≡ Some (told_of parts b (successor_at rule b from)) = is ∙ ap (λ (o : Option ℕ). option_map (told_of parts b) (option_map (successor_at rule b) o)) found in
       let same : told ≡ told_of parts b (successor_at rule b from) = cc in
       rw found (record {
         key = key ∙ ap (λ (s : Successor). s.key) same;
         cost = reached ∙ ap (λ (s : Successor). cost + s.cost) same;
-        via = via;
         adds = f ∙ ap (λ (s : Successor). cost + s.cost + s.sum) same;
         owned = owned;
       })
 
   -- what is told is offered, to the owner of the board with the blank on the cell that is told
-  pub told_offered : (owner : Position → ℕ) (to : Option ℕ) (told : Successor) (offer : Offer) → IsBoard b → neighbour b.grid m (blank_of b) ≡ to → Some told ≡ option_map (told_of parts b) (successor rule b m) → offer.key ≡ told.key → offer.cost ≡ cost + told.cost → offer.via ≡ m → offer.f ≡ cost + told.cost + told.sum → offer.owner ≡ owner (blank_exchange b told.cell) → IsOffered (sum_of parts) owner (item_by rule b cost m) (Some offer)
-  told_offered owner None told offer board found is key reached via f owned = absurd (none (is ∙ ap (λ (o : Option ℕ). option_map (told_of parts b) (option_map (successor_at rule b) o)) found))
+  pub told_offered : (owner : Position → ℕ) (to : Option ℕ) (told : Successor) (offer : Offer) → IsBoard b → neighbour b.grid m (blank_of b) ≡ to → Some told ≡ option_map (told_of parts b) (successor rule b m) → offer.key ≡ told.key → offer.cost ≡ cost + told.cost → offer.f ≡ cost + told.cost + told.sum → offer.owner ≡ owner (blank_exchange b told.cell) → IsOffered (sum_of parts) owner (item_by rule b cost m) (Some offer)
+  told_offered owner None told offer board found is key reached f owned = absurd (none (is ∙ ap (λ (o : Option ℕ). option_map (told_of parts b) (option_map (successor_at rule b) o)) found))
     where
       none : {s : Successor} → ◌≡◌ {A = Option Successor} (Some s) None → ⊥
       none e = cc
-  told_offered owner (Some from) told offer board found is key reached via f owned =
+  told_offered owner (Some from) told offer board found is key reached f owned =
       let e : Some told ≡ Some (told_of parts b (successor_at rule b from)) = is ∙ ap (λ (o : Option ℕ). option_map (told_of parts b) (option_map (successor_at rule b) o)) found in
       let same : told ≡ told_of parts b (successor_at rule b from) = cc in
       let lies : LiesTowards b.grid m (blank_of b) from = (neighbour_lies b.grid m (blank_of b) from (blank_stands b board).0).0 found in
       let cell : told.cell ≡ from = ap (λ (s : Successor). s.cell) same ∙ blank_after b board from (cell_below b.grid m (blank_of b) from lies) in
-      is_offered owner from told offer found is key reached via f (owned ∙ ap (λ (k : ℕ). owner (blank_exchange b k)) cell)
+      is_offered owner from told offer found is key reached f (owned ∙ ap (λ (k : ℕ). owner (blank_exchange b k)) cell)

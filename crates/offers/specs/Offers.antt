@@ -16,11 +16,10 @@ use Rattle.offers.specs.declared.offer.Offers.{Offers}
 abbrev pub item_by : CostRule → Position → ℕ → Move → Option Item
 item_by rule b cost m = option_map (λ next. record { board = next.0; cost = cost + next.1; via = m }) (successor rule b m)
 
--- the offer is of this item: it has the key of its board, its cost and last move, its cost plus sum, and its owner
+-- the offer is of this item: it has the key of its board, its cost, its cost plus sum, and its owner
 pub record IsOfferOf (sum owner : Position → ℕ) (item : Item) (offer : Offer) : Type 0 where
   pub key : offer.key ≡ key_of item.board
   pub cost : offer.cost ≡ item.cost
-  pub via : offer.via ≡ item.via
   pub adds : offer.f ≡ item.cost + sum item.board
   pub owned : offer.owner ≡ owner item.board
 

@@ -18,14 +18,13 @@ use lower_bound::Bound;
 use owners::{Slide, Spread, worker_of};
 use successor_sums::{Successor, UnpackedBoard};
 
-/// What a move from a board offers: a successor, by its key.
+/// What a move from a board offers: a successor, by its key. (The move itself is told by the place
+/// in `Offers`: with it bytes would be unused, which are copied one by one.)
 #[derive(Clone, Copy, Debug)]
 pub struct Offer {
     pub key: u128,
     /// What it costs to reach it.
     pub cost: u32,
-    /// The move.
-    pub via: Move,
     /// The cost plus the sum.
     pub f: u32,
     /// The worker that owns it.
@@ -128,15 +127,14 @@ fn offer_by<S: Spread>(
         return None;
     };
     let slide = Slide {
-        tile: successor.tile,
-        from: successor.cell,
+        tile: successor.tile as u8,
+        from: successor.cell as usize,
         to: hashed.blank,
     };
     let reached = cost + successor.cost;
     Some(Offer {
         key: successor.key,
         cost: reached,
-        via: direction,
         f: reached + successor.sum,
         owner: owner_after(owners, hashed, shape, slide),
     })

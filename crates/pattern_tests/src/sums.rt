@@ -74,7 +74,7 @@ fn successors_of_the_hardest_board(rt: HostRuntime) -> Result<(), Fail> {
     ] {
         let successor = told.ok_or("the blank stays on the board")?;
         let board = Board::from_tiles(shape, &tiles)?;
-        assert!(rt; successor.key == board.key() && successor.cell == board.blank());
+        assert!(rt; successor.key == board.key() && successor.cell as usize == board.blank());
         assert!(rt; successor.tile == tile && successor.cost == 1 && successor.sum == sum);
     }
     Ok(())

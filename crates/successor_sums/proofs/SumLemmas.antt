@@ -3,7 +3,6 @@ use Rattle.std.proofs.Common.{true, false, ⊎_elim, ◌≡◌, ℕ, ◌<◌, �
 use Rattle.std.specs.Prelude.{All, AllPairs, slice_index, sum, sum_by, option_map, IfSome, MatchOption}
 use Rattle.std.specs.List.{AllByRecursion}
 use Rattle.std.proofs.lemmas.Bool.{cases_Bool, cond-true, cond-false}
-use Rattle.std.proofs.lemmas.List.{length-map, get_or-map}
 use Rattle.std.proofs.lemmas.List.Elements.{All-weaker, recursion_from_All}
 use Rattle.std.proofs.lemmas.List.Sums.{sum_by-cons}
 use Rattle.board.specs.declared.moves.Move.{Move}

@@ -26,28 +26,29 @@ use lower_bound::{Bound, GREATEST_SUM, Parts, TableList, sum_after};
 use pattern_index::cells_of;
 use std::marker::Model;
 
-/// What is told of a successor, the board that a move leads to. The order of the fields leaves few
-/// bytes unused between them, which are copied too.
+/// What is told of a successor, the board that a move leads to. Cell and tile have 32 bits, so that
+/// no byte is unused: those that are would be copied one by one.
 #[derive(Clone, Copy, Debug)]
 pub struct Successor {
     /// Its key.
     pub key: u128,
     /// The cell that the tile leaves, and to which the blank goes.
-    pub cell: usize,
+    pub cell: u32,
     /// The tile that is moved, to where the blank was.
-    pub tile: u8,
+    pub tile: u32,
     /// What the move costs.
     pub cost: u32,
     /// Its sum.
     pub sum: u32,
 }
 
-// What is known of a successor before its sum is.
+// What is known of a successor before its sum is. The tile has 32 bits, so that no byte between the
+// fields is unused, which would be copied by itself.
 #[derive(Clone, Copy, Debug)]
 struct Reached {
     key: u128,
     cell: usize,
-    tile: u8,
+    tile: u32,
     cost: u32,
 }
 
@@ -228,7 +229,7 @@ impl UnpackedBoard {
         let cost = weights.of(tile);
         Some(Reached {
             key,
-            tile,
+            tile: tile as u32,
             cell: to,
             cost,
         })
@@ -286,10 +287,14 @@ fn by_tables(
         (up.now ∷ left.now ∷ right.now ∷ down.now ∷ []) }
     ensures high { All (λ told. IfSome told (λ s. s.sum ≤ GREATEST_SUM)) result }
 {
-    let up_ranks = ranks_of(tables, cells, up);
-    let left_ranks = ranks_of(tables, cells, left);
-    let right_ranks = ranks_of(tables, cells, right);
-    let down_ranks = ranks_of(tables, cells, down);
+    let mut up_ranks = [0; MOST_TABLES];
+    let mut left_ranks = [0; MOST_TABLES];
+    let mut right_ranks = [0; MOST_TABLES];
+    let mut down_ranks = [0; MOST_TABLES];
+    find_ranks(tables, cells, up, &mut up_ranks);
+    find_ranks(tables, cells, left, &mut left_ranks);
+    find_ranks(tables, cells, right, &mut right_ranks);
+    find_ranks(tables, cells, down, &mut down_ranks);
     [
         look_up(tables, up, &up_ranks),
         look_up(tables, left, &left_ranks),
@@ -298,19 +303,24 @@ fn by_tables(
     ]
 }
 
-// The ranks of what the groups see of a successor, if there is one.
-fn ranks_of(tables: &[Table], cells: &[u8; 25], reached: &Option<Reached>) -> [u32; MOST_TABLES]
+// Writes the ranks of what the groups see of a successor, if there is one. (A list that is handed
+// back would be copied.)
+fn find_ranks(
+    tables: &[Table],
+    cells: &[u8; 25],
+    reached: &Option<Reached>,
+    ranks: &mut [u32; MOST_TABLES],
+)
     requires few { length tables.now ≤ MOST_TABLES }
     requires views { SeesViews tables.now cells.now reached.now }
-    ensures { IfSome reached.now (λ r. AreRanksOf tables.now (cells_after cells.now r) result) }
+    ensures { IfSome reached.now
+        (λ r. AreRanksOf tables.now (cells_after cells.now r) ranks.new) }
 {
-    let mut ranks = [0; MOST_TABLES];
     if let Some(found) = reached {
         let mut after = *cells;
         move_on(&mut after, found);
-        write_ranks(tables, &after, &mut ranks);
+        write_ranks(tables, &after, ranks);
     }
-    ranks
 }
 
 // The successor, by the values that stand at its ranks.
@@ -320,6 +330,7 @@ fn look_up(
     ranks: &[u32; MOST_TABLES],
 ) -> Option<Successor>
     requires few { length tables.now ≤ MOST_TABLES }
+    requires small { IfSome reached.now IsSmall }
     requires ranks { IfSome reached.now (λ r. AreRanks tables.now ranks.now) }
     ensures value { result ≡ option_map (λ r. with_sum r (sum_at tables.now ranks.now)) reached.now }
     ensures high { IfSome result (λ s. s.sum ≤ GREATEST_SUM) }
@@ -388,17 +399,21 @@ fn look_up_folded(
     let Some(known) = sum else {
         return Some(with_sum(found, Parts::at(folds, &after).sum()));
     };
-    Some(with_sum(found, sum_after(folds, known, cells, &after, found.tile)))
+    Some(with_sum(
+        found,
+        sum_after(folds, known, cells, &after, found.tile as u8),
+    ))
 }
 
 // What is told of a successor, with its sum.
 fn with_sum(found: &Reached, sum: u32) -> Successor
+    requires { IsSmall found.now }
     ensures { result ≡ with_sum found.now sum }
 {
     Successor {
         key: found.key,
+        cell: found.cell as u32,
         tile: found.tile,
-        cell: found.cell,
         cost: found.cost,
         sum,
     }

@@ -74,6 +74,14 @@ each_but P left_out made m is =
 pub item_board_but : (rule : CostRule) (b : Position) (cost : ℕ) (left_out : Option Move) (m : Move) (grid : Grid) → IsBoard b → b.grid ≡ grid → IfSome (but left_out (item_by rule b cost) m) (λ item. IsBoard item.board × (item.board.grid ≡ grid))
 item_board_but rule b cost left_out m grid board sides = each_but (λ item. IsBoard item.board × (item.board.grid ≡ grid)) left_out (item_by rule b cost) m (item_board rule b cost m grid board sides)
 
+-- the last move to a successor is the one by which it is made
+pub item_via_but : (rule : CostRule) (b : Position) (cost : ℕ) (left_out : Option Move) (m : Move) → IfSome (but left_out (item_by rule b cost) m) (λ item. item.via ≡ m)
+item_via_but rule b cost left_out m = each_but (λ (item : Item). item.via ≡ m) left_out (item_by rule b cost) m (there (successor rule b m))
+  where
+    there : (o : Option (Position × ℕ)) → IfSome (option_map (λ (next : Position × ℕ). record { board = next.0; cost = cost + next.1; via = m }) o) (λ (item : Item). item.via ≡ m)
+    there None = tt
+    there (Some next) = refl
+
 -- ---- a board is closed first
 
 closure_room : (t : Table) (key : ℕ) (known : Option Known) → (table_closure t key known).room ≡ t.room

@@ -156,19 +156,19 @@ module _ (me : ℕ) (grid : Grid) (lists : Lists) (unsent : List Packet) (rest :
 -- ---- what becomes of the worker
 
 module _ (role : Role) (worker : WorkerState) (sum : Position → ℕ) (item : Item) (offer : Offer) (is : IsOfferOf sum role.owner item offer) where
-  other_taken : (b : Position) → HasKey item.board.grid offer.key b → IsBoard item.board → offer.owner ≢ role.me → record worker { unsent = put worker.unsent offer.owner (record { board = b; cost = offer.cost; via = offer.via }) } ≡ with_successor role worker item
-  other_taken b has board other =
+  other_taken : (via : Move) → item.via ≡ via → (b : Position) → HasKey item.board.grid offer.key b → IsBoard item.board → offer.owner ≢ role.me → record worker { unsent = put worker.unsent offer.owner (record { board = b; cost = offer.cost; via = via }) } ≡ with_successor role worker item
+  other_taken via last b has board other =
       let same : b ≡ item.board = same_board b item.board has.board board has.sides (has.packed ∙ is.key) in
-      (λ t. record worker { unsent = put worker.unsent (is.owned t) (record { board = same t; cost = is.cost t; via = is.via t }) })
+      (λ t. record worker { unsent = put worker.unsent (is.owned t) (record { board = same t; cost = is.cost t; via = sym last t }) })
       ∙ ap (λ (p : Packet). record worker { unsent = set worker.unsent (role.owner item.board) (p ++ item ∷ []) }) (sym (unwrap_or-slice_get worker.unsent (role.owner item.board) []))
       ∙ sym (cond-false _ _ _ (ne_eqb (role.owner item.board) role.me (λ own. other (is.owned ∙ own))))
 
 -- the same, where an offer is there
-pub other_option : (role : Role) (worker : WorkerState) (sum : Position → ℕ) (item : Option Item) (offer : Offer) → IsOffered sum role.owner item (Some offer) → (grid : Grid) → IfSome item (λ i. IsBoard i.board × (i.board.grid ≡ grid)) → (b : Position) → HasKey grid offer.key b → offer.owner ≢ role.me → (unsent' : List Packet) → unsent' ≡ put worker.unsent offer.owner (record { board = b; cost = offer.cost; via = offer.via }) → record worker { unsent = unsent' } ≡ taken role worker item
-other_option role worker sum None offer is grid board b has other unsent' at = absurd is
-other_option role worker sum (Some item) offer is grid board b has other unsent' at =
+pub other_option : (role : Role) (worker : WorkerState) (sum : Position → ℕ) (item : Option Item) (offer : Offer) → IsOffered sum role.owner item (Some offer) → (grid : Grid) → IfSome item (λ i. IsBoard i.board × (i.board.grid ≡ grid)) → (via : Move) → IfSome item (λ i. i.via ≡ via) → (b : Position) → HasKey grid offer.key b → offer.owner ≢ role.me → (unsent' : List Packet) → unsent' ≡ put worker.unsent offer.owner (record { board = b; cost = offer.cost; via = via }) → record worker { unsent = unsent' } ≡ taken role worker item
+other_option role worker sum None offer is grid board via last b has other unsent' at = absurd is
+other_option role worker sum (Some item) offer is grid board via last b has other unsent' at =
     ap (λ (unsent : List Packet). record worker { unsent = unsent }) at
-    ∙ other_taken role worker sum item offer is b (subst (λ (g : Grid). HasKey g offer.key b) (sym board.1) has) board.0 other
+    ∙ other_taken role worker sum item offer is via last b (subst (λ (g : Grid). HasKey g offer.key b) (sym board.1) has) board.0 other
 
 -- ---- what the lists are led by
 
@@ -201,10 +201,10 @@ module _ (task : Task) (guide : Guide) (lists lists' : Lists) (is : IsGuided tas
   }
 
   -- where an own board was met, that adds up
-  pub guided_met : (offer : Offer) (met : Met) → met ≡ record { key = offer.key; cost = offer.cost; via = offer.via; f = offer.f } → AddsUpBy guide offer → (b : Position) → HasKey task.goal.grid offer.key b → lists'.closed ≡ table_relaxation lists.closed met.key met.cost met.via → (AddsUp guide met → IsInOrder guide lists → IsInOrder guide lists') → IsGuided task guide lists'
-  guided_met offer met same adds b has relaxed order =
+  pub guided_met : (offer : Offer) (via : Move) (met : Met) → met ≡ record { key = offer.key; cost = offer.cost; via = via; f = offer.f } → AddsUpBy guide offer → (b : Position) → HasKey task.goal.grid offer.key b → lists'.closed ≡ table_relaxation lists.closed met.key met.cost met.via → (AddsUp guide met → IsInOrder guide lists → IsInOrder guide lists') → IsGuided task guide lists'
+  guided_met offer via met same adds b has relaxed order =
       let adds_up : AddsUp guide met = subst (λ (m : Met). AddsUp guide m) (sym same) (record { adds = adds.0; within = adds.1 }) in
-      guided_relaxed offer.key offer.cost offer.via b has (relaxed ∙ ap (λ (m : Met). table_relaxation lists.closed m.key m.cost m.via) same) (order adds_up is.order)
+      guided_relaxed offer.key offer.cost via b has (relaxed ∙ ap (λ (m : Met). table_relaxation lists.closed m.key m.cost m.via) same) (order adds_up is.order)
 
   -- where a board was closed
   pub guided_closed : (key : ℕ) → lists'.closed ≡ table_closure lists.closed key (map.get lists.closed.known key) → IsInOrder guide lists' → IsGuided task guide lists'

@@ -200,25 +200,25 @@ impl<C: Counting> Worker<C> {
             return Err(Refusal::Memory(refused));
         }
         read_ahead(&mut self.lists, me, &offers);
-        self.expand_next(me, goal, next, offers);
+        self.expand_next(me, goal, next, &offers);
         Ok(())
     }
 
     // Closes a board, which counts as an expansion, and takes what its moves offer.
-    fn expand_next(&mut self, me: usize, goal: &Board, next: Next, offers: Offers)
+    fn expand_next(&mut self, me: usize, goal: &Board, next: Next, offers: &Offers)
         requires first { IsFirst self.old.lists next }
         requires allowed { 0 < self.old.allowance.left }
         requires granted { self.old.allowance.left ≤ self.old.allowance.granted }
         requires ready { IsReady me goal.now.grid (stock self.old.lists
-            (packets_of self.old.unsent.items)) (in_turn offers) }
+            (packets_of self.old.unsent.items)) (in_turn offers.now) }
         ensures state { (role : Role) (sum : Position → ℕ) (b : Position) (known : Known)
             (left_out : Option Move) → role.me ≡ me → IsBoard b → b.grid ≡ goal.now.grid
             → key_of b ≡ next.key → KnowsAs (state_of self.old) b known
-            → AreOffered sum role.owner (but left_out (item_by role.task.rule b known.cost)) offers
+            → AreOffered sum role.owner (but left_out (item_by role.task.rule b known.cost)) offers.now
             → state_of self.new
             ≡ expansion_by (moves_but left_out) role (state_of self.old) b known }
         ensures guided { (task : Task) (guide : Guide) → task.goal ≡ goal.now
-            → OfEach (AddsUpBy guide) offers
+            → OfEach (AddsUpBy guide) offers.now
             → IsGuided task guide self.old.lists → IsGuided task guide self.new.lists }
         ensures few { (to : ℕ)
             → length (slice_index_or (packets_of self.new.unsent.items) to []) ≤ PACKET_LIMIT }
@@ -228,10 +228,10 @@ impl<C: Counting> Worker<C> {
         close_next(&mut self.lists, &mut self.allowance, next);
         let shape = goal.shape();
         let goal_key = goal.key();
-        self.take(me, shape, goal_key, offers.up);
-        self.take(me, shape, goal_key, offers.left);
-        self.take(me, shape, goal_key, offers.right);
-        self.take(me, shape, goal_key, offers.down);
+        self.take(me, shape, goal_key, Move::U, &offers.up);
+        self.take(me, shape, goal_key, Move::L, &offers.left);
+        self.take(me, shape, goal_key, Move::R, &offers.right);
+        self.take(me, shape, goal_key, Move::D, &offers.down);
     }
 }
 

@@ -17,7 +17,7 @@ ghost use Rattle.worker_core.specs.Workers.{state_of, packets_of};
 
 use crate::packets::Items;
 use crate::worker::Worker;
-use board::{Board, Shape};
+use board::{Board, Move, Shape};
 use message_ledger::Counting;
 use offers::Offer;
 use search_lists::Met;
@@ -26,49 +26,57 @@ use world_model::Item;
 impl<C: Counting> Worker<C> {
     // Takes what a move offers, where it offers anything: its own is relaxed, another's goes to the
     // end of the packet for that one.
-    pub(crate) fn take(&mut self, me: usize, shape: Shape, goal_key: u128, offer: Option<Offer>)
+    pub(crate) fn take(
+        &mut self,
+        me: usize,
+        shape: Shape,
+        goal_key: u128,
+        via: Move,
+        offer: &Option<Offer>,
+    )
         requires { (rest : List (Option Offer)) × IsReady me shape (stock self.old.lists
-            (packets_of self.old.unsent.items)) (offer ∷ rest) }
+            (packets_of self.old.unsent.items)) (offer.now ∷ rest) }
         ensures ready { (rest : List (Option Offer)) → IsReady me shape (stock self.old.lists
-            (packets_of self.old.unsent.items)) (offer ∷ rest)
+            (packets_of self.old.unsent.items)) (offer.now ∷ rest)
             → IsReady me shape (stock self.new.lists (packets_of self.new.unsent.items)) rest }
         ensures state { (role : Role) (sum : Position → ℕ) (item : Option Item)
-            → role.me ≡ me → IsOffered sum role.owner item offer
+            → role.me ≡ me → IsOffered sum role.owner item offer.now
             → IfSome item (λ i. IsBoard i.board × (i.board.grid ≡ shape))
+            → IfSome item (λ i. i.via ≡ via)
             → state_of self.new ≡ taken role (state_of self.old) item }
         ensures allowance { self.new.allowance ≡ self.old.allowance }
         ensures guided { (task : Task) (guide : Guide) → task.goal.grid ≡ shape
-            → key_of task.goal ≡ goal_key → IfSome offer (AddsUpBy guide)
+            → key_of task.goal ≡ goal_key → IfSome offer.now (AddsUpBy guide)
             → IsGuided task guide self.old.lists → IsGuided task guide self.new.lists }
         ensures workers { length self.new.unsent.items ≡ length self.old.unsent.items }
     {
-        let Some(offer) = offer else {
+        let Some(offer) = *offer else {
             return;
         };
         if offer.owner == me {
-            self.lists.relax(goal_key, met_by(offer));
+            self.lists.relax(goal_key, met_by(offer, via));
             return;
         }
         let item = Item {
             board: Board::of_key(shape, offer.key),
             cost: offer.cost,
-            via: offer.via,
+            via,
         };
         put_item(&mut self.unsent, offer.owner, item);
     }
 }
 
-// What is offered, as a board that was met.
-fn met_by(offer: Offer) -> Met
+// What a move offers, as a board that was met.
+fn met_by(offer: Offer, via: Move) -> Met
     ensures key { result.key ≡ offer.key }
     ensures cost { result.cost ≡ offer.cost }
-    ensures via { result.via ≡ offer.via }
+    ensures via { result.via ≡ via }
     ensures f { result.f ≡ offer.f }
 {
     Met {
         key: offer.key,
         cost: offer.cost,
-        via: offer.via,
+        via,
         f: offer.f,
     }
 }

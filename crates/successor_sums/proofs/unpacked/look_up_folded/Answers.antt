@@ -1,4 +1,4 @@
-use Rattle.std.proofs.Common.{◌≡◌, List, ℕ, Option, Some, map, sym, ap, ◌∙◌}
+use Rattle.std.proofs.Common.{List, ℕ, Option, Some, sym, ap, ◌∙◌}
 use Rattle.std.specs.Prelude.{option_map, sum, sum_by}
 use Rattle.lower_bound.specs.Folded.{value_by}
 use Rattle.successor_sums.specs.Unpacked.{told_by, with_sum}

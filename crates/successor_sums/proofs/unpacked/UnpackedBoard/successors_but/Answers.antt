@@ -1,4 +1,4 @@
-use Rattle.std.proofs.Common.{List, [], ◌∷◌, ℕ, Option, None, Some, map, sym, ap, ◌∙◌, subst}
+use Rattle.std.proofs.Common.{List, [], ◌∷◌, Option, map, sym, ap, ◌∙◌, subst}
 use Rattle.std.specs.Prelude.{All, IfSome, option_map, sum_by}
 use Rattle.std.proofs.lemmas.List.Elements.{All-from_recursion}
 use Rattle.board.specs.declared.moves.Move.TheVariants.{U, L, R, D}

@@ -10,7 +10,7 @@ use Rattle.world_model.specs.Workers.{WorkerState}
 use Rattle.worker_core.specs.Expanding.{IsReady, stock, taken}
 use Rattle.worker_core.specs.Workers.{state_of, packets_of}
 use Rattle.worker_core.proofs.BackLemmas.{in_four_by}
-use Rattle.worker_core.proofs.ExpandLemmas.{item_board_but, ready_closed, one_spent}
+use Rattle.worker_core.proofs.ExpandLemmas.{item_board_but, item_via_but, ready_closed, one_spent}
 use Rattle.worker_core.proofs.RoomLemmas.{few_left}
 use Rattle.worker_core.proofs.TakeLemmas.{guided_closed}
 use Rattle.worker_core.proofs.worker.Worker.expand_next.Goals as goal
@@ -18,7 +18,7 @@ use Rattle.worker_core.proofs.worker.Worker.expand_next.Goals as goal
 -- src/expanding.rt:110:9
 pub take-requires-after_bounds : goal.take-requires-after_bounds
 take-requires-after_bounds g c κs within =
-    let offers = c.args.offers in
+    let offers = c.args.offers.now in
     let packets = packets_of c.args.self.now.unsent.items in
     let all = offers.up ∷ offers.left ∷ offers.right ∷ offers.down ∷ [] in (
       offers.left ∷ offers.right ∷ offers.down ∷ [],
@@ -31,7 +31,7 @@ take-requires-after_bounds g c κs within =
 -- src/expanding.rt:111:9
 pub take-requires-2-after_bounds : goal.take-requires-2-after_bounds
 take-requires-2-after_bounds g c κs within =
-    let offers = c.args.offers in
+    let offers = c.args.offers.now in
     let packets = packets_of c.args.self.now.unsent.items in
     let all = offers.up ∷ offers.left ∷ offers.right ∷ offers.down ∷ [] in
     let first =
@@ -44,7 +44,7 @@ take-requires-2-after_bounds g c κs within =
 -- src/expanding.rt:112:9
 pub take-requires-3-after_bounds : goal.take-requires-3-after_bounds
 take-requires-3-after_bounds g c κs within =
-    let offers = c.args.offers in
+    let offers = c.args.offers.now in
     let packets = packets_of c.args.self.now.unsent.items in
     let all = offers.up ∷ offers.left ∷ offers.right ∷ offers.down ∷ [] in
     let first =
@@ -58,7 +58,7 @@ take-requires-3-after_bounds g c κs within =
 -- src/expanding.rt:113:9
 pub take-requires-4-after_bounds : goal.take-requires-4-after_bounds
 take-requires-4-after_bounds g c κs within =
-    let offers = c.args.offers in
+    let offers = c.args.offers.now in
     let packets = packets_of c.args.self.now.unsent.items in
     let all = offers.up ∷ offers.left ∷ offers.right ∷ offers.down ∷ [] in
     let first =
@@ -77,14 +77,15 @@ returns-clause-state g c = λ role sum b known left_out me board sides packed at
     let old = c.args.self.now.allowance in
     let item = but left_out (item_by role.task.rule b known.cost) in
     let boards = λ (m : Move). item_board_but role.task.rule b known.cost left_out m c.shape-shape.result board (sides ∙ sym c.shape-shape.ensures.value) in
+    let last = λ (m : Move). item_via_but role.task.rule b known.cost left_out m in
     let closed = one_spent worker b known old.granted old.left c.close_next.new.allowance.left c.close_next.new.lists c.args.self.now.lists c.args.next.key refl refl refl c.close_next.ensures.left c.requires.granted packed at c.close_next.ensures.closed in
     let made = c.close_next.new.lists.closed.known in
     let left = c.close_next.new.allowance.left in
     let spent = ap (λ (granted : ℕ). record worker { known = made; allowance = left; expansions = granted - left }) c.close_next.ensures.granted in
-    let s1 = c.take.ensures.state role sum (item U) me offered.up (boards U) ∙ ap (λ (w : WorkerState). taken role w (item U)) (spent ∙ closed) in
-    let s2 = c.take-2.ensures.state role sum (item L) me offered.left (boards L) ∙ ap (λ (w : WorkerState). taken role w (item L)) s1 in
-    let s3 = c.take-3.ensures.state role sum (item R) me offered.right (boards R) ∙ ap (λ (w : WorkerState). taken role w (item R)) s2 in
-    let s4 = c.take-4.ensures.state role sum (item D) me offered.down (boards D) ∙ ap (λ (w : WorkerState). taken role w (item D)) s3 in
+    let s1 = c.take.ensures.state role sum (item U) me offered.up (boards U) (last U) ∙ ap (λ (w : WorkerState). taken role w (item U)) (spent ∙ closed) in
+    let s2 = c.take-2.ensures.state role sum (item L) me offered.left (boards L) (last L) ∙ ap (λ (w : WorkerState). taken role w (item L)) s1 in
+    let s3 = c.take-3.ensures.state role sum (item R) me offered.right (boards R) (last R) ∙ ap (λ (w : WorkerState). taken role w (item R)) s2 in
+    let s4 = c.take-4.ensures.state role sum (item D) me offered.down (boards D) (last D) ∙ ap (λ (w : WorkerState). taken role w (item D)) s3 in
     s4 ∙ sym (in_four_by role worker b known left_out)
 
 -- src/expanding.rt:91:5
@@ -101,7 +102,7 @@ returns-clause-guided g c = λ task guide goal adds is.
 -- src/expanding.rt:97:5
 pub returns-clause-few : goal.returns-clause-few
 returns-clause-few g c =
-    let offers = c.args.offers in
+    let offers = c.args.offers.now in
     let packets = packets_of c.args.self.now.unsent.items in
     let all = offers.up ∷ offers.left ∷ offers.right ∷ offers.down ∷ [] in
     let first =

@@ -13,7 +13,7 @@ use Rattle.worker_core.proofs.worker.Worker.take.Goals as goal
 -- src/taking.rt:45:13
 pub returns-in_default-clause-ready : goal.returns-in_default-clause-ready
 returns-in_default-clause-ready g c = λ rest ready.
-    let none : c.args.offer ≡ None = c.in_default.is in
+    let none : c.args.offer.now ≡ None = c.in_default.is in
     let packets = packets_of c.args.self.now.unsent.items in
     ready_past c.args.me c.args.shape c.args.self.now.lists packets rest (subst (λ (o : Option Offer). IsReady c.args.me c.args.shape (stock c.args.self.now.lists packets) (o ∷ rest)) none ready)
 
@@ -34,9 +34,9 @@ returns-then-offer-me-clause-guided g c = λ task guide sides ends adds is.
     let ready = subst (λ (o : Option Offer). IsReady c.args.me c.args.shape (stock lists packets) (o ∷ c.requires.0)) c.in-Some.is c.requires.1 in
     let adds_up : AddsUpBy guide offer = subst (λ (o : Option Offer). IfSome o (AddsUpBy guide)) c.in-Some.is adds in
     let met = c.met_by.result in
-    let same : met ≡ record { key = offer.key; cost = offer.cost; via = offer.via; f = offer.f } = λ t. record { key = c.met_by.ensures.key t; cost = c.met_by.ensures.cost t; via = c.met_by.ensures.via t; f = c.met_by.ensures.f t } in
+    let same : met ≡ record { key = offer.key; cost = offer.cost; via = c.args.via; f = offer.f } = λ t. record { key = c.met_by.ensures.key t; cost = c.met_by.ensures.cost t; via = c.met_by.ensures.via t; f = c.met_by.ensures.f t } in
     let has = ready.keys.0 in
-    guided_met task guide lists c.relax.new.self is offer met same adds_up has.0 (subst (λ (grid : Grid). HasKey grid offer.key has.0) (sym sides) has.1) c.relax.ensures.closed (c.relax.ensures.order guide (is.guides.ends ∙ ends))
+    guided_met task guide lists c.relax.new.self is offer c.args.via met same adds_up has.0 (subst (λ (grid : Grid). HasKey grid offer.key has.0) (sym sides) has.1) c.relax.ensures.closed (c.relax.ensures.order guide (is.guides.ends ∙ ends))
 
 -- src/taking.rt:56:9
 pub put_item-requires-clause-there : goal.put_item-requires-clause-there
@@ -56,7 +56,7 @@ returns-clause-ready g c = λ rest ready.
 
 -- src/taking.rt:29:5
 pub returns-clause-state : goal.returns-clause-state
-returns-clause-state g c = λ role sum item me is board.
+returns-clause-state g c = λ role sum item me is board last.
     let offer = c.in-Some.offer in
     let worker = state_of c.args.self.now in
-    other_option role worker sum item offer (subst (λ (o : Option Offer). IsOffered sum role.owner item o) c.in-Some.is is) c.args.shape board c.of_key.result c.of_key.ensures (λ own. c.if-offer-me.false (own ∙ me)) (packets_of c.put_item.new.packets.items) c.put_item.ensures
+    other_option role worker sum item offer (subst (λ (o : Option Offer). IsOffered sum role.owner item o) c.in-Some.is is) c.args.shape board c.args.via last c.of_key.result c.of_key.ensures (λ own. c.if-offer-me.false (own ∙ me)) (packets_of c.put_item.new.packets.items) c.put_item.ensures
