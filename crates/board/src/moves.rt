@@ -1,6 +1,6 @@
 //! The four moves: their letters, their opposites, and the neighbours that they lead to.
 
-ghost use Rattle.std.specs.Prelude.{◌≡◌, ◌<◌, ◌↔◌, ℕ, IsTrue, Some};
+ghost use Rattle.std.specs.Prelude.{◌≡◌, ◌<◌, ◌%◌, ◌/◌, ◌↔◌, ℕ, IsTrue, Some};
 ghost use Rattle.board.specs.Grids.{cell_count};
 ghost use Rattle.board.specs.Neighbours.{LiesTowards, neighbour, opposite};
 ghost use Rattle.board.specs.Letters.{letter_of, move_of_letter};
@@ -105,11 +105,38 @@ fn next_cell(shape: Shape, cell: usize, direction: Move) -> Option<usize>
     match direction {
         Move::U if cell < cols => None,
         Move::U => Some(cell - cols),
-        Move::L if cell % cols == 0 => None,
+        Move::L if column_of(shape, cell) == 0 => None,
         Move::L => Some(cell - 1),
-        Move::R if cell % cols + 1 == cols => None,
+        Move::R if column_of(shape, cell) + 1 == cols => None,
         Move::R => Some(cell + 1),
-        Move::D if cell / cols + 1 == rows => None,
+        Move::D if row_of(shape, cell) + 1 == rows => None,
         Move::D => Some(cell + cols),
+    }
+}
+
+// The column of a cell. To divide by a number that the compiler knows is much faster than by one
+// that it doesn't.
+fn column_of(shape: Shape, cell: usize) -> usize
+    ensures { result ≡ cell % shape.cols }
+{
+    let _ = shape.cells();
+    match shape.cols() {
+        2 => cell % 2,
+        3 => cell % 3,
+        4 => cell % 4,
+        _ => cell % 5,
+    }
+}
+
+// The row of a cell.
+fn row_of(shape: Shape, cell: usize) -> usize
+    ensures { result ≡ cell / shape.cols }
+{
+    let _ = shape.cells();
+    match shape.cols() {
+        2 => cell / 2,
+        3 => cell / 3,
+        4 => cell / 4,
+        _ => cell / 5,
     }
 }

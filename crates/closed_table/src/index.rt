@@ -18,8 +18,14 @@ const FACTOR: u128 = 0x9E37_79B9_7F4A_7C15_F39C_C060_5CED_C835;
 // Of how many slots a bucket has the places and the hashes.
 const ENTRIES: usize = 7;
 
-// How many slots there are for each chain.
+// How many slots there are for each chain, where there are more than the first ones.
 const LOAD: usize = 4;
+
+// How many chains are made with the first slot.
+const FIRST_CHAINS: usize = 128;
+
+// How many bits of a hash tell one of the first chains.
+const FIRST_BITS: u32 = 7;
 
 // One known board. Its key is in two halves, so that a slot takes 24 bytes.
 #[derive(Clone, Copy)]
@@ -52,9 +58,9 @@ pub(crate) const NO_BUCKET: Bucket = Bucket {
     places: [0; ENTRIES],
 };
 
-// Slots in order of arrival, and the chains to which they belong by the hashes of their keys: one
-// chain for four slots. A link leads from a slot that is in no bucket to the one before it in its
-// chain.
+// Slots in order of arrival, and the chains to which they belong by the hashes of their keys: 128
+// chains with the first slot, from 512 slots on one more with each fourth. A link leads from a slot
+// that is in no bucket to the one before it in its chain.
 #[derive(Drop)]
 pub(crate) struct Index {
     pub(crate) slots: Pages<Slot>,
@@ -104,7 +110,10 @@ pub(crate) fn chain_count_of(len: usize) -> usize
     requires { len ≤ 2 ^ 33 }
     ensures { result ≡ chain_count len }
 {
-    (len + (LOAD - 1)) / LOAD
+    if len == 0 {
+        return 0;
+    }
+    ((len + (LOAD - 1)) / LOAD).max(FIRST_CHAINS)
 }
 
 // The chain to which a hash belongs, among so many chains.
@@ -195,8 +204,8 @@ pub(crate) fn find(index: &Index, key: u128, hash: u32) -> Option<usize>
         return None;
     }
     let chain = chain_of(hash, index.bits, chain_count_of(index.len));
-    let bucket = index.buckets.get(chain);
-    if let Some(inside) = find_inside(&bucket, &index.slots, key, hash) {
+    let bucket = index.buckets.at(chain);
+    if let Some(inside) = find_inside(bucket, &index.slots, key, hash) {
         return Some(inside);
     }
     if bucket.filter & (1u16 << (hash >> 28)) == 0 {
@@ -225,7 +234,7 @@ pub(crate) fn read_ahead(index: &Index, keys: &[u128]) -> u32
     let chains = chain_count_of(index.len);
     let mut all = 0;
     'keys: for key in keys {
-        let bucket = index.buckets.get(chain_of(hash(*key), index.bits, chains));
+        let bucket = index.buckets.at(chain_of(hash(*key), index.bits, chains));
         all ^= bucket.hashes[0] ^ bucket.places[ENTRIES - 1];
     }
     all
@@ -316,6 +325,7 @@ fn bits_for_more(bits: u32, chains: usize) -> u32
 fn add_chain(index: &mut Index)
     requires indexed { IsIndexed index.old.slots index.old.links index.old.buckets index.old.len
         (chain_count index.old.len) index.old.bits }
+    requires many { 512 ≤ index.old.len }
     requires room { chain_count index.old.len < length index.old.buckets }
     ensures indexed { IsIndexed index.new.slots index.new.links index.new.buckets index.old.len
         (chain_count index.old.len + 1) index.new.bits }
@@ -325,10 +335,6 @@ fn add_chain(index: &mut Index)
     ensures buckets { length index.new.buckets ≡ length index.old.buckets }
 {
     let chains = chain_count_of(index.len);
-    if chains == 0 {
-        index.buckets.set(0, NO_BUCKET);
-        return;
-    }
     let bits = bits_for_more(index.bits, chains);
     index.bits = bits;
     let from = chains - (1usize << bits) / 2;
@@ -337,6 +343,23 @@ fn add_chain(index: &mut Index)
     relink(index, chains, from, bucket.link, &mut halves);
     index.buckets.set(from, halves.stay);
     index.buckets.set(chains, halves.go);
+}
+
+// Makes the first chains, where there is no slot.
+fn make_first_chains(index: &mut Index)
+    requires none { index.old.len ≡ 0 }
+    requires room { 128 ≤ length index.old.buckets }
+    ensures indexed { IsIndexed index.new.slots index.new.links index.new.buckets index.old.len
+        128 index.new.bits }
+    ensures len { index.new.len ≡ index.old.len }
+    ensures slots { index.new.slots ≡ index.old.slots }
+    ensures links { length index.new.links ≡ length index.old.links }
+    ensures buckets { length index.new.buckets ≡ length index.old.buckets }
+{
+    'chains: for chain in 0..FIRST_CHAINS {
+        index.buckets.set(chain, NO_BUCKET);
+    }
+    index.bits = FIRST_BITS;
 }
 
 // Makes as many chains as are wanted where a slot is added.
@@ -351,7 +374,11 @@ fn make_chains(index: &mut Index)
     ensures links { length index.new.links ≡ length index.old.links }
     ensures buckets { length index.new.buckets ≡ length index.old.buckets }
 {
-    if index.len % LOAD != 0 {
+    if index.len == 0 {
+        make_first_chains(index);
+        return;
+    }
+    if index.len < FIRST_CHAINS * LOAD || index.len % LOAD != 0 {
         return;
     }
     add_chain(index);
@@ -379,10 +406,9 @@ pub(crate) fn add(index: &mut Index, key: u128, hash: u32, cost: u32, via: Move)
     make_chains(index);
     let place = index.len;
     let chain = chain_of(hash, index.bits, chain_count_of(place + 1));
-    let mut bucket = index.buckets.get(chain);
+    let bucket = index.buckets.at_mut(chain);
     index.links.set(place, bucket.link);
     index.slots.set(place, new_slot(key, cost, via));
-    put(&mut bucket, place, hash);
-    index.buckets.set(chain, bucket);
+    put(bucket, place, hash);
     index.len = place + 1;
 }

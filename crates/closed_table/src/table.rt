@@ -35,9 +35,9 @@ pub enum Relaxed {
 
 /// Known boards, by their keys.
 ///
-/// They stand in pages, in order of arrival, and belong to chains by the hashes of their keys, to
-/// one chain for four boards. With each fourth board one chain is added and takes its boards from
-/// one other chain: no page is ever copied.
+/// They stand in pages, in order of arrival, and belong to chains by the hashes of their keys. 128
+/// chains are made with the first board. From 512 boards on one more is added with each fourth
+/// board and takes its boards from one other chain: no page is ever copied.
 #[derive(Drop)]
 pub struct Closed {
     index: Index,
@@ -165,14 +165,14 @@ impl Closed {
             self.room -= 1;
             return (Relaxed::New, place);
         };
-        let mut slot = self.index.slots.get(place);
+        let slot = self.index.slots.at(place);
         if slot.cost <= cost {
             return (Relaxed::Kept, place as u32);
         }
+        let slot = self.index.slots.at_mut(place);
         slot.cost = cost;
         slot.via = via;
         slot.expanded = false;
-        self.index.slots.set(place, slot);
         (Relaxed::Lower, place as u32)
     }
 
@@ -184,9 +184,8 @@ impl Closed {
         let Some(place) = index::find(&self.index, key, index::hash(key)) else {
             unreachable!()
         };
-        let mut slot = self.index.slots.get(place);
+        let slot = self.index.slots.at_mut(place);
         slot.expanded = true;
-        self.index.slots.set(place, slot);
     }
 
     /// Marks the known board at a place as expanded, without a search.
@@ -195,8 +194,7 @@ impl Closed {
         ensures { self.new ≡ table_closure self.old (slice_index self.old.keys place)
             (map.get self.old.known (slice_index self.old.keys place)) }
     {
-        let mut marked = self.index.slots.get(place);
+        let marked = self.index.slots.at_mut(place);
         marked.expanded = true;
-        self.index.slots.set(place, marked);
     }
 }

@@ -16,6 +16,7 @@ use search::{Stop, search};
 use std::env;
 use std::io::{self, Print};
 use std::process::ExitCode;
+use worker_core::Goal;
 use worker_trials::bound_of;
 
 // A board of which no plan costs less than 57 (Korf 1985, the first of his hundred).
@@ -63,7 +64,7 @@ fn run(rt: &(impl Print + AllocGlobal), count: u64, groups: &[&[u8]]) -> Option<
     let bound = bound_of(rt.alloc(), &goal, &weights, groups)?;
     let sum = bound.of(&start);
     println!(rt; "sum {sum}").ok()?;
-    let stop = search(rt.alloc(), &goal, &weights, &bound, start, count)?;
+    let stop = search(rt.alloc(), &Goal::new(&goal), &weights, &bound, start, count)?;
     tell(rt, stop).ok()
 }
 

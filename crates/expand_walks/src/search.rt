@@ -13,7 +13,7 @@ use message_ledger::{Allowance, Credit, Grants, Plain, Purse};
 use owners::ByBlank;
 use quiescence::Book;
 use std::alloc::Global;
-use worker_core::Worker;
+use worker_core::{Goal, Worker};
 use worker_core::laws::tasks_have_guides;
 use world_model::{Item, Refusal};
 
@@ -29,7 +29,7 @@ pub struct Stop {
 /// Expands so many boards, or as many as lead to the goal; None where there is no memory for it.
 pub fn search(
     alloc: Global,
-    goal: &Board,
+    goal: &Goal,
     weights: &Weights,
     bound: &Bound,
     start: Board,
@@ -62,7 +62,7 @@ pub fn search(
 // A worker that has met the start.
 fn begin(
     alloc: Global,
-    goal: &Board,
+    goal: &Goal,
     bound: &Bound,
     start: Board,
     purse: Purse<Plain>,
@@ -94,7 +94,7 @@ fn begin(
 
 // Where no allowance is left, announces the goal if it is known, and is granted more. Answers
 // whether there is something left to do.
-fn refill(goal: &Board, worker: &mut Worker<Plain>, book: &mut Book<Plain>) -> bool
+fn refill(goal: &Goal, worker: &mut Worker<Plain>, book: &mut Book<Plain>) -> bool
     requires one { length worker.old.unsent.items ≡ 1 }
     requires counted { worker.old.allowance.granted ≡ book.old.granted }
     requires led { (rule : CostRule) × (tables : Tables)

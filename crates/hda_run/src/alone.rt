@@ -33,9 +33,6 @@ use owners::Spread;
 use std::alloc::Global;
 use world_model::{HaltCause, Refusal, Step};
 
-// After so many expansions the worker looks whether it knows the goal.
-const EXPANSIONS_BETWEEN_LOOKS: u64 = 4;
-
 // Why the worker has no more to do.
 #[derive(Clone, Copy)]
 enum End {
@@ -156,7 +153,7 @@ fn round<S: Spread, G: Gate>(alloc: Global, world: &mut World<'_, S>, gate: &G) 
     ensures job { world.new.job ≡ world.old.job }
 {
     let Err(refusal) = take(alloc, world, gate, Step::Expand(0)) else {
-        announce_at_times(alloc, world, gate);
+        announce_when_met(alloc, world, gate);
         return Ok(());
     };
     match refusal {
@@ -188,8 +185,8 @@ fn be_granted<S: Spread, G: Gate>(
     Err(End::Limit)
 }
 
-// The worker announces the goal's cost, if it knows the goal and the time has come to look.
-fn announce_at_times<S: Spread, G: Gate>(alloc: Global, world: &mut World<'_, S>, gate: &G)
+// The worker announces the cost of the goal, if it has met it.
+fn announce_when_met<S: Spread, G: Gate>(alloc: Global, world: &mut World<'_, S>, gate: &G)
     requires { IsLone (world_of S.hash_of world.old) }
     ensures run { Reaches (world_of S.hash_of world.old) (world_of S.hash_of world.new) }
     ensures lone { IsLone (world_of S.hash_of world.new) }
@@ -197,7 +194,7 @@ fn announce_at_times<S: Spread, G: Gate>(alloc: Global, world: &mut World<'_, S>
         ≡ work_left (world_of S.hash_of world.old) }
     ensures job { world.new.job ≡ world.old.job }
 {
-    if world.worker(0).expansions() % EXPANSIONS_BETWEEN_LOOKS == 0 {
+    if world.worker(0).lists().has_met_goal() {
         let _ = take(alloc, world, gate, Step::Announce(0));
     }
 }

@@ -13,11 +13,11 @@ ghost use Rattle.world_model.specs.Turns.{turn, refusal_in};
 ghost use Rattle.hda_run.specs.Worlds.{world_of, IsLawful, AreGuided};
 
 use crate::parts::Parts;
-use board::Board;
+
 use message_ledger::Plain;
 use owners::Spread;
 use quiescence::Book;
-use worker_core::Worker;
+use worker_core::{Goal, Worker};
 use world_model::{HaltCause, Refusal};
 
 impl<'a, S: Spread> Parts<'a, S> {
@@ -48,7 +48,7 @@ impl<'a, S: Spread> Parts<'a, S> {
         if me >= self.workers.len() {
             return Err(Refusal::NoSuchWorker);
         }
-        let goal = self.job.goal();
+        let goal = self.job.keyed_goal();
         self.workers[me].announce(me, goal, &self.owners, &mut self.book)
     }
 
@@ -79,7 +79,7 @@ impl<'a, S: Spread> Parts<'a, S> {
         if me >= self.workers.len() {
             return Err(Refusal::NoSuchWorker);
         }
-        let goal = self.job.goal();
+        let goal = self.job.keyed_goal();
         rest_by(&mut self.workers[me], me, goal, &mut self.book)
     }
 
@@ -103,7 +103,7 @@ impl<'a, S: Spread> Parts<'a, S> {
 fn rest_by(
     worker: &mut Worker<Plain>,
     me: usize,
-    goal: &Board,
+    goal: &Goal,
     book: &mut Book<Plain>,
 ) -> Result<(), Refusal>
     requires counted { worker.old.purse ≤ book.old.credit }

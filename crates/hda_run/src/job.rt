@@ -11,13 +11,14 @@ use board::{Board, Weights};
 use lower_bound::Bound;
 use lower_bound::laws::sums_are_lower_bounds;
 use std::marker::Model;
+use worker_core::Goal;
 
 /// What is to be solved: the plans from a start to a goal, the weights of moves, tables whose sums
 /// guide the search, and how many boards may be expanded.
 #[derive(Drop)]
 pub struct Job<'a> {
     start: Board,
-    goal: Board,
+    goal: Goal,
     weights: Weights,
     bound: &'a Bound,
     limit: u64,
@@ -64,7 +65,7 @@ impl<'a> Job<'a> {
         sums_are_lower_bounds();
         Ok(Job {
             start,
-            goal,
+            goal: Goal::new(&goal),
             weights,
             bound,
             limit,
@@ -80,6 +81,14 @@ impl<'a> Job<'a> {
 
     /// The board to which they lead.
     pub fn goal(&self) -> &Board
+        ensures value { result.now ≡ self.now.goal }
+        ensures task { IsTask (task_in self.now) }
+    {
+        self.goal.board()
+    }
+
+    /// The same board, with its key.
+    pub fn keyed_goal(&self) -> &Goal
         ensures value { result.now ≡ self.now.goal }
         ensures task { IsTask (task_in self.now) }
     {

@@ -122,7 +122,7 @@ fn first_worker(
         IsGuided (task_in job.now) (guide_of (task_in job.now)) worker.lists) }
 {
     tasks_have_guides();
-    let goal = job.goal();
+    let goal = job.keyed_goal();
     let mut worker = Worker::new(alloc, workers, purse, Allowance::plain())?;
     let item = Item {
         board: *job.start(),

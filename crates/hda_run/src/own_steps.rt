@@ -31,7 +31,7 @@ impl<'a, S: Spread> Parts<'a, S> {
         self.workers[me].expand(
             alloc,
             me,
-            job.goal(),
+            job.keyed_goal(),
             job.weights(),
             job.bound(),
             &self.owners,
@@ -53,7 +53,7 @@ impl<'a, S: Spread> Parts<'a, S> {
         self.workers[me].expand_alone(
             alloc,
             me,
-            job.goal(),
+            job.keyed_goal(),
             job.weights(),
             job.bound(),
             &self.owners,
@@ -73,6 +73,6 @@ impl<'a, S: Spread> Parts<'a, S> {
             return Err(Refusal::NoSuchWorker);
         }
         let job = &self.job;
-        self.workers[me].settle(alloc, job.goal(), job.bound())
+        self.workers[me].settle(alloc, job.keyed_goal(), job.bound())
     }
 }

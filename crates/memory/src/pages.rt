@@ -2,6 +2,8 @@
 
 ghost use Rattle.std.specs.Prelude.{◌≡◌, ◌++◌, ◌<◌, ◌≤◌, ◌^◌, [], length, OnOk, OnErr};
 ghost use Rattle.std.specs.Prelude.{slice_set, slice_index_or, replicate};
+ghost use Rattle.std.specs.Borrow.{sem};
+ghost use Rattle.memory.specs.Lends.{lends_item};
 
 use crate::{OutOfMemory, filled, push};
 use std::alloc::Global;
@@ -54,8 +56,26 @@ impl<T: Copy> Pages<T> {
         requires { place < length self.now }
         ensures { result ≡ slice_index_or self.now place result }
     {
+        *self.at(place)
+    }
+
+    /// The item at a place, to read.
+    pub fn at(&self, place: usize) -> &T
+        requires { place < length self.now }
+        ensures { result.now ≡ slice_index_or self.now place result.now }
+    {
         let page = &self.pages[place / PAGE_LENGTH];
-        page[place % PAGE_LENGTH]
+        &page[place % PAGE_LENGTH]
+    }
+
+    /// The item at a place, to write to.
+    pub fn at_mut(&mut self, place: usize) -> &mut T
+        requires { place < length self.old }
+        ensures* writes_back { sem 𝓛 (lends_item T.row self.entry place result) }
+        ensures value { result.now ≡ slice_index_or self.old place result.now }
+    {
+        let page = &mut self.pages[place / PAGE_LENGTH];
+        &mut page[place % PAGE_LENGTH]
     }
 
     /// Puts an item at a place.
@@ -63,8 +83,7 @@ impl<T: Copy> Pages<T> {
         requires { place < length self.old }
         ensures { self.new ≡ slice_set self.old place item }
     {
-        let page = &mut self.pages[place / PAGE_LENGTH];
-        page[place % PAGE_LENGTH] = item;
+        *self.at_mut(place) = item;
     }
 
     /// Adds a page of this item. Where as many pages stand as there may be, this is refused as by a

@@ -41,6 +41,20 @@ pub struct Offers {
     pub down: Option<Offer>,
 }
 
+impl Offers {
+    /// Nothing is offered.
+    pub fn none() -> Self
+        ensures { OfEach (λ offer. ⊥) result }
+    {
+        Offers {
+            up: None,
+            left: None,
+            right: None,
+            down: None,
+        }
+    }
+}
+
 // Of a board whose moves are offered its hash, where there are several workers, and the cell of the
 // blank; and the number of workers.
 #[derive(Clone, Copy)]
@@ -61,7 +75,8 @@ pub fn offers_of<S: Spread>(
     owners: &S,
     workers: usize,
     left_out: Option<Move>,
-) -> Offers
+    offers: &mut Offers,
+)
     requires rule { weights.now.grid ≡ unpacked.now.grid }
     requires bound { bound.now.split.grid ≡ unpacked.now.grid }
     requires low { cost ≤ GREATEST_EXPANDED_COST }
@@ -70,22 +85,21 @@ pub fn offers_of<S: Spread>(
     requires some { 0 < workers }
     ensures offered { AreOffered (sum_of (parts_of bound.now))
         (λ b. S.hash_of owners.now b % workers)
-        (but left_out (item_by weights.now unpacked.now cost)) result }
-    ensures within { OfEach (IsWithin unpacked.now.grid cost workers) result }
+        (but left_out (item_by weights.now unpacked.now cost)) offers.new }
+    ensures within { OfEach (IsWithin unpacked.now.grid cost workers) offers.new }
 {
-    let [up, left, right, down] = unpacked.successors_but(left_out, Some(sum), weights, bound);
+    let mut told = [None; 4];
+    unpacked.successors_but(left_out, Some(sum), weights, bound, &mut told);
     let board = unpacked.board();
     let hashed = Hashed {
         hash: hash_for(board, owners, workers),
         blank: unpacked.blank(),
         workers,
     };
-    Offers {
-        up: offer_by(board, cost, Move::U, up, owners, hashed),
-        left: offer_by(board, cost, Move::L, left, owners, hashed),
-        right: offer_by(board, cost, Move::R, right, owners, hashed),
-        down: offer_by(board, cost, Move::D, down, owners, hashed),
-    }
+    offers.up = offer_by(board, cost, Move::U, &told[0], owners, hashed);
+    offers.left = offer_by(board, cost, Move::L, &told[1], owners, hashed);
+    offers.right = offer_by(board, cost, Move::R, &told[2], owners, hashed);
+    offers.down = offer_by(board, cost, Move::D, &told[3], owners, hashed);
 }
 
 // The hash of a board where there are several workers: one owns all, whatever the hash.
@@ -103,27 +117,27 @@ fn offer_by<S: Spread>(
     board: &Board,
     cost: u32,
     direction: Move,
-    told: Option<Successor>,
+    told: &Option<Successor>,
     owners: &S,
     hashed: Hashed,
 ) -> Option<Offer>
     requires low { cost ≤ GREATEST_EXPANDED_COST }
-    requires keys { IfSome told (λ s. (b : Position) × HasKey board.now.grid s.key b) }
-    requires slides { IfSome told (λ s. IsSlide board.now.grid board.now
+    requires keys { IfSome told.now (λ s. (b : Position) × HasKey board.now.grid s.key b) }
+    requires slides { IfSome told.now (λ s. IsSlide board.now.grid board.now
         (record { tile = s.tile; from = s.cell; to = hashed.blank })) }
-    requires costs { IfSome told (λ s. s.cost ≤ 255) }
-    requires sums { IfSome told (λ s. s.sum ≤ GREATEST_SUM) }
+    requires costs { IfSome told.now (λ s. s.cost ≤ 255) }
+    requires sums { IfSome told.now (λ s. s.sum ≤ GREATEST_SUM) }
     requires some { 0 < hashed.workers }
     requires hash { hashed.workers ≢ 1 → hashed.hash ≡ S.hash_of owners.now board.now }
     ensures within { IfSome result (IsWithin board.now.grid cost hashed.workers) }
-    ensures none { told ≡ None → result ≡ None }
+    ensures none { told.now ≡ None → result ≡ None }
     ensures offered { (rule : CostRule) (parts : List Part)
-        → told ≡ option_map (told_of parts board.now) (successor rule board.now direction)
+        → told.now ≡ option_map (told_of parts board.now) (successor rule board.now direction)
         → IsOffered (sum_of parts) (λ b. S.hash_of owners.now b % hashed.workers)
         (item_by rule board.now cost direction) result }
 {
     let shape = board.shape();
-    let Some(successor) = told else {
+    let Some(successor) = *told else {
         return None;
     };
     let slide = Slide {

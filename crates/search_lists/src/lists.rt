@@ -54,6 +54,8 @@ pub struct SearchLists {
     open: Open<u32>,
     // The greatest f whose entries were put in order of cost.
     ordered: u32,
+    // Whether a goal was met, which is worth a look then.
+    goal_met: bool,
 }
 
 impl Model for SearchLists {
@@ -77,6 +79,7 @@ impl SearchLists {
             closed: Closed::new(alloc),
             open: Open::new(alloc),
             ordered: 0,
+            goal_met: false,
         }
     }
 
@@ -141,7 +144,13 @@ impl SearchLists {
         ensures order { (guide : Guide) → guide.goal ≡ goal → AddsUp guide met
             → IsInOrder guide self.old → IsInOrder guide self.new }
     {
+        self.goal_met |= met.key == goal;
         relax(&mut self.closed, &mut self.open, goal, met);
+    }
+
+    /// Whether a goal was ever met by `relax`. No more than a hint: no contract speaks of it.
+    pub fn has_met_goal(&self) -> bool {
+        self.goal_met
     }
 
     /// An open board of least cost plus sum, where that is below a limit. Entries that are out of

@@ -11,7 +11,7 @@ use owners::Spread;
 use quiescence::{Book, Rested};
 use std::alloc::Global;
 use std::marker::Model;
-use worker_core::{Queue, Worker};
+use worker_core::{Goal, Queue, Worker};
 use worker_trials::{Job, bound_of, expand, hire, meet, settle};
 use world_model::{HaltCause, Item, Refusal};
 
@@ -128,7 +128,7 @@ impl<C: Tokens> Trial<C> {
         if self.worker.workers() == 0 {
             return None;
         }
-        Some(self.worker.announce(me, &self.job.goal, owners, book))
+        Some(self.worker.announce(me, &Goal::new(&self.job.goal), owners, book))
     }
 
     /// Expansions are granted.
@@ -141,7 +141,7 @@ impl<C: Tokens> Trial<C> {
         if me >= book.workers() {
             return None;
         }
-        Some(self.worker.rest(me, &self.job.goal, book))
+        Some(self.worker.rest(me, &Goal::new(&self.job.goal), book))
     }
 
     /// The run is halted for its limit.

@@ -1,6 +1,6 @@
 -- The sum of a board, by the cell of each number.
 use Rattle.std.proofs.Common.{true, false, ⊎_elim, ◌≡◌, ℕ, ◌<◌, ◌≤◌, List, [], ◌∷◌, Option, None, Some, map, length, get_or, take, drop, refl, sym, ap, ◌∙◌, subst, arith}
-use Rattle.std.specs.Prelude.{All, AllPairs, slice_index, sum, sum_by, option_map, IfSome, MatchOption}
+use Rattle.std.specs.Prelude.{All, AllPairs, slice_index, slice_set, sum, sum_by, option_map, IfSome, MatchOption}
 use Rattle.std.specs.List.{AllByRecursion}
 use Rattle.std.proofs.lemmas.Bool.{cases_Bool, cond-true, cond-false}
 use Rattle.std.proofs.lemmas.List.Elements.{All-weaker, recursion_from_All}
@@ -198,3 +198,12 @@ looked_up_is lookups cells ranks (Some r) at =
 pub ranks_within : (lookups : List Lookup) (cells ranks : List ℕ) (reached : Option Reached) → IfSome reached (λ r. AreRanksOf lookups (cells_after cells r) ranks) → IfSome reached (λ r. AreRanks lookups ranks)
 ranks_within lookups cells ranks None none = tt
 ranks_within lookups cells ranks (Some r) at = at.within
+
+-- a list of four of which each was written anew
+pub written : {A : Type 0} (xs : List A) (a b c d : A) → length xs ≡ 4 → slice_set (slice_set (slice_set (slice_set xs 0 a) 1 b) 2 c) 3 d ≡ a ∷ b ∷ c ∷ d ∷ []
+written [] a b c d four = absurd (omega (arith, four))
+written (x ∷ []) a b c d four = absurd (omega (arith, four))
+written (x ∷ y ∷ []) a b c d four = absurd (omega (arith, four))
+written (x ∷ y ∷ z ∷ []) a b c d four = absurd (omega (arith, four))
+written (x ∷ y ∷ z ∷ w ∷ []) a b c d four = refl
+written (x ∷ y ∷ z ∷ w ∷ v ∷ vs) a b c d four = absurd (omega (arith, four))

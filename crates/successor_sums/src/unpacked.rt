@@ -147,7 +147,9 @@ impl UnpackedBoard {
             (λ told. IfSome told (λ s. (1 ≤ s.cost) × (s.cost ≤ 255))) result }
         ensures sums { All (λ told. IfSome told (λ s. s.sum ≤ GREATEST_SUM)) result }
     {
-        self.successors_but(None, None, weights, bound)
+        let mut told = [None; 4];
+        self.successors_but(None, None, weights, bound, &mut told);
+        told
     }
 
     /// The same, but for one move that is left out, if any is: of that nothing is told. Where the
@@ -162,22 +164,23 @@ impl UnpackedBoard {
         sum: Option<u32>,
         weights: &Weights,
         bound: &Bound,
-    ) -> [Option<Successor>; 4]
+        told: &mut [Option<Successor>; 4],
+    )
         requires rule { weights.now.grid ≡ self.now.grid }
         requires bound { bound.now.split.grid ≡ self.now.grid }
         requires sum { IfSome sum (λ n. (n ≡ sum_of (parts_of bound.now) self.now)
             × (n ≤ GREATEST_EXPANDED_COST)) }
-        ensures value { result
+        ensures value { told.new
             ≡ successors_but left_out weights.now (parts_of bound.now) self.now }
         ensures keys { All
-            (λ told. IfSome told (λ s. (b : Position) × HasKey self.now.grid s.key b)) result }
+            (λ one. IfSome one (λ s. (b : Position) × HasKey self.now.grid s.key b)) told.new }
         ensures tiles { All
-            (λ told. IfSome told (λ s. (0 < s.tile) × (s.tile < cell_count self.now.grid)))
-            result }
-        ensures cells { All (λ told. IfSome told (λ s. s.cell < cell_count self.now.grid)) result }
+            (λ one. IfSome one (λ s. (0 < s.tile) × (s.tile < cell_count self.now.grid)))
+            told.new }
+        ensures cells { All (λ one. IfSome one (λ s. s.cell < cell_count self.now.grid)) told.new }
         ensures costs { All
-            (λ told. IfSome told (λ s. (1 ≤ s.cost) × (s.cost ≤ 255))) result }
-        ensures sums { All (λ told. IfSome told (λ s. s.sum ≤ GREATEST_SUM)) result }
+            (λ one. IfSome one (λ s. (1 ≤ s.cost) × (s.cost ≤ 255))) told.new }
+        ensures sums { All (λ one. IfSome one (λ s. s.sum ≤ GREATEST_SUM)) told.new }
     {
         let up = self.reach_but(left_out, Move::U, weights);
         let left = self.reach_but(left_out, Move::L, weights);
@@ -185,10 +188,10 @@ impl UnpackedBoard {
         let down = self.reach_but(left_out, Move::D, weights);
         match bound.tables() {
             TableList::Whole(tables) => {
-                by_tables(tables, &self.cells, &up, &left, &right, &down)
+                by_tables(tables, &self.cells, &up, &left, &right, &down, told)
             }
             TableList::Folded(folds) => {
-                by_folds(folds, sum, &self.cells, &up, &left, &right, &down)
+                by_folds(folds, sum, &self.cells, &up, &left, &right, &down, told)
             }
         }
     }
@@ -277,15 +280,16 @@ fn by_tables(
     left: &Option<Reached>,
     right: &Option<Reached>,
     down: &Option<Reached>,
-) -> [Option<Successor>; 4]
+    told: &mut [Option<Successor>; 4],
+)
     requires few { length tables.now ≤ MOST_TABLES }
     requires up { SeesViews tables.now cells.now up.now }
     requires left { SeesViews tables.now cells.now left.now }
     requires right { SeesViews tables.now cells.now right.now }
     requires down { SeesViews tables.now cells.now down.now }
-    ensures value { result ≡ map (option_map (told_by (sum_by_cells tables.now) cells.now))
+    ensures value { told.new ≡ map (option_map (told_by (sum_by_cells tables.now) cells.now))
         (up.now ∷ left.now ∷ right.now ∷ down.now ∷ []) }
-    ensures high { All (λ told. IfSome told (λ s. s.sum ≤ GREATEST_SUM)) result }
+    ensures high { All (λ one. IfSome one (λ s. s.sum ≤ GREATEST_SUM)) told.new }
 {
     let mut up_ranks = [0; MOST_TABLES];
     let mut left_ranks = [0; MOST_TABLES];
@@ -295,12 +299,10 @@ fn by_tables(
     find_ranks(tables, cells, left, &mut left_ranks);
     find_ranks(tables, cells, right, &mut right_ranks);
     find_ranks(tables, cells, down, &mut down_ranks);
-    [
-        look_up(tables, up, &up_ranks),
-        look_up(tables, left, &left_ranks),
-        look_up(tables, right, &right_ranks),
-        look_up(tables, down, &down_ranks),
-    ]
+    told[0] = look_up(tables, up, &up_ranks);
+    told[1] = look_up(tables, left, &left_ranks);
+    told[2] = look_up(tables, right, &right_ranks);
+    told[3] = look_up(tables, down, &down_ranks);
 }
 
 // Writes the ranks of what the groups see of a successor, if there is one. (A list that is handed
@@ -351,7 +353,8 @@ fn by_folds(
     left: &Option<Reached>,
     right: &Option<Reached>,
     down: &Option<Reached>,
-) -> [Option<Successor>; 4]
+    told: &mut [Option<Successor>; 4],
+)
     requires few { length folds.now ≤ MOST_TABLES }
     requires apart { AllPairs
         (λ f g. ShareNoTile f.selection.tiles g.selection.tiles) folds.now }
@@ -361,17 +364,15 @@ fn by_folds(
     requires left { IsNextTo folds.now cells.now left.now }
     requires right { IsNextTo folds.now cells.now right.now }
     requires down { IsNextTo folds.now cells.now down.now }
-    ensures value { result
+    ensures value { told.new
         ≡ map (option_map (told_by (λ after. sum_by (value_by after) folds.now) cells.now))
         (up.now ∷ left.now ∷ right.now ∷ down.now ∷ []) }
-    ensures high { All (λ told. IfSome told (λ s. s.sum ≤ GREATEST_SUM)) result }
+    ensures high { All (λ one. IfSome one (λ s. s.sum ≤ GREATEST_SUM)) told.new }
 {
-    [
-        look_up_folded(folds, sum, cells, up),
-        look_up_folded(folds, sum, cells, left),
-        look_up_folded(folds, sum, cells, right),
-        look_up_folded(folds, sum, cells, down),
-    ]
+    told[0] = look_up_folded(folds, sum, cells, up);
+    told[1] = look_up_folded(folds, sum, cells, left);
+    told[2] = look_up_folded(folds, sum, cells, right);
+    told[3] = look_up_folded(folds, sum, cells, down);
 }
 
 // The successor, by folded tables: from the board's own sum, where it is known.

@@ -56,7 +56,7 @@ impl<'a, S: Spread, C: Tokens> Part<'a, S, C> {
         if let Err(refusal) = self.look_at(book) {
             return Err(refusal);
         }
-        let goal = self.job.goal();
+        let goal = self.job.keyed_goal();
         let me = self.me;
         let owners = self.owners;
         self.worker.announce(me, goal, owners, book)
@@ -99,7 +99,7 @@ impl<'a, S: Spread, C: Tokens> Part<'a, S, C> {
             return Err(refusal);
         }
         let _ = book.workers();
-        let goal = self.job.goal();
+        let goal = self.job.keyed_goal();
         let me = self.me;
         self.worker.rest(me, goal, book)
     }

@@ -82,7 +82,7 @@ fn open_worker<S: Spread, C: Counting>(
         IsGuided (task_in job.now) (guide_of (task_in job.now)) worker.lists) }
 {
     tasks_have_guides();
-    let goal = job.goal();
+    let goal = job.keyed_goal();
     let mut worker = Worker::new(alloc, workers, purse, allowance)?;
     let owner = owners.owner(job.start(), workers);
     if owner != me {

@@ -17,9 +17,9 @@ ghost use Rattle.search_lists.specs.Orders.{Guide, IsInOrder};
 ghost use Rattle.worker_core.specs.Roles.{IsRoleOf, IsGuided};
 ghost use Rattle.worker_core.specs.Workers.{state_of, with_book};
 
+use crate::goal::Goal;
 use crate::packets::are_empty;
 use crate::worker::Worker;
-use board::Board;
 use incumbent::Best;
 use message_ledger::Counting;
 use owners::Spread;
@@ -49,7 +49,7 @@ impl<C: Counting> Worker<C> {
     pub fn announce<S: Spread>(
         &mut self,
         me: usize,
-        goal: &Board,
+        goal: &Goal,
         owners: &S,
         book: &mut Book<C>,
     ) -> Result<(), Refusal>
@@ -65,7 +65,7 @@ impl<C: Counting> Worker<C> {
         if book.stop().is_some() {
             return Err(Refusal::Stopped);
         }
-        if owners.owner(goal, self.unsent.len()) != me {
+        if owners.owner(goal.board(), self.unsent.len()) != me {
             return Err(Refusal::NothingToAnnounce);
         }
         let Some(known) = self.lists.get(goal.key()) else {
@@ -114,7 +114,7 @@ impl<C: Counting> Worker<C> {
     /// Rests: gives the purse back. Refusals: S11 the run is stopped, S12 the purse is empty, S10
     /// something is held or unsent, a better goal is known, or a board may be expanded.
     #[tactic(auto, using(crate::proofs::ChosenLemmas::guided_by_next))]
-    pub fn rest(&mut self, me: usize, goal: &Board, book: &mut Book<C>) -> Result<Rested, Refusal>
+    pub fn rest(&mut self, me: usize, goal: &Goal, book: &mut Book<C>) -> Result<Rested, Refusal>
         requires counted { C.counts book.old.credit self.old.purse }
         requires there { me < length book.old.floors }
         ensures step { (role : Role) (guide : Guide) → IsRoleOf me goal.now role
@@ -168,7 +168,7 @@ impl<C: Counting> Worker<C> {
     }
 
     // Whether the goal is known at a cost below the best one.
-    fn knows_better(&self, goal: &Board, best: Best) -> bool
+    fn knows_better(&self, goal: &Goal, best: Best) -> bool
         ensures yes { IsTrue result → (known : Known)
             × (map.get self.now.lists.closed.known (key_of goal.now) ≡ Some known)
             × (¬ IsNotBelow (Some known.cost) best) }

@@ -24,8 +24,9 @@ ghost use Rattle.worker_core.specs.Expanding.{left_out_if};
 ghost use Rattle.worker_core.specs.Roles.{IsGuided, WereReached, task_of};
 ghost use Rattle.worker_core.specs.Workers.{state_of, packets_of};
 
+use crate::goal::Goal;
 use crate::worker::Worker;
-use board::{Board, Move, Weights};
+use board::{Move, Weights};
 use lower_bound::Bound;
 use memory::OutOfMemory;
 use message_ledger::{Allowance, Counting};
@@ -50,7 +51,7 @@ impl<C: Counting> Worker<C> {
         &mut self,
         alloc: Global,
         me: usize,
-        goal: &Board,
+        goal: &Goal,
         weights: &Weights,
         bound: &Bound,
         owners: &S,
@@ -83,7 +84,7 @@ impl<C: Counting> Worker<C> {
         &mut self,
         alloc: Global,
         me: usize,
-        goal: &Board,
+        goal: &Goal,
         weights: &Weights,
         bound: &Bound,
         owners: &S,
@@ -116,7 +117,7 @@ impl<C: Counting> Worker<C> {
         &mut self,
         alloc: Global,
         me: usize,
-        goal: &Board,
+        goal: &Goal,
         weights: &Weights,
         bound: &Bound,
         owners: &S,
@@ -150,7 +151,7 @@ impl<C: Counting> Worker<C> {
         &mut self,
         alloc: Global,
         me: usize,
-        goal: &Board,
+        goal: &Goal,
         weights: &Weights,
         bound: &Bound,
         owners: &S,
@@ -183,7 +184,8 @@ impl<C: Counting> Worker<C> {
             return Err(Refusal::NoAllowance);
         }
         let unpacked = UnpackedBoard::of_key(goal.shape(), next.key);
-        let offers = offers_of(
+        let mut offers = Offers::none();
+        offers_of(
             &unpacked,
             next.cost,
             next.f - next.cost,
@@ -192,6 +194,7 @@ impl<C: Counting> Worker<C> {
             owners,
             self.unsent.len(),
             move_left_out(next, onward),
+            &mut offers,
         );
         if !has_room(&self.unsent, me, &offers) {
             return Err(Refusal::NoRoom);
@@ -205,7 +208,7 @@ impl<C: Counting> Worker<C> {
     }
 
     // Closes a board, which counts as an expansion, and takes what its moves offer.
-    fn expand_next(&mut self, me: usize, goal: &Board, next: Next, offers: &Offers)
+    fn expand_next(&mut self, me: usize, goal: &Goal, next: Next, offers: &Offers)
         requires first { IsFirst self.old.lists next }
         requires allowed { 0 < self.old.allowance.left }
         requires granted { self.old.allowance.left ≤ self.old.allowance.granted }

@@ -5,6 +5,7 @@
 mod book_steps;
 mod closing;
 mod expanding;
+mod goal;
 mod holding;
 mod lane_steps;
 mod lanes;
@@ -14,5 +15,6 @@ mod settling;
 mod taking;
 mod worker;
 
+pub use goal::Goal;
 pub use lanes::{LaneIn, LaneOut, Queue};
 pub use worker::Worker;

@@ -16,8 +16,8 @@ ghost use Rattle.world_model.specs.WorkerSteps.{SettleStep};
 ghost use Rattle.worker_core.specs.Roles.{IsGuideOf, IsGuided, AreTaskBoards, AreAtHome, task_of};
 ghost use Rattle.worker_core.specs.Workers.{state_of};
 
+use crate::goal::Goal;
 use crate::worker::Worker;
-use board::Board;
 use lower_bound::Bound;
 use memory::OutOfMemory;
 use message_ledger::Counting;
@@ -29,7 +29,7 @@ use world_model::{Item, Refusal};
 impl<C: Counting> Worker<C> {
     /// Takes the last held item out, and relaxes its board. Refusals: S13 nothing is held, S8
     /// memory was refused.
-    pub fn settle(&mut self, alloc: Global, goal: &Board, bound: &Bound) -> Result<(), Refusal>
+    pub fn settle(&mut self, alloc: Global, goal: &Goal, bound: &Bound) -> Result<(), Refusal>
         requires sides { bound.now.split.grid ≡ goal.now.grid }
         requires items { AreAtHome goal.now self.old.held.items }
         ensures step { SettleStep (turn (state_of self.old) (refusal_in result)
@@ -60,7 +60,7 @@ impl<C: Counting> Worker<C> {
     pub fn meet(
         &mut self,
         alloc: Global,
-        goal: &Board,
+        goal: &Goal,
         bound: &Bound,
         item: &Item,
     ) -> Result<(), OutOfMemory>
@@ -91,7 +91,7 @@ impl<C: Counting> Worker<C> {
 fn relax_item(
     lists: &mut SearchLists,
     alloc: Global,
-    goal: &Board,
+    goal: &Goal,
     bound: &Bound,
     item: &Item,
 ) -> Result<(), OutOfMemory>

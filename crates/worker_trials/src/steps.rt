@@ -11,7 +11,7 @@ use memory::OutOfMemory;
 use message_ledger::{Allowance, Counting, Purse};
 use owners::Spread;
 use std::alloc::Global;
-use worker_core::Worker;
+use worker_core::{Goal, Worker};
 use worker_core::laws::tasks_have_guides;
 use world_model::{Item, PACKET_LIMIT, Refusal};
 
@@ -53,7 +53,7 @@ pub fn meet<C: Counting>(
     if item.cost > GREATEST_COST {
         return None;
     }
-    Some(worker.meet(alloc, &job.goal, &job.bound, item))
+    Some(worker.meet(alloc, &Goal::new(&job.goal), &job.bound, item))
 }
 
 /// A board is expanded. None where there are not two workers, of whom this is one.
@@ -74,7 +74,7 @@ pub fn expand<C: Counting, S: Spread>(
     if !is_one_of_two(worker) {
         return None;
     }
-    Some(worker.expand(alloc, me, &job.goal, &job.weights, &job.bound, owners))
+    Some(worker.expand(alloc, me, &Goal::new(&job.goal), &job.weights, &job.bound, owners))
 }
 
 // Whether there are two workers, for each of whom no more is unsent than a packet takes.
@@ -105,7 +105,7 @@ pub fn settle<C: Counting>(
     if !are_at_home(&job.goal, worker.held()) {
         return None;
     }
-    Some(worker.settle(alloc, &job.goal, &job.bound))
+    Some(worker.settle(alloc, &Goal::new(&job.goal), &job.bound))
 }
 
 // Whether items are of boards with the goal's sides.

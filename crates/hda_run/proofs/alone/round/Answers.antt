@@ -7,21 +7,21 @@ use Rattle.hda_run.proofs.AloneLemmas.{expands}
 use Rattle.hda_run.proofs.AloneEnds.{takes, stays, reaches_on, refused_alone, quiet_only}
 use Rattle.hda_run.proofs.alone.round.Goals as goal
 
-pub announce_at_times-requires : goal.announce_at_times-requires
-announce_at_times-requires g c = (expands (world_of g.S.Spread.hash_of c.args.world.now) c.requires (world_of g.S.Spread.hash_of c.take.new.world) c.in_default.ensures.step).0
+pub announce_when_met-requires : goal.announce_when_met-requires
+announce_when_met-requires g c = (expands (world_of g.S.Spread.hash_of c.args.world.now) c.requires (world_of g.S.Spread.hash_of c.take.new.world) c.in_default.ensures.step).0
 
 pub returns-in_default-clause-run : goal.returns-in_default-clause-run
 returns-in_default-clause-run g c =
     let old = world_of g.S.Spread.hash_of c.args.world.now in
     let middle = world_of g.S.Spread.hash_of c.take.new.world in
-    let new = world_of g.S.Spread.hash_of c.announce_at_times.new.world in
-    reaches_on old middle new (takes (Expand 0) None old middle (λ h. h) c.in_default.ensures.step) c.announce_at_times.ensures.run
+    let new = world_of g.S.Spread.hash_of c.announce_when_met.new.world in
+    reaches_on old middle new (takes (Expand 0) None old middle (λ h. h) c.in_default.ensures.step) c.announce_when_met.ensures.run
 
 pub returns-in_default-clause-less : goal.returns-in_default-clause-less
 returns-in_default-clause-less g c accepted =
     let old = world_of g.S.Spread.hash_of c.args.world.now in
     let less = (expands old c.requires (world_of g.S.Spread.hash_of c.take.new.world) c.in_default.ensures.step).1 in
-    subst (λ (n : ℕ). n < work_left old) (sym c.announce_at_times.ensures.same) less
+    subst (λ (n : ℕ). n < work_left old) (sym c.announce_when_met.ensures.same) less
 
 pub be_granted-requires-clause-lone : goal.be_granted-requires-clause-lone
 be_granted-requires-clause-lone g c = (refused_alone (world_of g.S.Spread.hash_of c.args.world.now) c.requires c.in-Err.refusal (world_of g.S.Spread.hash_of c.take.new.world) c.in-Err.ensures.step).lone

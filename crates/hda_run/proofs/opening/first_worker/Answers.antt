@@ -19,7 +19,7 @@ returns-clause-guided c =
     let job = c.args.job.now in
     let task = task_in job in
     let guide = guide_of task in
-    let lent = task_of job.start c.goal-goal.result.now job.rule c.bound.result.now in
-    let same : lent ≡ task = λ t. task_of job.start (c.goal-goal.ensures.value t) job.rule (c.bound.ensures.value t) in
-    let leads = c.tasks_have_guides.ensures task c.goal-goal.ensures.task.goal in
+    let lent = task_of job.start c.keyed_goal-goal.result.now job.rule c.bound.result.now in
+    let same : lent ≡ task = λ t. task_of job.start (c.keyed_goal-goal.ensures.value t) job.rule (c.bound.ensures.value t) in
+    let leads = c.tasks_have_guides.ensures task c.keyed_goal-goal.ensures.task.goal in
     guided_for lent task same guide c.in_ok-worker.worker.lists c.meet.new.self.lists (c.meet.ensures.guided job.start job.rule guide) (c.in_ok-worker.ensures.guided task guide leads)

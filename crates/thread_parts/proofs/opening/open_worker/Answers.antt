@@ -10,7 +10,7 @@ use Rattle.thread_parts.proofs.opening.open_worker.Goals as goal
 pub returns-then-owner-me-clause-guided : goal.returns-then-owner-me-clause-guided
 returns-then-owner-me-clause-guided g c =
     let task = task_in c.args.job.now in
-    c.in_ok-worker.ensures.guided task (guide_of task) (c.tasks_have_guides.ensures task c.goal-goal.ensures.task.goal)
+    c.in_ok-worker.ensures.guided task (guide_of task) (c.tasks_have_guides.ensures task c.keyed_goal-goal.ensures.task.goal)
 
 pub returns-clause-first : goal.returns-clause-first
 returns-clause-first g c = λ own.
@@ -23,7 +23,7 @@ returns-clause-guided g c =
     let job = c.args.job.now in
     let task = task_in job in
     let guide = guide_of task in
-    let lent = task_of job.start c.goal-goal.result.now job.rule c.bound.result.now in
-    let same : lent ≡ task = λ t. task_of job.start (c.goal-goal.ensures.value t) job.rule (c.bound.ensures.value t) in
-    let leads = c.tasks_have_guides.ensures task c.goal-goal.ensures.task.goal in
+    let lent = task_of job.start c.keyed_goal-goal.result.now job.rule c.bound.result.now in
+    let same : lent ≡ task = λ t. task_of job.start (c.keyed_goal-goal.ensures.value t) job.rule (c.bound.ensures.value t) in
+    let leads = c.tasks_have_guides.ensures task c.keyed_goal-goal.ensures.task.goal in
     guided_for lent task same guide c.in_ok-worker.worker.lists c.meet.new.self.lists (c.meet.ensures.guided job.start job.rule guide) (c.in_ok-worker.ensures.guided task guide leads)

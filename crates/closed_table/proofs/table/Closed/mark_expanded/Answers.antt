@@ -1,4 +1,4 @@
-use Rattle.std.proofs.Common.{◌∙◌, Option, None, true, sym, ap, subst}
+use Rattle.std.proofs.Common.{◌∙◌, Option, None, true, refl, sym, ap, subst}
 use Rattle.std.specs.Prelude.{IsSome}
 use Rattle.world_model.specs.declared.parts.Known.{Known}
 use Rattle.closed_table.specs.Tables.{table_closure}
@@ -14,12 +14,12 @@ unreachable-requires c =
 
 pub invariant_of-self : goal.invariant_of-self
 invariant_of-self c =
-    let marked : Known = record (row_of c.get-slot.result).1 { expanded = true } in
-    sound_there c.self.inside c.self.invariant c.args.self.now c.self.view_is c.args.key c.in-Some.place c.in-Some.ensures.0 c.in-Some.ensures.1 c.get-slot.result c.get-slot.ensures marked c.set.new.self c.set.ensures
+    let marked : Known = record (row_of c.at_mut-slot.result.now).1 { expanded = true } in
+    sound_there c.self.inside c.self.invariant c.args.self.now c.self.view_is c.args.key c.in-Some.place c.in-Some.ensures.0 c.in-Some.ensures.1 c.at_mut-slot.result.now c.at_mut-slot.ensures.value marked _ refl
 
 pub returns : goal.returns
 returns c =
-    let known = known_there c.self.inside c.self.invariant c.args.self.now c.self.view_is c.args.key c.in-Some.place c.in-Some.ensures.0 c.in-Some.ensures.1 c.get-slot.result c.get-slot.ensures in
-    let marked : Known = record (row_of c.get-slot.result).1 { expanded = true } in
-    table_there c.self.inside c.self.invariant c.args.self.now c.self.view_is c.args.key c.in-Some.place c.in-Some.ensures.0 c.in-Some.ensures.1 c.get-slot.result c.get-slot.ensures marked c.set.new.self c.set.ensures
+    let known = known_there c.self.inside c.self.invariant c.args.self.now c.self.view_is c.args.key c.in-Some.place c.in-Some.ensures.0 c.in-Some.ensures.1 c.at_mut-slot.result.now c.at_mut-slot.ensures.value in
+    let marked : Known = record (row_of c.at_mut-slot.result.now).1 { expanded = true } in
+    table_there c.self.inside c.self.invariant c.args.self.now c.self.view_is c.args.key c.in-Some.place c.in-Some.ensures.0 c.in-Some.ensures.1 c.at_mut-slot.result.now c.at_mut-slot.ensures.value marked _ refl
     ∙ sym (ap (λ o. table_closure c.args.self.now c.args.key o) known)

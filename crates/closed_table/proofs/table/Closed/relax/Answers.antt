@@ -1,9 +1,10 @@
-use Rattle.std.proofs.Common.{◌≡◌, ◌<◌, ◌+◌, ◌-◌, ◌∙◌, ◌++◌, ◌∷◌, [], sym, ap, arith}
+use Rattle.std.proofs.Common.{◌≡◌, ◌<◌, ◌+◌, ◌-◌, ◌∙◌, ◌++◌, ◌∷◌, [], refl, sym, ap, arith}
 use Rattle.std.specs.Prelude.{slice_get}
 use Rattle.std.specs.FinMap as map
 use Rattle.world_model.specs.declared.parts.Known.{Known}
 use Rattle.closed_table.specs.Tables.{Table, relaxation_answer}
 use Rattle.closed_table.specs.Chains.{row_of, rows_of}
+use Rattle.closed_table.proofs.CountLemmas.{count_le}
 use Rattle.closed_table.proofs.SlotLemmas.{none_known, has_room, listed_there, known_there, sound_there, table_there}
 use Rattle.closed_table.proofs.TableLemmas.{unknown, pushed, table_new, table_lower, table_kept, met_at, kept_is, lower_is}
 use Rattle.closed_table.proofs.table.Closed.relax.Goals as goal
@@ -24,6 +25,7 @@ pub add-requires-clause-buckets : goal.add-requires-clause-buckets
 add-requires-clause-buckets c =
     let room : 0 < c.self.inside.room = has_room c.self.inside c.self.invariant c.args.self.now c.self.view_is c.args.key c.in_default.ensures c.requires in
     let le = c.self.invariant.buckets in
+    let more = count_le (c.self.inside.index.len + 1) (c.self.inside.index.len + c.self.inside.room) (omega arith) in
     omega arith
 
 pub add-requires-clause-small : goal.add-requires-clause-small
@@ -46,7 +48,7 @@ invariant_of-self c =
       indexed = c.add.ensures.indexed;
       slots = let le = c.self.invariant.slots in let e = c.add.ensures.slots in omega arith;
       links = let le = c.self.invariant.links in let e = c.add.ensures.links in omega arith;
-      buckets = let le = c.self.invariant.buckets in let e = c.add.ensures.buckets in omega arith;
+      buckets = let le = c.self.invariant.buckets in let e = c.add.ensures.buckets in let more = count_le (c.add.new.index.len + (c.self.inside.room - 1)) (s.len + c.self.inside.room) (omega arith) in omega arith;
       few = let le = c.self.invariant.few in omega arith;
     }
 
@@ -65,33 +67,33 @@ returns-in_default-clause-table c =
 
 pub returns-then-slot-cost-clause-answer : goal.returns-then-slot-cost-clause-answer
 returns-then-slot-cost-clause-answer c =
-    let known = known_there c.self.inside c.self.invariant c.args.self.now c.self.view_is c.args.key c.in-Some.place c.in-Some.ensures.0 c.in-Some.ensures.1 c.get-slot.result c.get-slot.ensures in
-    sym (ap (λ o. relaxation_answer o c.args.cost) known ∙ kept_is (row_of c.get-slot.result).1 c.args.cost c.if-slot-cost.true)
+    let known = known_there c.self.inside c.self.invariant c.args.self.now c.self.view_is c.args.key c.in-Some.place c.in-Some.ensures.0 c.in-Some.ensures.1 c.at-slot.result.now c.at-slot.ensures in
+    sym (ap (λ o. relaxation_answer o c.args.cost) known ∙ kept_is (row_of c.at-slot.result.now).1 c.args.cost c.if-slot-cost.true)
 
 pub invariant_of-self-2 : goal.invariant_of-self-2
 invariant_of-self-2 c =
-    sound_there c.self.inside c.self.invariant c.args.self.now c.self.view_is c.args.key c.in-Some.place c.in-Some.ensures.0 c.in-Some.ensures.1 c.get-slot.result c.get-slot.ensures (met_at c.args.cost c.args.via) c.set.new.self c.set.ensures
+    sound_there c.self.inside c.self.invariant c.args.self.now c.self.view_is c.args.key c.in-Some.place c.in-Some.ensures.0 c.in-Some.ensures.1 c.at_mut-slot.result.now c.at_mut-slot.ensures.value (met_at c.args.cost c.args.via) _ refl
 
 pub returns-clause-answer : goal.returns-clause-answer
 returns-clause-answer c =
-    let known = known_there c.self.inside c.self.invariant c.args.self.now c.self.view_is c.args.key c.in-Some.place c.in-Some.ensures.0 c.in-Some.ensures.1 c.get-slot.result c.get-slot.ensures in
-    sym (ap (λ o. relaxation_answer o c.args.cost) known ∙ lower_is (row_of c.get-slot.result).1 c.args.cost c.if-slot-cost.false)
+    let known = known_there c.self.inside c.self.invariant c.args.self.now c.self.view_is c.args.key c.in-Some.place c.in-Some.ensures.0 c.in-Some.ensures.1 c.at-slot.result.now c.at-slot.ensures in
+    sym (ap (λ o. relaxation_answer o c.args.cost) known ∙ lower_is (row_of c.at-slot.result.now).1 c.args.cost c.if-slot-cost.false)
 
 pub returns-clause-table : goal.returns-clause-table
 returns-clause-table c =
-    let known = known_there c.self.inside c.self.invariant c.args.self.now c.self.view_is c.args.key c.in-Some.place c.in-Some.ensures.0 c.in-Some.ensures.1 c.get-slot.result c.get-slot.ensures in
-    table_there c.self.inside c.self.invariant c.args.self.now c.self.view_is c.args.key c.in-Some.place c.in-Some.ensures.0 c.in-Some.ensures.1 c.get-slot.result c.get-slot.ensures (met_at c.args.cost c.args.via) c.set.new.self c.set.ensures
-    ∙ sym (table_lower c.args.self.now c.args.key c.args.cost c.args.via (row_of c.get-slot.result).1 known c.if-slot-cost.false)
+    let known = known_there c.self.inside c.self.invariant c.args.self.now c.self.view_is c.args.key c.in-Some.place c.in-Some.ensures.0 c.in-Some.ensures.1 c.at-slot.result.now c.at-slot.ensures in
+    table_there c.self.inside c.self.invariant c.args.self.now c.self.view_is c.args.key c.in-Some.place c.in-Some.ensures.0 c.in-Some.ensures.1 c.at_mut-slot.result.now c.at_mut-slot.ensures.value (met_at c.args.cost c.args.via) _ refl
+    ∙ sym (table_lower c.args.self.now c.args.key c.args.cost c.args.via (row_of c.at-slot.result.now).1 known c.if-slot-cost.false)
 
 pub returns-clause-place : goal.returns-clause-place
 returns-clause-place c =
-    ap (λ (t : Table). slice_get t.keys c.in-Some.place) (table_there c.self.inside c.self.invariant c.args.self.now c.self.view_is c.args.key c.in-Some.place c.in-Some.ensures.0 c.in-Some.ensures.1 c.get-slot.result c.get-slot.ensures (met_at c.args.cost c.args.via) c.set.new.self c.set.ensures)
+    ap (λ (t : Table). slice_get t.keys c.in-Some.place) (table_there c.self.inside c.self.invariant c.args.self.now c.self.view_is c.args.key c.in-Some.place c.in-Some.ensures.0 c.in-Some.ensures.1 c.at_mut-slot.result.now c.at_mut-slot.ensures.value (met_at c.args.cost c.args.via) _ refl)
     ∙ listed_there c.self.inside c.self.invariant c.args.self.now c.self.view_is c.args.key c.in-Some.place c.in-Some.ensures.0 c.in-Some.ensures.1
 
 pub returns-then-slot-cost-clause-table : goal.returns-then-slot-cost-clause-table
 returns-then-slot-cost-clause-table c =
-    let known = known_there c.self.inside c.self.invariant c.args.self.now c.self.view_is c.args.key c.in-Some.place c.in-Some.ensures.0 c.in-Some.ensures.1 c.get-slot.result c.get-slot.ensures in
-    sym (table_kept c.args.self.now c.args.key c.args.cost c.args.via (row_of c.get-slot.result).1 known c.if-slot-cost.true)
+    let known = known_there c.self.inside c.self.invariant c.args.self.now c.self.view_is c.args.key c.in-Some.place c.in-Some.ensures.0 c.in-Some.ensures.1 c.at-slot.result.now c.at-slot.ensures in
+    sym (table_kept c.args.self.now c.args.key c.args.cost c.args.via (row_of c.at-slot.result.now).1 known c.if-slot-cost.true)
 
 pub returns-then-slot-cost-clause-place : goal.returns-then-slot-cost-clause-place
 returns-then-slot-cost-clause-place c =

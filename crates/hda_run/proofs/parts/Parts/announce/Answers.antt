@@ -24,8 +24,8 @@ returns-clause-step g c =
     let worker = c.index_mut.result.now in
     let within = inside old.workers c.len.result c.args.me c.len.ensures c.if-me-len.false in
     let role = role_of (world_of hash old) c.args.me in
-    let goal_is = c.goal-goal.ensures.value in
-    let owner = owner_is hash old c.args.me worker within c.index_mut.ensures.value c.requires.shaped c.goal-goal.result.now in
+    let goal_is = c.keyed_goal-goal.ensures.value in
+    let owner = owner_is hash old c.args.me worker within c.index_mut.ensures.value c.requires.shaped c.keyed_goal-goal.result.now in
     on_book hash old c.args.me worker within c.index_mut.ensures.value (AnnounceStep role) (refusal_in c.announce.result) c.announce.new.self c.announce.new.book
     (c.announce.ensures.step role (record { me = refl; ends = sym goal_is }) owner)
 

@@ -34,7 +34,7 @@ returns-clause-step g c =
     let worker = c.index_mut.result.now in
     let within = inside old.workers c.len.result c.args.me c.len.ensures c.if-me-len.false in
     let role = role_of (world_of hash old) c.args.me in
-    let same = role_is hash old c.args.me worker within c.index_mut.ensures.value c.requires.shaped c.goal.result.now c.weights.result.now c.bound.result.now c.goal.ensures.value c.weights.ensures.value c.bound.ensures.value in
+    let same = role_is hash old c.args.me worker within c.index_mut.ensures.value c.requires.shaped c.keyed_goal.result.now c.weights.result.now c.bound.result.now c.keyed_goal.ensures.value c.weights.ensures.value c.bound.ensures.value in
     by_worker hash old c.args.me worker within c.index_mut.ensures.value (ExpandStep role) (refusal_in c.expand.result) c.expand.new.self
     (subst (λ (r : Role). ExpandStep r (turn (state_of worker) (refusal_in c.expand.result) (state_of c.expand.new.self))) same (c.expand.ensures.step old.job.start))
 
@@ -42,8 +42,8 @@ pub returns-clause-guided : goal.returns-clause-guided
 returns-clause-guided g c =
     let old = c.args.self.now in
     let task = task_in old.job in
-    let lent = task_of old.job.start c.goal.result.now c.weights.result.now c.bound.result.now in
-    let same : lent ≡ task = λ t. task_of old.job.start (c.goal.ensures.value t) (c.weights.ensures.value t) (c.bound.ensures.value t) in
+    let lent = task_of old.job.start c.keyed_goal.result.now c.weights.result.now c.bound.result.now in
+    let same : lent ≡ task = λ t. task_of old.job.start (c.keyed_goal.ensures.value t) (c.weights.ensures.value t) (c.bound.ensures.value t) in
     let worker = c.index_mut.result.now in
     let within = inside old.workers c.len.result c.args.me c.len.ensures c.if-me-len.false in
     set_guided g.S.Spread.hash_of old c.args.me worker within c.index_mut.ensures.value c.expand.new.self

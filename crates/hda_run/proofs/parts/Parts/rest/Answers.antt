@@ -27,7 +27,7 @@ returns-clause-step g c =
     let within = inside old.workers c.len.result c.args.me c.len.ensures c.if-me-len.false in
     let role = role_of (world_of hash old) c.args.me in
     let guided = is_guided hash old c.args.me worker within c.index_mut.ensures.value c.requires.guided in
-    let goal_is = c.goal-goal.ensures.value in
+    let goal_is = c.keyed_goal-goal.ensures.value in
     on_book hash old c.args.me worker within c.index_mut.ensures.value (RestStep role) (refusal_in c.rest_by.result) c.rest_by.new.worker c.rest_by.new.book
     (c.rest_by.ensures.step role (guide_of (task_in old.job)) (record { me = refl; ends = sym goal_is }) guided)
 

@@ -15,7 +15,7 @@ pub settle-requires-clause-items : goal.settle-requires-clause-items
 settle-requires-clause-items g c κs =
     let old = c.args.self.now in
     let within = inside old.workers c.len.result c.args.me c.len.ensures c.if-me-len.false in
-    at_home g.S.Spread.hash_of old c.args.me c.index_mut.result.now within c.index_mut.ensures.value c.requires.shaped c.goal.result.now c.goal.ensures.value
+    at_home g.S.Spread.hash_of old c.args.me c.index_mut.result.now within c.index_mut.ensures.value c.requires.shaped c.keyed_goal.result.now c.keyed_goal.ensures.value
 
 pub returns-clause-step : goal.returns-clause-step
 returns-clause-step g c =
@@ -27,8 +27,8 @@ pub returns-clause-guided : goal.returns-clause-guided
 returns-clause-guided g c =
     let old = c.args.self.now in
     let task = task_in old.job in
-    let lent = task_of old.job.start c.goal.result.now old.job.rule c.bound.result.now in
-    let same : lent ≡ task = λ t. task_of old.job.start (c.goal.ensures.value t) old.job.rule (c.bound.ensures.value t) in
+    let lent = task_of old.job.start c.keyed_goal.result.now old.job.rule c.bound.result.now in
+    let same : lent ≡ task = λ t. task_of old.job.start (c.keyed_goal.ensures.value t) old.job.rule (c.bound.ensures.value t) in
     let worker = c.index_mut.result.now in
     let within = inside old.workers c.len.result c.args.me c.len.ensures c.if-me-len.false in
     set_guided g.S.Spread.hash_of old c.args.me worker within c.index_mut.ensures.value c.settle.new.self

@@ -13,9 +13,9 @@ returns-clause-step g c =
     let n = g.C.Tokens.workers in
     let hash = g.S.Spread.hash_of in
     let role = role_of hash n old in
-    let owner = ap (λ (k : ℕ). hash old.owners.now c.goal-goal.result.now % k) (sym (unsent_count hash n old c.requires)) in
+    let owner = ap (λ (k : ℕ). hash old.owners.now c.keyed_goal-goal.result.now % k) (sym (unsent_count hash n old c.requires)) in
     unbarred (AnnounceStep role) (turn (with_book (state_of old.worker) c.args.book.now) (refusal_in c.announce.result) (with_book (state_of c.announce.new.self) c.announce.new.book))
-    c.in_default.ensures.goes_on c.in_default.ensures.purse (c.announce.ensures.step role (record { me = refl; ends = sym c.goal-goal.ensures.value }) owner)
+    c.in_default.ensures.goes_on c.in_default.ensures.purse (c.announce.ensures.step role (record { me = refl; ends = sym c.keyed_goal-goal.ensures.value }) owner)
 
 pub returns-clause-holds : goal.returns-clause-holds
 returns-clause-holds g c =
@@ -23,8 +23,8 @@ returns-clause-holds g c =
     let n = g.C.Tokens.workers in
     let hash = g.S.Spread.hash_of in
     let role = role_of hash n old in
-    let owner = ap (λ (k : ℕ). hash old.owners.now c.goal-goal.result.now % k) (sym (unsent_count hash n old c.requires)) in
-    let step = c.announce.ensures.step role (record { me = refl; ends = sym c.goal-goal.ensures.value }) owner in
+    let owner = ap (λ (k : ℕ). hash old.owners.now c.keyed_goal-goal.result.now % k) (sym (unsent_count hash n old c.requires)) in
+    let step = c.announce.ensures.step role (record { me = refl; ends = sym c.keyed_goal-goal.ensures.value }) owner in
     holds_with hash n old c.requires c.announce.new.self
     (c.steps_are_kept.ensures.book n role (part_state old) c.args.book.now c.announce.new.book (refusal_in c.announce.result) (state_of c.announce.new.self) c.requires.role c.requires.keeps c.in_default.ensures.purse (inr (inl step)))
     (same_guided hash n old c.requires c.announce.new.self c.announce.ensures.lists)

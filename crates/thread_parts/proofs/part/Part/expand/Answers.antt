@@ -15,7 +15,7 @@ expand_onward-requires-clause-few g c κs _ = few_unsent g.S.Spread.hash_of g.C.
 pub returns-clause-step : goal.returns-clause-step
 returns-clause-step g c =
     let old = c.args.self.now in
-    let same = role_is g.S.Spread.hash_of g.C.Tokens.workers old c.requires c.goal.result.now c.weights.result.now c.bound.result.now c.goal.ensures.value c.weights.ensures.value c.bound.ensures.value in
+    let same = role_is g.S.Spread.hash_of g.C.Tokens.workers old c.requires c.keyed_goal.result.now c.weights.result.now c.bound.result.now c.keyed_goal.ensures.value c.weights.ensures.value c.bound.ensures.value in
     subst (λ (r : Role). ExpandOnwardStep r (turn (state_of old.worker) (refusal_in c.expand_onward.result) (state_of c.expand_onward.new.self))) same (c.expand_onward.ensures.step old.job.now.start)
 
 pub returns-clause-holds : goal.returns-clause-holds
@@ -23,10 +23,10 @@ returns-clause-holds g c =
     let old = c.args.self.now in
     let n = g.C.Tokens.workers in
     let task = task_in old.job.now in
-    let lent = task_of old.job.now.start c.goal.result.now c.weights.result.now c.bound.result.now in
-    let same_task : lent ≡ task = λ t. task_of old.job.now.start (c.goal.ensures.value t) (c.weights.ensures.value t) (c.bound.ensures.value t) in
+    let lent = task_of old.job.now.start c.keyed_goal.result.now c.weights.result.now c.bound.result.now in
+    let same_task : lent ≡ task = λ t. task_of old.job.now.start (c.keyed_goal.ensures.value t) (c.weights.ensures.value t) (c.bound.ensures.value t) in
     let role = role_of g.S.Spread.hash_of n old in
-    let same = role_is g.S.Spread.hash_of n old c.requires c.goal.result.now c.weights.result.now c.bound.result.now c.goal.ensures.value c.weights.ensures.value c.bound.ensures.value in
+    let same = role_is g.S.Spread.hash_of n old c.requires c.keyed_goal.result.now c.weights.result.now c.bound.result.now c.keyed_goal.ensures.value c.weights.ensures.value c.bound.ensures.value in
     let step = subst (λ (r : Role). ExpandOnwardStep r (turn (state_of old.worker) (refusal_in c.expand_onward.result) (state_of c.expand_onward.new.self))) same (c.expand_onward.ensures.step old.job.now.start) in
     holds_with g.S.Spread.hash_of n old c.requires c.expand_onward.new.self
     (c.steps_are_kept.ensures.expand n role (part_state old) (refusal_in c.expand_onward.result) (state_of c.expand_onward.new.self) c.requires.role c.requires.keeps (inr step))

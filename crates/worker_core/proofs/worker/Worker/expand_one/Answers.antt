@@ -52,15 +52,15 @@ overflow_sub-next g c =
     let first = c.in-Some.ensures.least guide c.requires.guided.2.order in
     omega (arith, first.adds)
 
-pub offers_of-offers-requires-clause-sum : goal.offers_of-offers-requires-clause-sum
-offers_of-offers-requires-clause-sum g c =
+pub offers_of-requires-clause-sum : goal.offers_of-requires-clause-sum
+offers_of-requires-clause-sum g c =
     let guide = c.requires.guided.1 in
     let is = c.requires.guided.2 in
     let task = task_of c.requires.guided.0 c.args.goal.now c.args.weights.now c.args.bound.now in
     sum_there task guide c.args.self.now.lists is c.in-Some.next (c.in-Some.ensures.least guide is.order) c.of_key-unpacked.result c.shape.result c.shape.ensures.value c.of_key-unpacked.ensures
 
-pub offers_of-offers-requires-clause-sum_low : goal.offers_of-offers-requires-clause-sum_low
-offers_of-offers-requires-clause-sum_low g c = sum_low c.in-Some.next c.limit.result c.args.self.now.best c.in-Some.ensures.below c.limit.ensures
+pub offers_of-requires-clause-sum_low : goal.offers_of-requires-clause-sum_low
+offers_of-requires-clause-sum_low g c = sum_low c.in-Some.next c.limit.result c.args.self.now.best c.in-Some.ensures.below c.limit.ensures
 
 -- src/expanding.rt:81:13
 pub returns-then-not-has_room-clause-step : goal.returns-then-not-has_room-clause-step
@@ -77,8 +77,8 @@ returns-then-not-has_room-clause-step g c = λ start.
     let role = role_by task hash workers c.args.me in
     let b = c.of_key-unpacked.result in
     let known = first.opens.0 in
-    let offers = c.offers_of-offers.result in
-    let it = chosen task guide lists is worker refl hash c.len.result workers c.args.me (c.len.ensures ∙ c.args.self.now.unsent.ok.0) c.limit.result c.limit.ensures next first c.in-Some.ensures.below b c.shape.result c.shape.ensures.value c.of_key-unpacked.ensures c.args.onward c.move_left_out.result c.move_left_out.ensures offers c.offers_of-offers.ensures.offered c.offers_of-offers.ensures.within in
+    let offers = c.offers_of.new.offers in
+    let it = chosen task guide lists is worker refl hash c.len.result workers c.args.me (c.len.ensures ∙ c.args.self.now.unsent.ok.0) c.limit.result c.limit.ensures next first c.in-Some.ensures.below b c.shape.result c.shape.ensures.value c.of_key-unpacked.ensures c.args.onward c.move_left_out.result c.move_left_out.ensures offers c.offers_of.ensures.offered c.offers_of.ensures.within in
     let all : length worker.unsent ≡ workers = length-map c.args.self.now.unsent.items (λ v. v.items) in
     let some : worker.allowance ≡ 0 → ⊥ = λ none. c.if-left-eq0.false (c.left.ensures.value ∙ none) in
     let none : ¬ HasRoom c.args.me worker.unsent offers = λ room. (let wrong = c.if-not-has_room.ensures.1 (subst (λ (xs : List Items). HasRoom c.args.me (packets_of xs) offers) (sym c.deref.ensures.value) room) in cc) in
@@ -96,7 +96,7 @@ make_places-requires g c =
     let guide = c.requires.guided.1 in
     let first = c.in-Some.ensures.least guide c.requires.guided.2.order in
     let low = cost_low guide c.args.self.now.lists.closed c.in-Some.next c.limit.result c.args.self.now.best first c.in-Some.ensures.below c.limit.ensures in
-    all_low c.of_key-unpacked.result.grid c.in-Some.next.cost c.len.result c.offers_of-offers.result low c.offers_of-offers.ensures.within
+    all_low c.of_key-unpacked.result.grid c.in-Some.next.cost c.len.result c.offers_of.new.offers low c.offers_of.ensures.within
 
 -- src/expanding.rt:84:13
 pub returns-in-Err-clause-step : goal.returns-in-Err-clause-step
@@ -113,8 +113,8 @@ returns-in-Err-clause-step g c = λ start.
     let role = role_by task hash workers c.args.me in
     let b = c.of_key-unpacked.result in
     let known = first.opens.0 in
-    let offers = c.offers_of-offers.result in
-    let it = chosen task guide lists is worker refl hash c.len.result workers c.args.me (c.len.ensures ∙ c.args.self.now.unsent.ok.0) c.limit.result c.limit.ensures next first c.in-Some.ensures.below b c.shape.result c.shape.ensures.value c.of_key-unpacked.ensures c.args.onward c.move_left_out.result c.move_left_out.ensures offers c.offers_of-offers.ensures.offered c.offers_of-offers.ensures.within in
+    let offers = c.offers_of.new.offers in
+    let it = chosen task guide lists is worker refl hash c.len.result workers c.args.me (c.len.ensures ∙ c.args.self.now.unsent.ok.0) c.limit.result c.limit.ensures next first c.in-Some.ensures.below b c.shape.result c.shape.ensures.value c.of_key-unpacked.ensures c.args.onward c.move_left_out.result c.move_left_out.ensures offers c.offers_of.ensures.offered c.offers_of.ensures.within in
     let all : length worker.unsent ≡ workers = length-map c.args.self.now.unsent.items (λ v. v.items) in
     let room = subst (λ (xs : List Items). HasRoom c.args.me (packets_of xs) offers) c.deref.ensures.value (c.has_room.ensures.0 (search rules)) in
     let some : worker.allowance ≡ 0 → ⊥ = λ none. c.if-left-eq0.false (c.left.ensures.value ∙ none) in
@@ -144,8 +144,8 @@ expand_next-requires-clause-ready g c κs within =
     let role = role_by task hash workers c.args.me in
     let b = c.of_key-unpacked.result in
     let known = first.opens.0 in
-    let offers = c.offers_of-offers.result in
-    let it = chosen task guide lists is worker refl hash c.len.result workers c.args.me (c.len.ensures ∙ c.args.self.now.unsent.ok.0) c.limit.result c.limit.ensures next first c.in-Some.ensures.below b c.shape.result c.shape.ensures.value c.of_key-unpacked.ensures c.args.onward c.move_left_out.result c.move_left_out.ensures offers c.offers_of-offers.ensures.offered c.offers_of-offers.ensures.within in
+    let offers = c.offers_of.new.offers in
+    let it = chosen task guide lists is worker refl hash c.len.result workers c.args.me (c.len.ensures ∙ c.args.self.now.unsent.ok.0) c.limit.result c.limit.ensures next first c.in-Some.ensures.below b c.shape.result c.shape.ensures.value c.of_key-unpacked.ensures c.args.onward c.move_left_out.result c.move_left_out.ensures offers c.offers_of.ensures.offered c.offers_of.ensures.within in
     let all : length worker.unsent ≡ workers = length-map c.args.self.now.unsent.items (λ v. v.items) in
     let room = subst (λ (xs : List Items). HasRoom c.args.me (packets_of xs) offers) c.deref.ensures.value (c.has_room.ensures.0 (search rules)) in
     subst (λ (made : Lists). IsReady c.args.me c.args.goal.now.grid (stock made worker.unsent) (in_turn offers)) (sym c.read_ahead.ensures) (ready_for c.args.me c.args.goal.now.grid known.cost workers c.make_places.new.lists worker.unsent offers room it.within all c.in_default-make_places.ensures.boards c.in_default-make_places.ensures.places)
@@ -165,8 +165,8 @@ returns-clause-step g c = λ start.
     let role = role_by task hash workers c.args.me in
     let b = c.of_key-unpacked.result in
     let known = first.opens.0 in
-    let offers = c.offers_of-offers.result in
-    let it = chosen task guide lists is worker refl hash c.len.result workers c.args.me (c.len.ensures ∙ c.args.self.now.unsent.ok.0) c.limit.result c.limit.ensures next first c.in-Some.ensures.below b c.shape.result c.shape.ensures.value c.of_key-unpacked.ensures c.args.onward c.move_left_out.result c.move_left_out.ensures offers c.offers_of-offers.ensures.offered c.offers_of-offers.ensures.within in
+    let offers = c.offers_of.new.offers in
+    let it = chosen task guide lists is worker refl hash c.len.result workers c.args.me (c.len.ensures ∙ c.args.self.now.unsent.ok.0) c.limit.result c.limit.ensures next first c.in-Some.ensures.below b c.shape.result c.shape.ensures.value c.of_key-unpacked.ensures c.args.onward c.move_left_out.result c.move_left_out.ensures offers c.offers_of.ensures.offered c.offers_of.ensures.within in
     let all : length worker.unsent ≡ workers = length-map c.args.self.now.unsent.items (λ v. v.items) in
     let room = subst (λ (xs : List Items). HasRoom c.args.me (packets_of xs) offers) c.deref.ensures.value (c.has_room.ensures.0 (search rules)) in
     let some : worker.allowance ≡ 0 → ⊥ = λ none. c.if-left-eq0.false (c.left.ensures.value ∙ none) in
@@ -191,8 +191,8 @@ returns-clause-order g c = λ start guide is.
     let role = role_by task hash workers c.args.me in
     let b = c.of_key-unpacked.result in
     let known = first.opens.0 in
-    let offers = c.offers_of-offers.result in
-    let it = chosen task guide lists is worker refl hash c.len.result workers c.args.me (c.len.ensures ∙ c.args.self.now.unsent.ok.0) c.limit.result c.limit.ensures next first c.in-Some.ensures.below b c.shape.result c.shape.ensures.value c.of_key-unpacked.ensures c.args.onward c.move_left_out.result c.move_left_out.ensures offers c.offers_of-offers.ensures.offered c.offers_of-offers.ensures.within in
+    let offers = c.offers_of.new.offers in
+    let it = chosen task guide lists is worker refl hash c.len.result workers c.args.me (c.len.ensures ∙ c.args.self.now.unsent.ok.0) c.limit.result c.limit.ensures next first c.in-Some.ensures.below b c.shape.result c.shape.ensures.value c.of_key-unpacked.ensures c.args.onward c.move_left_out.result c.move_left_out.ensures offers c.offers_of.ensures.offered c.offers_of.ensures.within in
     let all : length worker.unsent ≡ workers = length-map c.args.self.now.unsent.items (λ v. v.items) in
     let low = cost_low guide lists.closed next c.limit.result c.args.self.now.best first c.in-Some.ensures.below c.limit.ensures in
     let cost = first.opens.2 in

@@ -3,7 +3,7 @@ use Rattle.world_model.specs.Turns.{refusal_in}
 use Rattle.hda_run.specs.Worlds.{world_of}
 use Rattle.hda_run.proofs.AloneLemmas.{announces}
 use Rattle.hda_run.proofs.AloneEnds.{takes}
-use Rattle.hda_run.proofs.alone.announce_at_times.Goals as goal
+use Rattle.hda_run.proofs.alone.announce_when_met.Goals as goal
 
 pub returns-then-expansions-eq0-clause-run : goal.returns-then-expansions-eq0-clause-run
 returns-then-expansions-eq0-clause-run g c =

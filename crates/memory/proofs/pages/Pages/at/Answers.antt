@@ -1,7 +1,7 @@
 use Rattle.std.proofs.Common.{◌≡◌, ◌<◌, ◌/◌, ◌∙◌, length, arith}
 use Rattle.std.specs.Vec.{vec_len}
 use Rattle.memory.proofs.PageLemmas.{has_page, in_page, item_there}
-use Rattle.memory.proofs.pages.Pages.get.Goals as goal
+use Rattle.memory.proofs.pages.Pages.at.Goals as goal
 
 pub index-page-requires : goal.index-page-requires
 index-page-requires g c =

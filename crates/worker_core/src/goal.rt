@@ -1,0 +1,63 @@
+//! The goal of a run.
+
+ghost use Rattle.std.specs.Prelude.{◌≡◌};
+ghost use Rattle.board.specs.Keys.{key_of};
+ghost use Rattle.board.specs.Positions.{IsBoard};
+
+use board::{Board, Shape};
+use std::marker::Model;
+
+/// A goal with its key, by which it is known among the boards that are met.
+#[derive(Debug, Drop)]
+pub struct Goal {
+    board: Board,
+    key: u128,
+}
+
+impl Model for Goal {
+    ghost use Rattle.std.specs.Prelude.{◌≡◌};
+    ghost use Rattle.board.specs.Keys.{key_of};
+    ghost use Rattle.board.specs.Positions.{Position};
+
+    ghost Value = { Position };
+
+    ghost view = { λ g. g.board };
+
+    ghost invariant = { λ g. key_of g.board ≡ g.key };
+}
+
+impl Goal {
+    /// This board as the goal.
+    pub fn new(board: &Board) -> Self
+        ensures { result ≡ board.now }
+    {
+        Goal {
+            board: *board,
+            key: board.key(),
+        }
+    }
+
+    /// The board itself.
+    pub fn board(&self) -> &Board
+        ensures { result.now ≡ self.now }
+    {
+        &self.board
+    }
+
+    /// Its shape.
+    pub fn shape(&self) -> Shape
+        ensures value { result ≡ self.now.grid }
+        ensures board { IsBoard self.now }
+    {
+        self.board.shape()
+    }
+
+    /// Its key, as `Board::key` answers it.
+    pub fn key(&self) -> u128
+        ensures value { result ≡ key_of self.now }
+        ensures board { IsBoard self.now }
+    {
+        let _ = self.board.shape();
+        self.key
+    }
+}
