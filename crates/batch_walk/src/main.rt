@@ -1,15 +1,15 @@
 //! A batch with tables: the lines on standard input are answered on standard output, by the groups
 //! that are the default for their shape. `bench/batch` times it.
 //!
-//!     batch_walk ROWS COLS [WORKERS [SPREAD [fold]]]    boards of this shape, with Korf's goal and
-//!                                                       unit costs, by so many workers, over which
-//!                                                       they are spread by `zobrist` or by `blank`;
-//!                                                       with folded tables where `fold` is said
+//!     batch_walk ROWS COLS [WORKERS [SPREAD [TABLES [uncounted]]]]
 //!
-//! Without words it answers boards of 3 by 3, by one worker.
+//! answers boards of this shape, with Korf's goal and unit costs, by so many workers, over which they
+//! are spread by `zobrist` or by `blank`; with whole tables or, where TABLES is `fold`, with folded
+//! ones. Without words it answers boards of 3 by 3, by one worker.
 //!
 //! Standard error has a line when the tables are built, and one at the end: how many lines are
-//! optimal, unsolvable, bounded and refused, and how many boards were expanded for them.
+//! optimal, unsolvable, bounded and refused, and how many boards were expanded for them. To count
+//! these takes a locked exchange each, so `uncounted` leaves it out, and 0 is told.
 #![tactic(auto)]
 
 mod setup;
@@ -17,7 +17,7 @@ mod setup;
 use batch_runs::{Setup, SpreadKind, Summary};
 use board::Shape;
 use byte_streams::{BufferedSource, ByteSink, Sink, Source};
-use hda_run::{Gate, Kind};
+use hda_run::{Free, Gate, Kind};
 use setup::guided_setup;
 use setup_runs::run_batch;
 use std::io::{self, BufWriter, Eprint};
@@ -76,6 +76,7 @@ struct Words {
     workers: usize,
     spread: SpreadKind,
     fold: bool,
+    counted: bool,
 }
 
 // What the words say, or None where they are none of the above.
@@ -99,10 +100,12 @@ fn read_words(rt: &(impl std::rt::Env + AllocGlobal)) -> Option<Words> {
         Some(word) => word.as_str() == "fold",
         None => false,
     };
+    let counted = words.next().is_none();
     Some(Words {
         workers,
         spread,
         fold,
+        counted,
         ..by_one
     })
 }
@@ -114,6 +117,7 @@ fn by_one(rows: u8, cols: u8) -> Option<Words> {
         workers: 1,
         spread: SpreadKind::Zobrist,
         fold: false,
+        counted: true,
     })
 }
 
@@ -131,7 +135,12 @@ fn run<R: Threads + Wait + Eprint + AllocGlobal + Sync, S: Source, K: Sink>(
     source: &mut S,
     sink: &mut K,
     setup: &Setup,
+    counted: bool,
 ) -> Option<()> {
+    if !counted {
+        let counts = run_batch(rt, rt.alloc(), source, sink, setup, &Free).ok()?;
+        return tell(rt, counts, 0).ok();
+    }
     let counter = Counter::new();
     let counts = run_batch(rt, rt.alloc(), source, sink, setup, &counter).ok()?;
     tell(rt, counts, counter.total()).ok()
@@ -169,7 +178,7 @@ fn main(rt: HostRuntime) -> ExitCode {
     let _ = eprintln!(&rt; "tables are built");
     let mut source = source;
     let mut sink = ByteSink::new(writer);
-    if run(&rt, &mut source, &mut sink, &setup).is_none() {
+    if run(&rt, &mut source, &mut sink, &setup, words.counted).is_none() {
         return ExitCode::from(3);
     }
     ExitCode::from(0)

@@ -20,6 +20,11 @@ use crate::moves::Move;
 use crate::shapes::Shape;
 use std::marker::Model;
 
+// The tiles of Korf's goal of 2 by 2, with zeros behind them.
+const SMALLEST_GOAL: [u8; 25] = [
+    0, 1, 2, 3, 0, 0, 0, 0, 0, 0, 0, 0, 0, 0, 0, 0, 0, 0, 0, 0, 0, 0, 0, 0, 0,
+];
+
 /// The tiles on the cells of a board, each number once, with 0 for the blank.
 #[derive(Clone, Copy, Debug)]
 pub struct Board {
@@ -65,6 +70,19 @@ impl Eq for Board {
     ghost use Rattle.board.specs.Equality.{position_eq-laws};
 
     ghost laws = { position_eq-laws };
+}
+
+impl Default for Board {
+    /// Korf's goal of 2 by 2: what stands where no board was put yet.
+    fn default() -> Self
+        ensures { result ≡ goal_of (record { rows = 2; cols = 2 }) }
+    {
+        let shape = Shape::new(2, 2).unwrap();
+        Board {
+            shape,
+            tiles: SMALLEST_GOAL,
+        }
+    }
 }
 
 impl Board {

@@ -1,6 +1,6 @@
 -- Slots in chains by the hashes of their keys.
 --
--- 128 chains with the first slot; from 512 slots on one more with each fourth slot, which takes its slots from one other
+-- 127 chains with the first slot; from 508 slots on one more with each fourth slot, which takes its slots from one other
 -- chain. The bucket of a chain has the places and the hashes of its first seven slots, and the others hang in a list.
 -- What a bucket and a link have to be is a function of the keys alone.
 use Rattle.std.specs.Prelude.{ℕ, ◌≡◌, ◌≢◌, ◌<◌, ◌≤◌, ◌+◌, ◌-◌, ◌*◌, ◌/◌, ◌%◌, ◌^◌, ◌==◌, ◌⊎◌, nat_lt, cond, if◌then◌else◌, max, not, zero, suc, Bool, List, length, map, take, set, replicate, slice_index_or, slice_index, bit_or, false}
@@ -15,7 +15,7 @@ hash_of key = key * 0x9E3779B97F4A7C15F39CC0605CEDC835 % 2 ^ 128 / 2 ^ 96
 
 -- how many chains there are for so many slots
 abbrev pub chain_count : ℕ → ℕ
-chain_count len = if len == 0 then 0 else max 128 ((len + 3) / 4)
+chain_count len = if len == 0 then 0 else max 127 ((len + 3) / 4)
 
 -- the chain of a hash among n chains, of which there are at most 2 ^ bits and at least half of that: the last bits of
 -- the hash, or one bit less where there is no such chain yet

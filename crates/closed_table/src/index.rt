@@ -22,7 +22,7 @@ const ENTRIES: usize = 7;
 const LOAD: usize = 4;
 
 // How many chains are made with the first slot.
-const FIRST_CHAINS: usize = 128;
+const FIRST_CHAINS: usize = 127;
 
 // How many bits of a hash tell one of the first chains.
 const FIRST_BITS: u32 = 7;
@@ -58,8 +58,8 @@ pub(crate) const NO_BUCKET: Bucket = Bucket {
     places: [0; ENTRIES],
 };
 
-// Slots in order of arrival, and the chains to which they belong by the hashes of their keys: 128
-// chains with the first slot, from 512 slots on one more with each fourth. A link leads from a slot
+// Slots in order of arrival, and the chains to which they belong by the hashes of their keys: 127
+// chains with the first slot, from 508 slots on one more with each fourth. A link leads from a slot
 // that is in no bucket to the one before it in its chain.
 #[derive(Drop)]
 pub(crate) struct Index {
@@ -325,7 +325,7 @@ fn bits_for_more(bits: u32, chains: usize) -> u32
 fn add_chain(index: &mut Index)
     requires indexed { IsIndexed index.old.slots index.old.links index.old.buckets index.old.len
         (chain_count index.old.len) index.old.bits }
-    requires many { 512 ≤ index.old.len }
+    requires many { 508 ≤ index.old.len }
     requires room { chain_count index.old.len < length index.old.buckets }
     ensures indexed { IsIndexed index.new.slots index.new.links index.new.buckets index.old.len
         (chain_count index.old.len + 1) index.new.bits }
@@ -348,9 +348,9 @@ fn add_chain(index: &mut Index)
 // Makes the first chains, where there is no slot.
 fn make_first_chains(index: &mut Index)
     requires none { index.old.len ≡ 0 }
-    requires room { 128 ≤ length index.old.buckets }
+    requires room { 127 ≤ length index.old.buckets }
     ensures indexed { IsIndexed index.new.slots index.new.links index.new.buckets index.old.len
-        128 index.new.bits }
+        127 index.new.bits }
     ensures len { index.new.len ≡ index.old.len }
     ensures slots { index.new.slots ≡ index.old.slots }
     ensures links { length index.new.links ≡ length index.old.links }

@@ -35,8 +35,8 @@ pub enum Relaxed {
 
 /// Known boards, by their keys.
 ///
-/// They stand in pages, in order of arrival, and belong to chains by the hashes of their keys. 128
-/// chains are made with the first board. From 512 boards on one more is added with each fourth
+/// They stand in pages, in order of arrival, and belong to chains by the hashes of their keys. 127
+/// chains are made with the first board. From 508 boards on one more is added with each fourth
 /// board and takes its boards from one other chain: no page is ever copied.
 #[derive(Drop)]
 pub struct Closed {

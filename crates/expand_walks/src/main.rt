@@ -64,7 +64,14 @@ fn run(rt: &(impl Print + AllocGlobal), count: u64, groups: &[&[u8]]) -> Option<
     let bound = bound_of(rt.alloc(), &goal, &weights, groups)?;
     let sum = bound.of(&start);
     println!(rt; "sum {sum}").ok()?;
-    let stop = search(rt.alloc(), &Goal::new(&goal), &weights, &bound, start, count)?;
+    let stop = search(
+        rt.alloc(),
+        &Goal::new(&goal),
+        &weights,
+        &bound,
+        start,
+        count,
+    )?;
     tell(rt, stop).ok()
 }
 

@@ -13,8 +13,8 @@ use message_ledger::{Allowance, Credit, Grants, Plain, Purse};
 use owners::ByBlank;
 use quiescence::Book;
 use std::alloc::Global;
-use worker_core::{Goal, Worker};
 use worker_core::laws::tasks_have_guides;
+use worker_core::{Goal, Worker};
 use world_model::{Item, Refusal};
 
 /// Where a search has stopped: after how many expansions, at how many known boards, and the cost

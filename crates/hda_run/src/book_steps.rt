@@ -13,7 +13,6 @@ ghost use Rattle.world_model.specs.Turns.{turn, refusal_in};
 ghost use Rattle.hda_run.specs.Worlds.{world_of, IsLawful, AreGuided};
 
 use crate::parts::Parts;
-
 use message_ledger::Plain;
 use owners::Spread;
 use quiescence::Book;

@@ -11,10 +11,10 @@ use std::marker::Model;
 use std::vec::Vec;
 
 /// How many items a page has.
-pub const PAGE_LENGTH: usize = 256;
+pub const PAGE_LENGTH: usize = 128;
 
 /// The most pages: so a place, and one more, is told by 32 bits.
-const PAGE_LIMIT: usize = 16_777_216;
+const PAGE_LIMIT: usize = 33_554_432;
 
 /// A list in pages. To add a page moves none of the others.
 #[derive(Drop)]

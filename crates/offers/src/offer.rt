@@ -13,7 +13,7 @@ ghost use Rattle.successor_sums.specs.Unpacked.{told_of, but};
 ghost use Rattle.owners.specs.Slides.{IsSlide};
 ghost use Rattle.offers.specs.Offers.{item_by, IsOffered, AreOffered, OfEach, IsWithin};
 
-use board::{Board, Move, Shape, Weights};
+use board::{Move, Shape, Weights};
 use lower_bound::Bound;
 use owners::{Slide, Spread, worker_of};
 use successor_sums::{Successor, UnpackedBoard};
@@ -90,31 +90,31 @@ pub fn offers_of<S: Spread>(
 {
     let mut told = [None; 4];
     unpacked.successors_but(left_out, Some(sum), weights, bound, &mut told);
-    let board = unpacked.board();
     let hashed = Hashed {
-        hash: hash_for(board, owners, workers),
+        hash: hash_for(unpacked, owners, workers),
         blank: unpacked.blank(),
         workers,
     };
-    offers.up = offer_by(board, cost, Move::U, &told[0], owners, hashed);
-    offers.left = offer_by(board, cost, Move::L, &told[1], owners, hashed);
-    offers.right = offer_by(board, cost, Move::R, &told[2], owners, hashed);
-    offers.down = offer_by(board, cost, Move::D, &told[3], owners, hashed);
+    offers.up = offer_by(unpacked, cost, Move::U, &told[0], owners, hashed);
+    offers.left = offer_by(unpacked, cost, Move::L, &told[1], owners, hashed);
+    offers.right = offer_by(unpacked, cost, Move::R, &told[2], owners, hashed);
+    offers.down = offer_by(unpacked, cost, Move::D, &told[3], owners, hashed);
 }
 
 // The hash of a board where there are several workers: one owns all, whatever the hash.
-fn hash_for<S: Spread>(board: &Board, owners: &S, workers: usize) -> u64
-    ensures { workers ≢ 1 → result ≡ S.hash_of owners.now board.now }
+fn hash_for<S: Spread>(unpacked: &UnpackedBoard, owners: &S, workers: usize) -> u64
+    ensures { workers ≢ 1 → result ≡ S.hash_of owners.now unpacked.now }
 {
     if workers == 1 {
         return 0;
     }
+    let board = unpacked.board();
     owners.hash(board.shape(), board.tiles())
 }
 
 // What a move from a board offers, of which this is told.
 fn offer_by<S: Spread>(
-    board: &Board,
+    unpacked: &UnpackedBoard,
     cost: u32,
     direction: Move,
     told: &Option<Successor>,
@@ -122,21 +122,21 @@ fn offer_by<S: Spread>(
     hashed: Hashed,
 ) -> Option<Offer>
     requires low { cost ≤ GREATEST_EXPANDED_COST }
-    requires keys { IfSome told.now (λ s. (b : Position) × HasKey board.now.grid s.key b) }
-    requires slides { IfSome told.now (λ s. IsSlide board.now.grid board.now
+    requires keys { IfSome told.now (λ s. (b : Position) × HasKey unpacked.now.grid s.key b) }
+    requires slides { IfSome told.now (λ s. IsSlide unpacked.now.grid unpacked.now
         (record { tile = s.tile; from = s.cell; to = hashed.blank })) }
     requires costs { IfSome told.now (λ s. s.cost ≤ 255) }
     requires sums { IfSome told.now (λ s. s.sum ≤ GREATEST_SUM) }
     requires some { 0 < hashed.workers }
-    requires hash { hashed.workers ≢ 1 → hashed.hash ≡ S.hash_of owners.now board.now }
-    ensures within { IfSome result (IsWithin board.now.grid cost hashed.workers) }
+    requires hash { hashed.workers ≢ 1 → hashed.hash ≡ S.hash_of owners.now unpacked.now }
+    ensures within { IfSome result (IsWithin unpacked.now.grid cost hashed.workers) }
     ensures none { told.now ≡ None → result ≡ None }
     ensures offered { (rule : CostRule) (parts : List Part)
-        → told.now ≡ option_map (told_of parts board.now) (successor rule board.now direction)
+        → told.now ≡ option_map (told_of parts unpacked.now) (successor rule unpacked.now direction)
         → IsOffered (sum_of parts) (λ b. S.hash_of owners.now b % hashed.workers)
-        (item_by rule board.now cost direction) result }
+        (item_by rule unpacked.now cost direction) result }
 {
-    let shape = board.shape();
+    let shape = unpacked.shape();
     let Some(successor) = *told else {
         return None;
     };

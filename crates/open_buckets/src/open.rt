@@ -1,6 +1,7 @@
 //! Entries in buckets, and a cursor to the lowest of them.
 
-ghost use Rattle.std.specs.Prelude.{◌≡◌, ◌<◌, ◌≤◌, ◌^◌, ℕ, OnOk, MatchOption};
+ghost use Rattle.std.specs.Prelude.{◌≡◌, ◌<◌, ◌≤◌, ◌+◌, ◌^◌, ℕ, OnOk, OnErr, MatchOption};
+ghost use Rattle.std.specs.Prelude.{vec_len, vec_capacity};
 ghost use Rattle.open_buckets.specs.OpenLists.{empty_list, entries_at, places_at, NothingWaits};
 ghost use Rattle.open_buckets.specs.OpenLists.{Puts, Takes, Sorts, IsNext, IsLowest};
 
@@ -11,6 +12,9 @@ use std::marker::Model;
 /// The greatest cost plus sum of a board: the greatest cost that a plan is followed to, 1,048,320,
 /// a move of weight 255 more, and a sum of 24 times 65,535.
 pub const GREATEST_F: u32 = 2_621_415;
+
+// For how many entries places are made at least, where a bucket grows.
+const PLACES_AT_ONCE: usize = 32;
 
 /// Entries by f, the cost of a board plus its sum. Each is a key, or whatever else tells the board,
 /// and the cost.
@@ -33,6 +37,24 @@ impl<K> Model for Open<K> {
     ghost invariant = { λ o. IsSound o.buckets.items o.cursor };
 }
 
+// Makes places for this many more items. Where the list has to grow, it is for PLACES_AT_ONCE at
+// least, and for just this many where memory for those is refused.
+fn make_places<T>(items: &mut Vec<T>, count: usize) -> Result<(), OutOfMemory>
+    requires modest { count ≤ 2 ^ 27 }
+    ensures items { items.new.items ≡ items.old.items }
+    ensures ok { OnOk result (vec_len items.new + count ≤ vec_capacity items.new) }
+    ensures capacity { vec_capacity items.old ≤ vec_capacity items.new }
+    ensures full { OnErr result (vec_capacity items.old < vec_len items.old + count) }
+{
+    if count <= items.capacity() - items.len() {
+        return Ok(());
+    }
+    if let Ok(()) = memory::reserve(items, count.max(PLACES_AT_ONCE)) {
+        return Ok(());
+    }
+    memory::reserve(items, count)
+}
+
 impl<K: Copy> Open<K> {
     /// Nothing waits.
     pub fn new(alloc: Global) -> Self
@@ -44,8 +66,8 @@ impl<K: Copy> Open<K> {
         }
     }
 
-    /// Makes places for this many entries at an f. Whether it succeeds or not, all entries stay,
-    /// and no place is lost.
+    /// Makes places for this many entries at an f, and for some more where its bucket grows and
+    /// memory is given. Whether it succeeds or not, all entries stay, and no place is lost.
     pub fn reserve(&mut self, alloc: Global, f: u32, count: usize) -> Result<(), OutOfMemory>
         requires within { f ≤ GREATEST_F }
         requires modest { count ≤ 2 ^ 27 }
@@ -58,7 +80,7 @@ impl<K: Copy> Open<K> {
             memory::push(&mut self.buckets, Vec::new(alloc))?;
         }
         let bucket = &mut self.buckets[place];
-        memory::reserve(bucket, count)
+        make_places(bucket, count)
     }
 
     /// Adds an entry at an f that has a place.

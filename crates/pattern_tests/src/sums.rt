@@ -62,7 +62,7 @@ fn successors_of_the_hardest_board(rt: HostRuntime) -> Result<(), Fail> {
     let bound = bound_of(rt.alloc(), &Board::goal(shape), &weights, &singles)?;
     let start = Board::from_tiles(shape, &[8, 0, 6, 5, 4, 7, 2, 3, 1])?;
     let unpacked = UnpackedBoard::new(&start);
-    assert!(rt; unpacked.key() == start.key() && *unpacked.board() == start);
+    assert!(rt; unpacked.key() == start.key() && unpacked.board() == start);
     assert!(rt; unpacked.sum(&bound) == 21);
     let [up, left, right, down] = unpacked.successors(&weights, &bound);
     assert!(rt; up.is_none());

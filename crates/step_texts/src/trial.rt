@@ -128,7 +128,10 @@ impl<C: Tokens> Trial<C> {
         if self.worker.workers() == 0 {
             return None;
         }
-        Some(self.worker.announce(me, &Goal::new(&self.job.goal), owners, book))
+        Some(
+            self.worker
+                .announce(me, &Goal::new(&self.job.goal), owners, book),
+        )
     }
 
     /// Expansions are granted.

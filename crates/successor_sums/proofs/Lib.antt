@@ -1,4 +1,5 @@
-pub mod RankLemmas
+pub mod CellLemmas
 pub mod KeyLemmas
 pub mod MoveLemmas
+pub mod RankLemmas
 pub mod SumLemmas

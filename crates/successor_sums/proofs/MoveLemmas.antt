@@ -1,27 +1,27 @@
 -- What a move changes: two cells, and the key.
-use Rattle.std.proofs.Common.{◌≡◌, ◌≢◌, ℕ, ◌+◌, ◌-◌, ◌*◌, ◌^◌, ◌<◌, ◌≤◌, List, Option, Some, length, get_or, set, refl, sym, ap, ◌∙◌, subst, ⊎_elim, arith}
-use Rattle.std.specs.Prelude.{slice_get, slice_index, unwrap_or}
+use Rattle.std.proofs.Common.{◌≡◌, ◌≢◌, ℕ, ◌+◌, ◌-◌, ◌*◌, ◌/◌, ◌%◌, ◌^◌, ◌<◌, ◌≤◌, List, length, get_or, set, refl, sym, ap, ◌∙◌, subst, ⊎_elim, arith}
+use Rattle.std.specs.Prelude.{slice_index}
 use Rattle.std.proofs.lemmas.Bool.{cases_eq}
 use Rattle.std.proofs.lemmas.Bool.Decides.{nat_tests}
 use Rattle.std.proofs.Math.Nat.{pow-le-pow_right}
 use Rattle.std.proofs.lemmas.Nat.{mul-le}
 use Rattle.std.proofs.lemmas.List.{length-set, get_or-set_same, get_or-set_other}
-use Rattle.std.proofs.lemmas.Option.{slice_get-get_or}
+use Rattle.std.proofs.lemmas.List.Elements.{recursion_from_All}
 use Rattle.board.specs.declared.moves.Move.{Move}
 use Rattle.board.specs.Grids.{Grid, IsShape, cell_count}
 use Rattle.board.specs.Neighbours.{LiesTowards}
 use Rattle.board.specs.Positions.{Position, IsBoard, cell_of, blank_of}
-use Rattle.board.specs.Keys.{key_of}
+use Rattle.board.specs.Keys.{key_of, packed_number, HasKey}
 use Rattle.board.specs.Moves.{blank_exchange}
 use Rattle.board.proofs.TileLemmas.{across, cell_is, has_cell}
-use Rattle.board.proofs.KeyLemmas.{key_of-lt}
+use Rattle.board.proofs.KeyLemmas.{key_of-lt, tiles_small}
 use Rattle.board.proofs.NeighbourLemmas.{cells_above}
 use Rattle.board.proofs.MoveLemmas.{cell_of-exchange, exchange_board, other_cell, cell_below}
 use Rattle.board.proofs.StepLemmas.{blank_stands, tile_above, tile_below}
 use Rattle.lower_bound.specs.Folded.{IsBefore}
-use Rattle.successor_sums.specs.Unpacked.{AreCellsOf, IsUnpacked}
+use Rattle.successor_sums.specs.Unpacked.{board_in, AreCellsOf, IsUnpacked}
 use Rattle.successor_sums.specs.declared.unpacked.UnpackedBoard.TheInside.{Inside}
-use Rattle.successor_sums.proofs.KeyLemmas.{moved_key}
+use Rattle.successor_sums.proofs.KeyLemmas.{digit_there, key_read, moved_key}
 
 -- ---- the cell of each number after an exchange
 
@@ -88,37 +88,43 @@ others_stay b to board to_below other number some low ne =
 pub few_cells : (grid : Grid) → IsShape grid → cell_count grid ≤ 25
 few_cells grid sides = mul-le grid.rows grid.cols 5 5 sides.rows_high sides.cols_high
 
--- the blank's cell
-pub blank_is : (inside : Inside) → IsUnpacked inside → slice_index inside.cells 0 ≡ blank_of inside.board
-blank_is inside unpacked = unpacked.cells.are 0 (cells_above inside.board.grid unpacked.board.sides)
+-- what lies in memory where a board has the key, and the cells are its
+pub unpacked_as : (inside : Inside) (b : Position) → HasKey inside.shape inside.key b → AreCellsOf b inside.cells → IsUnpacked inside
+unpacked_as inside b has of =
+    let same = key_read inside.shape inside.key b has in
+    record { board = subst IsBoard (sym same) has.board; key = ap key_of same ∙ has.packed; cells = subst (λ (p : Position). AreCellsOf p inside.cells) (sym same) of }
 
-pub blank_below : (inside : Inside) → IsUnpacked inside → slice_index inside.cells 0 < cell_count inside.board.grid
-blank_below inside unpacked = subst (λ (k : ℕ). k < cell_count inside.board.grid) (sym (blank_is inside unpacked)) (blank_stands inside.board unpacked.board).0
+-- the blank's cell
+pub blank_is : (inside : Inside) → IsUnpacked inside → slice_index inside.cells 0 ≡ blank_of (board_in inside)
+blank_is inside unpacked = unpacked.cells.are 0 (cells_above (board_in inside).grid unpacked.board.sides)
+
+pub blank_below : (inside : Inside) → IsUnpacked inside → slice_index inside.cells 0 < cell_count (board_in inside).grid
+blank_below inside unpacked = subst (λ (k : ℕ). k < cell_count (board_in inside).grid) (sym (blank_is inside unpacked)) (blank_stands (board_in inside) unpacked.board).0
 
 -- what holds where the blank goes to a cell, on which a tile stands
 pub record IsLedTo (inside : Inside) (to tile : ℕ) : Type 0 where
-  pub below : to < cell_count inside.board.grid
-  pub few : cell_count inside.board.grid ≤ 25
-  pub blank : slice_index inside.cells 0 ≡ blank_of inside.board
-  pub blank_low : slice_index inside.cells 0 < cell_count inside.board.grid
-  pub tile_is : slice_index inside.board.tiles to ≡ tile
+  pub below : to < cell_count (board_in inside).grid
+  pub few : cell_count (board_in inside).grid ≤ 25
+  pub blank : slice_index inside.cells 0 ≡ blank_of (board_in inside)
+  pub blank_low : slice_index inside.cells 0 < cell_count (board_in inside).grid
+  pub tile_is : slice_index (board_in inside).tiles to ≡ tile
   pub tile_some : 0 < tile
-  pub tile_low : tile < cell_count inside.board.grid
-  pub key_low : tile * 32 ^ (cell_count inside.board.grid - 1 - to) ≤ inside.key
-  pub key_is : inside.key - tile * 32 ^ (cell_count inside.board.grid - 1 - to) + tile * 32 ^ (cell_count inside.board.grid - 1 - slice_index inside.cells 0) ≡ key_of (blank_exchange inside.board to)
-  pub key_fits : key_of (blank_exchange inside.board to) < 2 ^ 125
-  pub board : IsBoard (blank_exchange inside.board to)
-  pub cells : (cells : List ℕ) → AreCellsOf inside.board cells → AreCellsOf (blank_exchange inside.board to) (set (set cells 0 to) tile (slice_index cells 0))
-  pub others : IsBefore inside.board (blank_exchange inside.board to) tile
+  pub tile_low : tile < cell_count (board_in inside).grid
+  pub key_low : tile * 32 ^ (cell_count (board_in inside).grid - 1 - to) ≤ inside.key
+  pub key_is : inside.key - tile * 32 ^ (cell_count (board_in inside).grid - 1 - to) + tile * 32 ^ (cell_count (board_in inside).grid - 1 - slice_index inside.cells 0) ≡ key_of (blank_exchange (board_in inside) to)
+  pub key_fits : key_of (blank_exchange (board_in inside) to) < 2 ^ 125
+  pub board : IsBoard (blank_exchange (board_in inside) to)
+  pub cells : (cells : List ℕ) → AreCellsOf (board_in inside) cells → AreCellsOf (blank_exchange (board_in inside) to) (set (set cells 0 to) tile (slice_index cells 0))
+  pub others : IsBefore (board_in inside) (blank_exchange (board_in inside) to) tile
 
-module _ (inside : Inside) (grid : Grid) (m : Move) (to : ℕ) (unpacked : IsUnpacked inside) (same : grid ≡ inside.board.grid) (lies : LiesTowards grid m (slice_index inside.cells 0) to) where
+module _ (inside : Inside) (grid : Grid) (m : Move) (to : ℕ) (unpacked : IsUnpacked inside) (same : grid ≡ (board_in inside).grid) (lies : LiesTowards grid m (slice_index inside.cells 0) to) where
   abbrev b : Position
-  b = inside.board
+  b = (board_in inside)
 
   lies_here : LiesTowards b.grid m (slice_index inside.cells 0) to
   lies_here = subst (λ (g : Grid). LiesTowards g m (slice_index inside.cells 0) to) same lies
 
-  pub below : to < cell_count inside.board.grid
+  pub below : to < cell_count (board_in inside).grid
   below = cell_below b.grid m (slice_index inside.cells 0) to lies_here
 
   other : to ≢ blank_of b
@@ -136,7 +142,7 @@ module _ (inside : Inside) (grid : Grid) (m : Move) (to : ℕ) (unpacked : IsUnp
       let most : 32 ^ cell_count b.grid ≤ 32 ^ 25 = pow-le-pow_right {n = 32} (omega arith) {j = 25} few in
       omega arith
 
-  led_there : IsLedTo inside to (get_or inside.board.tiles to 0)
+  led_there : IsLedTo inside to (get_or (board_in inside).tiles to 0)
   led_there =
       let blank = blank_is inside unpacked in
       let key = moved_key b to unpacked.board below other in
@@ -156,8 +162,11 @@ module _ (inside : Inside) (grid : Grid) (m : Move) (to : ℕ) (unpacked : IsUnp
         others = others_stay b to unpacked.board below other;
       }
 
-  pub led_to : (tile : ℕ) → slice_get inside.board.tiles to ≡ Some tile → IsLedTo inside to tile
-  led_to tile stands =
+  -- the tile is a digit of the key
+  pub led_to : (tile : ℕ) → tile ≡ inside.key / 32 ^ (cell_count (board_in inside).grid - 1 - to) % 32 → IsLedTo inside to tile
+  led_to tile read =
       let one_each = unpacked.board.one_each in
       let low = below in
-      subst (λ (t : ℕ). IsLedTo inside to t) (ap (λ (o : Option ℕ). unwrap_or o 0) (sym (slice_get-get_or b.tiles to 0 (omega arith)) ∙ stands)) led_there
+      let behind : ℕ = cell_count b.grid - 1 - to in
+      let digit : packed_number b.tiles / 32 ^ behind % 32 ≡ get_or b.tiles to 0 = digit_there b.tiles to behind (omega arith) (recursion_from_All (λ x. x < 32) b.tiles (tiles_small b unpacked.board)) in
+      subst (λ (t : ℕ). IsLedTo inside to t) (sym (read ∙ ap (λ (k : ℕ). k / 32 ^ behind % 32) (sym unpacked.key) ∙ digit)) led_there

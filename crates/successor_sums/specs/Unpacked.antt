@@ -7,6 +7,7 @@ use Rattle.board.specs.Grids.{cell_count}
 use Rattle.board.specs.Positions.{Position, IsBoard, cell_of, blank_of}
 use Rattle.board.specs.CostRules.{CostRule, weight_of}
 use Rattle.board.specs.Keys.{key_of}
+use Rattle.board.specs.Digits.{digits_of}
 use Rattle.board.specs.Neighbours.{neighbour}
 use Rattle.board.specs.Moves.{all_moves, blank_exchange, successor}
 use Rattle.pattern_index.specs.Views.{IsView, view_at}
@@ -47,11 +48,15 @@ pub record AreCellsOf (b : Position) (cells : List ℕ) : Type 0 where
   pub all : length cells ≡ 25
   pub are : (number : ℕ) → number < cell_count b.grid → slice_index cells number ≡ cell_of b number
 
--- the memory holds a board, its key, and the cell of each number
+-- what the memory holds: its shape and the digits of its key
+abbrev pub board_in : Inside → Position
+board_in inside = record { grid = inside.shape; tiles = digits_of (cell_count inside.shape) inside.key }
+
+-- that is a board with this key, and the cell of each number is there
 pub record IsUnpacked (inside : Inside) : Type 0 where
-  pub board : IsBoard inside.board
-  pub key : key_of inside.board ≡ inside.key
-  pub cells : AreCellsOf inside.board inside.cells
+  pub board : IsBoard (board_in inside)
+  pub key : key_of (board_in inside) ≡ inside.key
+  pub cells : AreCellsOf (board_in inside) inside.cells
 
 -- ---- where a move leads to, before the sum is known
 

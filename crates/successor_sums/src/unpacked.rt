@@ -1,6 +1,6 @@
 //! A board taken apart, and what its successors are told by.
 
-ghost use Rattle.std.specs.Prelude.{ℕ, ◌≡◌, ◌*◌, ◌^◌, ◌<◌, ◌≤◌, [], ◌∷◌, length, map, All, AllPairs};
+ghost use Rattle.std.specs.Prelude.{ℕ, ◌≡◌, ◌*◌, ◌/◌, ◌%◌, ◌^◌, ◌<◌, ◌≤◌, [], ◌∷◌, length, map, All, AllPairs};
 ghost use Rattle.std.specs.Prelude.{IfSome, None, MatchOption, option_map, sum_by, true, false, Some};
 ghost use Rattle.board.specs.declared.costs.TheConstants.{GREATEST_EXPANDED_COST};
 ghost use Rattle.board.specs.Grids.{cell_count};
@@ -17,7 +17,7 @@ ghost use Rattle.lower_bound.specs.Tables.{ArePotentials, parts_of};
 ghost use Rattle.successor_sums.specs.Ranks.{AreRanks, AreRanksOf, sum_at, sum_by_cells};
 ghost use Rattle.successor_sums.specs.Unpacked.{successors_of, is_left_out, successors_but};
 ghost use Rattle.successor_sums.specs.Unpacked.{IsReached, IsSmall, cells_after, with_sum, told_by};
-ghost use Rattle.successor_sums.specs.Unpacked.{SeesViews, IsNextTo, IsSumOf};
+ghost use Rattle.successor_sums.specs.Unpacked.{AreCellsOf, SeesViews, IsNextTo, IsSumOf};
 
 use crate::ranks::{MOST_TABLES, sum_ranks, write_ranks};
 use board::{Board, Move, Shape, Weights};
@@ -52,10 +52,11 @@ struct Reached {
     cost: u32,
 }
 
-/// A board taken apart: its key, the tile on each cell, and the cell of each tile.
+/// A board taken apart: its shape, its key, and the cell of each number. A tile on a cell is a digit
+/// of the key.
 #[derive(Debug, Drop)]
 pub struct UnpackedBoard {
-    board: Board,
+    shape: Shape,
     key: u128,
     cells: [u8; 25],
 }
@@ -65,9 +66,9 @@ impl Model for UnpackedBoard {
 
     ghost Value = { Position };
 
-    ghost use Rattle.successor_sums.specs.Unpacked.{IsUnpacked};
+    ghost use Rattle.successor_sums.specs.Unpacked.{board_in, IsUnpacked};
 
-    ghost view = { λ inside. inside.board };
+    ghost view = { board_in };
 
     ghost invariant = { IsUnpacked };
 }
@@ -78,7 +79,7 @@ impl UnpackedBoard {
         ensures { result ≡ board.now }
     {
         UnpackedBoard {
-            board: *board,
+            shape: board.shape(),
             key: board.key(),
             cells: cells_of(board),
         }
@@ -89,17 +90,23 @@ impl UnpackedBoard {
         requires { (b : Position) × HasKey shape key b }
         ensures { HasKey shape key result }
     {
-        let board = Board::of_key(shape, key);
-        let cells = cells_of(&board);
-        UnpackedBoard { board, key, cells }
+        let cells = cells_by_key(shape, key);
+        UnpackedBoard { shape, key, cells }
     }
 
     /// The board itself.
-    pub fn board(&self) -> &Board
-        ensures value { result.now ≡ self.now }
+    pub fn board(&self) -> Board
+        ensures { result ≡ self.now }
+    {
+        Board::of_key(self.shape, self.key)
+    }
+
+    /// Its shape.
+    pub fn shape(&self) -> Shape
+        ensures value { result ≡ self.now.grid }
         ensures board { IsBoard self.now }
     {
-        &self.board
+        self.shape
     }
 
     /// Its key.
@@ -113,6 +120,7 @@ impl UnpackedBoard {
     pub fn blank(&self) -> usize
         ensures value { result ≡ blank_of self.now }
         ensures within { result < cell_count self.now.grid }
+        ensures board { IsBoard self.now }
     {
         self.cells[0] as usize
     }
@@ -223,12 +231,13 @@ impl UnpackedBoard {
         ensures { MatchOption result (neighbour self.now.grid direction (blank_of self.now) ≡ None)
             (IsReached weights.now self.now direction) }
     {
-        let shape = self.board.shape();
+        let shape = self.shape;
         let from = self.cells[0];
         let to = shape.neighbour(from as usize, direction)?;
-        let tile = self.board.tile(to);
         let last = shape.cells() - 1;
-        let key = self.key - digit_at(tile, last - to) + digit_at(tile, last - from as usize);
+        let behind = last - to;
+        let tile = digit_of(self.key, behind);
+        let key = self.key - digit_at(tile, behind) + digit_at(tile, last - from as usize);
         let cost = weights.of(tile);
         Some(Reached {
             key,
@@ -418,6 +427,28 @@ fn with_sum(found: &Reached, sum: u32) -> Successor
         cost: found.cost,
         sum,
     }
+}
+
+// The cell of each number of the board of this shape with this key, from the last cell on.
+fn cells_by_key(shape: Shape, key: u128) -> [u8; 25]
+    requires { (b : Position) × HasKey shape key b }
+    ensures { (b : Position) → HasKey shape key b → AreCellsOf b result }
+{
+    let mut cells = [0; 25];
+    let mut rest = key;
+    'cells: for cell in (0..shape.cells()).rev() {
+        cells[(rest % 32) as usize] = cell as u8;
+        rest /= 32;
+    }
+    cells
+}
+
+// The digit of a key that has so many digits behind it.
+fn digit_of(key: u128, behind: usize) -> u8
+    requires { behind ≤ 24 }
+    ensures { result ≡ key / 32 ^ behind % 32 }
+{
+    ((key >> (5 * behind as u32)) % 32) as u8
 }
 
 // A tile as the digit of a key that has so many digits behind it.

@@ -37,8 +37,14 @@ impl<'a, S: Spread, C: Tokens> Part<'a, S, C> {
         let job = self.job;
         let me = self.me;
         let owners = self.owners;
-        self.worker
-            .expand_onward(alloc, me, job.keyed_goal(), job.weights(), job.bound(), owners)
+        self.worker.expand_onward(
+            alloc,
+            me,
+            job.keyed_goal(),
+            job.weights(),
+            job.bound(),
+            owners,
+        )
     }
 
     /// Takes the last held item out: drops it where it is foreign, and else relaxes its board.
@@ -60,7 +66,10 @@ impl<'a, S: Spread, C: Tokens> Part<'a, S, C> {
         if !is_for(job, self.owners, self.outs.len(), self.me, &item) {
             return Ok(());
         }
-        if let Err(refused) = self.worker.meet(alloc, job.keyed_goal(), job.bound(), &item) {
+        if let Err(refused) = self
+            .worker
+            .meet(alloc, job.keyed_goal(), job.bound(), &item)
+        {
             self.worker.hold(item);
             return Err(Refusal::Memory(refused));
         }

@@ -11,8 +11,8 @@ use memory::OutOfMemory;
 use message_ledger::{Allowance, Counting, Purse};
 use owners::Spread;
 use std::alloc::Global;
-use worker_core::{Goal, Worker};
 use worker_core::laws::tasks_have_guides;
+use worker_core::{Goal, Worker};
 use world_model::{Item, PACKET_LIMIT, Refusal};
 
 // How many workers there are.
@@ -74,7 +74,14 @@ pub fn expand<C: Counting, S: Spread>(
     if !is_one_of_two(worker) {
         return None;
     }
-    Some(worker.expand(alloc, me, &Goal::new(&job.goal), &job.weights, &job.bound, owners))
+    Some(worker.expand(
+        alloc,
+        me,
+        &Goal::new(&job.goal),
+        &job.weights,
+        &job.bound,
+        owners,
+    ))
 }
 
 // Whether there are two workers, for each of whom no more is unsent than a packet takes.
