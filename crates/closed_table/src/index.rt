@@ -1,12 +1,13 @@
 //! Slots in chains by the hashes of their keys.
 
-ghost use Rattle.std.specs.Prelude.{◌≡◌, ◌≢◌, ◌<◌, ◌≤◌, ◌+◌, ◌-◌, ◌/◌, ◌^◌, ◌++◌, ◌∷◌, [], ℕ};
+ghost use Rattle.std.specs.Prelude.{◌≡◌, ◌≢◌, ◌<◌, ◌≤◌, ◌+◌, ◌-◌, ◌*◌, ◌/◌, ◌^◌, ◌++◌, ◌∷◌, [], ℕ};
 ghost use Rattle.std.specs.Prelude.{false, length, List, MatchOption, OnOk};
 ghost use Rattle.std.specs.Prelude.{slice_index, slice_set};
 ghost use Rattle.world_model.specs.declared.parts.Known.{Known};
 ghost use Rattle.closed_table.specs.Chains.{hash_of, place, bucket_with, IsIndexed, key_at};
 ghost use Rattle.closed_table.specs.Chains.{key_in, chain_count, rows_of, part_of};
 ghost use Rattle.closed_table.specs.Chains.{stays, goes, IsRelinked, MayBeRelinked};
+ghost use Rattle.closed_table.specs.declared.index.TheConstants.{FIRST_CHAINS, LOAD};
 
 use board::Move;
 use memory::{OutOfMemory, Pages};
@@ -325,7 +326,7 @@ fn bits_for_more(bits: u32, chains: usize) -> u32
 fn add_chain(index: &mut Index)
     requires indexed { IsIndexed index.old.slots index.old.links index.old.buckets index.old.len
         (chain_count index.old.len) index.old.bits }
-    requires many { 508 ≤ index.old.len }
+    requires many { FIRST_CHAINS * LOAD ≤ index.old.len }
     requires room { chain_count index.old.len < length index.old.buckets }
     ensures indexed { IsIndexed index.new.slots index.new.links index.new.buckets index.old.len
         (chain_count index.old.len + 1) index.new.bits }

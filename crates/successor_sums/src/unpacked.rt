@@ -96,7 +96,8 @@ impl UnpackedBoard {
 
     /// The board itself.
     pub fn board(&self) -> Board
-        ensures { result ≡ self.now }
+        ensures value { result ≡ self.now }
+        ensures board { IsBoard self.now }
     {
         Board::of_key(self.shape, self.key)
     }
