@@ -109,8 +109,8 @@ pub fn sum_after(folds: &[Folded], sum: u32, before: &[u8; 25], after: &[u8; 25]
 {
     'tables: for fold in folds {
         if has_tile(fold, tile) {
-            let was = u32::from(value_by(fold, before));
-            return sum - was + u32::from(value_by(fold, after));
+            let (was, is) = values_by(fold, before, after);
+            return sum - u32::from(was) + u32::from(is);
         }
     }
     sum
@@ -167,4 +167,19 @@ fn value_by(fold: &Folded, cells: &[u8; 25]) -> u16
     ensures { result ≡ value_by cells.now fold.now }
 {
     fold.values()[fold.group().place_at(cells)]
+}
+
+// What a folded table says of two boards, by the cell of each of their numbers. Both places are
+// made before the first value is read.
+fn values_by(fold: &Folded, one: &[u8; 25], other: &[u8; 25]) -> (u16, u16)
+    requires one { IsView fold.now.selection.grid fold.now.selection.tiles
+        (view_at fold.now.selection.tiles one.now) }
+    requires other { IsView fold.now.selection.grid fold.now.selection.tiles
+        (view_at fold.now.selection.tiles other.now) }
+    ensures one { result.0 ≡ value_by one.now fold.now }
+    ensures other { result.1 ≡ value_by other.now fold.now }
+{
+    let (first, second) = fold.group().places_at(one, other);
+    let values = fold.values();
+    (values[first], values[second])
 }

@@ -16,7 +16,7 @@ ghost use Rattle.pattern_index.specs.Laws.{factorial};
 ghost use Rattle.pattern_index.specs.Faults.{IsFirstFault};
 ghost use Rattle.pattern_index.specs.declared.faults.GroupFault.{GroupFault};
 
-use crate::cells::{rank_cells, rank_numbers, rank_tiles};
+use crate::cells::{rank_cells, rank_numbers, rank_tiles, rank_tiles_twice};
 use crate::faults::GroupFault;
 use crate::view::View;
 use board::{Board, Move, Shape, Weights};
@@ -195,6 +195,19 @@ impl Group {
         ensures high { result < MAX_SIZE }
     {
         rank_tiles(self.shape().cells(), self.tiles(), cells)
+    }
+
+    /// The places of the tiles' cells on two boards, as `place_at` answers them.
+    pub fn places_at(&self, one: &[u8; 25], other: &[u8; 25]) -> (usize, usize)
+        requires one { IsView self.now.grid self.now.tiles (view_at self.now.tiles one.now) }
+        requires other { IsView self.now.grid self.now.tiles (view_at self.now.tiles other.now) }
+        ensures one { result.0 ≡ place_in self.now.grid (view_at self.now.tiles one.now) }
+        ensures other { result.1 ≡ place_in self.now.grid (view_at self.now.tiles other.now) }
+        ensures below { (result.0 < folded_size_of self.now)
+            × (result.1 < folded_size_of self.now) }
+        ensures high { (result.0 < MAX_SIZE) × (result.1 < MAX_SIZE) }
+    {
+        rank_tiles_twice(self.shape().cells(), self.tiles(), one, other)
     }
 
     /// The view at a place.

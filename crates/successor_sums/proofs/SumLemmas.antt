@@ -1,9 +1,9 @@
 -- The sum of a board, by the cell of each number.
-use Rattle.std.proofs.Common.{true, false, ⊎_elim, ◌≡◌, ℕ, ◌<◌, ◌≤◌, List, [], ◌∷◌, Option, None, Some, map, length, get_or, take, drop, refl, sym, ap, ◌∙◌, subst, arith}
+use Rattle.std.proofs.Common.{true, false, ⊎_elim, ◌≡◌, ℕ, zero, suc, ◌<◌, ◌≤◌, List, [], ◌∷◌, ◌++◌, Option, None, Some, map, length, get_or, take, drop, refl, sym, ap, ◌∙◌, subst, arith}
 use Rattle.std.specs.Prelude.{All, AllPairs, slice_index, slice_set, sum, sum_by, option_map, IfSome, MatchOption}
 use Rattle.std.specs.List.{AllByRecursion}
 use Rattle.std.proofs.lemmas.Bool.{cases_Bool, cond-true, cond-false}
-use Rattle.std.proofs.lemmas.List.Elements.{All-weaker, recursion_from_All}
+use Rattle.std.proofs.lemmas.List.Elements.{All-from_recursion, All-weaker, recursion_from_All}
 use Rattle.std.proofs.lemmas.List.Sums.{sum_by-cons}
 use Rattle.board.specs.declared.moves.Move.{Move}
 use Rattle.board.specs.declared.costs.TheConstants.{GREATEST_EXPANDED_COST}
@@ -29,8 +29,8 @@ use Rattle.lower_bound.proofs.FoldedLemmas.{folds_sum}
 use Rattle.lower_bound.proofs.PartLemmas.{value_stays}
 use Rattle.lower_bound.proofs.TableLemmas.{each_apart, each_lookup, each_fold, few_folds, table_grids, fold_grids, whole_parts, all_folded_parts}
 use Rattle.successor_sums.specs.Ranks.{AreRanks, AreRanksOf, sum_at, sum_by_cells}
-use Rattle.successor_sums.specs.Unpacked.{told_of, is_left_out, but, cells_after, with_sum, AreCellsOf, IsNextTo, IsReached, IsSmall, IsSumOf, SeesViews, told_by}
-use Rattle.successor_sums.specs.declared.unpacked.Reached.{Reached}
+use Rattle.successor_sums.specs.Unpacked.{told_of, is_left_out, but, cells_after, AreCellsOf, IsNextTo, IsReached, IsSmall, IsSumOf, SeesViews, told_by, with_sum}
+use Rattle.successor_sums.specs.declared.unpacked.Successor.{Successor}
 
 -- the values at the ranks of views are those of the views
 pub sum_at-views : (lookups : List Lookup) (ranks : List ℕ) (view : Lookup → Sight) → take (length lookups) ranks ≡ map (λ table. rank_in table.selection.grid (view table)) lookups → sum_at lookups ranks ≡ sum_by (λ table. value_in table (view table)) lookups
@@ -136,17 +136,17 @@ known_sum tables b cells is board same of folded (Some n) at = (at.0 ∙ sym (fo
 
 -- ---- what was reached
 
-small : (rule : CostRule) (b : Position) (m : Move) (r : Reached) → IsReached rule b m r → IsSmall r
+small : (rule : CostRule) (b : Position) (m : Move) (r : Successor) → IsReached rule b m r → IsSmall r
 small rule b m r at = (omega (arith, at.cell, at.below, at.few), omega (arith, at.tile_low, at.few))
 
 module _ (tables : Tables) (b : Position) (is : IsTables tables) (same : tables.split.grid ≡ b.grid) (rule : CostRule) (m : Move) where
   -- its groups see views
-  pub sees_whole : (cells : List ℕ) (reached : Option Reached) → AreCellsOf b cells → IfSome reached (IsReached rule b m) → SeesViews tables.lookups cells reached
+  pub sees_whole : (cells : List ℕ) (reached : Option Successor) → AreCellsOf b cells → IfSome reached (IsReached rule b m) → SeesViews tables.lookups cells reached
   sees_whole cells None of none = tt
   sees_whole cells (Some r) of at = (small rule b m r at, views_at tables (blank_exchange b at.to) (cells_after cells r) is at.board same (at.cells cells of))
 
   -- and it is next to the board
-  pub next_to : (cells : List ℕ) (reached : Option Reached) → IsBoard b → AreCellsOf b cells → IfSome reached (IsReached rule b m) → IsNextTo tables.folds cells reached
+  pub next_to : (cells : List ℕ) (reached : Option Successor) → IsBoard b → AreCellsOf b cells → IfSome reached (IsReached rule b m) → IsNextTo tables.folds cells reached
   next_to cells None board of none = tt
   next_to cells (Some r) board of at = (
     small rule b m r at,
@@ -167,7 +167,7 @@ pub folded_sums : (tables : Tables) (grid : Grid) → IsTables tables → tables
 folded_sums tables grid is same folded x cells board at of = folded_sum tables x cells is board (same ∙ sym at) of folded
 
 -- what is looked up is what the definition tells
-told_is : (rule : CostRule) (parts : List Part) (b : Position) (m : Move) (sum : List ℕ → ℕ) (cells : List ℕ) (reached : Option Reached) → AreCellsOf b cells → SumsUp b.grid parts sum → MatchOption reached (neighbour b.grid m (blank_of b) ≡ None) (IsReached rule b m) → option_map (told_by sum cells) reached ≡ option_map (told_of parts b) (successor rule b m)
+told_is : (rule : CostRule) (parts : List Part) (b : Position) (m : Move) (sum : List ℕ → ℕ) (cells : List ℕ) (reached : Option Successor) → AreCellsOf b cells → SumsUp b.grid parts sum → MatchOption reached (neighbour b.grid m (blank_of b) ≡ None) (IsReached rule b m) → option_map (told_by sum cells) reached ≡ option_map (told_of parts b) (successor rule b m)
 told_is rule parts b m sum cells None of sums none = ap (λ (o : Option ℕ). option_map (told_of parts b) (option_map (successor_at rule b) o)) (sym none)
 told_is rule parts b m sum cells (Some r) of sums is =
     let cell : r.cell ≡ blank_of (blank_exchange b is.to) = is.cell ∙ sym is.blank in
@@ -177,25 +177,37 @@ told_is rule parts b m sum cells (Some r) of sums is =
     ∙ ap (λ (o : Option ℕ). option_map (told_of parts b) (option_map (successor_at rule b) o)) (sym is.found)
 
 -- and what the definition tells but for one move that is left out
-pub told_but : (left_out : Option Move) (rule : CostRule) (parts : List Part) (b : Position) (m : Move) (sum : List ℕ → ℕ) (cells : List ℕ) (reached : Option Reached) → AreCellsOf b cells → SumsUp b.grid parts sum → (is_left_out left_out m ≡ true → reached ≡ None) → (is_left_out left_out m ≡ false → MatchOption reached (neighbour b.grid m (blank_of b) ≡ None) (IsReached rule b m)) → option_map (told_by sum cells) reached ≡ but left_out (λ k. option_map (told_of parts b) (successor rule b k)) m
+pub told_but : (left_out : Option Move) (rule : CostRule) (parts : List Part) (b : Position) (m : Move) (sum : List ℕ → ℕ) (cells : List ℕ) (reached : Option Successor) → AreCellsOf b cells → SumsUp b.grid parts sum → (is_left_out left_out m ≡ true → reached ≡ None) → (is_left_out left_out m ≡ false → MatchOption reached (neighbour b.grid m (blank_of b) ≡ None) (IsReached rule b m)) → option_map (told_by sum cells) reached ≡ but left_out (λ k. option_map (told_of parts b) (successor rule b k)) m
 told_but left_out rule parts b m sum cells reached of sums out kept =
     ⊎_elim
     (λ (yes_out : is_left_out left_out m ≡ true). ap (option_map (told_by sum cells)) (out yes_out) ∙ sym (cond-true _ _ _ yes_out))
     (λ (stays : is_left_out left_out m ≡ false). told_is rule parts b m sum cells reached of sums (kept stays) ∙ sym (cond-false _ _ _ stays))
     (cases_Bool (is_left_out left_out m))
 
--- its key is that of a board
-pub told_key : (rule : CostRule) (b : Position) (m : Move) (sum : List ℕ → ℕ) (cells : List ℕ) (reached : Option Reached) → IfSome reached (IsReached rule b m) → IfSome (option_map (told_by sum cells) reached) (λ s. (x : Position) × HasKey b.grid s.key x)
+-- its key is that of a board, and tile, cell and cost are those of a move
+pub told_key : (rule : CostRule) (b : Position) (m : Move) (sum : List ℕ → ℕ) (cells : List ℕ) (reached : Option Successor) → IfSome reached (IsReached rule b m) → IfSome (option_map (told_by sum cells) reached) (λ s. (x : Position) × HasKey b.grid s.key x)
 told_key rule b m sum cells None none = tt
 told_key rule b m sum cells (Some r) is = (blank_exchange b is.to, record { board = is.board; sides = refl; packed = sym is.key })
 
+pub told_tile : (rule : CostRule) (b : Position) (m : Move) (sum : List ℕ → ℕ) (cells : List ℕ) (reached : Option Successor) → IfSome reached (IsReached rule b m) → IfSome (option_map (told_by sum cells) reached) (λ s. (0 < s.tile) × (s.tile < cell_count b.grid))
+told_tile rule b m sum cells None none = tt
+told_tile rule b m sum cells (Some r) is = (is.tile_some, is.tile_low)
+
+pub told_cell : (rule : CostRule) (b : Position) (m : Move) (sum : List ℕ → ℕ) (cells : List ℕ) (reached : Option Successor) → IfSome reached (IsReached rule b m) → IfSome (option_map (told_by sum cells) reached) (λ s. s.cell < cell_count b.grid)
+told_cell rule b m sum cells None none = tt
+told_cell rule b m sum cells (Some r) is = omega (arith, is.cell, is.below)
+
+pub told_cost : (rule : CostRule) (b : Position) (m : Move) (sum : List ℕ → ℕ) (cells : List ℕ) (reached : Option Successor) → IfSome reached (IsReached rule b m) → IfSome (option_map (told_by sum cells) reached) (λ s. (1 ≤ s.cost) × (s.cost ≤ 255))
+told_cost rule b m sum cells None none = tt
+told_cost rule b m sum cells (Some r) is = (is.low, is.high)
+
 -- the values at the ranks of what was reached are those of its cells
-pub looked_up_is : (lookups : List Lookup) (cells ranks : List ℕ) (reached : Option Reached) → IfSome reached (λ r. AreRanksOf lookups (cells_after cells r) ranks) → option_map (λ r. with_sum r (sum_at lookups ranks)) reached ≡ option_map (told_by (sum_by_cells lookups) cells) reached
+pub looked_up_is : (lookups : List Lookup) (cells ranks : List ℕ) (reached : Option Successor) → IfSome reached (λ r. AreRanksOf lookups (cells_after cells r) ranks) → option_map (λ r. with_sum r (sum_at lookups ranks)) reached ≡ option_map (told_by (sum_by_cells lookups) cells) reached
 looked_up_is lookups cells ranks None none = refl
 looked_up_is lookups cells ranks (Some r) at =
     ap (λ (n : ℕ). Some (with_sum r n)) (sum_at-views lookups ranks (λ (table : Lookup). view_at table.selection.tiles (cells_after cells r)) at.are)
 
-pub ranks_within : (lookups : List Lookup) (cells ranks : List ℕ) (reached : Option Reached) → IfSome reached (λ r. AreRanksOf lookups (cells_after cells r) ranks) → IfSome reached (λ r. AreRanks lookups ranks)
+pub ranks_within : (lookups : List Lookup) (cells ranks : List ℕ) (reached : Option Successor) → IfSome reached (λ r. AreRanksOf lookups (cells_after cells r) ranks) → IfSome reached (λ r. AreRanks lookups ranks)
 ranks_within lookups cells ranks None none = tt
 ranks_within lookups cells ranks (Some r) at = at.within
 
@@ -207,3 +219,40 @@ written (x ∷ y ∷ []) a b c d four = absurd (omega (arith, four))
 written (x ∷ y ∷ z ∷ []) a b c d four = absurd (omega (arith, four))
 written (x ∷ y ∷ z ∷ w ∷ []) a b c d four = refl
 written (x ∷ y ∷ z ∷ w ∷ v ∷ vs) a b c d four = absurd (omega (arith, four))
+
+-- while one after the other is written, those behind are as they were
+pub not_written : {A : Type 0} (xs : List A) (a b c d : A) → length xs ≡ 4 → (get_or (slice_set xs 0 a) 1 d ≡ get_or xs 1 d) × (get_or (slice_set (slice_set xs 0 a) 1 b) 2 d ≡ get_or xs 2 d) × (get_or (slice_set (slice_set (slice_set xs 0 a) 1 b) 2 c) 3 d ≡ get_or xs 3 d)
+not_written [] a b c d four = absurd (omega (arith, four))
+not_written (x ∷ []) a b c d four = absurd (omega (arith, four))
+not_written (x ∷ y ∷ []) a b c d four = absurd (omega (arith, four))
+not_written (x ∷ y ∷ z ∷ []) a b c d four = absurd (omega (arith, four))
+not_written (x ∷ y ∷ z ∷ w ∷ []) a b c d four = (refl, refl, refl)
+not_written (x ∷ y ∷ z ∷ w ∷ v ∷ vs) a b c d four = absurd (omega (arith, four))
+
+-- a list of four of which each was changed, one after the other
+pub each_changed : {A : Type 0} (f : A → A) (xs : List A) (d a b c e : A) → length xs ≡ 4 → a ≡ f (get_or xs 0 d) → b ≡ f (get_or xs 1 d) → c ≡ f (get_or xs 2 d) → e ≡ f (get_or xs 3 d) → slice_set (slice_set (slice_set (slice_set xs 0 a) 1 b) 2 c) 3 e ≡ map f xs
+each_changed f [] d a b c e four pa pb pc pe = absurd (omega (arith, four))
+each_changed f (x ∷ []) d a b c e four pa pb pc pe = absurd (omega (arith, four))
+each_changed f (x ∷ y ∷ []) d a b c e four pa pb pc pe = absurd (omega (arith, four))
+each_changed f (x ∷ y ∷ z ∷ []) d a b c e four pa pb pc pe = absurd (omega (arith, four))
+each_changed f (x ∷ y ∷ z ∷ w ∷ []) d a b c e four pa pb pc pe = λ i. pa i ∷ pb i ∷ pc i ∷ pe i ∷ []
+each_changed f (x ∷ y ∷ z ∷ w ∷ v ∷ vs) d a b c e four pa pb pc pe = absurd (omega (arith, four))
+
+-- what holds of four things holds of each in a list of them
+pub each_written : {A : Type 0} (P : A → Type 0) (xs : List A) (a b c d : A) → length xs ≡ 4 → P a → P b → P c → P d → All P (slice_set (slice_set (slice_set (slice_set xs 0 a) 1 b) 2 c) 3 d)
+each_written {A = A} P xs a b c d four pa pb pc pd =
+    subst (All P) (sym (written xs a b c d four)) (All-from_recursion P (a ∷ b ∷ c ∷ d ∷ []) (pa, (pb, (pc, (pd, tt)))))
+
+-- and what holds of what each becomes
+pub each_told : {A : Type 0} (f : A → A) (P : A → Type 0) (xs ys : List A) (a b c d : A) → length xs ≡ 4 → ys ≡ map f (slice_set (slice_set (slice_set (slice_set xs 0 a) 1 b) 2 c) 3 d) → P (f a) → P (f b) → P (f c) → P (f d) → All P ys
+each_told {A = A} f P xs ys a b c d four is pa pb pc pd =
+    subst (All P) (sym (is ∙ ap (map f) (written xs a b c d four))) (All-from_recursion P (f a ∷ f b ∷ f c ∷ f d ∷ []) (pa, (pb, (pc, (pd, tt)))))
+
+-- what is behind the place to which f was written over each x is as it was
+pub as_it_was : {A : Type 0} (f : A → A) (xs ys : List A) (i : ℕ) (d : A) → i < length xs → ys ≡ map f (take i xs) ++ drop i xs → get_or ys i d ≡ get_or xs i d
+as_it_was {A = A} f xs ys i d low is = ap (λ (zs : List A). get_or zs i d) is ∙ behind xs i low
+  where
+    behind : (zs : List A) (k : ℕ) → k < length zs → get_or (map f (take k zs) ++ drop k zs) k d ≡ get_or zs k d
+    behind [] k none = absurd (omega (arith, none))
+    behind (z ∷ zs) zero low = refl
+    behind (z ∷ zs) (suc k) low = behind zs k (omega (arith, low))

@@ -16,7 +16,6 @@ use Rattle.database_build.specs.Folds.{Fold}
 use Rattle.lower_bound.specs.Bounds.{Part, sum_of}
 use Rattle.lower_bound.specs.Folded.{AreAsBefore, AreViews, IsBefore, value_by}
 use Rattle.successor_sums.specs.declared.unpacked.Successor.{Successor}
-use Rattle.successor_sums.specs.declared.unpacked.Reached.{Reached}
 use Rattle.successor_sums.specs.declared.unpacked.UnpackedBoard.TheInside.{Inside}
 
 -- what is told of a successor of a board: its key, the tile that is moved and the cell that it leaves, which is the
@@ -61,11 +60,11 @@ pub record IsUnpacked (inside : Inside) : Type 0 where
 -- ---- where a move leads to, before the sum is known
 
 -- the cell of each number after the move, by those before
-abbrev pub cells_after : List ℕ → Reached → List ℕ
+abbrev pub cells_after : List ℕ → Successor → List ℕ
 cells_after cells reached = set (set cells 0 reached.cell) reached.tile (slice_index cells 0)
 
 -- what is kept of the board after the blank goes to its neighbour in the direction m
-pub record IsReached (rule : CostRule) (b : Position) (m : Move) (reached : Reached) : Type 0 where
+pub record IsReached (rule : CostRule) (b : Position) (m : Move) (reached : Successor) : Type 0 where
   pub to : ℕ
   pub found : neighbour b.grid m (blank_of b) ≡ Some to
   pub below : to < cell_count b.grid
@@ -83,24 +82,24 @@ pub record IsReached (rule : CostRule) (b : Position) (m : Move) (reached : Reac
   pub low : 1 ≤ reached.cost
   pub high : reached.cost ≤ 255
 
--- the successor, with a sum
-abbrev pub with_sum : Reached → ℕ → Successor
+-- the successor, with another sum
+abbrev pub with_sum : Successor → ℕ → Successor
 with_sum reached sum = record { key = reached.key; tile = reached.tile; cell = reached.cell; cost = reached.cost; sum = sum }
 
 -- the successor, with its sum by the cell of each number, which are made from those before
-abbrev pub told_by : (List ℕ → ℕ) → List ℕ → Reached → Successor
+abbrev pub told_by : (List ℕ → ℕ) → List ℕ → Successor → Successor
 told_by sum cells reached = with_sum reached (sum (cells_after cells reached))
 
 -- its cell and its tile are those of some board
-abbrev pub IsSmall : Reached → Type 0
+abbrev pub IsSmall : Successor → Type 0
 IsSmall reached = (reached.cell < 25) × (reached.tile < 25)
 
 -- each table's group sees a view, by the cells of what was reached
-abbrev pub SeesViews : List Lookup → List ℕ → Option Reached → Type 0
+abbrev pub SeesViews : List Lookup → List ℕ → Option Successor → Type 0
 SeesViews lookups cells reached = IfSome reached (λ r. IsSmall r × All (λ table. IsView table.selection.grid table.selection.tiles (view_at table.selection.tiles (cells_after cells r))) lookups)
 
 -- so does that of each folded table, and each that doesn't have the tile says what it said
-abbrev pub IsNextTo : List Fold → List ℕ → Option Reached → Type 0
+abbrev pub IsNextTo : List Fold → List ℕ → Option Successor → Type 0
 IsNextTo folds cells reached =
     IfSome reached (λ r. IsSmall r × AreViews (cells_after cells r) folds × AreAsBefore cells (cells_after cells r) r.tile folds)
 

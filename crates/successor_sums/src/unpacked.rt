@@ -42,16 +42,6 @@ pub struct Successor {
     pub sum: u32,
 }
 
-// What is known of a successor before its sum is. The tile has 32 bits, so that no byte between the
-// fields is unused, which would be copied by itself.
-#[derive(Clone, Copy, Debug)]
-struct Reached {
-    key: u128,
-    cell: usize,
-    tile: u32,
-    cost: u32,
-}
-
 /// A board taken apart: its shape, its key, and the cell of each number. A tile on a cell is a digit
 /// of the key.
 #[derive(Debug, Drop)]
@@ -191,17 +181,13 @@ impl UnpackedBoard {
             (λ one. IfSome one (λ s. (1 ≤ s.cost) × (s.cost ≤ 255))) told.new }
         ensures sums { All (λ one. IfSome one (λ s. s.sum ≤ GREATEST_SUM)) told.new }
     {
-        let up = self.reach_but(left_out, Move::U, weights);
-        let left = self.reach_but(left_out, Move::L, weights);
-        let right = self.reach_but(left_out, Move::R, weights);
-        let down = self.reach_but(left_out, Move::D, weights);
+        told[0] = self.reach_but(left_out, Move::U, weights);
+        told[1] = self.reach_but(left_out, Move::L, weights);
+        told[2] = self.reach_but(left_out, Move::R, weights);
+        told[3] = self.reach_but(left_out, Move::D, weights);
         match bound.tables() {
-            TableList::Whole(tables) => {
-                by_tables(tables, &self.cells, &up, &left, &right, &down, told)
-            }
-            TableList::Folded(folds) => {
-                by_folds(folds, sum, &self.cells, &up, &left, &right, &down, told)
-            }
+            TableList::Whole(tables) => add_sums(tables, &self.cells, told),
+            TableList::Folded(folds) => add_folded_sums(folds, sum, &self.cells, told),
         }
     }
 
@@ -211,7 +197,7 @@ impl UnpackedBoard {
         left_out: Option<Move>,
         direction: Move,
         weights: &Weights,
-    ) -> Option<Reached>
+    ) -> Option<Successor>
         requires { weights.now.grid ≡ self.now.grid }
         ensures out { is_left_out left_out direction ≡ true → result ≡ None }
         ensures kept { is_left_out left_out direction ≡ false → MatchOption result
@@ -227,7 +213,7 @@ impl UnpackedBoard {
 
     // What is kept of the successor by a move until its sum is known. Its key is this board's, with
     // the tile's digit taken from one place to another.
-    fn reach(&self, direction: Move, weights: &Weights) -> Option<Reached>
+    fn reach(&self, direction: Move, weights: &Weights) -> Option<Successor>
         requires { weights.now.grid ≡ self.now.grid }
         ensures { MatchOption result (neighbour self.now.grid direction (blank_of self.now) ≡ None)
             (IsReached weights.now self.now direction) }
@@ -240,17 +226,18 @@ impl UnpackedBoard {
         let tile = digit_of(self.key, behind);
         let key = self.key - digit_at(tile, behind) + digit_at(tile, last - from as usize);
         let cost = weights.of(tile);
-        Some(Reached {
+        Some(Successor {
             key,
+            cell: to as u32,
             tile: tile as u32,
-            cell: to,
             cost,
+            sum: 0,
         })
     }
 }
 
 // Makes the cell of each number that after a move, where these are the cells before.
-fn move_on(cells: &mut [u8; 25], reached: &Reached)
+fn move_on(cells: &mut [u8; 25], reached: &Successor)
     requires { IsSmall reached.now }
     ensures { cells.new ≡ cells_after cells.old reached.now }
 {
@@ -282,37 +269,26 @@ fn sum_at_cells(tables: &[Table], cells: &[u8; 25]) -> u32
     sum_ranks(tables, &ranks)
 }
 
-// The successors, by whole tables.
-fn by_tables(
-    tables: &[Table],
-    cells: &[u8; 25],
-    up: &Option<Reached>,
-    left: &Option<Reached>,
-    right: &Option<Reached>,
-    down: &Option<Reached>,
-    told: &mut [Option<Successor>; 4],
-)
+// Adds the sums of successors, by whole tables.
+fn add_sums(tables: &[Table], cells: &[u8; 25], told: &mut [Option<Successor>; 4])
     requires few { length tables.now ≤ MOST_TABLES }
-    requires up { SeesViews tables.now cells.now up.now }
-    requires left { SeesViews tables.now cells.now left.now }
-    requires right { SeesViews tables.now cells.now right.now }
-    requires down { SeesViews tables.now cells.now down.now }
-    ensures value { told.new ≡ map (option_map (told_by (sum_by_cells tables.now) cells.now))
-        (up.now ∷ left.now ∷ right.now ∷ down.now ∷ []) }
+    requires views { All (SeesViews tables.now cells.now) told.old }
+    ensures value { told.new
+        ≡ map (option_map (told_by (sum_by_cells tables.now) cells.now)) told.old }
     ensures high { All (λ one. IfSome one (λ s. s.sum ≤ GREATEST_SUM)) told.new }
 {
     let mut up_ranks = [0; MOST_TABLES];
     let mut left_ranks = [0; MOST_TABLES];
     let mut right_ranks = [0; MOST_TABLES];
     let mut down_ranks = [0; MOST_TABLES];
-    find_ranks(tables, cells, up, &mut up_ranks);
-    find_ranks(tables, cells, left, &mut left_ranks);
-    find_ranks(tables, cells, right, &mut right_ranks);
-    find_ranks(tables, cells, down, &mut down_ranks);
-    told[0] = look_up(tables, up, &up_ranks);
-    told[1] = look_up(tables, left, &left_ranks);
-    told[2] = look_up(tables, right, &right_ranks);
-    told[3] = look_up(tables, down, &down_ranks);
+    find_ranks(tables, cells, &told[0], &mut up_ranks);
+    find_ranks(tables, cells, &told[1], &mut left_ranks);
+    find_ranks(tables, cells, &told[2], &mut right_ranks);
+    find_ranks(tables, cells, &told[3], &mut down_ranks);
+    add_values(tables, &up_ranks, &mut told[0]);
+    add_values(tables, &left_ranks, &mut told[1]);
+    add_values(tables, &right_ranks, &mut told[2]);
+    add_values(tables, &down_ranks, &mut told[3]);
 }
 
 // Writes the ranks of what the groups see of a successor, if there is one. (A list that is handed
@@ -320,7 +296,7 @@ fn by_tables(
 fn find_ranks(
     tables: &[Table],
     cells: &[u8; 25],
-    reached: &Option<Reached>,
+    reached: &Option<Successor>,
     ranks: &mut [u32; MOST_TABLES],
 )
     requires few { length tables.now ≤ MOST_TABLES }
@@ -335,34 +311,25 @@ fn find_ranks(
     }
 }
 
-// The successor, by the values that stand at its ranks.
-fn look_up(
-    tables: &[Table],
-    reached: &Option<Reached>,
-    ranks: &[u32; MOST_TABLES],
-) -> Option<Successor>
+// Adds the values that stand at the ranks of a successor, if there is one.
+fn add_values(tables: &[Table], ranks: &[u32; MOST_TABLES], told: &mut Option<Successor>)
     requires few { length tables.now ≤ MOST_TABLES }
-    requires small { IfSome reached.now IsSmall }
-    requires ranks { IfSome reached.now (λ r. AreRanks tables.now ranks.now) }
-    ensures value { result ≡ option_map (λ r. with_sum r (sum_at tables.now ranks.now)) reached.now }
-    ensures high { IfSome result (λ s. s.sum ≤ GREATEST_SUM) }
+    requires ranks { IfSome told.old (λ r. AreRanks tables.now ranks.now) }
+    ensures value { told.new
+        ≡ option_map (λ r. with_sum r (sum_at tables.now ranks.now)) told.old }
+    ensures high { IfSome told.new (λ s. s.sum ≤ GREATEST_SUM) }
 {
-    let Some(found) = reached else {
-        return None;
+    let Some(found) = told else {
+        return;
     };
-    let sum = sum_ranks(tables, ranks);
-    Some(with_sum(found, sum))
+    found.sum = sum_ranks(tables, ranks);
 }
 
-// The successors, by folded tables: from the board's own sum, where it is known.
-fn by_folds(
+// Adds the sums of successors, by folded tables: from the board's own sum, where it is known.
+fn add_folded_sums(
     folds: &[Folded],
     sum: Option<u32>,
     cells: &[u8; 25],
-    up: &Option<Reached>,
-    left: &Option<Reached>,
-    right: &Option<Reached>,
-    down: &Option<Reached>,
     told: &mut [Option<Successor>; 4],
 )
     requires few { length folds.now ≤ MOST_TABLES }
@@ -370,64 +337,44 @@ fn by_folds(
         (λ f g. ShareNoTile f.selection.tiles g.selection.tiles) folds.now }
     requires views { AreViews cells.now folds.now }
     requires sum { IsSumOf folds.now cells.now sum }
-    requires up { IsNextTo folds.now cells.now up.now }
-    requires left { IsNextTo folds.now cells.now left.now }
-    requires right { IsNextTo folds.now cells.now right.now }
-    requires down { IsNextTo folds.now cells.now down.now }
+    requires next { All (IsNextTo folds.now cells.now) told.old }
     ensures value { told.new
-        ≡ map (option_map (told_by (λ after. sum_by (value_by after) folds.now) cells.now))
-        (up.now ∷ left.now ∷ right.now ∷ down.now ∷ []) }
+        ≡ map (option_map (told_by (λ after. sum_by (value_by after) folds.now) cells.now)) told.old }
     ensures high { All (λ one. IfSome one (λ s. s.sum ≤ GREATEST_SUM)) told.new }
 {
-    told[0] = look_up_folded(folds, sum, cells, up);
-    told[1] = look_up_folded(folds, sum, cells, left);
-    told[2] = look_up_folded(folds, sum, cells, right);
-    told[3] = look_up_folded(folds, sum, cells, down);
+    for one in told.iter_mut() {
+        add_folded_sum(folds, sum, cells, one);
+    }
 }
 
-// The successor, by folded tables: from the board's own sum, where it is known.
-fn look_up_folded(
+// Adds the sum of a successor, if there is one, by folded tables: from the board's own sum, where
+// it is known.
+fn add_folded_sum(
     folds: &[Folded],
     sum: Option<u32>,
     cells: &[u8; 25],
-    reached: &Option<Reached>,
-) -> Option<Successor>
+    told: &mut Option<Successor>,
+)
     requires few { length folds.now ≤ MOST_TABLES }
     requires apart { AllPairs
         (λ f g. ShareNoTile f.selection.tiles g.selection.tiles) folds.now }
     requires views { AreViews cells.now folds.now }
     requires sum { IsSumOf folds.now cells.now sum }
-    requires next { IsNextTo folds.now cells.now reached.now }
-    ensures value { result
-        ≡ option_map (told_by (λ after. sum_by (value_by after) folds.now) cells.now) reached.now }
-    ensures high { IfSome result (λ s. s.sum ≤ GREATEST_SUM) }
+    requires next { IsNextTo folds.now cells.now told.old }
+    ensures value { told.new
+        ≡ option_map (told_by (λ after. sum_by (value_by after) folds.now) cells.now) told.old }
+    ensures high { IfSome told.new (λ s. s.sum ≤ GREATEST_SUM) }
 {
-    let Some(found) = reached else {
-        return None;
+    let Some(found) = told else {
+        return;
     };
     let mut after = *cells;
     move_on(&mut after, found);
     let Some(known) = sum else {
-        return Some(with_sum(found, Parts::at(folds, &after).sum()));
+        found.sum = Parts::at(folds, &after).sum();
+        return;
     };
-    Some(with_sum(
-        found,
-        sum_after(folds, known, cells, &after, found.tile as u8),
-    ))
-}
-
-// What is told of a successor, with its sum.
-fn with_sum(found: &Reached, sum: u32) -> Successor
-    requires { IsSmall found.now }
-    ensures { result ≡ with_sum found.now sum }
-{
-    Successor {
-        key: found.key,
-        cell: found.cell as u32,
-        tile: found.tile,
-        cost: found.cost,
-        sum,
-    }
+    found.sum = sum_after(folds, known, cells, &after, found.tile as u8);
 }
 
 // The cell of each number of the board of this shape with this key, from the last cell on.

@@ -60,7 +60,7 @@ returns c =
     let to = c.digit_at-2.ensures ∙ ap (λ (n : ℕ). c.digit_of-tile.result * 32 ^ (n - 1 - slice_index c.self.inside.cells 0)) count in
     let found : neighbour (board_in c.self.inside).grid c.args.direction (blank_of (board_in c.self.inside)) ≡ Some c.in_ok-to.to =
     (λ i. neighbour c.self.inside.shape c.args.direction (sym led.blank i)) ∙ sym c.neighbour.ensures.value ∙ c.in_ok-to.was in
-    subst (λ (p : Position). IsReached c.args.weights.now p c.args.direction (record { key = c.self.inside.key - c.digit_at.result + c.digit_at-2.result; tile = c.digit_of-tile.result; cell = c.in_ok-to.to; cost = c.of-cost.result })) c.self.view_is
+    subst (λ (p : Position). IsReached c.args.weights.now p c.args.direction (record { key = c.self.inside.key - c.digit_at.result + c.digit_at-2.result; tile = c.digit_of-tile.result; cell = c.in_ok-to.to; cost = c.of-cost.result; sum = 0 })) c.self.view_is
     (record {
       to = c.in_ok-to.to;
       found = found;
