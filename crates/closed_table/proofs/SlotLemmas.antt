@@ -62,6 +62,7 @@ module _ (s : Inside) (sound : IsSound s) (t : Table) (view : table_of s ≡ t) 
               links = sound.links;
               buckets = sound.buckets;
               few = sound.few;
+              clear = sound.clear;
             }
 
         pub table_there : table_of (with_slots s after) ≡ record t { known = map.insert t.known key k }

@@ -74,6 +74,10 @@ pub record IsIndexed (slots : List Slot) (links : List ℕ) (buckets : List Buck
   pub nexts : (i : ℕ) → i < len → (bucket_at slots bits n (chain_at slots bits n i) i).count ≡ 7 → slice_index links i ≡ (bucket_at slots bits n (chain_at slots bits n i) i).link
   pub different : (i j : ℕ) → i < len → j < len → key_at slots i ≡ key_at slots j → i ≡ j
 
+-- each bucket is that of a chain with no slot
+abbrev pub AreClear : List Bucket → Type 0
+AreClear buckets = (chain : ℕ) → slice_index_or buckets chain no_bucket ≡ no_bucket
+
 -- what a slot says of its key
 abbrev pub row_of : Slot → ℕ × Known
 row_of slot = (key_in slot, record { cost = slot.cost; expanded = slot.expanded; via = slot.via })

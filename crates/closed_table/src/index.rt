@@ -2,10 +2,10 @@
 
 ghost use Rattle.std.specs.Prelude.{◌≡◌, ◌≢◌, ◌<◌, ◌≤◌, ◌+◌, ◌-◌, ◌*◌, ◌/◌, ◌^◌, ◌++◌, ◌∷◌, [], ℕ};
 ghost use Rattle.std.specs.Prelude.{false, length, List, MatchOption, OnOk};
-ghost use Rattle.std.specs.Prelude.{slice_index, slice_set};
+ghost use Rattle.std.specs.Prelude.{slice_index, slice_index_or, slice_set};
 ghost use Rattle.world_model.specs.declared.parts.Known.{Known};
-ghost use Rattle.closed_table.specs.Chains.{hash_of, place, bucket_with, IsIndexed, key_at};
-ghost use Rattle.closed_table.specs.Chains.{key_in, chain_count, rows_of, part_of};
+ghost use Rattle.closed_table.specs.Chains.{hash_of, place, bucket_with, IsIndexed, AreClear};
+ghost use Rattle.closed_table.specs.Chains.{key_at, key_in, chain_count, rows_of, part_of};
 ghost use Rattle.closed_table.specs.Chains.{stays, goes, IsRelinked, MayBeRelinked};
 ghost use Rattle.closed_table.specs.declared.index.TheConstants.{FIRST_CHAINS, LOAD};
 
@@ -92,6 +92,8 @@ pub(crate) fn grow_to<T: Copy>(
     ensures ok { OnOk result (len + count < length pages.new) }
     ensures few { length pages.new ≤ 2 ^ 32 }
     ensures kept { (more : List T) × (pages.new ≡ pages.old ++ more) }
+    ensures alike { ((k : ℕ) → slice_index_or pages.old k item ≡ item)
+        → (k : ℕ) → slice_index_or pages.new k item ≡ item }
 {
     'pages: while pages.len() - len <= count {
         pages.grow(alloc, item)?;
@@ -346,10 +348,12 @@ fn add_chain(index: &mut Index)
     index.buckets.set(chains, halves.go);
 }
 
-// Makes the first chains, where there is no slot.
+// Makes the first chains, where there is no slot. No bucket is written: each is that of a chain with
+// no slot since its page was made.
 fn make_first_chains(index: &mut Index)
     requires none { index.old.len ≡ 0 }
     requires room { 127 ≤ length index.old.buckets }
+    requires clear { AreClear index.old.buckets }
     ensures indexed { IsIndexed index.new.slots index.new.links index.new.buckets index.old.len
         127 index.new.bits }
     ensures len { index.new.len ≡ index.old.len }
@@ -357,9 +361,6 @@ fn make_first_chains(index: &mut Index)
     ensures links { length index.new.links ≡ length index.old.links }
     ensures buckets { length index.new.buckets ≡ length index.old.buckets }
 {
-    'chains: for chain in 0..FIRST_CHAINS {
-        index.buckets.set(chain, NO_BUCKET);
-    }
     index.bits = FIRST_BITS;
 }
 
@@ -368,6 +369,7 @@ fn make_chains(index: &mut Index)
     requires indexed { IsIndexed index.old.slots index.old.links index.old.buckets index.old.len
         (chain_count index.old.len) index.old.bits }
     requires room { chain_count (index.old.len + 1) ≤ length index.old.buckets }
+    requires clear { index.old.len ≡ 0 → AreClear index.old.buckets }
     ensures indexed { IsIndexed index.new.slots index.new.links index.new.buckets index.old.len
         (chain_count (index.old.len + 1)) index.new.bits }
     ensures len { index.new.len ≡ index.old.len }
@@ -394,6 +396,7 @@ pub(crate) fn add(index: &mut Index, key: u128, hash: u32, cost: u32, via: Move)
     requires slots { index.old.len < length index.old.slots }
     requires links { index.old.len < length index.old.links }
     requires buckets { chain_count (index.old.len + 1) ≤ length index.old.buckets }
+    requires clear { index.old.len ≡ 0 → AreClear index.old.buckets }
     requires small { index.old.len < 2 ^ 32 - 1 }
     ensures indexed { IsIndexed index.new.slots index.new.links index.new.buckets index.new.len
         (chain_count index.new.len) index.new.bits }

@@ -1,6 +1,7 @@
-use Rattle.std.proofs.Common.{◌≡◌, ◌≤◌, ◌+◌, ◌∙◌, ◌++◌, length, ap, arith, append_assoc, length-append}
+use Rattle.std.proofs.Common.{◌≡◌, ◌≤◌, ◌+◌, ◌∙◌, ◌++◌, length, ap, arith, append_assoc, length-append, get_or}
 use Rattle.std.specs.Prelude.{replicate}
 use Rattle.std.proofs.lemmas.List.{length-replicate}
+use Rattle.closed_table.proofs.IndexLemmas.{alike_more}
 use Rattle.memory.specs.declared.pages.TheConstants.{PAGE_LENGTH}
 use Rattle.closed_table.proofs.index.grow_to.Goals as goal
 
@@ -17,4 +18,5 @@ pages-preserved g c =
     record {
       within = omega arith;
       kept = (c.pages.invariant.kept.0 ++ replicate PAGE_LENGTH c.args.item, c.in_ok-grow.ensures.ok ∙ ap (λ xs. xs ++ replicate PAGE_LENGTH c.args.item) c.pages.invariant.kept.1 ∙ append_assoc c.args.pages.now c.pages.invariant.kept.0 (replicate PAGE_LENGTH c.args.item));
+      alike = λ before k. ap (λ xs. get_or xs k c.args.item) c.in_ok-grow.ensures.ok ∙ alike_more c.pages.pages c.args.item PAGE_LENGTH (c.pages.invariant.alike before) k;
     }

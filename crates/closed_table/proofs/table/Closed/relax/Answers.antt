@@ -50,6 +50,7 @@ invariant_of-self c =
       links = let le = c.self.invariant.links in let e = c.add.ensures.links in omega arith;
       buckets = let le = c.self.invariant.buckets in let e = c.add.ensures.buckets in let more = count_le (c.add.new.index.len + (c.self.inside.room - 1)) (s.len + c.self.inside.room) (omega arith) in omega arith;
       few = let le = c.self.invariant.few in omega arith;
+      clear = λ none. absurd (omega arith);
     }
 
 pub returns-in_default-clause-answer : goal.returns-in_default-clause-answer
