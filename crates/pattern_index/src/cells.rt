@@ -111,13 +111,20 @@ pub(crate) fn rank_tiles_twice(
     (one_rank, other_rank)
 }
 
+// The bits below each cell's. To read them takes less than to shift one into its place.
+const BITS_BELOW: [u32; 32] = [
+    0x0, 0x1, 0x3, 0x7, 0xF, 0x1F, 0x3F, 0x7F, 0xFF, 0x1FF, 0x3FF, 0x7FF, 0xFFF, 0x1FFF, 0x3FFF,
+    0x7FFF, 0xFFFF, 0x1FFFF, 0x3FFFF, 0x7FFFF, 0xFFFFF, 0x1FFFFF, 0x3FFFFF, 0x7FFFFF, 0xFFFFFF,
+    0x1FFFFFF, 0x3FFFFFF, 0x7FFFFFF, 0xFFFFFFF, 0x1FFFFFFF, 0x3FFFFFFF, 0x7FFFFFFF,
+];
+
 // How many bits of the mask are below a cell's.
 fn bits_below(mask: u32, cell: u8) -> usize
     requires { cell < 32 }
     ensures value { result ≡ count_ones (mask % 2 ^ cell) }
     ensures bound { result ≤ cell }
 {
-    (mask & ((1u32 << cell) - 1)).count_ones() as usize
+    (mask & BITS_BELOW[cell as usize]).count_ones() as usize
 }
 
 // The mask with a cell's bit set.
