@@ -1,6 +1,6 @@
 //! The plan of a run, followed back by last moves.
 
-ghost use Rattle.std.specs.Prelude.{◌≡◌, ◌<◌, ◌≤◌, ◌+◌, Some, IfOk, length};
+ghost use Rattle.std.specs.Prelude.{◌≡◌, ◌<◌, ◌≤◌, ◌+◌, ◌%◌, Some, IfOk, length};
 ghost use Rattle.board.specs.Moves.{Moves};
 ghost use Rattle.world_model.specs.Workers.{IsTaskBoard};
 ghost use Rattle.world_model.specs.Worlds.{WorldState};
@@ -16,6 +16,18 @@ use std::alloc::Global;
 use worker_core::Worker;
 use world_model::Known;
 
+// The owner of a board, among so many workers. One alone owns all, whatever the hash.
+fn owner_among<S: Spread>(owners: &S, board: &Board, workers: usize) -> usize
+    requires { 0 < workers }
+    ensures value { result ≡ S.hash_of owners.now board.now % workers }
+    ensures within { result < workers }
+{
+    if workers == 1 {
+        return 0;
+    }
+    owners.owner(board, workers)
+}
+
 // What the owner of a board knows of it.
 pub(crate) fn known_of<C: Counting, S: Spread>(
     owners: &S,
@@ -25,7 +37,7 @@ pub(crate) fn known_of<C: Counting, S: Spread>(
     requires { 0 < length workers.now }
     ensures { result ≡ known_in (S.hash_of owners.now) (states_of workers.now) board.now }
 {
-    let owner = owners.owner(board, workers.len());
+    let owner = owner_among(owners, board, workers.len());
     workers[owner].lists().get(board.key())
 }
 
