@@ -67,14 +67,19 @@ impl<K: Copy> Open<K> {
     }
 
     /// Makes places for this many entries at an f, and for some more where its bucket grows and
-    /// memory is given. Whether it succeeds or not, all entries stay, and no place is lost.
+    /// memory is given. It is refused only where there were fewer. Whether it succeeds or not, all
+    /// entries stay, and no place is lost.
     pub fn reserve(&mut self, alloc: Global, f: u32, count: usize) -> Result<(), OutOfMemory>
         requires within { f ≤ GREATEST_F }
         requires modest { count ≤ 2 ^ 27 }
         ensures ok { OnOk result (count ≤ places_at self.new f) }
+        ensures refused { OnErr result (places_at self.old f < count) }
         ensures entries { (h : ℕ) → entries_at self.new h ≡ entries_at self.old h }
         ensures places { (h : ℕ) → places_at self.old h ≤ places_at self.new h }
     {
+        if count == 0 {
+            return Ok(());
+        }
         let place = f as usize;
         'buckets: while self.buckets.len() <= place {
             memory::push(&mut self.buckets, Vec::new(alloc))?;
