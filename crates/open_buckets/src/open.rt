@@ -81,6 +81,10 @@ impl<K: Copy> Open<K> {
             return Ok(());
         }
         let place = f as usize;
+        if place >= self.buckets.len() {
+            let more = place - self.buckets.len() + 1;
+            make_places(&mut self.buckets, more)?;
+        }
         'buckets: while self.buckets.len() <= place {
             memory::push(&mut self.buckets, Vec::new(alloc))?;
         }

@@ -203,7 +203,7 @@ fn if_so(answer: Answer, is_so: bool, why: &'static str) -> Answer {
     if is_so { answer } else { Answer::Wrong(why) }
 }
 
-/// Meets a board, at a cost for which the list of buckets grows three times.
+/// Meets a board, at a cost for which the list of buckets grows.
 pub fn meet_board(alloc: Global) -> Answer {
     let Some(job) = job(alloc) else {
         return Answer::Wrong("no job");

@@ -13,9 +13,9 @@ invariant_of-self-2 g c =
     let bs = c.buckets.self-inside.buckets.items in
     let old = c.index_mut-bucket.result.now in
     let lt : c.args.f < length bs = let len = c.buckets.self-inside.buckets.ok.0 in omega (arith, c.len.ensures) in
-    let size : length (set bs c.args.f c.make_places.new.items) ≡ length bs = length-set bs c.args.f c.make_places.new.items in
+    let size : length (set bs c.args.f c.make_places-2.new.items) ≡ length bs = length-set bs c.args.f c.make_places-2.new.items in
     record {
-      before = λ h below. same_entries bs c.args.f c.make_places.new.items lt old c.index_mut-bucket.ensures.value c.make_places.ensures.items h ∙ c.buckets.invariant.before h below;
+      before = λ h below. same_entries bs c.args.f c.make_places-2.new.items lt old c.index_mut-bucket.ensures.value c.make_places-2.ensures.items h ∙ c.buckets.invariant.before h below;
       few = let few = c.buckets.invariant.few in omega arith;
     }
 
@@ -23,23 +23,23 @@ pub returns-clause-ok : goal.returns-clause-ok
 returns-clause-ok g c =
     let bs = c.buckets.self-inside.buckets.items in
     let lt : c.args.f < length bs = let len = c.buckets.self-inside.buckets.ok.0 in omega (arith, c.len.ensures) in
-    let at = places_set bs c.args.f c.make_places.new.items lt in
-    on_ok_weaker c.make_places.result (λ (room : vec_len c.make_places.new.items + c.args.count ≤ vec_capacity c.make_places.new.items). omega arith) c.make_places.ensures.ok
+    let at = places_set bs c.args.f c.make_places-2.new.items lt in
+    on_ok_weaker c.make_places-2.result (λ (room : vec_len c.make_places-2.new.items + c.args.count ≤ vec_capacity c.make_places-2.new.items). omega arith) c.make_places-2.ensures.ok
 
 pub returns-clause-entries : goal.returns-clause-entries
 returns-clause-entries g c h =
     let bs = c.buckets.self-inside.buckets.items in
     let old = c.index_mut-bucket.result.now in
     let lt : c.args.f < length bs = let len = c.buckets.self-inside.buckets.ok.0 in omega (arith, c.len.ensures) in
-    same_entries bs c.args.f c.make_places.new.items lt old c.index_mut-bucket.ensures.value c.make_places.ensures.items h ∙ c.buckets.invariant.entries h
+    same_entries bs c.args.f c.make_places-2.new.items lt old c.index_mut-bucket.ensures.value c.make_places-2.ensures.items h ∙ c.buckets.invariant.entries h
 
 pub returns-clause-places : goal.returns-clause-places
 returns-clause-places g c h =
     let bs = c.buckets.self-inside.buckets.items in
     let old = c.index_mut-bucket.result.now in
     let lt : c.args.f < length bs = let len = c.buckets.self-inside.buckets.ok.0 in omega (arith, c.len.ensures) in
-    let more : old.cap - old.len ≤ c.make_places.new.items.cap - c.make_places.new.items.len = let cap = c.make_places.ensures.capacity in let same : length c.make_places.new.items.items ≡ length old.items = ap length c.make_places.ensures.items in let now = c.make_places.new.items.ok.0 in let before = old.ok.0 in omega arith in
-    let up = no_fewer_places bs c.args.f c.make_places.new.items lt old c.index_mut-bucket.ensures.value more h in
+    let more : old.cap - old.len ≤ c.make_places-2.new.items.cap - c.make_places-2.new.items.len = let cap = c.make_places-2.ensures.capacity in let same : length c.make_places-2.new.items.items ≡ length old.items = ap length c.make_places-2.ensures.items in let now = c.make_places-2.new.items.ok.0 in let before = old.ok.0 in omega arith in
+    let up = no_fewer_places bs c.args.f c.make_places-2.new.items lt old c.index_mut-bucket.ensures.value more h in
     let before = c.buckets.invariant.places h in
     omega arith
 
