@@ -3,6 +3,7 @@ pub mod Tables
 pub mod Faults
 pub mod Falls
 pub mod Folds
+pub mod Marks
 pub mod Buckets
 pub mod Searches
 pub mod Laws

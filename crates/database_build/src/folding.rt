@@ -1,9 +1,11 @@
 //! Folded tables: those without the blank.
 
-ghost use Rattle.std.specs.Prelude.{◌≡◌, length, replicate, IfOk};
+ghost use Rattle.std.specs.Prelude.{ℕ, ◌≡◌, ◌<◌, ◌↔◌, length, replicate, slice_index_or, false};
+ghost use Rattle.std.specs.Prelude.{IfOk, IsTrue, Contains};
 ghost use Rattle.pattern_index.specs.Views.{IsView};
-ghost use Rattle.pattern_index.specs.Selections.{folded_size_of};
+ghost use Rattle.pattern_index.specs.Selections.{IsSelection, folded_size_of};
 ghost use Rattle.database_build.specs.Folds.{IsFoldOf, folded_in};
+ghost use Rattle.database_build.specs.Marks.{AreMarksOf};
 
 use crate::table::{NO_VALUE, Table};
 use memory::{OutOfMemory, filled};
@@ -16,18 +18,23 @@ use std::marker::Model;
 pub struct Folded {
     group: Group,
     least: Vec<u16>,
+    // Of each number whether it is a tile of the group.
+    marks: [bool; 25],
 }
 
 impl Model for Folded {
     ghost use Rattle.std.specs.Prelude.{◌≡◌, length};
     ghost use Rattle.pattern_index.specs.Selections.{folded_size_of};
     ghost use Rattle.database_build.specs.Folds.{Fold};
+    ghost use Rattle.database_build.specs.Marks.{AreMarksOf};
+    ghost use Rattle.pattern_index.specs.Selections.{IsSelection};
 
     ghost Value = { Fold };
 
     ghost view = { λ t. record { selection = t.group; least = t.least.items } };
 
-    ghost invariant = { λ t. length t.least.items ≡ folded_size_of t.group };
+    ghost invariant = { λ t. (length t.least.items ≡ folded_size_of t.group)
+        × IsSelection t.group × AreMarksOf t.group.tiles t.marks };
 }
 
 impl Folded {
@@ -55,6 +62,18 @@ impl Folded {
         &self.least
     }
 
+    /// Whether a tile is one of its group's. It is looked up, in no more time where the group has
+    /// more tiles.
+    pub fn has_tile(&self, tile: u8) -> bool
+        ensures has { IsTrue result ↔ Contains self.now.selection.tiles tile }
+        ensures group { IsSelection self.now.selection }
+    {
+        match self.marks.get(tile as usize) {
+            Some(is_marked) => *is_marked,
+            None => false,
+        }
+    }
+
     /// How many values it has: N! / (N - k)! for k tiles and N cells.
     pub fn size(&self) -> usize
         ensures value { result ≡ folded_size_of self.now.selection }
@@ -72,7 +91,32 @@ pub fn fold(alloc: Global, table: Table) -> Result<Folded, OutOfMemory>
     let group = *table.group();
     let mut least = filled(alloc, NO_VALUE, group.folded_size())?;
     lower_all(&table, &mut least);
-    Ok(Folded { group, least })
+    let marks = mark_tiles(&group);
+    Ok(Folded {
+        group,
+        least,
+        marks,
+    })
+}
+
+// Marks the tiles of a group among the numbers.
+fn mark_tiles(group: &Group) -> [bool; 25]
+    ensures marks { AreMarksOf group.now.tiles result }
+    ensures group { IsSelection group.now }
+{
+    let tiles = group.tiles();
+    let mut marks = [false; 25];
+    'numbers: for number in 0..25 {
+        marks[number] = is_among(tiles, number as u8);
+    }
+    marks
+}
+
+// Whether a number is one of the tiles.
+fn is_among(tiles: &[u8], number: u8) -> bool
+    ensures { IsTrue result ↔ Contains tiles.now number }
+{
+    tiles.contains(&number)
 }
 
 // Lowers the entry of each view's place to the view's value.

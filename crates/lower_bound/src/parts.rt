@@ -1,10 +1,8 @@
 //! The values of the groups of a board, one by one.
 
-ghost use Rattle.std.specs.Prelude.{ℕ, ◌≡◌, ◌+◌, ◌*◌, ◌≤◌, ◌↔◌, length, map, sum, sum_by, All, AllPairs};
-ghost use Rattle.std.specs.Prelude.{IsTrue, Contains};
+ghost use Rattle.std.specs.Prelude.{ℕ, ◌≡◌, ◌+◌, ◌*◌, ◌≤◌, length, map, sum, sum_by, All, AllPairs};
 ghost use Rattle.board.specs.Positions.{Position};
 ghost use Rattle.pattern_index.specs.Views.{IsView, view_at};
-ghost use Rattle.pattern_index.specs.Selections.{IsSelection};
 ghost use Rattle.pattern_index.specs.Splits.{ShareNoTile};
 ghost use Rattle.lower_bound.specs.Folded.{folded_parts, values_of, value_for, IsBefore};
 ghost use Rattle.lower_bound.specs.Folded.{value_by, AreViews, AreAsBefore};
@@ -108,7 +106,7 @@ pub fn sum_after(folds: &[Folded], sum: u32, before: &[u8; 25], after: &[u8; 25]
     ensures high { result ≤ sum + NO_VALUE }
 {
     'tables: for fold in folds {
-        if has_tile(fold, tile) {
+        if fold.has_tile(tile) {
             let (was, is) = values_by(fold, before, after);
             return sum - u32::from(was) + u32::from(is);
         }
@@ -137,18 +135,10 @@ fn renew(folds: &[Folded], board: &Board, tile: u8, values: &mut [u16])
     ensures { values.new ≡ map (value_for board.now) folds.now }
 {
     'tables: for i in 0..folds.len() {
-        if has_tile(&folds[i], tile) {
+        if folds[i].has_tile(tile) {
             values[i] = value_for(&folds[i], board);
         }
     }
-}
-
-// Whether the group of a folded table has a tile.
-fn has_tile(fold: &Folded, tile: u8) -> bool
-    ensures has { IsTrue result ↔ Contains fold.now.selection.tiles tile }
-    ensures group { IsSelection fold.now.selection }
-{
-    fold.group().tiles().contains(&tile)
 }
 
 // What a folded table says of a board.
