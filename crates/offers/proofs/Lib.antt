@@ -1,1 +1,2 @@
+pub mod EntryLemmas
 pub mod OfferLemmas

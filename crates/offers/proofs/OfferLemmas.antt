@@ -1,10 +1,10 @@
 -- What is told of a successor, as an offer.
-use Rattle.std.proofs.Common.{◌⊎◌, ⊎_elim, inl, inr, true, false, refl, slice_index, subst, ◌≡◌, ℕ, ◌+◌, ◌<◌, ◌≤◌, Option, Some, None, sym, ap, ◌∙◌}
-use Rattle.std.specs.Prelude.{List, All, IfSome, length, option_map, slice_index_or}
+use Rattle.std.proofs.Common.{⊎_elim, true, false, refl, slice_index, subst, ◌≡◌, ℕ, ◌+◌, ◌<◌, List, length, get_or, Option, Some, None, sym, ap, ◌∙◌, arith}
+use Rattle.std.specs.Prelude.{IfSome, option_map}
 use Rattle.std.proofs.lemmas.Bool.{cases_Bool, cond-true, cond-false}
 use Rattle.board.specs.declared.moves.Move.{Move}
+use Rattle.board.specs.declared.moves.Move.TheVariants.{U, L, R, D}
 use Rattle.board.specs.CostRules.{CostRule}
-use Rattle.board.specs.Keys.{HasKey}
 use Rattle.board.specs.Grids.{cell_count}
 use Rattle.board.specs.Neighbours.{LiesTowards, neighbour}
 use Rattle.board.specs.Moves.{successor, successor_at, blank_exchange}
@@ -16,21 +16,12 @@ use Rattle.owners.specs.Slides.{IsSlide}
 use Rattle.world_model.specs.declared.parts.Item.{Item}
 use Rattle.lower_bound.specs.Bounds.{Part, sum_of}
 use Rattle.successor_sums.specs.declared.unpacked.Successor.{Successor}
+use Rattle.successor_sums.specs.ByMoves.{FourOf, entries_of, of_move}
 use Rattle.successor_sums.specs.Unpacked.{told_of, is_left_out, but, successors_but}
+use Rattle.successor_sums.proofs.EntryLemmas.{absent_too, found}
+use Rattle.successor_sums.proofs.SumLemmas.{kept_by, of_four_by}
 use Rattle.offers.specs.declared.offer.Offer.{Offer}
-use Rattle.offers.specs.Offers.{item_by, IsOffered}
-
--- each key that is told is that of a board with these sides
-pub keys_at : (told : List (Option Successor)) (b same : Position) → same ≡ b → All (λ t. IfSome t (λ s. (x : Position) × HasKey b.grid s.key x)) told → (i : ℕ) → i < length told → IfSome (slice_index_or told i None) (λ s. (x : Position) × HasKey same.grid s.key x)
-keys_at told b same is keys i within = subst (λ (p : Position). IfSome (slice_index_or told i None) (λ s. (x : Position) × HasKey p.grid s.key x)) (sym is) (keys i None within)
-
--- each move costs little
-pub costs_at : (told : List (Option Successor)) → All (λ t. IfSome t (λ s. (1 ≤ s.cost) × (s.cost ≤ 255))) told → (i : ℕ) → i < length told → IfSome (slice_index_or told i None) (λ s. s.cost ≤ 255)
-costs_at told costs i within = low (slice_index_or told i None) (costs i None within)
-  where
-    low : (t : Option Successor) → IfSome t (λ s. (1 ≤ s.cost) × (s.cost ≤ 255)) → IfSome t (λ s. s.cost ≤ 255)
-    low None is = tt
-    low (Some s) is = is.1
+use Rattle.offers.specs.Offers.{Offers, item_by, AreOffered, IsOffered}
 
 -- what is told of a successor is where a tile slides from
 slide_of : (rule : CostRule) (parts : List Part) (b : Position) (m : Move) (blank from : ℕ) (told : Successor) → IsBoard b → blank ≡ blank_of b → neighbour b.grid m (blank_of b) ≡ Some from → told ≡ told_of parts b (successor_at rule b from) → IsSlide b.grid b (record { tile = told.tile; from = told.cell; to = blank })
@@ -58,36 +49,12 @@ slides_by rule parts b m blank None (Some told) board is found same = absurd (no
     none e = cc
 slides_by rule parts b m blank (Some from) (Some told) board is found same = slide_of rule parts b m blank from told board is found cc
 
--- what is told of a move, unless that is the one that is left out
-told_cases : (left_out : Option Move) (made : Move → Option Successor) (m : Move) (told : Option Successor) → told ≡ but left_out made m → ((told ≡ None) × (is_left_out left_out m ≡ true)) ⊎ ((told ≡ made m) × (is_left_out left_out m ≡ false))
-told_cases left_out made m told is =
-    ⊎_elim
-    (λ (out : is_left_out left_out m ≡ true). inl (is ∙ cond-true _ _ _ out, out))
-    (λ (stays : is_left_out left_out m ≡ false). inr (is ∙ cond-false _ _ _ stays, stays))
-    (cases_Bool (is_left_out left_out m))
-
 -- in each move of which something is told a tile slides onto the blank's cell
-pub slides_at : (rule : CostRule) (parts : List Part) (left_out : Option Move) (told : List (Option Successor)) (b same : Position) (blank : ℕ) → IsBoard b → same ≡ b → blank ≡ blank_of b → told ≡ successors_but left_out rule parts b → (i : ℕ) (m : Move) → slice_index_or (successors_but left_out rule parts b) i None ≡ but left_out (λ k. option_map (told_of parts b) (successor rule b k)) m → IfSome (slice_index_or told i None) (λ s. IsSlide same.grid same (record { tile = s.tile; from = s.cell; to = blank }))
-slides_at rule parts left_out told b same blank board is at value i m here =
-    subst (λ (p : Position). IfSome (slice_index_or told i None) (λ s. IsSlide p.grid p (record { tile = s.tile; from = s.cell; to = blank }))) (sym is)
-    (⊎_elim
-    (λ out. subst (λ (t : Option Successor). IfSome t (λ s. IsSlide b.grid b (record { tile = s.tile; from = s.cell; to = blank }))) (sym out.0) tt)
-    (λ stays. slides_by rule parts b m blank (neighbour b.grid m (blank_of b)) (slice_index_or told i None) board at refl stays.0)
-    (told_cases left_out (λ k. option_map (told_of parts b) (successor rule b k)) m (slice_index_or told i None) (ap (λ (ts : List (Option Successor)). slice_index_or ts i None) value ∙ here)))
-
--- what a move offers, unless that is the one that is left out
-pub offered_but : (rule : CostRule) (parts : List Part) (owner : Position → ℕ) (b : Position) (cost : ℕ) (left_out : Option Move) (m : Move) (told : Option Successor) (offer : Option Offer) → told ≡ but left_out (λ k. option_map (told_of parts b) (successor rule b k)) m → (told ≡ None → offer ≡ None) → (told ≡ option_map (told_of parts b) (successor rule b m) → IsOffered (sum_of parts) owner (item_by rule b cost m) offer) → IsOffered (sum_of parts) owner (but left_out (item_by rule b cost) m) offer
-offered_but rule parts owner b cost left_out m told offer is none offered =
-    ⊎_elim
-    (λ out. subst (λ (x : Option Item × Option Offer). IsOffered (sum_of parts) owner x.0 x.1) (λ t. (sym (no_item out.1) t, sym (none out.0) t)) nothing)
-    (λ stays. subst (λ (item : Option Item). IsOffered (sum_of parts) owner item offer) (sym (cond-false _ _ _ stays.1)) (offered stays.0))
-    (told_cases left_out (λ k. option_map (told_of parts b) (successor rule b k)) m told is)
-  where
-    no_item : is_left_out left_out m ≡ true → but left_out (item_by rule b cost) m ≡ None
-    no_item out = cond-true _ _ _ out
-
-    nothing : IsOffered (sum_of parts) owner None None
-    nothing = tt
+pub slides_at : (rule : CostRule) (parts : List Part) (left_out : Option Move) (told : FourOf Successor) (b : Position) (blank : ℕ) → IsBoard b → blank ≡ blank_of b → told ≡ successors_but left_out rule parts b → (i : ℕ) (e : Move × Successor) → i < length (entries_of told) → IsSlide b.grid b (record { tile = (get_or (entries_of told) i e).1.tile; from = (get_or (entries_of told) i e).1.cell; to = blank })
+slides_at rule parts left_out told b blank board at is i e low =
+    let m = (get_or (entries_of told) i e).0 in
+    let made = kept_by left_out (λ k. option_map (told_of parts b) (successor rule b k)) told is i e low in
+    slides_by rule parts b m blank (neighbour b.grid m (blank_of b)) (Some (get_or (entries_of told) i e).1) board at refl (sym made.1)
 
 module _ (rule : CostRule) (parts : List Part) (b : Position) (cost : ℕ) (m : Move) where
   -- of a board that is there something is told
@@ -125,3 +92,38 @@ module _ (rule : CostRule) (parts : List Part) (b : Position) (cost : ℕ) (m : 
       let lies : LiesTowards b.grid m (blank_of b) from = (neighbour_lies b.grid m (blank_of b) from (blank_stands b board).0).0 found in
       let cell : told.cell ≡ from = ap (λ (s : Successor). s.cell) same ∙ blank_after b board from (cell_below b.grid m (blank_of b) from lies) in
       is_offered owner from told offer found is key reached f (owned ∙ ap (λ (k : ℕ). owner (blank_exchange b k)) cell)
+
+-- what the moves offer of which something is told, and no other does, is what they offer but for the move that is left out
+pub all_offered : (rule : CostRule) (parts : List Part) (left_out : Option Move) (b : Position) (cost : ℕ) (owner : Position → ℕ) (told : FourOf Successor) (offers : Offers) → told ≡ successors_but left_out rule parts b → length (entries_of offers) ≡ length (entries_of told) → ((j : ℕ) (d : Move × Offer) (e : Move × Successor) → j < length (entries_of told) → (get_or (entries_of offers) j d).0 ≡ (get_or (entries_of told) j e).0) → ((j : ℕ) (d : Move × Offer) → j < length (entries_of told) → IsOffered (sum_of parts) owner (item_by rule b cost (get_or (entries_of offers) j d).0) (Some (get_or (entries_of offers) j d).1)) → AreOffered (sum_of parts) owner (but left_out (item_by rule b cost)) offers
+all_offered rule parts left_out b cost owner told offers is all moves offered = record { up = one U; left = one L; right = one R; down = one D }
+  where
+    nothing : IsOffered (sum_of parts) owner None None
+    nothing = tt
+
+    none : (m : Move) → of_move told m ≡ None → IsOffered (sum_of parts) owner (but left_out (item_by rule b cost) m) None
+    none m absent =
+        let at : but left_out (λ k. option_map (told_of parts b) (successor rule b k)) m ≡ None = sym (of_four_by (but left_out (λ k. option_map (told_of parts b) (successor rule b k))) m) ∙ ap (λ (four : FourOf Successor). of_move four m) (sym is) ∙ absent in
+        ⊎_elim
+        (λ (out : is_left_out left_out m ≡ true). subst (λ (item : Option Item). IsOffered (sum_of parts) owner item None) (sym (cond-true _ _ _ out)) nothing)
+        (λ (stays : is_left_out left_out m ≡ false).
+        subst (λ (item : Option Item). IsOffered (sum_of parts) owner item None) (sym (cond-false _ _ _ stays))
+        (none_offered rule parts b cost m owner (neighbour b.grid m (blank_of b)) refl (sym at ∙ cond-false _ _ _ stays)))
+        (cases_Bool (is_left_out left_out m))
+
+    by : (m : Move) (o : Option Offer) → of_move offers m ≡ o → IsOffered (sum_of parts) owner (but left_out (item_by rule b cost) m) o
+    by m None absent = none m (absent_too told offers all moves m absent)
+    by m (Some offer) at =
+        let place = found offers m offer at in
+        let there = place.2 (m, offer) in
+        let low = place.1 in
+        let within : place.0 < length (entries_of told) = omega (arith, low, all) in
+        let here : IsOffered (sum_of parts) owner (item_by rule b cost m) (Some offer) = subst (λ (e : Move × Offer). IsOffered (sum_of parts) owner (item_by rule b cost e.0) (Some e.1)) there (offered place.0 (m, offer) within) in
+        subst (λ (item : Option Item). IsOffered (sum_of parts) owner item (Some offer)) (sym (cond-false _ _ _ (stays place.0 within (λ e. sym (moves place.0 (m, offer) e within) ∙ ap (λ (x : Move × Offer). x.0) there)))) here
+      where
+        stays : (j : ℕ) → j < length (entries_of told) → ((e : Move × Successor) → (get_or (entries_of told) j e).0 ≡ m) → is_left_out left_out m ≡ false
+        stays j within same =
+            let e : Move × Successor = (m, record { key = 0; tile = 0; cell = 0; cost = 0; sum = 0 }) in
+            subst (λ (k : Move). is_left_out left_out k ≡ false) (same e) (kept_by left_out (λ k. option_map (told_of parts b) (successor rule b k)) told is j e within).0
+
+    one : (m : Move) → IsOffered (sum_of parts) owner (but left_out (item_by rule b cost) m) (of_move offers m)
+    one m = by m (of_move offers m) refl

@@ -10,7 +10,11 @@ use Rattle.board.specs.Positions.{Position}
 use Rattle.world_model.specs.declared.parts.Item.{Item}
 use Rattle.lower_bound.specs.declared.bound.TheConstants.{GREATEST_SUM}
 use Rattle.offers.specs.declared.offer.Offer.{Offer}
-use Rattle.offers.specs.declared.offer.Offers.{Offers}
+use Rattle.successor_sums.specs.ByMoves.{FourOf}
+
+-- what the four moves from a board offer: nothing where the blank would leave the board, and by a move that is left out
+abbrev pub Offers : Type 0
+Offers = FourOf Offer
 
 -- the successor of a board that costs this much, by a move
 abbrev pub item_by : CostRule → Position → ℕ → Move → Option Item

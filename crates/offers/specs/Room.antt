@@ -3,7 +3,7 @@ use Rattle.std.specs.Prelude.{ℕ, ◌+◌, ◌<◌, ◌≤◌, ◌==◌, if◌t
 use Rattle.world_model.specs.declared.limits.TheConstants.{PACKET_LIMIT}
 use Rattle.world_model.specs.Workers.{Packet}
 use Rattle.offers.specs.declared.offer.Offer.{Offer}
-use Rattle.offers.specs.declared.offer.Offers.{Offers}
+use Rattle.offers.specs.Offers.{Offers}
 
 -- how many items of what one move offers go from worker `me` to another, `to`: one or none
 abbrev pub goes : ℕ → ℕ → Option Offer → ℕ

@@ -4,5 +4,5 @@
 mod offer;
 mod room;
 
-pub use offer::{Offer, Offers, offers_of};
+pub use offer::{Offer, no_offers, offers_of};
 pub use room::has_room;

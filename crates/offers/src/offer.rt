@@ -1,6 +1,6 @@
 //! Successors of a board, as they go to their owners.
 
-ghost use Rattle.std.specs.Prelude.{ℕ, ◌≡◌, ◌≢◌, ◌<◌, ◌≤◌, ◌%◌, List, IfSome, None, option_map};
+ghost use Rattle.std.specs.Prelude.{ℕ, ◌≡◌, ◌≢◌, ◌<◌, ◌≤◌, ◌%◌, List, Some, option_map};
 ghost use Rattle.board.specs.declared.costs.TheConstants.{GREATEST_EXPANDED_COST};
 ghost use Rattle.lower_bound.specs.declared.bound.TheConstants.{GREATEST_SUM};
 ghost use Rattle.board.specs.CostRules.{CostRule};
@@ -9,6 +9,7 @@ ghost use Rattle.board.specs.Moves.{blank_exchange, successor};
 ghost use Rattle.board.specs.Positions.{Position};
 ghost use Rattle.lower_bound.specs.Bounds.{Part, sum_of};
 ghost use Rattle.lower_bound.specs.Tables.{parts_of};
+ghost use Rattle.board.specs.declared.moves.Move.{Move};
 ghost use Rattle.successor_sums.specs.Unpacked.{told_of, but};
 ghost use Rattle.owners.specs.Slides.{IsSlide};
 ghost use Rattle.offers.specs.Offers.{item_by, IsOffered, AreOffered, OfEach, IsWithin};
@@ -16,10 +17,10 @@ ghost use Rattle.offers.specs.Offers.{item_by, IsOffered, AreOffered, OfEach, Is
 use board::{Move, Shape, Weights};
 use lower_bound::Bound;
 use owners::{Slide, Spread, worker_of};
-use successor_sums::{Successor, UnpackedBoard};
+use successor_sums::{ByMoves, Successor, UnpackedBoard, no_successors};
 
-/// What a move from a board offers: a successor, by its key. (The move itself is told by the place
-/// in `Offers`: with it bytes would be unused, which are copied one by one.)
+/// What a move from a board offers: a successor, by its key. (The move itself stands beside it in
+/// `ByMoves`: with it bytes would be unused, which are copied one by one.)
 #[derive(Clone, Copy, Debug)]
 pub struct Offer {
     pub key: u128,
@@ -31,28 +32,19 @@ pub struct Offer {
     pub owner: usize,
 }
 
-/// What the four moves from a board offer; None where the blank would leave the board, and of a
-/// move that is left out.
-#[derive(Clone, Copy, Debug)]
-pub struct Offers {
-    pub up: Option<Offer>,
-    pub left: Option<Offer>,
-    pub right: Option<Offer>,
-    pub down: Option<Offer>,
-}
+// What lies in memory where nothing is offered.
+const NO_OFFER: Offer = Offer {
+    key: 0,
+    cost: 0,
+    f: 0,
+    owner: 0,
+};
 
-impl Offers {
-    /// Nothing is offered.
-    pub fn none() -> Self
-        ensures { OfEach (λ offer. ⊥) result }
-    {
-        Offers {
-            up: None,
-            left: None,
-            right: None,
-            down: None,
-        }
-    }
+/// Nothing is offered.
+pub fn no_offers() -> ByMoves<Offer>
+    ensures { OfEach (λ offer. ⊥) result }
+{
+    ByMoves::nothing(NO_OFFER)
 }
 
 // Of a board whose moves are offered its hash, where there are several workers, and the cell of the
@@ -75,7 +67,7 @@ pub fn offers_of<S: Spread>(
     owners: &S,
     workers: usize,
     left_out: Option<Move>,
-    offers: &mut Offers,
+    offers: &mut ByMoves<Offer>,
 )
     requires rule { weights.now.grid ≡ unpacked.now.grid }
     requires bound { bound.now.split.grid ≡ unpacked.now.grid }
@@ -88,17 +80,19 @@ pub fn offers_of<S: Spread>(
         (but left_out (item_by weights.now unpacked.now cost)) offers.new }
     ensures within { OfEach (IsWithin unpacked.now.grid cost workers) offers.new }
 {
-    let mut told = [None; 4];
+    let mut told = no_successors();
     unpacked.successors_but(left_out, Some(sum), weights, bound, &mut told);
     let hashed = Hashed {
         hash: hash_for(unpacked, owners, workers),
         blank: unpacked.blank(),
         workers,
     };
-    offers.up = offer_by(unpacked, cost, Move::U, &told[0], owners, hashed);
-    offers.left = offer_by(unpacked, cost, Move::L, &told[1], owners, hashed);
-    offers.right = offer_by(unpacked, cost, Move::R, &told[2], owners, hashed);
-    offers.down = offer_by(unpacked, cost, Move::D, &told[3], owners, hashed);
+    offers.clear();
+    'told: for place in 0..told.len() {
+        let (direction, successor) = told.entry(place);
+        let offer = offer_by(unpacked, cost, &successor, owners, hashed);
+        offers.put_if(direction, offer, true);
+    }
 }
 
 // The hash of a board where there are several workers: one owns all, whatever the hash.
@@ -116,42 +110,36 @@ fn hash_for<S: Spread>(unpacked: &UnpackedBoard, owners: &S, workers: usize) -> 
 fn offer_by<S: Spread>(
     unpacked: &UnpackedBoard,
     cost: u32,
-    direction: Move,
-    told: &Option<Successor>,
+    told: &Successor,
     owners: &S,
     hashed: Hashed,
-) -> Option<Offer>
+) -> Offer
     requires low { cost ≤ GREATEST_EXPANDED_COST }
-    requires keys { IfSome told.now (λ s. (b : Position) × HasKey unpacked.now.grid s.key b) }
-    requires slides { IfSome told.now (λ s. IsSlide unpacked.now.grid unpacked.now
-        (record { tile = s.tile; from = s.cell; to = hashed.blank })) }
-    requires costs { IfSome told.now (λ s. s.cost ≤ 255) }
-    requires sums { IfSome told.now (λ s. s.sum ≤ GREATEST_SUM) }
+    requires keys { (b : Position) × HasKey unpacked.now.grid told.now.key b }
+    requires slides { IsSlide unpacked.now.grid unpacked.now
+        (record { tile = told.now.tile; from = told.now.cell; to = hashed.blank }) }
+    requires costs { told.now.cost ≤ 255 }
+    requires sums { told.now.sum ≤ GREATEST_SUM }
     requires some { 0 < hashed.workers }
     requires hash { hashed.workers ≢ 1 → hashed.hash ≡ S.hash_of owners.now unpacked.now }
-    ensures within { IfSome result (IsWithin unpacked.now.grid cost hashed.workers) }
-    ensures none { told.now ≡ None → result ≡ None }
-    ensures offered { (rule : CostRule) (parts : List Part)
-        → told.now ≡ option_map (told_of parts unpacked.now) (successor rule unpacked.now direction)
+    ensures within { IsWithin unpacked.now.grid cost hashed.workers result }
+    ensures offered { (rule : CostRule) (parts : List Part) (m : Move)
+        → option_map (told_of parts unpacked.now) (successor rule unpacked.now m) ≡ Some told.now
         → IsOffered (sum_of parts) (λ b. S.hash_of owners.now b % hashed.workers)
-        (item_by rule unpacked.now cost direction) result }
+        (item_by rule unpacked.now cost m) (Some result) }
 {
-    let shape = unpacked.shape();
-    let Some(successor) = *told else {
-        return None;
-    };
     let slide = Slide {
-        tile: successor.tile as u8,
-        from: successor.cell as usize,
+        tile: told.tile as u8,
+        from: told.cell as usize,
         to: hashed.blank,
     };
-    let reached = cost + successor.cost;
-    Some(Offer {
-        key: successor.key,
+    let reached = cost + told.cost;
+    Offer {
+        key: told.key,
         cost: reached,
-        f: reached + successor.sum,
-        owner: owner_after(owners, hashed, shape, slide),
-    })
+        f: reached + told.sum,
+        owner: owner_after(owners, hashed, unpacked.shape(), slide),
+    }
 }
 
 // The owner of a board after a slide.

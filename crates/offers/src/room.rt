@@ -1,14 +1,15 @@
 //! Whether packets have room for what is offered to their workers.
 
-ghost use Rattle.std.specs.Prelude.{ℕ, ◌≡◌, ◌≤◌, ◌↔◌, [], length, map, slice_index_or, IsTrue};
+ghost use Rattle.std.specs.Prelude.{ℕ, ◌≡◌, ◌≤◌, ◌↔◌, [], length, map, slice_index_or, IsTrue, Some};
 ghost use Rattle.offers.specs.Room.{goes, go, HasRoom};
 
-use crate::offer::{Offer, Offers};
+use crate::offer::Offer;
 use arrayvec::ArrayVec;
+use successor_sums::ByMoves;
 use world_model::{Item, PACKET_LIMIT};
 
 /// Whether each packet of a worker has room for what is offered to others.
-pub fn has_room(unsent: &[ArrayVec<Item, PACKET_LIMIT>], me: usize, offers: &Offers) -> bool
+pub fn has_room(unsent: &[ArrayVec<Item, PACKET_LIMIT>], me: usize, offers: &ByMoves<Offer>) -> bool
     requires { (to : ℕ)
         → length (slice_index_or (map (λ v. v.items) unsent.now) to []) ≤ PACKET_LIMIT }
     ensures { IsTrue result ↔ HasRoom me (map (λ v. v.items) unsent.now) offers.now }
@@ -22,28 +23,27 @@ pub fn has_room(unsent: &[ArrayVec<Item, PACKET_LIMIT>], me: usize, offers: &Off
 }
 
 // How many of the offers go from one worker to another: none from one to itself.
-fn count(offers: &Offers, me: usize, to: usize) -> usize
+fn count(offers: &ByMoves<Offer>, me: usize, to: usize) -> usize
     ensures value { result ≡ go me to offers.now }
     ensures few { result ≤ 4 }
 {
     if to == me {
         return 0;
     }
-    count_one(&offers.up, me, to)
-        + count_one(&offers.left, me, to)
-        + count_one(&offers.right, me, to)
-        + count_one(&offers.down, me, to)
+    let mut count = 0;
+    'offers: for place in 0..offers.len() {
+        let (_, offer) = offers.entry(place);
+        count += count_one(&offer, me, to);
+    }
+    count
 }
 
-// How many items of what one move offers go from one worker to another.
-fn count_one(offer: &Option<Offer>, me: usize, to: usize) -> usize
-    ensures value { result ≡ goes me to offer.now }
+// How many items of an offer go from one worker to another: one or none.
+fn count_one(offer: &Offer, me: usize, to: usize) -> usize
+    ensures value { result ≡ goes me to (Some offer.now) }
     ensures few { result ≤ 1 }
 {
-    let Some(found) = *offer else {
-        return 0;
-    };
-    if found.owner == me || found.owner != to {
+    if offer.owner == me || offer.owner != to {
         0
     } else {
         1

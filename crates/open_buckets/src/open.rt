@@ -1,6 +1,6 @@
 //! Entries in buckets, and a cursor to the lowest of them.
 
-ghost use Rattle.std.specs.Prelude.{◌≡◌, ◌<◌, ◌≤◌, ◌+◌, ◌^◌, ℕ, OnOk, OnErr, MatchOption};
+ghost use Rattle.std.specs.Prelude.{◌≡◌, ◌<◌, ◌≤◌, ◌+◌, ◌^◌, ℕ, OnOk, OnErr, MatchOption, IsTrue, ◌↔◌};
 ghost use Rattle.std.specs.Prelude.{vec_len, vec_capacity};
 ghost use Rattle.open_buckets.specs.OpenLists.{empty_list, entries_at, places_at, NothingWaits};
 ghost use Rattle.open_buckets.specs.OpenLists.{Puts, Takes, Sorts, IsNext, IsLowest};
@@ -90,6 +90,18 @@ impl<K: Copy> Open<K> {
         }
         let bucket = &mut self.buckets[place];
         make_places(bucket, count)
+    }
+
+    /// Whether there are places for this many entries at an f.
+    pub fn has_places(&self, f: u32, count: usize) -> bool
+        ensures { IsTrue result ↔ (count ≤ places_at self.now f) }
+    {
+        let place = f as usize;
+        if place >= self.buckets.len() {
+            return count == 0;
+        }
+        let bucket = &self.buckets[place];
+        count <= bucket.capacity() - bucket.len()
     }
 
     /// Adds an entry at an f that has a place.

@@ -117,6 +117,13 @@ impl SearchLists {
         make_room(&mut self.closed, alloc, count)
     }
 
+    /// Whether there are places for this many boards that wait at an f.
+    pub fn has_places(&self, f: u32, count: usize) -> bool
+        ensures { IsTrue result ↔ (count ≤ places_at self.now.waiting f) }
+    {
+        self.open.has_places(f, count)
+    }
+
     /// Makes places for this many entries at an f. Whether it succeeds or not, what is known and
     /// what waits stays.
     pub fn reserve_places(&mut self, alloc: Global, f: u32, count: usize) -> Result<(), OutOfMemory>

@@ -1,4 +1,6 @@
+pub mod ByMoveLemmas
 pub mod CellLemmas
+pub mod EntryLemmas
 pub mod KeyLemmas
 pub mod MoveLemmas
 pub mod RankLemmas

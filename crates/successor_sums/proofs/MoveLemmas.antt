@@ -1,5 +1,5 @@
 -- What a move changes: two cells, and the key.
-use Rattle.std.proofs.Common.{◌≡◌, ◌≢◌, ℕ, ◌+◌, ◌-◌, ◌*◌, ◌/◌, ◌%◌, ◌^◌, ◌<◌, ◌≤◌, List, length, get_or, set, refl, sym, ap, ◌∙◌, subst, ⊎_elim, arith}
+use Rattle.std.proofs.Common.{◌≡◌, ◌≢◌, ℕ, Some, ◌+◌, ◌-◌, ◌*◌, ◌/◌, ◌%◌, ◌^◌, ◌<◌, ◌≤◌, List, length, get_or, set, refl, sym, ap, ◌∙◌, subst, ⊎_elim, arith}
 use Rattle.std.specs.Prelude.{slice_index}
 use Rattle.std.proofs.lemmas.Bool.{cases_eq}
 use Rattle.std.proofs.lemmas.Bool.Decides.{nat_tests}
@@ -9,13 +9,13 @@ use Rattle.std.proofs.lemmas.List.{length-set, get_or-set_same, get_or-set_other
 use Rattle.std.proofs.lemmas.List.Elements.{recursion_from_All}
 use Rattle.board.specs.declared.moves.Move.{Move}
 use Rattle.board.specs.Grids.{Grid, IsShape, cell_count}
-use Rattle.board.specs.Neighbours.{LiesTowards}
+use Rattle.board.specs.Neighbours.{LiesTowards, neighbour}
 use Rattle.board.specs.Positions.{Position, IsBoard, cell_of, blank_of}
 use Rattle.board.specs.Keys.{key_of, packed_number, HasKey}
 use Rattle.board.specs.Moves.{blank_exchange}
 use Rattle.board.proofs.TileLemmas.{across, cell_is, has_cell}
 use Rattle.board.proofs.KeyLemmas.{key_of-lt, tiles_small}
-use Rattle.board.proofs.NeighbourLemmas.{cells_above}
+use Rattle.board.proofs.NeighbourLemmas.{cells_above, neighbour_lies}
 use Rattle.board.proofs.MoveLemmas.{cell_of-exchange, exchange_board, other_cell, cell_below}
 use Rattle.board.proofs.StepLemmas.{blank_stands, tile_above, tile_below}
 use Rattle.lower_bound.specs.Folded.{IsBefore}
@@ -100,6 +100,12 @@ blank_is inside unpacked = unpacked.cells.are 0 (cells_above (board_in inside).g
 
 pub blank_below : (inside : Inside) → IsUnpacked inside → slice_index inside.cells 0 < cell_count (board_in inside).grid
 blank_below inside unpacked = subst (λ (k : ℕ). k < cell_count (board_in inside).grid) (sym (blank_is inside unpacked)) (blank_stands (board_in inside) unpacked.board).0
+
+-- a cell beside the blank lies beside the cell that is kept for it
+pub lies_beside : (inside : Inside) (b : Position) (m : Move) (to : ℕ) → IsUnpacked inside → board_in inside ≡ b → neighbour b.grid m (blank_of b) ≡ Some to → LiesTowards inside.shape m (slice_index inside.cells 0) to
+lies_beside inside b m to unpacked is beside =
+    let here : neighbour (board_in inside).grid m (blank_of (board_in inside)) ≡ Some to = subst (λ (p : Position). neighbour p.grid m (blank_of p) ≡ Some to) (sym is) beside in
+    subst (λ (k : ℕ). LiesTowards inside.shape m k to) (sym (blank_is inside unpacked)) ((neighbour_lies inside.shape m (blank_of (board_in inside)) to (blank_stands (board_in inside) unpacked.board).0).0 here)
 
 -- what holds where the blank goes to a cell, on which a tile stands
 pub record IsLedTo (inside : Inside) (to tile : ℕ) : Type 0 where

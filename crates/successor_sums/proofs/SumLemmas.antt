@@ -1,9 +1,9 @@
 -- The sum of a board, by the cell of each number.
-use Rattle.std.proofs.Common.{true, false, ⊎_elim, ◌≡◌, ℕ, zero, suc, ◌<◌, ◌≤◌, List, [], ◌∷◌, ◌++◌, Option, None, Some, map, length, get_or, take, drop, refl, sym, ap, ◌∙◌, subst, arith}
-use Rattle.std.specs.Prelude.{All, AllPairs, slice_index, slice_set, sum, sum_by, option_map, IfSome, MatchOption}
+use Rattle.std.proofs.Common.{true, false, ⊎_elim, ◌≡◌, ℕ, ◌<◌, ◌≤◌, List, [], ◌∷◌, Option, None, Some, map, length, get_or, take, drop, refl, sym, ap, ◌∙◌, subst, arith}
+use Rattle.std.specs.Prelude.{All, AllPairs, slice_index, sum, sum_by, option_map, IfSome}
 use Rattle.std.specs.List.{AllByRecursion}
 use Rattle.std.proofs.lemmas.Bool.{cases_Bool, cond-true, cond-false}
-use Rattle.std.proofs.lemmas.List.Elements.{All-from_recursion, All-weaker, recursion_from_All}
+use Rattle.std.proofs.lemmas.List.Elements.{All-weaker, recursion_from_All}
 use Rattle.std.proofs.lemmas.List.Sums.{sum_by-cons}
 use Rattle.board.specs.declared.moves.Move.{Move}
 use Rattle.board.specs.declared.costs.TheConstants.{GREATEST_EXPANDED_COST}
@@ -28,8 +28,13 @@ use Rattle.lower_bound.proofs.WholeLemmas.{tables_sum}
 use Rattle.lower_bound.proofs.FoldedLemmas.{folds_sum}
 use Rattle.lower_bound.proofs.PartLemmas.{value_stays}
 use Rattle.lower_bound.proofs.TableLemmas.{each_apart, each_lookup, each_fold, few_folds, table_grids, fold_grids, whole_parts, all_folded_parts}
-use Rattle.successor_sums.specs.Ranks.{AreRanks, AreRanksOf, sum_at, sum_by_cells}
-use Rattle.successor_sums.specs.Unpacked.{told_of, is_left_out, but, cells_after, AreCellsOf, IsNextTo, IsReached, IsSmall, IsSumOf, SeesViews, told_by, with_sum}
+use Rattle.successor_sums.specs.Ranks.{sum_at, sum_by_cells}
+use Rattle.lower_bound.specs.declared.bound.TheConstants.{GREATEST_SUM}
+use Rattle.board.specs.declared.moves.Move.TheVariants.{U, L, R, D}
+use Rattle.successor_sums.specs.ByMoves.{FourOf, OfFour, entries_of, four_by, of_move}
+use Rattle.successor_sums.specs.Exits.{IsToldOf}
+use Rattle.successor_sums.specs.Unpacked.{told_of, is_left_out, but, cells_after, AreCellsOf, IsNextTo, IsReached, IsSmall, IsSumOf, IsSummed, AreSummed, SeesViews, with_sum}
+use Rattle.successor_sums.proofs.EntryLemmas.{stands_at}
 use Rattle.successor_sums.specs.declared.unpacked.Successor.{Successor}
 
 -- the values at the ranks of views are those of the views
@@ -141,14 +146,12 @@ small rule b m r at = (omega (arith, at.cell, at.below, at.few), omega (arith, a
 
 module _ (tables : Tables) (b : Position) (is : IsTables tables) (same : tables.split.grid ≡ b.grid) (rule : CostRule) (m : Move) where
   -- its groups see views
-  pub sees_whole : (cells : List ℕ) (reached : Option Successor) → AreCellsOf b cells → IfSome reached (IsReached rule b m) → SeesViews tables.lookups cells reached
-  sees_whole cells None of none = tt
-  sees_whole cells (Some r) of at = (small rule b m r at, views_at tables (blank_exchange b at.to) (cells_after cells r) is at.board same (at.cells cells of))
+  pub sees_whole : (cells : List ℕ) (r : Successor) → AreCellsOf b cells → IsReached rule b m r → SeesViews tables.lookups cells r
+  sees_whole cells r of at = (small rule b m r at, views_at tables (blank_exchange b at.to) (cells_after cells r) is at.board same (at.cells cells of))
 
   -- and it is next to the board
-  pub next_to : (cells : List ℕ) (reached : Option Successor) → IsBoard b → AreCellsOf b cells → IfSome reached (IsReached rule b m) → IsNextTo tables.folds cells reached
-  next_to cells None board of none = tt
-  next_to cells (Some r) board of at = (
+  pub next_to : (cells : List ℕ) (r : Successor) → IsBoard b → AreCellsOf b cells → IsReached rule b m r → IsNextTo tables.folds cells r
+  next_to cells r board of at = (
     small rule b m r at,
     fold_views_at tables (blank_exchange b at.to) (cells_after cells r) is at.board same (at.cells cells of),
     as_before tables b (blank_exchange b at.to) cells (cells_after cells r) r.tile is board at.board refl same of (at.cells cells of) at.others,
@@ -166,93 +169,100 @@ whole_sums tables grid is same whole x cells board at of = whole_sum tables x ce
 pub folded_sums : (tables : Tables) (grid : Grid) → IsTables tables → tables.split.grid ≡ grid → tables.lookups ≡ [] → SumsUp grid (parts_of tables) (λ cells. sum_by (value_by cells) tables.folds)
 folded_sums tables grid is same folded x cells board at of = folded_sum tables x cells is board (same ∙ sym at) of folded
 
--- what is looked up is what the definition tells
-told_is : (rule : CostRule) (parts : List Part) (b : Position) (m : Move) (sum : List ℕ → ℕ) (cells : List ℕ) (reached : Option Successor) → AreCellsOf b cells → SumsUp b.grid parts sum → MatchOption reached (neighbour b.grid m (blank_of b) ≡ None) (IsReached rule b m) → option_map (told_by sum cells) reached ≡ option_map (told_of parts b) (successor rule b m)
-told_is rule parts b m sum cells None of sums none = ap (λ (o : Option ℕ). option_map (told_of parts b) (option_map (successor_at rule b) o)) (sym none)
-told_is rule parts b m sum cells (Some r) of sums is =
+-- what is looked up of what was reached is the sum of its board
+pub summed_is : (parts : List Part) (b : Position) (sum : List ℕ → ℕ) (cells : List ℕ) (count : ℕ) (before after : List Successor) → AreCellsOf b cells → SumsUp b.grid parts sum → ((i : ℕ) (d : Successor) → i < count → (rule : CostRule) × (m : Move) × IsReached rule b m (get_or before i d)) → IsSummed sum cells count before after → AreSummed parts b count before after
+summed_is parts b sum cells count before after of sums by is i d low =
+    let r = get_or before i d in
+    let at = (by i d low).2 in
+    let all = sums (blank_exchange b at.to) (cells_after cells r) at.board refl (at.cells cells of) in
+    ((is i d low).0 ∙ ap (with_sum r) (all ∙ ap (λ (k : ℕ). sum_of parts (blank_exchange b k)) (sym at.cell)), (is i d low).1)
+
+-- and what the definition tells
+told_is : (rule : CostRule) (parts : List Part) (b : Position) (m : Move) (r : Successor) → IsReached rule b m r → option_map (told_of parts b) (successor rule b m) ≡ Some (with_sum r (sum_of parts (blank_exchange b r.cell)))
+told_is rule parts b m r is =
     let cell : r.cell ≡ blank_of (blank_exchange b is.to) = is.cell ∙ sym is.blank in
     let tile : r.tile ≡ slice_index b.tiles (blank_of (blank_exchange b is.to)) = is.tile ∙ sym (ap (slice_index b.tiles) is.blank) in
-    let all = sums (blank_exchange b is.to) (cells_after cells r) is.board refl (is.cells cells of) in
-    (λ i. Some (record { key = is.key i; tile = tile i; cell = cell i; cost = is.cost i; sum = all i }))
-    ∙ ap (λ (o : Option ℕ). option_map (told_of parts b) (option_map (successor_at rule b) o)) (sym is.found)
+    let all : sum_of parts (blank_exchange b r.cell) ≡ sum_of parts (blank_exchange b is.to) = ap (λ (k : ℕ). sum_of parts (blank_exchange b k)) is.cell in
+    ap (λ (o : Option ℕ). option_map (told_of parts b) (option_map (successor_at rule b) o)) is.found
+    ∙ sym (λ i. Some (record { key = is.key i; tile = tile i; cell = cell i; cost = is.cost i; sum = all i }))
 
--- and what the definition tells but for one move that is left out
-pub told_but : (left_out : Option Move) (rule : CostRule) (parts : List Part) (b : Position) (m : Move) (sum : List ℕ → ℕ) (cells : List ℕ) (reached : Option Successor) → AreCellsOf b cells → SumsUp b.grid parts sum → (is_left_out left_out m ≡ true → reached ≡ None) → (is_left_out left_out m ≡ false → MatchOption reached (neighbour b.grid m (blank_of b) ≡ None) (IsReached rule b m)) → option_map (told_by sum cells) reached ≡ but left_out (λ k. option_map (told_of parts b) (successor rule b k)) m
-told_but left_out rule parts b m sum cells reached of sums out kept =
+-- a move that isn't left out makes what it makes
+but_some : {A : Type 0} (left_out : Option Move) (made : Move → Option A) (m : Move) (x : A) → but left_out made m ≡ Some x → (is_left_out left_out m ≡ false) × (made m ≡ Some x)
+but_some {A = A} left_out made m x is =
     ⊎_elim
-    (λ (yes_out : is_left_out left_out m ≡ true). ap (option_map (told_by sum cells)) (out yes_out) ∙ sym (cond-true _ _ _ yes_out))
-    (λ (stays : is_left_out left_out m ≡ false). told_is rule parts b m sum cells reached of sums (kept stays) ∙ sym (cond-false _ _ _ stays))
+    (λ (out : is_left_out left_out m ≡ true). absurd (none (sym (cond-true _ _ _ out) ∙ is)))
+    (λ (stays : is_left_out left_out m ≡ false). (stays, sym (cond-false _ _ _ stays) ∙ is))
     (cases_Bool (is_left_out left_out m))
-
--- its key is that of a board, and tile, cell and cost are those of a move
-pub told_key : (rule : CostRule) (b : Position) (m : Move) (sum : List ℕ → ℕ) (cells : List ℕ) (reached : Option Successor) → IfSome reached (IsReached rule b m) → IfSome (option_map (told_by sum cells) reached) (λ s. (x : Position) × HasKey b.grid s.key x)
-told_key rule b m sum cells None none = tt
-told_key rule b m sum cells (Some r) is = (blank_exchange b is.to, record { board = is.board; sides = refl; packed = sym is.key })
-
-pub told_tile : (rule : CostRule) (b : Position) (m : Move) (sum : List ℕ → ℕ) (cells : List ℕ) (reached : Option Successor) → IfSome reached (IsReached rule b m) → IfSome (option_map (told_by sum cells) reached) (λ s. (0 < s.tile) × (s.tile < cell_count b.grid))
-told_tile rule b m sum cells None none = tt
-told_tile rule b m sum cells (Some r) is = (is.tile_some, is.tile_low)
-
-pub told_cell : (rule : CostRule) (b : Position) (m : Move) (sum : List ℕ → ℕ) (cells : List ℕ) (reached : Option Successor) → IfSome reached (IsReached rule b m) → IfSome (option_map (told_by sum cells) reached) (λ s. s.cell < cell_count b.grid)
-told_cell rule b m sum cells None none = tt
-told_cell rule b m sum cells (Some r) is = omega (arith, is.cell, is.below)
-
-pub told_cost : (rule : CostRule) (b : Position) (m : Move) (sum : List ℕ → ℕ) (cells : List ℕ) (reached : Option Successor) → IfSome reached (IsReached rule b m) → IfSome (option_map (told_by sum cells) reached) (λ s. (1 ≤ s.cost) × (s.cost ≤ 255))
-told_cost rule b m sum cells None none = tt
-told_cost rule b m sum cells (Some r) is = (is.low, is.high)
-
--- the values at the ranks of what was reached are those of its cells
-pub looked_up_is : (lookups : List Lookup) (cells ranks : List ℕ) (reached : Option Successor) → IfSome reached (λ r. AreRanksOf lookups (cells_after cells r) ranks) → option_map (λ r. with_sum r (sum_at lookups ranks)) reached ≡ option_map (told_by (sum_by_cells lookups) cells) reached
-looked_up_is lookups cells ranks None none = refl
-looked_up_is lookups cells ranks (Some r) at =
-    ap (λ (n : ℕ). Some (with_sum r n)) (sum_at-views lookups ranks (λ (table : Lookup). view_at table.selection.tiles (cells_after cells r)) at.are)
-
-pub ranks_within : (lookups : List Lookup) (cells ranks : List ℕ) (reached : Option Successor) → IfSome reached (λ r. AreRanksOf lookups (cells_after cells r) ranks) → IfSome reached (λ r. AreRanks lookups ranks)
-ranks_within lookups cells ranks None none = tt
-ranks_within lookups cells ranks (Some r) at = at.within
-
--- a list of four of which each was written anew
-pub written : {A : Type 0} (xs : List A) (a b c d : A) → length xs ≡ 4 → slice_set (slice_set (slice_set (slice_set xs 0 a) 1 b) 2 c) 3 d ≡ a ∷ b ∷ c ∷ d ∷ []
-written [] a b c d four = absurd (omega (arith, four))
-written (x ∷ []) a b c d four = absurd (omega (arith, four))
-written (x ∷ y ∷ []) a b c d four = absurd (omega (arith, four))
-written (x ∷ y ∷ z ∷ []) a b c d four = absurd (omega (arith, four))
-written (x ∷ y ∷ z ∷ w ∷ []) a b c d four = refl
-written (x ∷ y ∷ z ∷ w ∷ v ∷ vs) a b c d four = absurd (omega (arith, four))
-
--- while one after the other is written, those behind are as they were
-pub not_written : {A : Type 0} (xs : List A) (a b c d : A) → length xs ≡ 4 → (get_or (slice_set xs 0 a) 1 d ≡ get_or xs 1 d) × (get_or (slice_set (slice_set xs 0 a) 1 b) 2 d ≡ get_or xs 2 d) × (get_or (slice_set (slice_set (slice_set xs 0 a) 1 b) 2 c) 3 d ≡ get_or xs 3 d)
-not_written [] a b c d four = absurd (omega (arith, four))
-not_written (x ∷ []) a b c d four = absurd (omega (arith, four))
-not_written (x ∷ y ∷ []) a b c d four = absurd (omega (arith, four))
-not_written (x ∷ y ∷ z ∷ []) a b c d four = absurd (omega (arith, four))
-not_written (x ∷ y ∷ z ∷ w ∷ []) a b c d four = (refl, refl, refl)
-not_written (x ∷ y ∷ z ∷ w ∷ v ∷ vs) a b c d four = absurd (omega (arith, four))
-
--- a list of four of which each was changed, one after the other
-pub each_changed : {A : Type 0} (f : A → A) (xs : List A) (d a b c e : A) → length xs ≡ 4 → a ≡ f (get_or xs 0 d) → b ≡ f (get_or xs 1 d) → c ≡ f (get_or xs 2 d) → e ≡ f (get_or xs 3 d) → slice_set (slice_set (slice_set (slice_set xs 0 a) 1 b) 2 c) 3 e ≡ map f xs
-each_changed f [] d a b c e four pa pb pc pe = absurd (omega (arith, four))
-each_changed f (x ∷ []) d a b c e four pa pb pc pe = absurd (omega (arith, four))
-each_changed f (x ∷ y ∷ []) d a b c e four pa pb pc pe = absurd (omega (arith, four))
-each_changed f (x ∷ y ∷ z ∷ []) d a b c e four pa pb pc pe = absurd (omega (arith, four))
-each_changed f (x ∷ y ∷ z ∷ w ∷ []) d a b c e four pa pb pc pe = λ i. pa i ∷ pb i ∷ pc i ∷ pe i ∷ []
-each_changed f (x ∷ y ∷ z ∷ w ∷ v ∷ vs) d a b c e four pa pb pc pe = absurd (omega (arith, four))
-
--- what holds of four things holds of each in a list of them
-pub each_written : {A : Type 0} (P : A → Type 0) (xs : List A) (a b c d : A) → length xs ≡ 4 → P a → P b → P c → P d → All P (slice_set (slice_set (slice_set (slice_set xs 0 a) 1 b) 2 c) 3 d)
-each_written {A = A} P xs a b c d four pa pb pc pd =
-    subst (All P) (sym (written xs a b c d four)) (All-from_recursion P (a ∷ b ∷ c ∷ d ∷ []) (pa, (pb, (pc, (pd, tt)))))
-
--- and what holds of what each becomes
-pub each_told : {A : Type 0} (f : A → A) (P : A → Type 0) (xs ys : List A) (a b c d : A) → length xs ≡ 4 → ys ≡ map f (slice_set (slice_set (slice_set (slice_set xs 0 a) 1 b) 2 c) 3 d) → P (f a) → P (f b) → P (f c) → P (f d) → All P ys
-each_told {A = A} f P xs ys a b c d four is pa pb pc pd =
-    subst (All P) (sym (is ∙ ap (map f) (written xs a b c d four))) (All-from_recursion P (f a ∷ f b ∷ f c ∷ f d ∷ []) (pa, (pb, (pc, (pd, tt)))))
-
--- what is behind the place to which f was written over each x is as it was
-pub as_it_was : {A : Type 0} (f : A → A) (xs ys : List A) (i : ℕ) (d : A) → i < length xs → ys ≡ map f (take i xs) ++ drop i xs → get_or ys i d ≡ get_or xs i d
-as_it_was {A = A} f xs ys i d low is = ap (λ (zs : List A). get_or zs i d) is ∙ behind xs i low
   where
-    behind : (zs : List A) (k : ℕ) → k < length zs → get_or (map f (take k zs) ++ drop k zs) k d ≡ get_or zs k d
-    behind [] k none = absurd (omega (arith, none))
-    behind (z ∷ zs) zero low = refl
-    behind (z ∷ zs) (suc k) low = behind zs k (omega (arith, low))
+    none : {y : A} → ◌≡◌ {A = Option A} None (Some y) → ⊥
+    none e = cc
+
+pub of_four_by : {A : Type 0} (made : Move → Option A) (m : Move) → of_move (four_by made) m ≡ made m
+of_four_by made U = refl
+of_four_by made L = refl
+of_four_by made R = refl
+of_four_by made D = refl
+
+-- each entry of what moves make that aren't left out is what its move makes
+pub kept_by : {A : Type 0} (left_out : Option Move) (made : Move → Option A) (four : FourOf A) → four ≡ four_by (but left_out made) → (i : ℕ) (e : Move × A) → i < length (entries_of four) → (is_left_out left_out (get_or (entries_of four) i e).0 ≡ false) × (made (get_or (entries_of four) i e).0 ≡ Some (get_or (entries_of four) i e).1)
+kept_by {A = A} left_out made four is i e low =
+    let m = (get_or (entries_of four) i e).0 in
+    but_some left_out made m (get_or (entries_of four) i e).1 (sym (of_four_by (but left_out made) m) ∙ ap (λ (f : FourOf A). of_move f m) (sym is) ∙ stands_at four i e low)
+
+-- where the blank goes from the board by a move that isn't left out
+abbrev pub exits_of : Option Move → Position → FourOf ℕ
+exits_of left_out b = four_by (but left_out (λ m. neighbour b.grid m (blank_of b)))
+
+-- each of these is a neighbour of the blank
+pub led_by : (left_out : Option Move) (b : Position) (exits : FourOf ℕ) → exits ≡ exits_of left_out b → (i : ℕ) (e : Move × ℕ) → i < length (entries_of exits) → (is_left_out left_out (get_or (entries_of exits) i e).0 ≡ false) × (neighbour b.grid (get_or (entries_of exits) i e).0 (blank_of b) ≡ Some (get_or (entries_of exits) i e).1)
+led_by left_out b exits is i e low = kept_by left_out (λ m. neighbour b.grid m (blank_of b)) exits is i e low
+
+pub exits_here : (left_out : Option Move) (b : Position) (shape : Grid) (blank : ℕ) (exits : FourOf ℕ) → exits ≡ four_by (but left_out (λ m. neighbour shape m blank)) → shape ≡ b.grid → blank ≡ blank_of b → exits ≡ exits_of left_out b
+exits_here left_out b shape blank exits is same at = is ∙ (λ i. four_by (but left_out (λ m. neighbour (same i) m (at i))))
+
+-- what was reached by these and has its sum is what the definition tells, but for one move that is left out
+pub told_all : (left_out : Option Move) (rule : CostRule) (parts : List Part) (b : Position) (exits : FourOf ℕ) (reached summed : List Successor) → exits ≡ exits_of left_out b → ((i : ℕ) (d : Successor) (e : Move × ℕ) → i < length (entries_of exits) → IsReached rule b (get_or (entries_of exits) i e).0 (get_or reached i d)) → AreSummed parts b (length (entries_of exits)) reached summed → IsToldOf exits summed (but left_out (λ m. option_map (told_of parts b) (successor rule b m)))
+told_all left_out rule parts b exits reached summed is by summed_by = record {
+  each = λ i d e low.
+      let m = (get_or (entries_of exits) i e).0 in
+      let led = led_by left_out b exits is i e low in
+      cond-false _ _ _ led.0
+      ∙ told_is rule parts b m (get_or reached i d) (by i d e low)
+      ∙ ap (λ (s : Successor). Some s) (sym (summed_by i d low).0);
+  none = λ m none.
+      let at : but left_out (λ k. neighbour b.grid k (blank_of b)) m ≡ None = sym (of_four_by (but left_out (λ k. neighbour b.grid k (blank_of b))) m) ∙ ap (λ (four : FourOf ℕ). of_move four m) (sym is) ∙ none in
+      ⊎_elim
+      (λ (out : is_left_out left_out m ≡ true). cond-true _ _ _ out)
+      (λ (stays : is_left_out left_out m ≡ false). cond-false _ _ _ stays ∙ ap (λ (o : Option ℕ). option_map (told_of parts b) (option_map (successor_at rule b) o)) (sym (cond-false _ _ _ stays) ∙ at))
+      (cases_Bool (is_left_out left_out m));
+}
+
+-- what holds of all that was reached and has its sum, holds of what is told
+pub of_told : (P : Successor → Type 0) (rule : CostRule) (parts : List Part) (b : Position) (exits : FourOf ℕ) (reached summed : List Successor) (told : FourOf Successor) → ((m : Move) (r : Successor) → IsReached rule b m r → (n : ℕ) → n ≤ GREATEST_SUM → P (with_sum r n)) → ((i : ℕ) (d : Successor) (e : Move × ℕ) → i < length (entries_of exits) → IsReached rule b (get_or (entries_of exits) i e).0 (get_or reached i d)) → AreSummed parts b (length (entries_of exits)) reached summed → OfFour (λ s. (i : ℕ) × (i < length (entries_of exits)) × ((d : Successor) → get_or summed i d ≡ s)) told → OfFour P told
+of_told P rule parts b exits reached summed told holds by is all = (one told.up all.0, one told.left all.1, one told.right all.2, one told.down all.3)
+  where
+    one : (o : Option Successor) → IfSome o (λ s. (i : ℕ) × (i < length (entries_of exits)) × ((d : Successor) → get_or summed i d ≡ s)) → IfSome o P
+    one None none = tt
+    one (Some s) at =
+        let i = at.0 in
+        let low = at.1 in
+        let e : Move × ℕ = (U, 0) in
+        let r = get_or reached i s in
+        let sums = is i s low in
+        let m = (get_or (entries_of exits) i e).0 in
+        let n = sum_of parts (blank_exchange b r.cell) in
+        let value : n ≤ GREATEST_SUM = subst (λ (k : ℕ). k ≤ GREATEST_SUM) (ap (λ (x : Successor). x.sum) sums.0) sums.1 in
+        subst P (sym sums.0 ∙ at.2 s) (holds m r (by i s e low) n value)
+
+-- a key of a board, a tile, a cell and a cost of a move
+pub has_key : (rule : CostRule) (b : Position) (m : Move) (r : Successor) → IsReached rule b m r → (n : ℕ) → n ≤ GREATEST_SUM → (x : Position) × HasKey b.grid r.key x
+has_key rule b m r is n low = (blank_exchange b is.to, record { board = is.board; sides = refl; packed = sym is.key })
+
+pub has_tile : (rule : CostRule) (b : Position) (m : Move) (r : Successor) → IsReached rule b m r → (n : ℕ) → n ≤ GREATEST_SUM → (0 < r.tile) × (r.tile < cell_count b.grid)
+has_tile rule b m r is n low = (is.tile_some, is.tile_low)
+
+pub has_cell : (rule : CostRule) (b : Position) (m : Move) (r : Successor) → IsReached rule b m r → (n : ℕ) → n ≤ GREATEST_SUM → r.cell < cell_count b.grid
+has_cell rule b m r is n low = omega (arith, is.cell, is.below)
+
+pub has_cost : (rule : CostRule) (b : Position) (m : Move) (r : Successor) → IsReached rule b m r → (n : ℕ) → n ≤ GREATEST_SUM → (1 ≤ r.cost) × (r.cost ≤ 255)
+has_cost rule b m r is n low = (is.low, is.high)

@@ -1,2 +1,4 @@
+pub mod ByMoves
+pub mod Exits
 pub mod Ranks
 pub mod Unpacked

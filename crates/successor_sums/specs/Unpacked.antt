@@ -1,5 +1,5 @@
 -- Boards with the cell of each number beside the numbers, and what is told of their successors.
-use Rattle.std.specs.Prelude.{Bool, false, if◌then◌else◌, None, ℕ, ◌≡◌, ◌≤◌, ◌<◌, List, All, length, map, set, slice_index, Option, Some, IfSome, option_map, sum_by}
+use Rattle.std.specs.Prelude.{Bool, false, if◌then◌else◌, None, ℕ, ◌≡◌, ◌≤◌, ◌<◌, List, All, length, map, set, slice_index, slice_index_or, Option, Some, IfSome, option_map, sum_by}
 use Rattle.board.specs.declared.moves.Move.{Move}
 use Rattle.board.specs.declared.costs.TheConstants.{GREATEST_EXPANDED_COST}
 use Rattle.board.specs.Equality.{move_eq}
@@ -13,9 +13,11 @@ use Rattle.board.specs.Moves.{all_moves, blank_exchange, successor}
 use Rattle.pattern_index.specs.Views.{IsView, view_at}
 use Rattle.database_build.specs.Tables.{Lookup}
 use Rattle.database_build.specs.Folds.{Fold}
+use Rattle.lower_bound.specs.declared.bound.TheConstants.{GREATEST_SUM}
 use Rattle.lower_bound.specs.Bounds.{Part, sum_of}
 use Rattle.lower_bound.specs.Folded.{AreAsBefore, AreViews, IsBefore, value_by}
 use Rattle.successor_sums.specs.declared.unpacked.Successor.{Successor}
+use Rattle.successor_sums.specs.ByMoves.{FourOf, four_by}
 use Rattle.successor_sums.specs.declared.unpacked.UnpackedBoard.TheInside.{Inside}
 
 -- what is told of a successor of a board: its key, the tile that is moved and the cell that it leaves, which is the
@@ -37,8 +39,8 @@ abbrev pub but : {A : Type 0} → Option Move → (Move → Option A) → Move �
 but left_out made m = if is_left_out left_out m then None else made m
 
 -- the same of the successors of a board, but for the one by the move that is left out
-abbrev pub successors_but : Option Move → CostRule → List Part → Position → List (Option Successor)
-successors_but left_out rule parts b = map (but left_out (λ m. option_map (told_of parts b) (successor rule b m))) all_moves
+abbrev pub successors_but : Option Move → CostRule → List Part → Position → FourOf Successor
+successors_but left_out rule parts b = four_by (but left_out (λ m. option_map (told_of parts b) (successor rule b m)))
 
 -- ---- what lies in memory
 
@@ -95,13 +97,22 @@ abbrev pub IsSmall : Successor → Type 0
 IsSmall reached = (reached.cell < 25) × (reached.tile < 25)
 
 -- each table's group sees a view, by the cells of what was reached
-abbrev pub SeesViews : List Lookup → List ℕ → Option Successor → Type 0
-SeesViews lookups cells reached = IfSome reached (λ r. IsSmall r × All (λ table. IsView table.selection.grid table.selection.tiles (view_at table.selection.tiles (cells_after cells r))) lookups)
+abbrev pub SeesViews : List Lookup → List ℕ → Successor → Type 0
+SeesViews lookups cells r = IsSmall r × All (λ table. IsView table.selection.grid table.selection.tiles (view_at table.selection.tiles (cells_after cells r))) lookups
 
 -- so does that of each folded table, and each that doesn't have the tile says what it said
-abbrev pub IsNextTo : List Fold → List ℕ → Option Successor → Type 0
-IsNextTo folds cells reached =
-    IfSome reached (λ r. IsSmall r × AreViews (cells_after cells r) folds × AreAsBefore cells (cells_after cells r) r.tile folds)
+abbrev pub IsNextTo : List Fold → List ℕ → Successor → Type 0
+IsNextTo folds cells r = IsSmall r × AreViews (cells_after cells r) folds × AreAsBefore cells (cells_after cells r) r.tile folds
+
+-- the first of what was reached, so many, has its sum now, and is as it was else
+abbrev pub IsSummed : (List ℕ → ℕ) → List ℕ → ℕ → List Successor → List Successor → Type 0
+IsSummed sum cells count before after =
+    (i : ℕ) (d : Successor) → i < count → (slice_index_or after i d ≡ told_by sum cells (slice_index_or before i d)) × ((slice_index_or after i d).sum ≤ GREATEST_SUM)
+
+-- the first of what was reached from a board, so many, has the sum of that board now, and is as it was else
+abbrev pub AreSummed : List Part → Position → ℕ → List Successor → List Successor → Type 0
+AreSummed parts b count before after =
+    (i : ℕ) (d : Successor) → i < count → (slice_index_or after i d ≡ with_sum (slice_index_or before i d) (sum_of parts (blank_exchange b (slice_index_or before i d).cell))) × ((slice_index_or after i d).sum ≤ GREATEST_SUM)
 
 -- the sum of the board itself by folded tables, where it is known
 abbrev pub IsSumOf : List Fold → List ℕ → Option ℕ → Type 0

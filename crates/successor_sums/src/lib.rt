@@ -4,7 +4,10 @@
 //! two cells exchanged, and is told by its key: no board is made of it.
 #![tactic(auto)]
 
+mod by_moves;
+mod exits;
 mod ranks;
 mod unpacked;
 
-pub use unpacked::{Successor, UnpackedBoard};
+pub use by_moves::{ByMoves, MOVES};
+pub use unpacked::{Successor, UnpackedBoard, no_successors};

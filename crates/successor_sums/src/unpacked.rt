@@ -1,7 +1,8 @@
 //! A board taken apart, and what its successors are told by.
 
 ghost use Rattle.std.specs.Prelude.{ℕ, ◌≡◌, ◌*◌, ◌/◌, ◌%◌, ◌^◌, ◌<◌, ◌≤◌, [], ◌∷◌, length, map, All, AllPairs};
-ghost use Rattle.std.specs.Prelude.{IfSome, None, MatchOption, option_map, sum_by, true, false, Some};
+ghost use Rattle.std.specs.Prelude.{IfSome, sum_by, Some, List, slice_index_or};
+ghost use Rattle.board.specs.declared.moves.Move.{Move};
 ghost use Rattle.board.specs.declared.costs.TheConstants.{GREATEST_EXPANDED_COST};
 ghost use Rattle.board.specs.Grids.{cell_count};
 ghost use Rattle.board.specs.Positions.{Position, IsBoard, blank_of};
@@ -17,9 +18,12 @@ ghost use Rattle.lower_bound.specs.Tables.{ArePotentials, parts_of};
 ghost use Rattle.successor_sums.specs.Ranks.{AreRanks, AreRanksOf, sum_at, sum_by_cells};
 ghost use Rattle.successor_sums.specs.Unpacked.{successors_of, is_left_out, successors_but};
 ghost use Rattle.successor_sums.specs.Unpacked.{IsReached, IsSmall, cells_after, with_sum, told_by};
-ghost use Rattle.successor_sums.specs.Unpacked.{AreCellsOf, SeesViews, IsNextTo, IsSumOf};
+ghost use Rattle.successor_sums.specs.Unpacked.{AreCellsOf, SeesViews, IsNextTo, IsSumOf, IsSummed, AreSummed};
+ghost use Rattle.successor_sums.specs.ByMoves.{OfFour, entries_of, nothing};
 
-use crate::ranks::{MOST_TABLES, sum_ranks, write_ranks};
+use crate::by_moves::{ByMoves, MOVES};
+use crate::exits::{find_exits, tell};
+use crate::ranks::{FEW_TABLES, MOST_TABLES, sum_ranks, write_ranks};
 use board::{Board, Move, Shape, Weights};
 use database_build::{Folded, Table};
 use lower_bound::{Bound, GREATEST_SUM, Parts, TableList, sum_after};
@@ -40,6 +44,22 @@ pub struct Successor {
     pub cost: u32,
     /// Its sum.
     pub sum: u32,
+}
+
+// What stands where nothing was reached.
+const NO_SUCCESSOR: Successor = Successor {
+    key: 0,
+    cell: 0,
+    tile: 0,
+    cost: 0,
+    sum: 0,
+};
+
+/// Nothing is told yet of any move.
+pub fn no_successors() -> ByMoves<Successor>
+    ensures { result ≡ nothing }
+{
+    ByMoves::nothing(NO_SUCCESSOR)
 }
 
 /// A board taken apart: its shape, its key, and the cell of each number. A tile on a cell is a digit
@@ -146,9 +166,14 @@ impl UnpackedBoard {
             (λ told. IfSome told (λ s. (1 ≤ s.cost) × (s.cost ≤ 255))) result }
         ensures sums { All (λ told. IfSome told (λ s. s.sum ≤ GREATEST_SUM)) result }
     {
-        let mut told = [None; 4];
+        let mut told = no_successors();
         self.successors_but(None, None, weights, bound, &mut told);
-        told
+        [
+            told.of(Move::U),
+            told.of(Move::L),
+            told.of(Move::R),
+            told.of(Move::D),
+        ]
     }
 
     /// The same, but for one move that is left out, if any is: of that nothing is told. Where the
@@ -163,7 +188,7 @@ impl UnpackedBoard {
         sum: Option<u32>,
         weights: &Weights,
         bound: &Bound,
-        told: &mut [Option<Successor>; 4],
+        told: &mut ByMoves<Successor>,
     )
         requires rule { weights.now.grid ≡ self.now.grid }
         requires bound { bound.now.split.grid ≡ self.now.grid }
@@ -171,68 +196,85 @@ impl UnpackedBoard {
             × (n ≤ GREATEST_EXPANDED_COST)) }
         ensures value { told.new
             ≡ successors_but left_out weights.now (parts_of bound.now) self.now }
-        ensures keys { All
-            (λ one. IfSome one (λ s. (b : Position) × HasKey self.now.grid s.key b)) told.new }
-        ensures tiles { All
-            (λ one. IfSome one (λ s. (0 < s.tile) × (s.tile < cell_count self.now.grid)))
-            told.new }
-        ensures cells { All (λ one. IfSome one (λ s. s.cell < cell_count self.now.grid)) told.new }
-        ensures costs { All
-            (λ one. IfSome one (λ s. (1 ≤ s.cost) × (s.cost ≤ 255))) told.new }
-        ensures sums { All (λ one. IfSome one (λ s. s.sum ≤ GREATEST_SUM)) told.new }
+        ensures keys { OfFour (λ s. (b : Position) × HasKey self.now.grid s.key b) told.new }
+        ensures tiles { OfFour (λ s. (0 < s.tile) × (s.tile < cell_count self.now.grid)) told.new }
+        ensures cells { OfFour (λ s. s.cell < cell_count self.now.grid) told.new }
+        ensures costs { OfFour (λ s. (1 ≤ s.cost) × (s.cost ≤ 255)) told.new }
+        ensures sums { OfFour (λ s. s.sum ≤ GREATEST_SUM) told.new }
     {
-        told[0] = self.reach_but(left_out, Move::U, weights);
-        told[1] = self.reach_but(left_out, Move::L, weights);
-        told[2] = self.reach_but(left_out, Move::R, weights);
-        told[3] = self.reach_but(left_out, Move::D, weights);
-        match bound.tables() {
-            TableList::Whole(tables) => add_sums(tables, &self.cells, told),
-            TableList::Folded(folds) => add_folded_sums(folds, sum, &self.cells, told),
-        }
+        let mut exits = ByMoves::nothing(0);
+        find_exits(self.shape, self.blank(), left_out, &mut exits);
+        let mut reached = [NO_SUCCESSOR; MOVES];
+        self.reach_each(&exits, weights, &mut reached);
+        self.add_sums(bound, sum, exits.len(), &mut reached);
+        tell(&exits, &reached, told);
     }
 
-    // What is kept of the successor by a move, unless the move is left out.
-    fn reach_but(
+    // Writes what is kept of the successor by each move that leads to a cell, one after the other.
+    fn reach_each(
         &self,
-        left_out: Option<Move>,
-        direction: Move,
+        exits: &ByMoves<usize>,
         weights: &Weights,
-    ) -> Option<Successor>
-        requires { weights.now.grid ≡ self.now.grid }
-        ensures out { is_left_out left_out direction ≡ true → result ≡ None }
-        ensures kept { is_left_out left_out direction ≡ false → MatchOption result
-            (neighbour self.now.grid direction (blank_of self.now) ≡ None)
-            (IsReached weights.now self.now direction) }
-        ensures reached { IfSome result (IsReached weights.now self.now direction) }
+        reached: &mut [Successor; MOVES],
+    )
+        requires rule { weights.now.grid ≡ self.now.grid }
+        requires exits { (i : ℕ) (e : Move × ℕ) → i < length (entries_of exits.now)
+            → neighbour self.now.grid (slice_index_or (entries_of exits.now) i e).0
+            (blank_of self.now) ≡ Some (slice_index_or (entries_of exits.now) i e).1 }
+        ensures { (i : ℕ) (d : Successor) (e : Move × ℕ) → i < length (entries_of exits.now)
+            → IsReached weights.now self.now (slice_index_or (entries_of exits.now) i e).0
+            (slice_index_or reached.new i d) }
     {
-        if leaves_out(left_out, direction) {
-            return None;
+        'exits: for place in 0..exits.len() {
+            let (_, to) = exits.entry(place);
+            reached[place] = self.reach(to, weights);
         }
-        self.reach(direction, weights)
     }
 
-    // What is kept of the successor by a move until its sum is known. Its key is this board's, with
-    // the tile's digit taken from one place to another.
-    fn reach(&self, direction: Move, weights: &Weights) -> Option<Successor>
-        requires { weights.now.grid ≡ self.now.grid }
-        ensures { MatchOption result (neighbour self.now.grid direction (blank_of self.now) ≡ None)
-            (IsReached weights.now self.now direction) }
+    // What is kept of the successor with the blank on a cell beside it, until its sum is known. Its
+    // key is this board's, with the tile's digit taken from one place to another.
+    fn reach(&self, to: usize, weights: &Weights) -> Successor
+        requires rule { weights.now.grid ≡ self.now.grid }
+        requires beside { (m : Move)
+            × (neighbour self.now.grid m (blank_of self.now) ≡ Some to) }
+        ensures { (m : Move) → neighbour self.now.grid m (blank_of self.now) ≡ Some to
+            → IsReached weights.now self.now m result }
     {
-        let shape = self.shape;
         let from = self.cells[0];
-        let to = shape.neighbour(from as usize, direction)?;
-        let last = shape.cells() - 1;
+        let last = self.shape.cells() - 1;
         let behind = last - to;
         let tile = digit_of(self.key, behind);
         let key = self.key - digit_at(tile, behind) + digit_at(tile, last - from as usize);
         let cost = weights.of(tile);
-        Some(Successor {
+        Successor {
             key,
             cell: to as u32,
             tile: tile as u32,
             cost,
             sum: 0,
-        })
+        }
+    }
+
+    // Adds their sums to the first successors, so many.
+    fn add_sums(
+        &self,
+        bound: &Bound,
+        sum: Option<u32>,
+        count: usize,
+        reached: &mut [Successor; MOVES],
+    )
+        requires bound { bound.now.split.grid ≡ self.now.grid }
+        requires sum { IfSome sum (λ n. (n ≡ sum_of (parts_of bound.now) self.now)
+            × (n ≤ GREATEST_EXPANDED_COST)) }
+        requires count { count ≤ MOVES }
+        requires reached { (i : ℕ) (d : Successor) → i < count → (rule : CostRule) × (m : Move)
+            × IsReached rule self.now m (slice_index_or reached.old i d) }
+        ensures { AreSummed (parts_of bound.now) self.now count reached.old reached.new }
+    {
+        match bound.tables() {
+            TableList::Whole(tables) => add_whole_sums(tables, &self.cells, count, reached),
+            TableList::Folded(folds) => add_folded_sums(folds, sum, &self.cells, count, reached),
+        }
     }
 }
 
@@ -244,16 +286,6 @@ fn move_on(cells: &mut [u8; 25], reached: &Successor)
     let blank = cells[0];
     cells[0] = reached.cell as u8;
     cells[reached.tile as usize] = blank;
-}
-
-// Whether a move is the one that is left out.
-fn leaves_out(left_out: Option<Move>, direction: Move) -> bool
-    ensures { result ≡ is_left_out left_out direction }
-{
-    let Some(back) = left_out else {
-        return false;
-    };
-    back == direction
 }
 
 // What whole tables say of a board, by the cell of each number, added up.
@@ -269,112 +301,106 @@ fn sum_at_cells(tables: &[Table], cells: &[u8; 25]) -> u32
     sum_ranks(tables, &ranks)
 }
 
-// Adds the sums of successors, by whole tables.
-fn add_sums(tables: &[Table], cells: &[u8; 25], told: &mut [Option<Successor>; 4])
-    requires few { length tables.now ≤ MOST_TABLES }
-    requires views { All (SeesViews tables.now cells.now) told.old }
-    ensures value { told.new
-        ≡ map (option_map (told_by (sum_by_cells tables.now) cells.now)) told.old }
-    ensures high { All (λ one. IfSome one (λ s. s.sum ≤ GREATEST_SUM)) told.new }
-{
-    let mut up_ranks = [0; MOST_TABLES];
-    let mut left_ranks = [0; MOST_TABLES];
-    let mut right_ranks = [0; MOST_TABLES];
-    let mut down_ranks = [0; MOST_TABLES];
-    find_ranks(tables, cells, &told[0], &mut up_ranks);
-    find_ranks(tables, cells, &told[1], &mut left_ranks);
-    find_ranks(tables, cells, &told[2], &mut right_ranks);
-    find_ranks(tables, cells, &told[3], &mut down_ranks);
-    add_values(tables, &up_ranks, &mut told[0]);
-    add_values(tables, &left_ranks, &mut told[1]);
-    add_values(tables, &right_ranks, &mut told[2]);
-    add_values(tables, &down_ranks, &mut told[3]);
-}
-
-// Writes the ranks of what the groups see of a successor, if there is one. (A list that is handed
-// back would be copied.)
-fn find_ranks(
+// Adds the sums of the first successors, so many, by whole tables.
+fn add_whole_sums(
     tables: &[Table],
     cells: &[u8; 25],
-    reached: &Option<Successor>,
-    ranks: &mut [u32; MOST_TABLES],
+    count: usize,
+    reached: &mut [Successor; MOVES],
 )
     requires few { length tables.now ≤ MOST_TABLES }
-    requires views { SeesViews tables.now cells.now reached.now }
-    ensures { IfSome reached.now
-        (λ r. AreRanksOf tables.now (cells_after cells.now r) ranks.new) }
+    requires count { count ≤ MOVES }
+    requires views { (i : ℕ) (d : Successor) → i < count
+        → SeesViews tables.now cells.now (slice_index_or reached.old i d) }
+    ensures { IsSummed (sum_by_cells tables.now) cells.now count reached.old reached.new }
 {
-    if let Some(found) = reached {
+    if tables.len() <= FEW_TABLES {
+        add_few_sums(tables, cells, count, reached);
+        return;
+    }
+    'reached: for i in 0..count {
         let mut after = *cells;
-        move_on(&mut after, found);
-        write_ranks(tables, &after, ranks);
+        move_on(&mut after, &reached[i]);
+        reached[i].sum = sum_at_cells(tables, &after);
     }
 }
 
-// Adds the values that stand at the ranks of a successor, if there is one.
-fn add_values(tables: &[Table], ranks: &[u32; MOST_TABLES], told: &mut Option<Successor>)
-    requires few { length tables.now ≤ MOST_TABLES }
-    requires ranks { IfSome told.old (λ r. AreRanks tables.now ranks.now) }
-    ensures value { told.new
-        ≡ option_map (λ r. with_sum r (sum_at tables.now ranks.now)) told.old }
-    ensures high { IfSome told.new (λ s. s.sum ≤ GREATEST_SUM) }
+// The same by few tables: all ranks are made before the first value is read.
+fn add_few_sums(tables: &[Table], cells: &[u8; 25], count: usize, reached: &mut [Successor; MOVES])
+    requires few { length tables.now ≤ FEW_TABLES }
+    requires count { count ≤ MOVES }
+    requires views { (i : ℕ) (d : Successor) → i < count
+        → SeesViews tables.now cells.now (slice_index_or reached.old i d) }
+    ensures { IsSummed (sum_by_cells tables.now) cells.now count reached.old reached.new }
 {
-    let Some(found) = told else {
-        return;
-    };
-    found.sum = sum_ranks(tables, ranks);
+    let mut ranks = [[0; FEW_TABLES]; MOVES];
+    'ranks: for i in 0..count {
+        find_ranks(tables, cells, &reached[i], &mut ranks[i]);
+    }
+    'values: for i in 0..count {
+        reached[i].sum = sum_ranks(tables, &ranks[i]);
+    }
 }
 
-// Adds the sums of successors, by folded tables: from the board's own sum, where it is known.
+// Writes the ranks of what the groups see of a successor.
+fn find_ranks(
+    tables: &[Table],
+    cells: &[u8; 25],
+    reached: &Successor,
+    ranks: &mut [u32; FEW_TABLES],
+)
+    requires few { length tables.now ≤ FEW_TABLES }
+    requires views { SeesViews tables.now cells.now reached.now }
+    ensures ranks { AreRanksOf tables.now (cells_after cells.now reached.now) ranks.new }
+    ensures all { length ranks.new ≡ FEW_TABLES }
+{
+    let mut after = *cells;
+    move_on(&mut after, reached);
+    write_ranks(tables, &after, ranks);
+}
+
+// Adds the sums of the first successors, so many, by folded tables: from the board's own sum, where
+// it is known.
 fn add_folded_sums(
     folds: &[Folded],
     sum: Option<u32>,
     cells: &[u8; 25],
-    told: &mut [Option<Successor>; 4],
+    count: usize,
+    reached: &mut [Successor; MOVES],
 )
     requires few { length folds.now ≤ MOST_TABLES }
     requires apart { AllPairs
         (λ f g. ShareNoTile f.selection.tiles g.selection.tiles) folds.now }
     requires views { AreViews cells.now folds.now }
     requires sum { IsSumOf folds.now cells.now sum }
-    requires next { All (IsNextTo folds.now cells.now) told.old }
-    ensures value { told.new
-        ≡ map (option_map (told_by (λ after. sum_by (value_by after) folds.now) cells.now)) told.old }
-    ensures high { All (λ one. IfSome one (λ s. s.sum ≤ GREATEST_SUM)) told.new }
+    requires count { count ≤ MOVES }
+    requires next { (i : ℕ) (d : Successor) → i < count
+        → IsNextTo folds.now cells.now (slice_index_or reached.old i d) }
+    ensures { IsSummed (λ after. sum_by (value_by after) folds.now) cells.now count reached.old
+        reached.new }
 {
-    for one in told.iter_mut() {
-        add_folded_sum(folds, sum, cells, one);
+    'reached: for i in 0..count {
+        reached[i].sum = folded_sum(folds, sum, cells, &reached[i]);
     }
 }
 
-// Adds the sum of a successor, if there is one, by folded tables: from the board's own sum, where
-// it is known.
-fn add_folded_sum(
-    folds: &[Folded],
-    sum: Option<u32>,
-    cells: &[u8; 25],
-    told: &mut Option<Successor>,
-)
+// The sum of a successor by folded tables: from the board's own sum, where it is known.
+fn folded_sum(folds: &[Folded], sum: Option<u32>, cells: &[u8; 25], reached: &Successor) -> u32
     requires few { length folds.now ≤ MOST_TABLES }
     requires apart { AllPairs
         (λ f g. ShareNoTile f.selection.tiles g.selection.tiles) folds.now }
     requires views { AreViews cells.now folds.now }
     requires sum { IsSumOf folds.now cells.now sum }
-    requires next { IsNextTo folds.now cells.now told.old }
-    ensures value { told.new
-        ≡ option_map (told_by (λ after. sum_by (value_by after) folds.now) cells.now) told.old }
-    ensures high { IfSome told.new (λ s. s.sum ≤ GREATEST_SUM) }
+    requires next { IsNextTo folds.now cells.now reached.now }
+    ensures value { result ≡ sum_by (value_by (cells_after cells.now reached.now)) folds.now }
+    ensures high { result ≤ GREATEST_SUM }
 {
-    let Some(found) = told else {
-        return;
-    };
     let mut after = *cells;
-    move_on(&mut after, found);
+    move_on(&mut after, reached);
     let Some(known) = sum else {
-        found.sum = Parts::at(folds, &after).sum();
-        return;
+        return Parts::at(folds, &after).sum();
     };
-    found.sum = sum_after(folds, known, cells, &after, found.tile as u8);
+    sum_after(folds, known, cells, &after, reached.tile as u8)
 }
 
 // The cell of each number of the board of this shape with this key, from the last cell on.

@@ -27,7 +27,7 @@ use Rattle.world_model.specs.WorkerSteps.{ExpandOnwardStep, ExpandStep, IsOverfu
 use Rattle.world_model.specs.Workers.{WorkerState, Role, KnowsAs, IsNext}
 use Rattle.world_model.proofs.ExpandLemmas.{all_lower}
 use Rattle.world_model.proofs.TableLemmas.{with_insert}
-use Rattle.worker_core.specs.Expanding.{taken, role_by}
+use Rattle.worker_core.specs.Expanding.{all_taken, taken, role_by}
 use Rattle.worker_core.specs.Roles.{WereReached}
 use Rattle.worker_core.proofs.ExpandLemmas.{in_four, one_first}
 
@@ -38,10 +38,6 @@ abbrev IsNoNews : Role → WorkerState → Position → Known → Option Move �
 IsNoNews role worker b known None = ⊤
 IsNoNews role worker b known (Some back) =
     (before : Position) × (c : ℕ) × (first : Known) × (successor role.task.rule b back ≡ Some (before, c)) × (role.owner before ≡ role.me) × KnowsAs worker before first × (first.cost ≤ known.cost + c)
-
--- four moves, each of which may offer an item
-abbrev pub four : Role → WorkerState → (Move → Option Item) → WorkerState
-four role worker items = taken role (taken role (taken role (taken role worker (items U)) (items L)) (items R)) (items D)
 
 module _ (role : Role) (b : Position) (cost : ℕ) (back : Move) (before : Position) (c : ℕ) (leads : successor role.task.rule b back ≡ Some (before, c)) (own : role.owner before ≡ role.me) where
   abbrev items : Move → Option Item
@@ -85,7 +81,7 @@ module _ (role : Role) (b : Position) (cost : ℕ) (back : Move) (before : Posit
       (λ (stays : move_eq back m ≡ false). ap (taken role w) (sym (cond-false _ None (items m) stays)))
       (cases_Bool (move_eq back m))
 
-  pub four_same : (w : WorkerState) → IsLow w → four role w items ≡ four role w (but (Some back) items)
+  pub four_same : (w : WorkerState) → IsLow w → all_taken role w items ≡ all_taken role w (but (Some back) items)
   four_same w low =
       let kept = but (Some back) items in
       let one = taken role w (items U) in
@@ -115,7 +111,7 @@ three_taken role worker items x y z =
     ∙ one_first role (taken role (taken role worker (items x)) (items y)) (items z) []
 
 -- an expansion by the moves but for one that is left out, if any is
-pub in_four_by : (role : Role) (worker : WorkerState) (b : Position) (known : Known) (left_out : Option Move) → expansion_by (moves_but left_out) role worker b known ≡ four role (with_closure worker b known) (but left_out (item_by role.task.rule b known.cost))
+pub in_four_by : (role : Role) (worker : WorkerState) (b : Position) (known : Known) (left_out : Option Move) → expansion_by (moves_but left_out) role worker b known ≡ all_taken role (with_closure worker b known) (but left_out (item_by role.task.rule b known.cost))
 in_four_by role worker b known None = in_four role worker b known
 in_four_by role worker b known (Some U) = three_taken role (with_closure worker b known) (item_by role.task.rule b known.cost) L R D
 in_four_by role worker b known (Some L) = three_taken role (with_closure worker b known) (item_by role.task.rule b known.cost) U R D
@@ -123,7 +119,7 @@ in_four_by role worker b known (Some R) = three_taken role (with_closure worker 
 in_four_by role worker b known (Some D) = three_taken role (with_closure worker b known) (item_by role.task.rule b known.cost) U L R
 
 -- an expansion, where what is no news is left out
-in_four_but : (role : Role) (worker : WorkerState) (b : Position) (known : Known) (left_out : Option Move) → IsNoNews role worker b known left_out → expansion role worker b known ≡ four role (with_closure worker b known) (but left_out (item_by role.task.rule b known.cost))
+in_four_but : (role : Role) (worker : WorkerState) (b : Position) (known : Known) (left_out : Option Move) → IsNoNews role worker b known left_out → expansion role worker b known ≡ all_taken role (with_closure worker b known) (but left_out (item_by role.task.rule b known.cost))
 in_four_but role worker b known None none = in_four role worker b known
 in_four_but role worker b known (Some back) (before, c, first, leads, own, knows, low) =
     in_four role worker b known

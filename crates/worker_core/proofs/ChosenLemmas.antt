@@ -9,8 +9,7 @@ use Rattle.board.specs.Positions.{Position}
 use Rattle.closed_table.specs.Tables.{Table}
 use Rattle.open_buckets.specs.declared.open.TheConstants.{GREATEST_F}
 use Rattle.offers.specs.declared.offer.Offer.{Offer}
-use Rattle.offers.specs.declared.offer.Offers.{Offers}
-use Rattle.offers.specs.Offers.{item_by, AreOffered, OfEach, IsWithin}
+use Rattle.offers.specs.Offers.{Offers, item_by, AreOffered, OfEach, IsWithin}
 use Rattle.outcomes.specs.Outcomes.{Task}
 use Rattle.search_lists.specs.declared.lists.Next.{Next}
 use Rattle.search_lists.specs.Lists.{Lists, HasMoreRoom}

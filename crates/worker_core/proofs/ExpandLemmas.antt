@@ -18,8 +18,7 @@ use Rattle.closed_table.specs.Tables.{Table, table_closure}
 use Rattle.lower_bound.specs.Tables.{Tables}
 use Rattle.open_buckets.specs.OpenLists.{places_at}
 use Rattle.offers.specs.declared.offer.Offer.{Offer}
-use Rattle.offers.specs.declared.offer.Offers.{Offers}
-use Rattle.offers.specs.Offers.{item_by, IsOffered, AreOffered, OfEach, IsWithin}
+use Rattle.offers.specs.Offers.{Offers, item_by, IsOffered, AreOffered, OfEach, IsWithin}
 use Rattle.offers.specs.Room.{HasRoom}
 use Rattle.outcomes.specs.Outcomes.{Task}
 use Rattle.search_lists.specs.declared.lists.Next.{Next}

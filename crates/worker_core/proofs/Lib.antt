@@ -3,6 +3,7 @@ mod CallLemmas
 mod GuideLemmas
 mod SettleLemmas
 mod TakeLemmas
+mod EntryLemmas
 mod ExpandLemmas
 mod BackLemmas
 mod RoomLemmas

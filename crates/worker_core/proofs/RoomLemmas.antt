@@ -9,8 +9,7 @@ use Rattle.board.specs.declared.moves.Move.{Move}
 use Rattle.board.specs.declared.moves.Move.TheVariants.{U, L, R, D}
 use Rattle.board.specs.Positions.{Position}
 use Rattle.offers.specs.declared.offer.Offer.{Offer}
-use Rattle.offers.specs.declared.offer.Offers.{Offers}
-use Rattle.offers.specs.Offers.{item_by, IsOffered, AreOffered, OfEach, IsWithin}
+use Rattle.offers.specs.Offers.{Offers, item_by, IsOffered, AreOffered, OfEach, IsWithin}
 use Rattle.offers.specs.Room.{goes, go, HasRoom}
 use Rattle.search_lists.specs.Lists.{Lists}
 use Rattle.world_model.specs.declared.limits.TheConstants.{PACKET_LIMIT}

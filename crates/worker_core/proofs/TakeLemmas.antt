@@ -56,7 +56,7 @@ pub if_some : (P Q : Offer → Type 0) → ((offer : Offer) → P offer → Q of
 if_some P Q weaker None is = is
 if_some P Q weaker (Some offer) is = weaker offer is
 
-each : (P Q : Offer → Type 0) → ((offer : Offer) → P offer → Q offer) → (offers : List (Option Offer)) → OfAll P offers → OfAll Q offers
+pub each : (P Q : Offer → Type 0) → ((offer : Offer) → P offer → Q offer) → (offers : List (Option Offer)) → OfAll P offers → OfAll Q offers
 each P Q weaker [] all = all
 each P Q weaker (offer ∷ rest) all = (if_some P Q weaker offer all.0, each P Q weaker rest all.1)
 
@@ -66,22 +66,6 @@ room_left None room = omega arith
 room_left (Some known) room = omega arith
 
 module _ (me : ℕ) (grid : Grid) (lists : Lists) (unsent : List Packet) (rest : List (Option Offer)) where
-  -- nothing was offered
-  pub ready_past : IsReady me grid (stock lists unsent) (None ∷ rest) → IsReady me grid (stock lists unsent) rest
-  ready_past ready = record {
-    there = ready.there.1;
-    keys = ready.keys.1;
-    boards = let few = ready.boards in omega (arith, few);
-    places =
-        each
-        (λ some. some.owner ≡ me → length {A = Option Offer} (None ∷ rest) ≤ places_at lists.waiting some.f)
-        (λ some. some.owner ≡ me → length rest ≤ places_at lists.waiting some.f)
-        (λ some is own. let few = is own in omega (arith, few))
-        rest
-        ready.places.1;
-    room = λ to within. let fits = ready.room to within in omega (arith, fits);
-  }
-
   module _ (offer : Offer) (ready : IsReady me grid (stock lists unsent) (Some offer ∷ rest)) where
     -- an own board was relaxed
     pub ready_own : (lists' : Lists) (key cost : ℕ) (via : Move) → lists'.closed ≡ table_relaxation lists.closed key cost via → ((h : ℕ) → places_at lists.waiting h ≤ places_at lists'.waiting h + 1) → IsReady me grid (stock lists' unsent) rest

@@ -1,13 +1,14 @@
 -- How a worker takes what the moves from a board offer, one after the other.
 use Rattle.std.specs.Prelude.{Bool, true, false, ⊤, ℕ, ◌≡◌, ◌+◌, ◌%◌, ◌<◌, ◌≤◌, List, [], ◌∷◌, length, slice_index_or, Option, Some, None, IfSome}
 use Rattle.board.specs.declared.moves.Move.{Move}
+use Rattle.board.specs.declared.moves.Move.TheVariants.{U, L, R, D}
 use Rattle.board.specs.Grids.{Grid}
 use Rattle.board.specs.Keys.{HasKey}
 use Rattle.board.specs.Positions.{Position}
 use Rattle.open_buckets.specs.declared.open.TheConstants.{GREATEST_F}
 use Rattle.open_buckets.specs.OpenLists.{places_at}
 use Rattle.offers.specs.declared.offer.Offer.{Offer}
-use Rattle.offers.specs.declared.offer.Offers.{Offers}
+use Rattle.offers.specs.Offers.{Offers}
 use Rattle.offers.specs.Room.{goes}
 use Rattle.outcomes.specs.Outcomes.{Task}
 use Rattle.search_lists.specs.Lists.{Lists}
@@ -22,6 +23,10 @@ use Rattle.world_model.specs.Workers.{WorkerState, Packet, Role}
 abbrev pub taken : Role → WorkerState → Option Item → WorkerState
 taken role worker None = worker
 taken role worker (Some item) = with_successor role worker item
+
+-- the worker with what the four moves lead to, taken in their order
+abbrev pub all_taken : Role → WorkerState → (Move → Option Item) → WorkerState
+all_taken role worker items = taken role (taken role (taken role (taken role worker (items U)) (items L)) (items R)) (items D)
 
 -- what the four moves offer, in their order
 abbrev pub in_turn : Offers → List (Option Offer)

@@ -14,34 +14,32 @@ ghost use Rattle.search_lists.specs.Lists.{HasMoreRoom};
 ghost use Rattle.successor_sums.specs.Unpacked.{but};
 ghost use Rattle.search_lists.specs.Orders.{Guide, IsInOrder, IsFirst};
 ghost use Rattle.world_model.specs.declared.limits.TheConstants.{PACKET_LIMIT};
+ghost use Rattle.world_model.specs.declared.parts.Item.{Item};
 ghost use Rattle.world_model.specs.declared.parts.Known.{Known};
 ghost use Rattle.world_model.specs.Expansions.{expansion_by, moves_but};
 ghost use Rattle.world_model.specs.Turns.{turn, refusal_in};
 ghost use Rattle.world_model.specs.Workers.{Role, KnowsAs};
 ghost use Rattle.world_model.specs.WorkerSteps.{ExpandOnwardStep, ExpandStep, ExpandStepBy};
-ghost use Rattle.worker_core.specs.Expanding.{IsReady, stock, AddsUpBy, in_turn, role_by};
+ghost use Rattle.worker_core.specs.Expanding.{IsReady, stock, AddsUpBy, all_taken, in_turn, role_by};
 ghost use Rattle.worker_core.specs.Expanding.{left_out_if};
 ghost use Rattle.worker_core.specs.Roles.{IsGuided, WereReached, task_of};
 ghost use Rattle.worker_core.specs.Workers.{state_of, packets_of};
 
 use crate::goal::Goal;
 use crate::worker::Worker;
-use board::{Move, Weights};
+use board::{Move, Shape, Weights};
 use lower_bound::Bound;
 use memory::OutOfMemory;
 use message_ledger::{Allowance, Counting};
-use offers::{Offer, Offers, has_room, offers_of};
+use offers::{Offer, has_room, no_offers, offers_of};
 use owners::Spread;
 use search_lists::{Next, SearchLists};
 use std::alloc::Global;
-use successor_sums::UnpackedBoard;
+use successor_sums::{ByMoves, MOVES, UnpackedBoard};
 use world_model::Refusal;
 
 // What is known of fewer boards lies in the processor's caches: to read ahead gains nothing there.
 const BOARDS_IN_CACHE: usize = 1 << 12;
-
-// The most moves from a board.
-const MOVES: usize = 4;
 
 impl<C: Counting> Worker<C> {
     /// Expands a board of least cost plus sum: relaxes the successors that this worker owns, and
@@ -184,7 +182,7 @@ impl<C: Counting> Worker<C> {
             return Err(Refusal::NoAllowance);
         }
         let unpacked = UnpackedBoard::of_key(goal.shape(), next.key);
-        let mut offers = Offers::none();
+        let mut offers = no_offers();
         offers_of(
             &unpacked,
             next.cost,
@@ -208,7 +206,7 @@ impl<C: Counting> Worker<C> {
     }
 
     // Closes a board, which counts as an expansion, and takes what its moves offer.
-    fn expand_next(&mut self, me: usize, goal: &Goal, next: Next, offers: &Offers)
+    fn expand_next(&mut self, me: usize, goal: &Goal, next: Next, offers: &ByMoves<Offer>)
         requires first { IsFirst self.old.lists next }
         requires allowed { 0 < self.old.allowance.left }
         requires granted { self.old.allowance.left ≤ self.old.allowance.granted }
@@ -231,10 +229,30 @@ impl<C: Counting> Worker<C> {
         close_next(&mut self.lists, &mut self.allowance, next);
         let shape = goal.shape();
         let goal_key = goal.key();
-        self.take(me, shape, goal_key, Move::U, &offers.up);
-        self.take(me, shape, goal_key, Move::L, &offers.left);
-        self.take(me, shape, goal_key, Move::R, &offers.right);
-        self.take(me, shape, goal_key, Move::D, &offers.down);
+        self.take_all(me, shape, goal_key, offers);
+    }
+
+    // Takes what the moves offer, in their order.
+    fn take_all(&mut self, me: usize, shape: Shape, goal_key: u128, offers: &ByMoves<Offer>)
+        requires { IsReady me shape (stock self.old.lists (packets_of self.old.unsent.items))
+            (in_turn offers.now) }
+        ensures ready { IsReady me shape (stock self.new.lists
+            (packets_of self.new.unsent.items)) [] }
+        ensures state { (role : Role) (sum : Position → ℕ) (items : Move → Option Item)
+            → role.me ≡ me → AreOffered sum role.owner items offers.now
+            → ((m : Move) → IfSome (items m) (λ i. IsBoard i.board × (i.board.grid ≡ shape)))
+            → ((m : Move) → IfSome (items m) (λ i. i.via ≡ m))
+            → state_of self.new ≡ all_taken role (state_of self.old) items }
+        ensures guided { (task : Task) (guide : Guide) → task.goal.grid ≡ shape
+            → key_of task.goal ≡ goal_key → OfEach (AddsUpBy guide) offers.now
+            → IsGuided task guide self.old.lists → IsGuided task guide self.new.lists }
+        ensures workers { length self.new.unsent.items ≡ length self.old.unsent.items }
+        ensures allowance { self.new.allowance ≡ self.old.allowance }
+    {
+        'offers: for place in 0..offers.len() {
+            let (via, offer) = offers.entry(place);
+            self.take(me, shape, goal_key, via, &offer);
+        }
     }
 }
 
@@ -274,7 +292,7 @@ fn make_places(
     lists: &mut SearchLists,
     alloc: Global,
     me: usize,
-    offers: &Offers,
+    offers: &ByMoves<Offer>,
 ) -> Result<(), OutOfMemory>
     requires { OfEach (λ offer. offer.f ≤ GREATEST_F) offers.now }
     ensures boards { OnOk result (4 ≤ lists.new.closed.room) }
@@ -283,10 +301,11 @@ fn make_places(
     ensures same { HasMoreRoom lists.old lists.new }
 {
     lists.reserve_boards(alloc, MOVES)?;
-    make_places_at(lists, alloc, me, &offers.up)?;
-    make_places_at(lists, alloc, me, &offers.left)?;
-    make_places_at(lists, alloc, me, &offers.right)?;
-    make_places_at(lists, alloc, me, &offers.down)
+    'offers: for place in 0..offers.len() {
+        let (_, offer) = offers.entry(place);
+        make_places_at(lists, alloc, me, &offer)?;
+    }
+    Ok(())
 }
 
 // Makes as many places as there are moves at the f of what is offered, where this worker owns it.
@@ -294,17 +313,14 @@ fn make_places_at(
     lists: &mut SearchLists,
     alloc: Global,
     me: usize,
-    offer: &Option<Offer>,
+    offer: &Offer,
 ) -> Result<(), OutOfMemory>
-    requires { IfSome offer.now (λ some. some.f ≤ GREATEST_F) }
-    ensures places { OnOk result (IfSome offer.now
-        (λ some. some.owner ≡ me → 4 ≤ places_at lists.new.waiting some.f)) }
+    requires { offer.now.f ≤ GREATEST_F }
+    ensures places { OnOk result
+        (offer.now.owner ≡ me → 4 ≤ places_at lists.new.waiting offer.now.f) }
     ensures same { HasMoreRoom lists.old lists.new }
 {
-    let Some(offer) = *offer else {
-        return Ok(());
-    };
-    if offer.owner != me {
+    if offer.owner != me || lists.has_places(offer.f, MOVES) {
         return Ok(());
     }
     lists.reserve_places(alloc, offer.f, MOVES)
@@ -312,25 +328,21 @@ fn make_places_at(
 
 // Reads ahead what is read of the boards that this worker owns, so that the reads of memory
 // overlap.
-fn read_ahead(lists: &mut SearchLists, me: usize, offers: &Offers)
+fn read_ahead(lists: &mut SearchLists, me: usize, offers: &ByMoves<Offer>)
     ensures { lists.new ≡ lists.old }
 {
     if lists.len() < BOARDS_IN_CACHE {
         return;
     }
-    let keys = [
-        own_key(&offers.up, me),
-        own_key(&offers.left, me),
-        own_key(&offers.right, me),
-        own_key(&offers.down, me),
-    ];
-    lists.read_ahead(&keys);
+    let mut keys = [0; MOVES];
+    'offers: for place in 0..offers.len() {
+        let (_, offer) = offers.entry(place);
+        keys[place] = own_key(&offer, me);
+    }
+    lists.read_ahead(&keys[..offers.len()]);
 }
 
 // The key of what is offered, where this worker owns it, and else one of no board.
-fn own_key(offer: &Option<Offer>, me: usize) -> u128 {
-    match *offer {
-        Some(offer) if offer.owner == me => offer.key,
-        _ => 0,
-    }
+fn own_key(offer: &Offer, me: usize) -> u128 {
+    if offer.owner == me { offer.key } else { 0 }
 }

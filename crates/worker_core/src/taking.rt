@@ -1,6 +1,6 @@
 //! How a worker takes what the moves from a board offer.
 
-ghost use Rattle.std.specs.Prelude.{◌≡◌, ◌≢◌, ◌<◌, ◌≤◌, ◌∷◌, ◌++◌, [], List, Option, IfSome, length};
+ghost use Rattle.std.specs.Prelude.{◌≡◌, ◌≢◌, ◌<◌, ◌≤◌, ◌∷◌, ◌++◌, [], List, Option, Some, IfSome, length};
 ghost use Rattle.std.specs.Prelude.{ℕ, slice_set, slice_index_or};
 ghost use Rattle.board.specs.Keys.{key_of};
 ghost use Rattle.board.specs.Positions.{Position, IsBoard};
@@ -24,37 +24,27 @@ use search_lists::Met;
 use world_model::Item;
 
 impl<C: Counting> Worker<C> {
-    // Takes what a move offers, where it offers anything: its own is relaxed, another's goes to the
-    // end of the packet for that one.
-    pub(crate) fn take(
-        &mut self,
-        me: usize,
-        shape: Shape,
-        goal_key: u128,
-        via: Move,
-        offer: &Option<Offer>,
-    )
+    // Takes what a move offers: its own is relaxed, another's goes to the end of the packet for that
+    // one.
+    pub(crate) fn take(&mut self, me: usize, shape: Shape, goal_key: u128, via: Move, offer: &Offer)
         requires { (rest : List (Option Offer)) × IsReady me shape (stock self.old.lists
-            (packets_of self.old.unsent.items)) (offer.now ∷ rest) }
+            (packets_of self.old.unsent.items)) (Some offer.now ∷ rest) }
         ensures ready { (rest : List (Option Offer)) → IsReady me shape (stock self.old.lists
-            (packets_of self.old.unsent.items)) (offer.now ∷ rest)
+            (packets_of self.old.unsent.items)) (Some offer.now ∷ rest)
             → IsReady me shape (stock self.new.lists (packets_of self.new.unsent.items)) rest }
         ensures state { (role : Role) (sum : Position → ℕ) (item : Option Item)
-            → role.me ≡ me → IsOffered sum role.owner item offer.now
+            → role.me ≡ me → IsOffered sum role.owner item (Some offer.now)
             → IfSome item (λ i. IsBoard i.board × (i.board.grid ≡ shape))
             → IfSome item (λ i. i.via ≡ via)
             → state_of self.new ≡ taken role (state_of self.old) item }
         ensures allowance { self.new.allowance ≡ self.old.allowance }
         ensures guided { (task : Task) (guide : Guide) → task.goal.grid ≡ shape
-            → key_of task.goal ≡ goal_key → IfSome offer.now (AddsUpBy guide)
+            → key_of task.goal ≡ goal_key → AddsUpBy guide offer.now
             → IsGuided task guide self.old.lists → IsGuided task guide self.new.lists }
         ensures workers { length self.new.unsent.items ≡ length self.old.unsent.items }
     {
-        let Some(offer) = *offer else {
-            return;
-        };
         if offer.owner == me {
-            self.lists.relax(goal_key, met_by(offer, via));
+            self.lists.relax(goal_key, met_by(*offer, via));
             return;
         }
         let item = Item {

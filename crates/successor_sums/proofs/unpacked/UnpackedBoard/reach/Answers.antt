@@ -8,23 +8,20 @@ use Rattle.board.specs.Keys.{key_of}
 use Rattle.board.specs.Moves.{blank_exchange}
 use Rattle.board.proofs.MoveLemmas.{blank_after}
 use Rattle.successor_sums.specs.Unpacked.{board_in, IsReached}
-use Rattle.successor_sums.proofs.MoveLemmas.{blank_below, below, led_to}
+use Rattle.successor_sums.proofs.MoveLemmas.{blank_below, below, led_to, lies_beside}
 use Rattle.successor_sums.proofs.unpacked.UnpackedBoard.reach.Goals as goal
-
-pub neighbour-requires : goal.neighbour-requires
-neighbour-requires c = subst (λ g. slice_index c.self.inside.cells 0 < cell_count g) refl (blank_below c.self.inside c.self.invariant)
 
 pub overflow_sub-behind : goal.overflow_sub-behind
 overflow_sub-behind c =
-    let low = below c.self.inside c.self.inside.shape c.args.direction c.in_ok-to.to c.self.invariant refl ((c.neighbour.ensures.towards c.in_ok-to.to).0 c.in_ok-to.was) in
+    let low = below c.self.inside c.self.inside.shape c.requires.beside.0 c.args.to c.self.invariant refl (lies_beside c.self.inside c.args.self.now c.requires.beside.0 c.args.to c.self.invariant c.self.view_is c.requires.beside.1) in
     let count = c.cells-last.ensures.value in
     omega arith
 
 pub overflow_sub-key : goal.overflow_sub-key
 overflow_sub-key c =
-    let led = led_to c.self.inside c.self.inside.shape c.args.direction c.in_ok-to.to c.self.invariant refl ((c.neighbour.ensures.towards c.in_ok-to.to).0 c.in_ok-to.was) c.digit_of-tile.result (c.digit_of-tile.ensures ∙ ap (λ (n : ℕ). c.self.inside.key / 32 ^ (n - 1 - c.in_ok-to.to) % 32) c.cells-last.ensures.value) in
+    let led = led_to c.self.inside c.self.inside.shape c.requires.beside.0 c.args.to c.self.invariant refl (lies_beside c.self.inside c.args.self.now c.requires.beside.0 c.args.to c.self.invariant c.self.view_is c.requires.beside.1) c.digit_of-tile.result (c.digit_of-tile.ensures ∙ ap (λ (n : ℕ). c.self.inside.key / 32 ^ (n - 1 - c.args.to) % 32) c.cells-last.ensures.value) in
     let count : c.cells-last.result ≡ cell_count (board_in c.self.inside).grid = c.cells-last.ensures.value in
-    let digit = c.digit_at.ensures ∙ ap (λ (n : ℕ). c.digit_of-tile.result * 32 ^ (n - 1 - c.in_ok-to.to)) count in
+    let digit = c.digit_at.ensures ∙ ap (λ (n : ℕ). c.digit_of-tile.result * 32 ^ (n - 1 - c.args.to)) count in
     omega (arith, led.key_low)
 
 pub overflow_sub-last-2 : goal.overflow_sub-last-2
@@ -34,40 +31,39 @@ overflow_sub-last-2 c =
 
 pub overflow_add-key : goal.overflow_add-key
 overflow_add-key c =
-    let led = led_to c.self.inside c.self.inside.shape c.args.direction c.in_ok-to.to c.self.invariant refl ((c.neighbour.ensures.towards c.in_ok-to.to).0 c.in_ok-to.was) c.digit_of-tile.result (c.digit_of-tile.ensures ∙ ap (λ (n : ℕ). c.self.inside.key / 32 ^ (n - 1 - c.in_ok-to.to) % 32) c.cells-last.ensures.value) in
+    let led = led_to c.self.inside c.self.inside.shape c.requires.beside.0 c.args.to c.self.invariant refl (lies_beside c.self.inside c.args.self.now c.requires.beside.0 c.args.to c.self.invariant c.self.view_is c.requires.beside.1) c.digit_of-tile.result (c.digit_of-tile.ensures ∙ ap (λ (n : ℕ). c.self.inside.key / 32 ^ (n - 1 - c.args.to) % 32) c.cells-last.ensures.value) in
     let count : c.cells-last.result ≡ cell_count (board_in c.self.inside).grid = c.cells-last.ensures.value in
-    let from = c.digit_at.ensures ∙ ap (λ (n : ℕ). c.digit_of-tile.result * 32 ^ (n - 1 - c.in_ok-to.to)) count in
+    let from = c.digit_at.ensures ∙ ap (λ (n : ℕ). c.digit_of-tile.result * 32 ^ (n - 1 - c.args.to)) count in
     let to = c.digit_at-2.ensures ∙ ap (λ (n : ℕ). c.digit_of-tile.result * 32 ^ (n - 1 - slice_index c.self.inside.cells 0)) count in
-    let key : c.self.inside.key - c.digit_at.result + c.digit_at-2.result ≡ key_of (blank_exchange (board_in c.self.inside) c.in_ok-to.to) = (λ i. c.self.inside.key - from i + to i) ∙ led.key_is in
+    let key : c.self.inside.key - c.digit_at.result + c.digit_at-2.result ≡ key_of (blank_exchange (board_in c.self.inside) c.args.to) = (λ i. c.self.inside.key - from i + to i) ∙ led.key_is in
     let low = led.key_fits in
     omega arith
 
 pub of-cost-requires-clause-tile : goal.of-cost-requires-clause-tile
 of-cost-requires-clause-tile c =
-    let led = led_to c.self.inside c.self.inside.shape c.args.direction c.in_ok-to.to c.self.invariant refl ((c.neighbour.ensures.towards c.in_ok-to.to).0 c.in_ok-to.was) c.digit_of-tile.result (c.digit_of-tile.ensures ∙ ap (λ (n : ℕ). c.self.inside.key / 32 ^ (n - 1 - c.in_ok-to.to) % 32) c.cells-last.ensures.value) in
+    let led = led_to c.self.inside c.self.inside.shape c.requires.beside.0 c.args.to c.self.invariant refl (lies_beside c.self.inside c.args.self.now c.requires.beside.0 c.args.to c.self.invariant c.self.view_is c.requires.beside.1) c.digit_of-tile.result (c.digit_of-tile.ensures ∙ ap (λ (n : ℕ). c.self.inside.key / 32 ^ (n - 1 - c.args.to) % 32) c.cells-last.ensures.value) in
     led.tile_some
 
 pub of-cost-requires-clause-within : goal.of-cost-requires-clause-within
 of-cost-requires-clause-within c =
-    let led = led_to c.self.inside c.self.inside.shape c.args.direction c.in_ok-to.to c.self.invariant refl ((c.neighbour.ensures.towards c.in_ok-to.to).0 c.in_ok-to.was) c.digit_of-tile.result (c.digit_of-tile.ensures ∙ ap (λ (n : ℕ). c.self.inside.key / 32 ^ (n - 1 - c.in_ok-to.to) % 32) c.cells-last.ensures.value) in
-    subst (λ (g : Grid). c.digit_of-tile.result < cell_count g) (ap (λ (p : Position). p.grid) c.self.view_is ∙ sym c.requires) led.tile_low
+    let led = led_to c.self.inside c.self.inside.shape c.requires.beside.0 c.args.to c.self.invariant refl (lies_beside c.self.inside c.args.self.now c.requires.beside.0 c.args.to c.self.invariant c.self.view_is c.requires.beside.1) c.digit_of-tile.result (c.digit_of-tile.ensures ∙ ap (λ (n : ℕ). c.self.inside.key / 32 ^ (n - 1 - c.args.to) % 32) c.cells-last.ensures.value) in
+    subst (λ (g : Grid). c.digit_of-tile.result < cell_count g) (ap (λ (p : Position). p.grid) c.self.view_is ∙ sym c.requires.rule) led.tile_low
 
 pub returns : goal.returns
-returns c =
-    let led = led_to c.self.inside c.self.inside.shape c.args.direction c.in_ok-to.to c.self.invariant refl ((c.neighbour.ensures.towards c.in_ok-to.to).0 c.in_ok-to.was) c.digit_of-tile.result (c.digit_of-tile.ensures ∙ ap (λ (n : ℕ). c.self.inside.key / 32 ^ (n - 1 - c.in_ok-to.to) % 32) c.cells-last.ensures.value) in
+returns c = λ m beside.
+    let led = led_to c.self.inside c.self.inside.shape m c.args.to c.self.invariant refl (lies_beside c.self.inside c.args.self.now m c.args.to c.self.invariant c.self.view_is beside) c.digit_of-tile.result (c.digit_of-tile.ensures ∙ ap (λ (n : ℕ). c.self.inside.key / 32 ^ (n - 1 - c.args.to) % 32) c.cells-last.ensures.value) in
     let count : c.cells-last.result ≡ cell_count (board_in c.self.inside).grid = c.cells-last.ensures.value in
-    let from = c.digit_at.ensures ∙ ap (λ (n : ℕ). c.digit_of-tile.result * 32 ^ (n - 1 - c.in_ok-to.to)) count in
+    let from = c.digit_at.ensures ∙ ap (λ (n : ℕ). c.digit_of-tile.result * 32 ^ (n - 1 - c.args.to)) count in
     let to = c.digit_at-2.ensures ∙ ap (λ (n : ℕ). c.digit_of-tile.result * 32 ^ (n - 1 - slice_index c.self.inside.cells 0)) count in
-    let found : neighbour (board_in c.self.inside).grid c.args.direction (blank_of (board_in c.self.inside)) ≡ Some c.in_ok-to.to =
-    (λ i. neighbour c.self.inside.shape c.args.direction (sym led.blank i)) ∙ sym c.neighbour.ensures.value ∙ c.in_ok-to.was in
-    subst (λ (p : Position). IsReached c.args.weights.now p c.args.direction (record { key = c.self.inside.key - c.digit_at.result + c.digit_at-2.result; tile = c.digit_of-tile.result; cell = c.in_ok-to.to; cost = c.of-cost.result; sum = 0 })) c.self.view_is
+    let found : neighbour (board_in c.self.inside).grid m (blank_of (board_in c.self.inside)) ≡ Some c.args.to = subst (λ (p : Position). neighbour p.grid m (blank_of p) ≡ Some c.args.to) (sym c.self.view_is) beside in
+    subst (λ (p : Position). IsReached c.args.weights.now p m (record { key = c.self.inside.key - c.digit_at.result + c.digit_at-2.result; tile = c.digit_of-tile.result; cell = c.args.to; cost = c.of-cost.result; sum = 0 })) c.self.view_is
     (record {
-      to = c.in_ok-to.to;
+      to = c.args.to;
       found = found;
       below = led.below;
       few = led.few;
       board = led.board;
-      blank = blank_after (board_in c.self.inside) c.self.invariant.board c.in_ok-to.to led.below;
+      blank = blank_after (board_in c.self.inside) c.self.invariant.board c.args.to led.below;
       cells = led.cells;
       others = led.others;
       cell = refl;

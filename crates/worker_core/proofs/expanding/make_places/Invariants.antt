@@ -1,0 +1,12 @@
+use Rattle.std.proofs.Common.{◌≤◌}
+use Rattle.search_lists.specs.Lists.{HasMoreRoom}
+use Rattle.worker_core.proofs.EntryLemmas.{HavePlaces}
+use Rattle.worker_core.proofs.expanding.make_places.Given as goal
+
+-- for the entries so far there are places
+abbrev pub invariant-offers : goal.invariant-offers
+invariant-offers l = record {
+  same : HasMoreRoom l.fn.lists l.lists;
+  boards : 4 ≤ l.lists.closed.room;
+  places : HavePlaces l.me l.lists l.offers l.place;
+}
