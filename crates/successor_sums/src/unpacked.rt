@@ -179,7 +179,7 @@ impl UnpackedBoard {
     /// The same, but for one move that is left out, if any is: of that nothing is told. Where the
     /// board's own sum is known, folded tables are read less often.
     ///
-    /// All ranks in whole tables are made before the first value is read, so that the reads, each
+    /// All ranks in up to six whole tables are made before a value is read, so that the reads, each
     /// of which may miss the cache, go on side by side. Of folded tables, where the board's own sum
     /// is known, only that of the tile that is moved is read, for what it said and what it says.
     pub fn successors_but(
