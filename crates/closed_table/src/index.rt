@@ -1,7 +1,7 @@
 //! Slots in chains by the hashes of their keys.
 
 ghost use Rattle.std.specs.Prelude.{◌≡◌, ◌≢◌, ◌<◌, ◌≤◌, ◌+◌, ◌-◌, ◌*◌, ◌/◌, ◌^◌, ◌++◌, ◌∷◌, [], ℕ};
-ghost use Rattle.std.specs.Prelude.{false, length, List, MatchOption, OnOk};
+ghost use Rattle.std.specs.Prelude.{if◌then◌else◌, false, length, List, IsTrue, IsFalse, MatchOption, OnOk};
 ghost use Rattle.std.specs.Prelude.{slice_index, slice_index_or, slice_set};
 ghost use Rattle.world_model.specs.declared.parts.Known.{Known};
 ghost use Rattle.closed_table.specs.Chains.{hash_of, place, bucket_with, IsIndexed, AreClear};
@@ -172,6 +172,20 @@ fn put(bucket: &mut Bucket, place: usize, hash: u32)
     }
 }
 
+// Whether one of a bucket's hashes is this one, also of those where no slot is. All of them are
+// compared: where the last slot is, is guessed wrong often, and mostly none has the hash.
+fn has_hash(bucket: &Bucket, hash: u32) -> bool
+    ensures yes { IsTrue result
+        → (k : ℕ) × (k < 7) × (slice_index bucket.now.hashes k ≡ hash) }
+    ensures no { IsFalse result → (k : ℕ) → k < 7 → slice_index bucket.now.hashes k ≢ hash }
+{
+    let mut found = false;
+    'entries: for k in 0..ENTRIES {
+        found |= bucket.hashes[k] == hash;
+    }
+    found
+}
+
 // The place of a key among the slots that a bucket has itself.
 fn find_inside(bucket: &Bucket, slots: &Pages<Slot>, key: u128, hash: u32) -> Option<usize>
     requires count { bucket.now.count ≤ 7 }
@@ -183,6 +197,9 @@ fn find_inside(bucket: &Bucket, slots: &Pages<Slot>, key: u128, hash: u32) -> Op
         (λ i. (key_at slots.now i ≡ key)
         × (k : ℕ) × (k < bucket.now.count) × (i ≡ slice_index bucket.now.places k)) }
 {
+    if !has_hash(bucket, hash) {
+        return None;
+    }
     'entries: for k in 0..bucket.count as usize {
         if bucket.hashes[k] == hash {
             let place = bucket.places[k] as usize;
@@ -243,6 +260,23 @@ pub(crate) fn read_ahead(index: &Index, keys: &[u128]) -> u32
     all
 }
 
+// Puts a slot into a bucket with free entries, if it belongs there. To do either takes no guess of
+// the processor.
+fn put_if(bucket: &mut Bucket, place: usize, hash: u32, belongs: bool)
+    requires free { bucket.old.count < 7 }
+    requires small { place < 2 ^ 32 - 1 }
+    ensures { bucket.new ≡ if belongs then bucket_with bucket.old place hash else bucket.old }
+{
+    let count = bucket.count as usize;
+    bucket.hashes[count] = if belongs { hash } else { bucket.hashes[count] };
+    bucket.places[count] = if belongs {
+        place as u32
+    } else {
+        bucket.places[count]
+    };
+    bucket.count += belongs as u16;
+}
+
 // Divides the slots that a bucket has itself.
 fn divided(bucket: &Bucket, bits: u32, chains: usize, from: usize) -> Halves
     requires small { bits ≤ 32 }
@@ -261,11 +295,9 @@ fn divided(bucket: &Bucket, bits: u32, chains: usize, from: usize) -> Halves
     'entries: for k in 0..bucket.count as usize {
         let hash = bucket.hashes[k];
         let place = bucket.places[k] as usize;
-        if chain_of(hash, bits, chains + 1) == from {
-            put(&mut halves.stay, place, hash);
-        } else {
-            put(&mut halves.go, place, hash);
-        }
+        let stays = chain_of(hash, bits, chains + 1) == from;
+        put_if(&mut halves.stay, place, hash, stays);
+        put_if(&mut halves.go, place, hash, !stays);
     }
     halves
 }

@@ -108,10 +108,12 @@ impl SearchLists {
     }
 
     /// Makes places for this many boards that are not known yet, and for some more where there is
-    /// memory. After a refusal nothing has changed.
+    /// memory. It is refused only where there were fewer, and nothing has changed then.
     pub fn reserve_boards(&mut self, alloc: Global, count: usize) -> Result<(), OutOfMemory>
         ensures ok { OnOk result (count ≤ self.new.closed.room) }
         ensures err { OnErr result (self.new ≡ self.old) }
+        ensures refused { OnErr result (self.old.closed.room < count) }
+        ensures enough { count ≤ self.old.closed.room → self.new ≡ self.old }
         ensures same { HasMoreRoom self.old self.new }
     {
         make_room(&mut self.closed, alloc, count)
@@ -124,12 +126,14 @@ impl SearchLists {
         self.open.has_places(f, count)
     }
 
-    /// Makes places for this many entries at an f. Whether it succeeds or not, what is known and
-    /// what waits stays.
+    /// Makes places for this many entries at an f. It is refused only where there were fewer.
+    /// Whether it succeeds or not, what is known and what waits stays.
     pub fn reserve_places(&mut self, alloc: Global, f: u32, count: usize) -> Result<(), OutOfMemory>
         requires within { f ≤ GREATEST_F }
         requires modest { count ≤ 2 ^ 27 }
         ensures ok { OnOk result (count ≤ places_at self.new.waiting f) }
+        ensures refused { OnErr result (places_at self.old.waiting f < count) }
+        ensures boards { self.new.closed ≡ self.old.closed }
         ensures same { HasMoreRoom self.old self.new }
     {
         self.open.reserve(alloc, f, count)
@@ -223,6 +227,8 @@ impl SearchLists {
 fn make_room(closed: &mut Closed, alloc: Global, count: usize) -> Result<(), OutOfMemory>
     ensures ok { OnOk result (count ≤ closed.new.room) }
     ensures err { OnErr result (closed.new ≡ closed.old) }
+    ensures refused { OnErr result (closed.old.room < count) }
+    ensures enough { count ≤ closed.old.room → closed.new ≡ closed.old }
     ensures keys { closed.new.keys ≡ closed.old.keys }
     ensures known { closed.new.known ≡ closed.old.known }
     ensures room { closed.old.room ≤ closed.new.room }

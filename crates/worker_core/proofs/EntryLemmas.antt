@@ -16,7 +16,7 @@ use Rattle.search_lists.specs.Lists.{Lists, HasMoreRoom}
 use Rattle.successor_sums.specs.ByMoves.{before, entries_of, of_move}
 use Rattle.world_model.specs.declared.parts.Item.{Item}
 use Rattle.world_model.specs.Workers.{WorkerState, Packet, Role}
-use Rattle.worker_core.specs.Expanding.{IsReady, stock, OfAll, all_go, all_taken, in_turn, taken}
+use Rattle.worker_core.specs.Expanding.{IsReady, stock, OfAll, all_go, all_taken, in_turn, taken, HasPlaces, HasAllPlaces}
 use Rattle.worker_core.proofs.TakeLemmas.{each}
 
 -- what holds of what is offered holds of each entry
@@ -152,10 +152,6 @@ more_room one two three first second = record {
   places = λ h. let a = first.places h in let b = second.places h in omega (arith, a, b);
 }
 
--- at what is offered, where worker `me` owns it, there are places for as many boards as there are moves
-abbrev HasPlaces : ℕ → Lists → Offer → Type 0
-HasPlaces me lists offer = offer.owner ≡ me → 4 ≤ places_at lists.waiting offer.f
-
 -- the same of the first entries
 abbrev pub HavePlaces : ℕ → Lists → Offers → ℕ → Type 0
 HavePlaces me lists offers count = (i : ℕ) (d : Move × Offer) → i < count → HasPlaces me lists (get_or (entries_of offers) i d).1
@@ -169,6 +165,10 @@ places_on me offers count entry is old new more before here i d within =
     let no_less = more.places (get_or (entries_of offers) i d).1.f in
     omega (arith, places, no_less))
     (cases_eq i count)
+
+-- where places were wanting at an entry, they were wanting before
+pub still_wanting : (me : ℕ) (old new : Lists) (offer : Offer) → HasMoreRoom old new → ¬ HasPlaces me new offer → ¬ HasPlaces me old offer
+still_wanting me old new offer more wanting here = wanting (λ own. let places = here own in let no_less = more.places offer.f in omega (arith, places, no_less))
 
 -- and of all entries
 pub places_for_all : (me : ℕ) (lists : Lists) (offers : Offers) (count : ℕ) → length (entries_of offers) ≤ count → HavePlaces me lists offers count → OfEach (λ offer. offer.owner ≡ me → 4 ≤ places_at lists.waiting offer.f) offers

@@ -8,7 +8,7 @@ use Rattle.board.specs.Positions.{Position}
 use Rattle.open_buckets.specs.declared.open.TheConstants.{GREATEST_F}
 use Rattle.open_buckets.specs.OpenLists.{places_at}
 use Rattle.offers.specs.declared.offer.Offer.{Offer}
-use Rattle.offers.specs.Offers.{Offers}
+use Rattle.offers.specs.Offers.{Offers, OfEach}
 use Rattle.offers.specs.Room.{goes}
 use Rattle.outcomes.specs.Outcomes.{Task}
 use Rattle.search_lists.specs.Lists.{Lists}
@@ -63,6 +63,14 @@ pub record IsReady (me : ℕ) (grid : Grid) (into : Stock) (offers : List (Optio
   pub boards : length offers ≤ into.lists.closed.room
   pub places : OfAll (λ offer. offer.owner ≡ me → length offers ≤ places_at into.lists.waiting offer.f) offers
   pub room : (to : ℕ) → to < length into.unsent → length (slice_index_or into.unsent to []) + all_go me to offers ≤ PACKET_LIMIT
+
+-- at what is offered, where worker `me` owns it, there are places for as many boards as there are moves
+abbrev pub HasPlaces : ℕ → Lists → Offer → Type 0
+HasPlaces me lists offer = offer.owner ≡ me → 4 ≤ places_at lists.waiting offer.f
+
+-- there are places for as many boards more as there are moves, and at each offer that worker `me` owns
+abbrev pub HasAllPlaces : ℕ → Lists → Offers → Type 0
+HasAllPlaces me lists offers = (4 ≤ lists.closed.room) × OfEach (HasPlaces me lists) offers
 
 -- what is offered adds up by this guide
 abbrev pub AddsUpBy : Guide → Offer → Type 0

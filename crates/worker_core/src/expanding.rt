@@ -1,7 +1,7 @@
 //! The step that expands a board.
 
-ghost use Rattle.std.specs.Prelude.{ℕ, ◌≡◌, ◌<◌, ◌≤◌, ◌+◌, [], length, slice_index_or, IfSome, OnOk};
-ghost use Rattle.std.specs.Prelude.{Option};
+ghost use Rattle.std.specs.Prelude.{ℕ, ◌≡◌, ◌<◌, ◌≤◌, ◌+◌, [], length, slice_index_or, IfSome, OnOk, OnErr};
+ghost use Rattle.std.specs.Prelude.{◌≢◌, Option};
 ghost use Rattle.std.specs.FinMap as map;
 ghost use Rattle.board.specs.Keys.{key_of};
 ghost use Rattle.board.specs.Positions.{Position, IsBoard};
@@ -21,7 +21,7 @@ ghost use Rattle.world_model.specs.Turns.{turn, refusal_in};
 ghost use Rattle.world_model.specs.Workers.{Role, KnowsAs};
 ghost use Rattle.world_model.specs.WorkerSteps.{ExpandOnwardStep, ExpandStep, ExpandStepBy};
 ghost use Rattle.worker_core.specs.Expanding.{IsReady, stock, AddsUpBy, all_taken, in_turn, role_by};
-ghost use Rattle.worker_core.specs.Expanding.{left_out_if};
+ghost use Rattle.worker_core.specs.Expanding.{left_out_if, HasPlaces, HasAllPlaces};
 ghost use Rattle.worker_core.specs.Roles.{IsGuided, WereReached, task_of};
 ghost use Rattle.worker_core.specs.Workers.{state_of, packets_of};
 
@@ -287,7 +287,8 @@ fn close_next<C: Counting>(lists: &mut SearchLists, allowance: &mut Allowance<C>
 }
 
 // Makes places for as many boards more as there are moves, and for as many at the f of each that
-// this worker owns: several may have the same.
+// this worker owns: several may have the same. It is refused only where some of these are wanting,
+// and where none is, nothing changes.
 fn make_places(
     lists: &mut SearchLists,
     alloc: Global,
@@ -298,6 +299,8 @@ fn make_places(
     ensures boards { OnOk result (4 ≤ lists.new.closed.room) }
     ensures places { OnOk result (OfEach
         (λ offer. offer.owner ≡ me → 4 ≤ places_at lists.new.waiting offer.f) offers.now) }
+    ensures refused { OnErr result (¬ HasAllPlaces me lists.old offers.now) }
+    ensures enough { HasAllPlaces me lists.old offers.now → lists.new ≡ lists.old }
     ensures same { HasMoreRoom lists.old lists.new }
 {
     lists.reserve_boards(alloc, MOVES)?;
@@ -308,7 +311,8 @@ fn make_places(
     Ok(())
 }
 
-// Makes as many places as there are moves at the f of what is offered, where this worker owns it.
+// Makes as many places as there are moves at the f of what is offered, where this worker owns it
+// and there are fewer.
 fn make_places_at(
     lists: &mut SearchLists,
     alloc: Global,
@@ -318,6 +322,9 @@ fn make_places_at(
     requires { offer.now.f ≤ GREATEST_F }
     ensures places { OnOk result
         (offer.now.owner ≡ me → 4 ≤ places_at lists.new.waiting offer.now.f) }
+    ensures refused { OnErr result (¬ HasPlaces me lists.old offer.now) }
+    ensures enough { HasPlaces me lists.old offer.now → lists.new ≡ lists.old }
+    ensures boards { lists.new.closed ≡ lists.old.closed }
     ensures same { HasMoreRoom lists.old lists.new }
 {
     if offer.owner != me || lists.has_places(offer.f, MOVES) {
@@ -343,6 +350,9 @@ fn read_ahead(lists: &mut SearchLists, me: usize, offers: &ByMoves<Offer>)
 }
 
 // The key of what is offered, where this worker owns it, and else one of no board.
-fn own_key(offer: &Offer, me: usize) -> u128 {
+fn own_key(offer: &Offer, me: usize) -> u128
+    ensures own { offer.now.owner ≡ me → result ≡ offer.now.key }
+    ensures other { offer.now.owner ≢ me → result ≡ 0 }
+{
     if offer.owner == me { offer.key } else { 0 }
 }

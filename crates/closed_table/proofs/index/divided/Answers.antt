@@ -1,7 +1,7 @@
-use Rattle.std.proofs.Common.{◌≢◌, ◌+◌, ◌∙◌, sym, ap, get_or}
-use Rattle.closed_table.specs.Chains.{place, stays, goes}
-use Rattle.closed_table.proofs.RelinkLemmas.{part_none, stay_more, stay_kept, go_more, go_kept}
-use Rattle.closed_table.proofs.index.divided.Goals.{then-chain_of-from, else-chain_of-from}
+use Rattle.std.proofs.Common.{◌≤◌, ◌∙◌, ℕ, eqb, not, sym, ap, subst, arith}
+use Rattle.closed_table.specs.declared.index.Bucket.{Bucket}
+use Rattle.closed_table.specs.Chains.{stays, goes}
+use Rattle.closed_table.proofs.RelinkLemmas.{part_none, part_few, next_part}
 use Rattle.closed_table.proofs.index.divided.Goals as goal
 
 pub entries-init : goal.entries-init
@@ -10,18 +10,29 @@ entries-init c = record {
   go = sym (part_none (goes c.args.bits c.args.chains c.args.from) c.args.bucket.now);
 }
 
+pub put_if-requires-clause-free : goal.put_if-requires-clause-free
+put_if-requires-clause-free c =
+    let few : c.entries.halves.stay.count ≤ c.entries.k = subst (λ (x : Bucket). x.count ≤ c.entries.k) (sym c.entries.invariant.stay) (part_few (stays c.args.bits c.args.chains c.args.from) c.args.bucket.now c.entries.k) in
+    let within = c.entries-test.true in
+    let count = c.requires.count in
+    omega (arith, few, within, count)
+
+pub put_if-requires-in-entries-clause-free : goal.put_if-requires-in-entries-clause-free
+put_if-requires-in-entries-clause-free c =
+    let few : c.entries.halves.go.count ≤ c.entries.k = subst (λ (x : Bucket). x.count ≤ c.entries.k) (sym c.entries.invariant.go) (part_few (goes c.args.bits c.args.chains c.args.from) c.args.bucket.now c.entries.k) in
+    let within = c.entries-test.true in
+    let count = c.requires.count in
+    omega (arith, few, within, count)
+
 pub entries-preserved : goal.entries-preserved
-entries-preserved c = elim c.if-chain_of-from.branch [
-  | then-chain_of-from w ↦
-      let here = sym c.chain_of.ensures ∙ w.if-chain_of-from.true in
-      record {
-        stay = ap (λ h. h.stay) w.halves-is ∙ w.put.ensures ∙ stay_more c.args.bits c.args.chains c.args.from c.args.bucket.now c.entries.k c.entries.halves.stay c.entries.invariant.stay here;
-        go = ap (λ h. h.go) w.halves-is ∙ go_kept c.args.bits c.args.chains c.args.from c.args.bucket.now c.entries.k c.entries.halves.go c.entries.invariant.go here;
-      }
-  | else-chain_of-from w ↦
-      let away : place c.args.bits (c.args.chains + 1) (get_or c.args.bucket.now.hashes c.entries.k 0) ≢ c.args.from = (λ is. w.if-chain_of-from.false (c.chain_of.ensures ∙ is)) in
-      record {
-        stay = ap (λ h. h.stay) w.halves-is ∙ stay_kept c.args.bits c.args.chains c.args.from c.args.bucket.now c.entries.k c.entries.halves.stay c.entries.invariant.stay away;
-        go = ap (λ h. h.go) w.halves-is ∙ w.put-else-chain_of-from.ensures ∙ go_more c.args.bits c.args.chains c.args.from c.args.bucket.now c.entries.k c.entries.halves.go c.entries.invariant.go away;
-      }
-]
+entries-preserved c =
+    let bits = c.args.bits in
+    let chains = c.args.chains in
+    let from = c.args.from in
+    let whole = c.args.bucket.now in
+    let k = c.entries.k in
+    let tested = ap (λ (chain : ℕ). eqb chain from) (sym c.chain_of.ensures) in
+    record {
+      stay = c.put_if.ensures ∙ sym (next_part bits chains from whole k c.entries.halves.stay (stays bits chains from) (eqb c.chain_of.result from) c.entries.invariant.stay tested);
+      go = c.put_if-in-entries.ensures ∙ sym (next_part bits chains from whole k c.entries.halves.go (goes bits chains from) (not (eqb c.chain_of.result from)) c.entries.invariant.go (ap not tested));
+    }

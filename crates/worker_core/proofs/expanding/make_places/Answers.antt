@@ -1,7 +1,15 @@
-use Rattle.std.proofs.Common.{◌≤◌, arith}
+use Rattle.std.proofs.Common.{◌≡◌, ◌≤◌, ◌∙◌, sym, subst, arith}
 use Rattle.open_buckets.specs.declared.open.TheConstants.{GREATEST_F}
-use Rattle.worker_core.proofs.EntryLemmas.{entry_has, more_room, places_on, places_for_all}
+use Rattle.search_lists.specs.Lists.{Lists}
+use Rattle.worker_core.specs.Expanding.{HasPlaces}
+use Rattle.worker_core.proofs.EntryLemmas.{entry_has, more_room, places_on, places_for_all, still_wanting}
+use Rattle.std.specs.Prelude.{OnErr, Result, Ok, Err}
 use Rattle.worker_core.proofs.expanding.make_places.Goals as goal
+
+-- what holds in any case holds after an error
+after_err : {T E P : Type 0} (answer : Result T E) → P → OnErr answer P
+after_err (Ok _) here = tt
+after_err (Err _) here = here
 
 pub make_places_at-requires : goal.make_places_at-requires
 make_places_at-requires c =
@@ -20,6 +28,12 @@ offers-preserved c =
       same = more_room c.args.lists.now old new c.offers.invariant.same more;
       boards = omega (arith, boards, room);
       places = places_on c.args.me c.args.offers.now c.offers.place c.entry.result c.entry.ensures old new more c.offers.invariant.places c.in_ok-make_places_at.ensures.places;
+      enough = λ all.
+          let as_before : old ≡ c.args.lists.now = c.offers.invariant.enough all in
+          let size = c.len-place-end.ensures.value in
+          let within = c.offers-test.true in
+          let here = entry_has (HasPlaces c.args.me c.args.lists.now) c.args.offers.now c.offers.place c.entry.result c.entry.ensures (omega (arith, size, within)) all.1 in
+          c.in_ok-make_places_at.ensures.enough (subst (λ (lists : Lists). HasPlaces c.args.me lists c.entry.result.1) (sym as_before) here) ∙ as_before;
     }
 
 pub returns-clause-places : goal.returns-clause-places
@@ -27,3 +41,17 @@ returns-clause-places c =
     let size = c.len-place-end.ensures.value in
     let past = c.offers-test.false in
     places_for_all c.args.me c.offers.lists c.args.offers.now c.offers.place (omega (arith, size, past)) c.offers.invariant.places
+
+pub returns-in_err-make_places_at-clause-refused : goal.returns-in_err-make_places_at-clause-refused
+returns-in_err-make_places_at-clause-refused c =
+    let size = c.len-place-end.ensures.value in
+    let within = c.offers-test.true in
+    let none : ¬ HasPlaces c.args.me c.args.lists.now c.entry.result.1 = still_wanting c.args.me c.args.lists.now c.offers.lists c.entry.result.1 c.offers.invariant.same c.in_err-make_places_at.ensures.refused in
+    after_err c.from_residual-in_err-make_places_at.result (λ all. none (entry_has (HasPlaces c.args.me c.args.lists.now) c.args.offers.now c.offers.place c.entry.result c.entry.ensures (omega (arith, size, within)) all.1))
+
+pub returns-in_err-make_places_at-clause-enough : goal.returns-in_err-make_places_at-clause-enough
+returns-in_err-make_places_at-clause-enough c = λ all.
+    let size = c.len-place-end.ensures.value in
+    let within = c.offers-test.true in
+    let none : ¬ HasPlaces c.args.me c.args.lists.now c.entry.result.1 = still_wanting c.args.me c.args.lists.now c.offers.lists c.entry.result.1 c.offers.invariant.same c.in_err-make_places_at.ensures.refused in
+    absurd (none (entry_has (HasPlaces c.args.me c.args.lists.now) c.args.offers.now c.offers.place c.entry.result c.entry.ensures (omega (arith, size, within)) all.1))

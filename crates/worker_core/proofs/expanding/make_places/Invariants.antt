@@ -1,5 +1,6 @@
-use Rattle.std.proofs.Common.{◌≤◌}
+use Rattle.std.proofs.Common.{◌≡◌, ◌≤◌}
 use Rattle.search_lists.specs.Lists.{HasMoreRoom}
+use Rattle.worker_core.specs.Expanding.{HasAllPlaces}
 use Rattle.worker_core.proofs.EntryLemmas.{HavePlaces}
 use Rattle.worker_core.proofs.expanding.make_places.Given as goal
 
@@ -9,4 +10,5 @@ invariant-offers l = record {
   same : HasMoreRoom l.fn.lists l.lists;
   boards : 4 ≤ l.lists.closed.room;
   places : HavePlaces l.me l.lists l.offers l.place;
+  enough : HasAllPlaces l.me l.fn.lists l.offers → l.lists ≡ l.fn.lists;
 }
