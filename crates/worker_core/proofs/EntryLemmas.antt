@@ -16,7 +16,7 @@ use Rattle.search_lists.specs.Lists.{Lists, HasMoreRoom}
 use Rattle.successor_sums.specs.ByMoves.{before, entries_of, of_move}
 use Rattle.world_model.specs.declared.parts.Item.{Item}
 use Rattle.world_model.specs.Workers.{WorkerState, Packet, Role}
-use Rattle.worker_core.specs.Expanding.{IsReady, stock, OfAll, all_go, all_taken, in_turn, taken, HasPlaces, HasAllPlaces}
+use Rattle.worker_core.specs.Expanding.{IsReady, stock, OfAll, all_go, all_taken, in_turn, taken, HasPlaces}
 use Rattle.worker_core.proofs.TakeLemmas.{each}
 
 -- what holds of what is offered holds of each entry
