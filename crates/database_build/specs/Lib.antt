@@ -4,6 +4,7 @@ pub mod Faults
 pub mod Falls
 pub mod Folds
 pub mod Marks
+pub mod SmallValues
 pub mod Buckets
 pub mod Searches
 pub mod Laws

@@ -1,11 +1,16 @@
 //! Folded tables: those without the blank.
 
-ghost use Rattle.std.specs.Prelude.{ℕ, ◌≡◌, ◌<◌, ◌↔◌, length, replicate, slice_index_or, false};
-ghost use Rattle.std.specs.Prelude.{IfOk, IsTrue, Contains};
+ghost use Rattle.std.specs.Prelude.{ℕ, ◌≡◌, ◌<◌, ◌↔◌, length, replicate, slice_index_or, false, min, slice_index, ◌⊎◌, ◌≤◌};
+ghost use Rattle.std.specs.Prelude.{IfOk, IfSome, IfNone, IsTrue, Contains};
 ghost use Rattle.pattern_index.specs.Views.{IsView};
 ghost use Rattle.pattern_index.specs.Selections.{IsSelection, folded_size_of};
 ghost use Rattle.database_build.specs.Folds.{IsFoldOf, folded_in};
 ghost use Rattle.database_build.specs.Marks.{AreMarksOf};
+ghost use Rattle.board.specs.Grids.{cell_count};
+ghost use Rattle.pattern_index.specs.Selections.{place_in};
+ghost use Rattle.pattern_index.specs.Sparse.{sparse_in, sparse_size_of, stride_of};
+ghost use Rattle.pattern_index.specs.Views.{Sight};
+ghost use Rattle.database_build.specs.SmallValues.{AreBytesOf, HasBytes, AreStridesOf};
 
 use crate::table::{NO_VALUE, Table};
 use memory::{OutOfMemory, filled};
@@ -13,13 +18,20 @@ use pattern_index::{Group, View};
 use std::alloc::Global;
 use std::marker::Model;
 
+/// The most bytes that a group has beside its values: a group with more sparse places has none.
+pub const MOST_BYTES: usize = 16_777_216;
+
 /// For each way in which a group's tiles can stand, the least value of the views that show them so.
 #[derive(Debug, Drop)]
 pub struct Folded {
     group: Group,
     least: Vec<u16>,
+    // The values up to 254 once more, by sparse places, which are found sooner; 255 for the others.
+    bytes: Vec<u8>,
     // Of each number whether it is a tile of the group.
     marks: [bool; 25],
+    // The stride of each number that may be a tile.
+    strides: [usize; 25],
 }
 
 impl Model for Folded {
@@ -27,6 +39,7 @@ impl Model for Folded {
     ghost use Rattle.pattern_index.specs.Selections.{folded_size_of};
     ghost use Rattle.database_build.specs.Folds.{Fold};
     ghost use Rattle.database_build.specs.Marks.{AreMarksOf};
+    ghost use Rattle.database_build.specs.SmallValues.{HasBytes, AreStridesOf};
     ghost use Rattle.pattern_index.specs.Selections.{IsSelection};
 
     ghost Value = { Fold };
@@ -34,7 +47,9 @@ impl Model for Folded {
     ghost view = { λ t. record { selection = t.group; least = t.least.items } };
 
     ghost invariant = { λ t. (length t.least.items ≡ folded_size_of t.group)
-        × IsSelection t.group × AreMarksOf t.group.tiles t.marks };
+        × IsSelection t.group × AreMarksOf t.group.tiles t.marks
+        × HasBytes (record { selection = t.group; least = t.least.items }) t.bytes.items
+        × AreStridesOf t.group t.strides };
 }
 
 impl Folded {
@@ -52,6 +67,38 @@ impl Folded {
         ensures { result ≡ folded_in self.now view.now }
     {
         self.least[self.group.place(view)]
+    }
+
+    /// The folded value of the views with a sparse place, found with one read. None where it is 255
+    /// or more, or where the group has more than `MOST_BYTES` sparse places: `value` tells it then.
+    pub fn small_value(&self, sparse: usize) -> Option<u16>
+        ensures some { IfSome result (λ value. (v : Sight)
+            → IsView self.now.selection.grid self.now.selection.tiles v
+            → sparse_in self.now.selection.grid v ≡ sparse → value ≡ folded_in self.now v) }
+        ensures none { IfNone result ((v : Sight)
+            → IsView self.now.selection.grid self.now.selection.tiles v
+            → sparse_in self.now.selection.grid v ≡ sparse
+            → (255 ≤ folded_in self.now v) ⊎ (MOST_BYTES < sparse_size_of self.now.selection)) }
+        ensures high { IfSome result (λ value. value < 255) }
+    {
+        let Some(byte) = self.bytes.get(sparse) else {
+            return None;
+        };
+        if *byte == u8::MAX {
+            return None;
+        }
+        Some(u16::from(*byte))
+    }
+
+    /// The stride of a number in its sparse places, 0 for one that is no tile of its group's. It is
+    /// looked up.
+    pub fn stride(&self, tile: u8) -> usize
+        requires { tile < 25 }
+        ensures value { result
+            ≡ stride_of (cell_count self.now.selection.grid) self.now.selection.tiles tile }
+        ensures group { IsSelection self.now.selection }
+    {
+        self.strides[tile as usize]
     }
 
     /// Its values, by the places of the tiles.
@@ -91,12 +138,67 @@ pub fn fold(alloc: Global, table: Table) -> Result<Folded, OutOfMemory>
     let group = *table.group();
     let mut least = filled(alloc, NO_VALUE, group.folded_size())?;
     lower_all(&table, &mut least);
+    let bytes = make_bytes(alloc, &group, &least)?;
     let marks = mark_tiles(&group);
+    let strides = find_strides(&group);
     Ok(Folded {
         group,
         least,
+        bytes,
         marks,
+        strides,
     })
+}
+
+// The bytes of a group with these values, where they are no more than `MOST_BYTES`.
+fn make_bytes(alloc: Global, group: &Group, least: &[u16]) -> Result<Vec<u8>, OutOfMemory>
+    requires { length least.now ≡ folded_size_of group.now }
+    ensures { IfOk result (λ bytes.
+        HasBytes (record { selection = group.now; least = least.now }) bytes.items) }
+{
+    let size = group.sparse_size();
+    if size > MOST_BYTES {
+        return Ok(Vec::new(alloc));
+    }
+    let mut bytes = filled(alloc, u8::MAX, size)?;
+    fill_bytes(group, least, &mut bytes);
+    Ok(bytes)
+}
+
+// Writes the byte of each sparse place.
+fn fill_bytes(group: &Group, least: &[u16], bytes: &mut [u8])
+    requires size { length least.now ≡ folded_size_of group.now }
+    requires all { length bytes.old ≡ sparse_size_of group.now }
+    ensures { AreBytesOf (record { selection = group.now; least = least.now }) bytes.new }
+{
+    'bytes: for sparse in 0..bytes.len() {
+        bytes[sparse] = byte_at(group, least, sparse);
+    }
+}
+
+// The value of the views with a sparse place as a byte: 255 where it is more, or where there is no
+// such view.
+fn byte_at(group: &Group, least: &[u16], sparse: usize) -> u8
+    requires { length least.now ≡ folded_size_of group.now }
+    ensures { (v : Sight) → IsView group.now.grid group.now.tiles v
+        → sparse_in group.now.grid v ≡ sparse
+        → result ≡ min (slice_index least.now (place_in group.now.grid v)) 255 }
+{
+    match group.place_of_sparse(sparse) {
+        Some(place) => least[place].min(255) as u8,
+        None => u8::MAX,
+    }
+}
+
+// The strides of the numbers in a group's sparse places.
+fn find_strides(group: &Group) -> [usize; 25]
+    ensures { AreStridesOf group.now result }
+{
+    let mut strides = [0; 25];
+    'numbers: for number in 0..25 {
+        strides[number] = group.stride(number as u8);
+    }
+    strides
 }
 
 // Marks the tiles of a group among the numbers.

@@ -1,8 +1,9 @@
 -- How values are kept by groups.
-use Rattle.std.proofs.Common.{◌≡◌, ◌≢◌, ◌⊎◌, ⊎_elim, inl, inr, ℕ, zero, suc, ◌+◌, ◌<◌, List, [], ◌∷◌, ◌++◌, map, length, take, drop, set, get_or, refl, sym, ap, ◌∙◌, arith}
+use Rattle.std.proofs.Common.{◌≡◌, ◌≢◌, ◌⊎◌, ⊎_elim, inl, inr, ℕ, zero, suc, ◌+◌, ◌<◌, ◌≤◌, List, [], ◌∷◌, ◌++◌, map, length, take, drop, set, get_or, refl, sym, ap, ◌∙◌, subst, arith}
 use Rattle.std.specs.Prelude.{AllPairs, Contains, slice_index, sum_by}
 use Rattle.std.specs.List.{AllByRecursion}
-use Rattle.std.proofs.lemmas.List.{length-map, get_or-map}
+use Rattle.std.proofs.lemmas.List.{length-map, get_or-map, get_or_default}
+use Rattle.std.proofs.Math.Nat.{eq-or-lt_of_le}
 use Rattle.std.proofs.lemmas.List.Sums.{sum_by-cons}
 use Rattle.board.specs.Grids.{cell_count}
 use Rattle.board.specs.Positions.{Position, cell_of}
@@ -114,3 +115,29 @@ moved_sum before after tile folds i d i_in others apart has =
     (λ (lt : j < i). λ within. apart j i d lt i_in tile within has)
     (λ (gt : i < j). λ within. apart i j d gt j_in tile has within)
     (one_before j i ne)))
+
+-- ---- which group has a tile
+
+-- of the first i tables the one at the place has the tile, or none has
+pub record IsFound (folds : List Fold) (tile place i : ℕ) : Type 0 where
+  pub few : place ≤ length folds
+  pub some : place < length folds → (d : Fold) → Contains (get_or folds place d).selection.tiles tile
+  pub none : length folds ≤ place → (k : ℕ) (d : Fold) → k < i → k < length folds → ¬ Contains (get_or folds k d).selection.tiles tile
+
+pub found_here : (folds : List Fold) (tile place i : ℕ) (here : Fold) → i < length folds → here ≡ get_or folds i here → Contains here.selection.tiles tile → place ≡ i → IsFound folds tile place (i + 1)
+found_here folds tile place i here within is has same = record {
+  few = omega (arith, within, same);
+  some = λ lt d. subst (λ (f : Fold). Contains f.selection.tiles tile) (is ∙ get_or_default folds i here d within ∙ ap (λ k. get_or folds k d) (sym same)) has;
+  none = λ past k d lt k_in. absurd (omega (arith, within, same, past));
+}
+
+pub found_before : (folds : List Fold) (tile place next i : ℕ) (here : Fold) → i < length folds → here ≡ get_or folds i here → ¬ Contains here.selection.tiles tile → next ≡ place → IsFound folds tile place i → IsFound folds tile next (i + 1)
+found_before folds tile place next i here within is without same before = subst (λ (p : ℕ). IsFound folds tile p (i + 1)) (sym same) (record {
+  few = before.few;
+  some = before.some;
+  none = λ past k d lt k_in.
+      ⊎_elim
+      (λ (e : k ≡ i). λ has. without (subst (λ (f : Fold). Contains f.selection.tiles tile) (ap (λ n. get_or folds n d) e ∙ get_or_default folds i d here within ∙ sym is) has))
+      (λ (low : k < i). before.none past k d low k_in)
+      (eq-or-lt_of_le (omega (arith, lt)));
+})

@@ -10,4 +10,4 @@ mod parts;
 pub use bound::{Bound, GREATEST_SUM, TableList};
 pub use database_build::{TableFault, is_potential};
 pub use faults::PatternFault;
-pub use parts::{Parts, sum_after};
+pub use parts::{Parts, place_with, sum_after};

@@ -1,9 +1,11 @@
 //! The values of the groups of a board, one by one.
 
 ghost use Rattle.std.specs.Prelude.{ℕ, ◌≡◌, ◌+◌, ◌*◌, ◌≤◌, length, map, sum, sum_by, All, AllPairs};
+ghost use Rattle.std.specs.Prelude.{◌<◌, Contains, slice_index_or};
 ghost use Rattle.board.specs.Positions.{Position};
 ghost use Rattle.pattern_index.specs.Views.{IsView, view_at};
 ghost use Rattle.pattern_index.specs.Splits.{ShareNoTile};
+ghost use Rattle.database_build.specs.Folds.{Fold};
 ghost use Rattle.lower_bound.specs.Folded.{folded_parts, values_of, value_for, IsBefore};
 ghost use Rattle.lower_bound.specs.Folded.{value_by, AreViews, AreAsBefore};
 
@@ -112,6 +114,26 @@ pub fn sum_after(folds: &[Folded], sum: u32, before: &[u8; 25], after: &[u8; 25]
         }
     }
     sum
+}
+
+/// The place of the folded table whose group has a tile, or how many tables there are where none
+/// has. All are asked, so that nothing is guessed.
+pub fn place_with(folds: &[Folded], tile: u8) -> usize
+    ensures some { result < length folds.now → (d : Fold)
+        → Contains (slice_index_or folds.now result d).selection.tiles tile }
+    ensures none { length folds.now ≤ result
+        → All (λ fold. ¬ Contains fold.selection.tiles tile) folds.now }
+    ensures few { result ≤ length folds.now }
+{
+    let mut place = folds.len();
+    'tables: for table in 0..folds.len() {
+        place = if folds[table].has_tile(tile) {
+            table
+        } else {
+            place
+        };
+    }
+    place
 }
 
 // Adds values.

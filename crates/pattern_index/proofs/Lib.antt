@@ -9,3 +9,4 @@ pub mod GroupLemmas
 pub mod FaultLemmas
 pub mod StorageLemmas
 pub mod SplitLemmas
+pub mod SparseLemmas

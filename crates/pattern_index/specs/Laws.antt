@@ -1,5 +1,5 @@
 -- The laws of the definitions. Each is the contract of a function that does nothing.
-use Rattle.std.specs.Prelude.{ℕ, zero, suc, ◌≡◌, ◌↔◌, ◌-◌, ◌*◌, ◌/◌, ◌<◌, ◌≤◌, List, length, Some, Contains, slice_index}
+use Rattle.std.specs.Prelude.{ℕ, zero, suc, ◌≡◌, ◌≢◌, ◌↔◌, ◌+◌, ◌-◌, ◌*◌, ◌/◌, ◌<◌, ◌≤◌, List, length, Some, Contains, slice_index}
 use Rattle.board.specs.declared.moves.Move.{Move}
 use Rattle.board.specs.Grids.{cell_count}
 use Rattle.board.specs.Neighbours.{opposite}
@@ -8,8 +8,9 @@ use Rattle.board.specs.CostRules.{CostRule}
 use Rattle.board.specs.Keys.{Precedes}
 use Rattle.board.specs.Moves.{Moves}
 use Rattle.pattern_index.specs.Ranks.{ways, IsListing, rank_of}
-use Rattle.pattern_index.specs.Views.{Sight, IsView, Abstraction, ViewMoves, ViewLeads, view_of}
+use Rattle.pattern_index.specs.Views.{Sight, IsView, Abstraction, ViewMoves, ViewLeads, view_of, view_at}
 use Rattle.pattern_index.specs.Selections.{Selection, IsSelection, IsGroup, rank_in, size_of, place_in, folded_size_of, sight_successor}
+use Rattle.pattern_index.specs.Sparse.{sparse_in, sparse_size_of, stride_of}
 
 -- n!, the numbers from 1 to n multiplied
 abbrev pub factorial : ℕ → ℕ
@@ -61,6 +62,24 @@ PlacesAreBelow = (g : Selection) (v : Sight) → IsView g.grid g.tiles v → pla
 abbrev pub PlacesDiffer : Type 0
 PlacesDiffer =
     (g : Selection) (v w : Sight) → IsView g.grid g.tiles v → IsView g.grid g.tiles w → (place_in g.grid v ≡ place_in g.grid w) ↔ (v.cells ≡ w.cells)
+
+-- the sparse place of a group's view is below the group's sparse size
+abbrev pub SparsePlacesAreBelow : Type 0
+SparsePlacesAreBelow = (g : Selection) (v : Sight) → IsView g.grid g.tiles v → sparse_in g.grid v < sparse_size_of g
+
+-- views of a group have one sparse place exactly where they show the tiles on the same cells
+abbrev pub SparsePlacesDiffer : Type 0
+SparsePlacesDiffer =
+    (g : Selection) (v w : Sight) → IsView g.grid g.tiles v → IsView g.grid g.tiles w → (sparse_in g.grid v ≡ sparse_in g.grid w) ↔ (v.cells ≡ w.cells)
+
+-- where one tile of a group moves, the sparse place gains its new cell times its stride, and loses its old cell times that
+abbrev pub SparsePlacesMove : Type 0
+SparsePlacesMove =
+    (g : Selection) (before after : List ℕ) (tile : ℕ)
+    → IsSelection g
+    → ((number : ℕ) → 0 < number → number ≢ tile → slice_index after number ≡ slice_index before number)
+    → sparse_in g.grid (view_at g.tiles after) + slice_index before tile * stride_of (cell_count g.grid) g.tiles tile
+    ≡ sparse_in g.grid (view_at g.tiles before) + slice_index after tile * stride_of (cell_count g.grid) g.tiles tile
 
 -- what a group sees of a board, its abstraction, is a view
 abbrev pub BoardsHaveViews : Type 0

@@ -1,6 +1,7 @@
 pub mod Views
 pub mod Ranks
 pub mod Selections
+pub mod Sparse
 pub mod Faults
 pub mod Splits
 pub mod Equality

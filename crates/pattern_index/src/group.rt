@@ -12,12 +12,14 @@ ghost use Rattle.pattern_index.specs.Selections.{Selection, IsTile, IsGroup, IsS
 ghost use Rattle.pattern_index.specs.Selections.{size_of, rank_in, abstraction_of};
 ghost use Rattle.pattern_index.specs.Selections.{folded_size_of, place_in};
 ghost use Rattle.pattern_index.specs.Selections.{sight_successor};
+ghost use Rattle.pattern_index.specs.Sparse.{sparse_in, sparse_size_of, stride_of};
 ghost use Rattle.pattern_index.specs.Laws.{factorial};
 ghost use Rattle.pattern_index.specs.Faults.{IsFirstFault};
 ghost use Rattle.pattern_index.specs.declared.faults.GroupFault.{GroupFault};
 
 use crate::cells::{rank_cells, rank_numbers, rank_tiles, rank_tiles_twice};
 use crate::faults::GroupFault;
+use crate::sparse::{are_different, count_numbers, sparse_tiles, stride_of, write_digits};
 use crate::view::View;
 use board::{Board, Move, Shape, Weights};
 use std::marker::Model;
@@ -208,6 +210,49 @@ impl Group {
         ensures high { (result.0 < MAX_SIZE) × (result.1 < MAX_SIZE) }
     {
         rank_tiles_twice(self.shape().cells(), self.tiles(), one, other)
+    }
+
+    /// How many numbers have as many digits as there are tiles, each below the count of cells: N^k
+    /// for k tiles and N cells. All sparse places are below it.
+    pub fn sparse_size(&self) -> usize
+        ensures { result ≡ sparse_size_of self.now }
+    {
+        count_numbers(self.shape().cells(), self.tiles().len())
+    }
+
+    /// The sparse place of what it sees of a board, by the cell of each of the board's numbers
+    /// (`cells_of`): the number that has the cells of its tiles as digits, that of the first tile as
+    /// the lowest. It is made in less time than a rank.
+    pub fn sparse_place_at(&self, cells: &[u8; 25]) -> usize
+        requires { IsView self.now.grid self.now.tiles (view_at self.now.tiles cells.now) }
+        ensures { result ≡ sparse_in self.now.grid (view_at self.now.tiles cells.now) }
+    {
+        sparse_tiles(self.shape().cells(), self.tiles(), cells)
+    }
+
+    /// What a sparse place changes by where a tile goes to the next cell: 0 where the tile is none
+    /// of the group's.
+    pub fn stride(&self, tile: u8) -> usize
+        ensures { result ≡ stride_of (cell_count self.now.grid) self.now.tiles tile }
+    {
+        stride_of(self.shape().cells(), self.tiles(), tile)
+    }
+
+    /// The place of the views that have a sparse place. None where two digits of it are the same:
+    /// no view has that.
+    pub fn place_of_sparse(&self, sparse: usize) -> Option<usize>
+        ensures some { IfSome result (λ place. place < folded_size_of self.now) }
+        ensures view { (v : Sight) → IsView self.now.grid self.now.tiles v
+            → sparse_in self.now.grid v ≡ sparse → result ≡ Some (place_in self.now.grid v) }
+    {
+        let cells = self.shape().cells();
+        let count = self.tiles().len();
+        let mut digits = [0; 9];
+        write_digits(cells, sparse, &mut digits[..count]);
+        if !are_different(&digits[..count]) {
+            return None;
+        }
+        Some(rank_cells(cells, &digits[..count]))
     }
 
     /// The view at a place.

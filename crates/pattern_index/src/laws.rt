@@ -5,6 +5,7 @@ ghost use Rattle.pattern_index.specs.Laws.{WaysAreFactorials, RanksAreBelow, Ran
 ghost use Rattle.pattern_index.specs.Laws.{RanksFill, RanksAreInOrder, GroupsAreSmall};
 ghost use Rattle.pattern_index.specs.Laws.{ViewRanksAreBelow, ViewRanksDiffer, ViewRanksFill};
 ghost use Rattle.pattern_index.specs.Laws.{PlacesAreBelow, PlacesDiffer};
+ghost use Rattle.pattern_index.specs.Laws.{SparsePlacesAreBelow, SparsePlacesDiffer, SparsePlacesMove};
 ghost use Rattle.pattern_index.specs.Laws.{BoardsHaveViews, MovesAreViewMoves};
 ghost use Rattle.pattern_index.specs.Laws.{SuccessorsAreViewMoves, ViewMovesKeepViews};
 ghost use Rattle.pattern_index.specs.Laws.{ViewMovesAreTakenBack};
@@ -44,6 +45,14 @@ pub fn views_are_ranked()
 pub fn places_are_ranked()
     ensures below { PlacesAreBelow }
     ensures differ { PlacesDiffer }
+{}
+
+/// The sparse place of a view is below the group's sparse size, views share one exactly where they
+/// show the tiles on the same cells, and a tile that moves changes it by its stride a cell.
+pub fn sparse_places_are_numbers()
+    ensures below { SparsePlacesAreBelow }
+    ensures differ { SparsePlacesDiffer }
+    ensures moved { SparsePlacesMove }
 {}
 
 /// What a group sees of a board, its abstraction, is a view.

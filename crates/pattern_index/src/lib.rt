@@ -10,6 +10,7 @@ mod faults;
 mod group;
 pub mod laws;
 mod partition;
+mod sparse;
 mod view;
 mod worked;
 

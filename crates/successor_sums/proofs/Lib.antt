@@ -5,3 +5,4 @@ pub mod KeyLemmas
 pub mod MoveLemmas
 pub mod RankLemmas
 pub mod SumLemmas
+pub mod SparseLemmas

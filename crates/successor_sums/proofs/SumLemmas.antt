@@ -74,7 +74,7 @@ sum-mapped {X = X} f (x ∷ xs) =
     omega arith
 
 -- sums of what is the same
-same_sums : {X : Type 0} (f g : X → ℕ) (xs : List X) → AllByRecursion (λ x. f x ≡ g x) xs → sum_by f xs ≡ sum_by g xs
+pub same_sums : {X : Type 0} (f g : X → ℕ) (xs : List X) → AllByRecursion (λ x. f x ≡ g x) xs → sum_by f xs ≡ sum_by g xs
 same_sums f g [] all = refl
 same_sums {X = X} f g (x ∷ xs) all =
     let rest = same_sums f g xs all.1 in

@@ -11,6 +11,7 @@ use Rattle.board.specs.Digits.{digits_of}
 use Rattle.board.specs.Neighbours.{neighbour}
 use Rattle.board.specs.Moves.{all_moves, blank_exchange, successor}
 use Rattle.pattern_index.specs.Views.{IsView, view_at}
+use Rattle.pattern_index.specs.Sparse.{sparse_in}
 use Rattle.database_build.specs.Tables.{Lookup}
 use Rattle.database_build.specs.Folds.{Fold}
 use Rattle.lower_bound.specs.declared.bound.TheConstants.{GREATEST_SUM}
@@ -103,6 +104,10 @@ SeesViews lookups cells r = IsSmall r × All (λ table. IsView table.selection.g
 -- so does that of each folded table, and each that doesn't have the tile says what it said
 abbrev pub IsNextTo : List Fold → List ℕ → Successor → Type 0
 IsNextTo folds cells r = IsSmall r × AreViews (cells_after cells r) folds × AreAsBefore cells (cells_after cells r) r.tile folds
+
+-- the first places are those of what the folded tables' groups see, by the cell of each number
+abbrev pub AreSparsePlaces : List Fold → List ℕ → List ℕ → Type 0
+AreSparsePlaces folds cells places = (i : ℕ) (d : Fold) → i < length folds → slice_index places i ≡ sparse_in (slice_index_or folds i d).selection.grid (view_at (slice_index_or folds i d).selection.tiles cells)
 
 -- the first of what was reached, so many, has its sum now, and is as it was else
 abbrev pub IsSummed : (List ℕ → ℕ) → List ℕ → ℕ → List Successor → List Successor → Type 0

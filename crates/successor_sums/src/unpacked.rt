@@ -18,7 +18,8 @@ ghost use Rattle.lower_bound.specs.Tables.{ArePotentials, parts_of};
 ghost use Rattle.successor_sums.specs.Ranks.{AreRanks, AreRanksOf, sum_at, sum_by_cells};
 ghost use Rattle.successor_sums.specs.Unpacked.{successors_of, is_left_out, successors_but};
 ghost use Rattle.successor_sums.specs.Unpacked.{IsReached, IsSmall, cells_after, with_sum, told_by};
-ghost use Rattle.successor_sums.specs.Unpacked.{AreCellsOf, SeesViews, IsNextTo, IsSumOf, IsSummed, AreSummed};
+ghost use Rattle.pattern_index.specs.Sparse.{sparse_in};
+ghost use Rattle.successor_sums.specs.Unpacked.{AreSparsePlaces, AreCellsOf, SeesViews, IsNextTo, IsSumOf, IsSummed, AreSummed};
 ghost use Rattle.successor_sums.specs.ByMoves.{OfFour, entries_of, nothing};
 
 use crate::by_moves::{ByMoves, MOVES};
@@ -26,7 +27,7 @@ use crate::exits::{find_exits, tell};
 use crate::ranks::{FEW_TABLES, MOST_TABLES, sum_ranks, write_ranks};
 use board::{Board, Move, Shape, Weights};
 use database_build::{Folded, Table};
-use lower_bound::{Bound, GREATEST_SUM, Parts, TableList, sum_after};
+use lower_bound::{Bound, GREATEST_SUM, Parts, TableList, place_with, sum_after};
 use pattern_index::cells_of;
 use std::marker::Model;
 
@@ -379,8 +380,65 @@ fn add_folded_sums(
     ensures { IsSummed (λ after. sum_by (value_by after) folds.now) cells.now count reached.old
         reached.new }
 {
+    let Some(known) = sum else {
+        add_each_sum(folds, sum, cells, count, reached);
+        return;
+    };
+    if folds.len() > FEW_TABLES {
+        add_each_sum(folds, sum, cells, count, reached);
+        return;
+    }
+    add_next_sums(folds, known, cells, count, reached);
+}
+
+// The same, each sum by itself.
+fn add_each_sum(
+    folds: &[Folded],
+    sum: Option<u32>,
+    cells: &[u8; 25],
+    count: usize,
+    reached: &mut [Successor; MOVES],
+)
+    requires few { length folds.now ≤ MOST_TABLES }
+    requires apart { AllPairs
+        (λ f g. ShareNoTile f.selection.tiles g.selection.tiles) folds.now }
+    requires views { AreViews cells.now folds.now }
+    requires sum { IsSumOf folds.now cells.now sum }
+    requires count { count ≤ MOVES }
+    requires next { (i : ℕ) (d : Successor) → i < count
+        → IsNextTo folds.now cells.now (slice_index_or reached.old i d) }
+    ensures { IsSummed (λ after. sum_by (value_by after) folds.now) cells.now count reached.old
+        reached.new }
+{
     'reached: for i in 0..count {
         reached[i].sum = folded_sum(folds, sum, cells, &reached[i]);
+    }
+}
+
+// The same by few tables, from the board's own sum: the board's sparse places are made once, and
+// those of a successor differ in one.
+fn add_next_sums(
+    folds: &[Folded],
+    known: u32,
+    cells: &[u8; 25],
+    count: usize,
+    reached: &mut [Successor; MOVES],
+)
+    requires few { length folds.now ≤ FEW_TABLES }
+    requires apart { AllPairs
+        (λ f g. ShareNoTile f.selection.tiles g.selection.tiles) folds.now }
+    requires views { AreViews cells.now folds.now }
+    requires sum { IsSumOf folds.now cells.now (Some known) }
+    requires count { count ≤ MOVES }
+    requires next { (i : ℕ) (d : Successor) → i < count
+        → IsNextTo folds.now cells.now (slice_index_or reached.old i d) }
+    ensures { IsSummed (λ after. sum_by (value_by after) folds.now) cells.now count reached.old
+        reached.new }
+{
+    let mut places = [0; FEW_TABLES];
+    find_sparse_places(folds, cells, &mut places);
+    'reached: for i in 0..count {
+        reached[i].sum = next_sum(folds, known, cells, &places, &reached[i]);
     }
 }
 
@@ -401,6 +459,92 @@ fn folded_sum(folds: &[Folded], sum: Option<u32>, cells: &[u8; 25], reached: &Su
         return Parts::at(folds, &after).sum();
     };
     sum_after(folds, known, cells, &after, reached.tile as u8)
+}
+
+// The sum of a successor by folded tables, from the board's own sum and its sparse places.
+fn next_sum(
+    folds: &[Folded],
+    known: u32,
+    cells: &[u8; 25],
+    places: &[usize; FEW_TABLES],
+    reached: &Successor,
+) -> u32
+    requires few { length folds.now ≤ FEW_TABLES }
+    requires apart { AllPairs
+        (λ f g. ShareNoTile f.selection.tiles g.selection.tiles) folds.now }
+    requires views { AreViews cells.now folds.now }
+    requires sum { IsSumOf folds.now cells.now (Some known) }
+    requires places { AreSparsePlaces folds.now cells.now places.now }
+    requires next { IsNextTo folds.now cells.now reached.now }
+    ensures value { result ≡ sum_by (value_by (cells_after cells.now reached.now)) folds.now }
+    ensures high { result ≤ GREATEST_SUM }
+{
+    match small_sum(folds, known, cells, places, reached) {
+        Some(sum) => sum,
+        None => folded_sum(folds, Some(known), cells, reached),
+    }
+}
+
+// That sum, where the values before the move and after it are small ones.
+fn small_sum(
+    folds: &[Folded],
+    known: u32,
+    cells: &[u8; 25],
+    places: &[usize; FEW_TABLES],
+    reached: &Successor,
+) -> Option<u32>
+    requires few { length folds.now ≤ FEW_TABLES }
+    requires apart { AllPairs
+        (λ f g. ShareNoTile f.selection.tiles g.selection.tiles) folds.now }
+    requires views { AreViews cells.now folds.now }
+    requires sum { IsSumOf folds.now cells.now (Some known) }
+    requires places { AreSparsePlaces folds.now cells.now places.now }
+    requires next { IsNextTo folds.now cells.now reached.now }
+    ensures value { IfSome result
+        (λ sum. sum ≡ sum_by (value_by (cells_after cells.now reached.now)) folds.now) }
+    ensures high { IfSome result (λ sum. sum ≤ GREATEST_SUM) }
+{
+    let tile = reached.tile as u8;
+    let table = place_with(folds, tile);
+    if table >= folds.len() {
+        return Some(known);
+    }
+    let fold = &folds[table];
+    let before = places[table];
+    let Some(was) = fold.small_value(before) else {
+        return None;
+    };
+    let Some(is) = fold.small_value(sparse_after(fold, before, cells, reached)) else {
+        return None;
+    };
+    Some(known - u32::from(was) + u32::from(is))
+}
+
+// The sparse place of what a folded table's group sees after a move, by that of what it sees before.
+fn sparse_after(fold: &Folded, sparse: usize, cells: &[u8; 25], reached: &Successor) -> usize
+    requires view { IsView fold.now.selection.grid fold.now.selection.tiles
+        (view_at fold.now.selection.tiles cells.now) }
+    requires sparse { sparse ≡ sparse_in fold.now.selection.grid
+        (view_at fold.now.selection.tiles cells.now) }
+    requires small { IsSmall reached.now }
+    ensures { result ≡ sparse_in fold.now.selection.grid
+        (view_at fold.now.selection.tiles (cells_after cells.now reached.now)) }
+{
+    let tile = reached.tile as u8;
+    let stride = fold.stride(tile);
+    sparse + cells[0] as usize * stride - cells[tile as usize] as usize * stride
+}
+
+// Writes the sparse place in each folded table of what its group sees of a board, by the cell of
+// each number.
+fn find_sparse_places(folds: &[Folded], cells: &[u8; 25], places: &mut [usize; FEW_TABLES])
+    requires few { length folds.now ≤ FEW_TABLES }
+    requires views { AreViews cells.now folds.now }
+    ensures { AreSparsePlaces folds.now cells.now places.new }
+{
+    'tables: for table in 0..folds.len() {
+        places[table] = folds[table].group().sparse_place_at(cells);
+    }
 }
 
 // The cell of each number of the board of this shape with this key, from the last cell on.

@@ -4,7 +4,7 @@ use Rattle.lower_bound.specs.Folded.{value_by}
 use Rattle.lower_bound.specs.declared.bound.TheConstants.{GREATEST_SUM}
 use Rattle.successor_sums.specs.Unpacked.{told_by}
 use Rattle.successor_sums.specs.declared.unpacked.Successor.{Successor}
-use Rattle.successor_sums.proofs.unpacked.add_folded_sums.Given as goal
+use Rattle.successor_sums.proofs.unpacked.add_each_sum.Given as goal
 
 -- those before have their sums, the others are as they were
 abbrev pub invariant-reached : goal.invariant-reached

@@ -1,0 +1,29 @@
+-- Sparse places of views: the cells of the tiles are the digits of a number. One is made and changed with less than a rank, but not each
+-- number is one, since the cells of a view differ.
+use Rattle.std.specs.Prelude.{ℕ, zero, suc, ◌+◌, ◌*◌, ◌/◌, ◌%◌, ◌^◌, ◌==◌, List, [], ◌∷◌, length, if◌then◌else◌}
+use Rattle.board.specs.Grids.{Grid, cell_count}
+use Rattle.pattern_index.specs.Views.{Sight}
+use Rattle.pattern_index.specs.Selections.{Selection}
+
+-- the number that has these cells, of n, as its digits, the first as the lowest
+unfoldable pub sparse_of : ℕ → List ℕ → ℕ
+sparse_of n [] = 0
+sparse_of n (cell ∷ cells) = cell + n * sparse_of n cells
+
+-- so many digits of a number, of which each is below n, the lowest first
+unfoldable pub digits_in : ℕ → ℕ → ℕ → List ℕ
+digits_in n zero number = []
+digits_in n (suc count) number = (number % n) ∷ digits_in n count (number / n)
+
+-- what one cell more or less of a tile counts: n to the power of the tile's place; 0 for a tile that isn't among them
+unfoldable pub stride_of : ℕ → List ℕ → ℕ → ℕ
+stride_of n [] tile = 0
+stride_of n (first ∷ tiles) tile = if first == tile then 1 else n * stride_of n tiles tile
+
+-- the sparse place of a view
+abbrev pub sparse_in : Grid → Sight → ℕ
+sparse_in grid v = sparse_of (cell_count grid) v.cells
+
+-- all sparse places of a group's views are below this
+abbrev pub sparse_size_of : Selection → ℕ
+sparse_size_of g = cell_count g.grid ^ length g.tiles

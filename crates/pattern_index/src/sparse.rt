@@ -1,0 +1,76 @@
+//! Sparse places: cells as the digits of a number.
+
+ghost use Rattle.std.specs.Prelude.{ℕ, ◌≡◌, ◌≢◌, ◌↔◌, ◌*◌, ◌^◌, ◌<◌, ◌≤◌, length, map, slice_index, All, AllPairs, IsTrue};
+ghost use Rattle.pattern_index.specs.Sparse.{sparse_of, digits_in, stride_of};
+
+// The number that has the cells of some tiles as its digits, by a list of the cell of each number.
+pub(crate) fn sparse_tiles(count: usize, tiles: &[u8], cells: &[u8; 25]) -> usize
+    requires few { count ≤ 25 }
+    requires short { length tiles.now ≤ 9 }
+    requires tiles { All (λ tile. tile < 25) tiles.now }
+    requires within { All (λ cell. cell < count) (map (slice_index cells.now) tiles.now) }
+    ensures { result ≡ sparse_of count (map (slice_index cells.now) tiles.now) }
+{
+    let mut sparse = 0;
+    let mut place = tiles.len();
+    'tiles: while place > 0 {
+        place -= 1;
+        sparse = sparse * count + cells[tiles[place] as usize] as usize;
+    }
+    sparse
+}
+
+// Writes the digits of a number, of which each is below a count, the lowest first.
+pub(crate) fn write_digits(count: usize, number: usize, digits: &mut [u8])
+    requires some { 0 < count }
+    requires few { count ≤ 25 }
+    ensures { digits.new ≡ digits_in count (length digits.old) number }
+{
+    let mut rest = number;
+    'places: for place in 0..digits.len() {
+        digits[place] = (rest % count) as u8;
+        rest /= count;
+    }
+}
+
+// Whether no two are the same.
+pub(crate) fn are_different(cells: &[u8]) -> bool
+    ensures { IsTrue result ↔ AllPairs (λ x y. x ≢ y) cells.now }
+{
+    'places: for place in 0..cells.len() {
+        if cells[..place].contains(&cells[place]) {
+            return false;
+        }
+    }
+    true
+}
+
+// What one cell more or less of a tile counts in the number: the count to the power of the tile's
+// place among these, and 0 where it is none of them.
+pub(crate) fn stride_of(count: usize, tiles: &[u8], tile: u8) -> usize
+    requires few { count ≤ 25 }
+    requires short { length tiles.now ≤ 9 }
+    ensures { result ≡ stride_of count tiles.now tile }
+{
+    let mut stride = 1;
+    'tiles: for place in 0..tiles.len() {
+        if tiles[place] == tile {
+            return stride;
+        }
+        stride *= count;
+    }
+    0
+}
+
+// The count to the power of a number of digits.
+pub(crate) fn count_numbers(count: usize, digits: usize) -> usize
+    requires few { count ≤ 25 }
+    requires short { digits ≤ 9 }
+    ensures { result ≡ count ^ digits }
+{
+    let mut numbers = 1;
+    'digits: for _ in 0..digits {
+        numbers *= count;
+    }
+    numbers
+}
