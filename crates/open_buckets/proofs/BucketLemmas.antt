@@ -134,14 +134,15 @@ module _ {K Z : Type 0} where
         ]
       ]
 
-  pub places_more : (bs : List (Vec (K × ℕ) Z)) (v : Vec (K × ℕ) Z) (h : ℕ) → places_at (list_of bs) h ≤ places_at (list_of (bs ++ v ∷ [])) h
-  places_more bs v h =
+  pub places_more : (bs : List (Vec (K × ℕ) Z)) (v : Vec (K × ℕ) Z) → v.cap - v.len ≡ 0 → (h : ℕ) → places_at (list_of (bs ++ v ∷ [])) h ≡ places_at (list_of bs) h
+  places_more bs v none h =
       let size : length (bs ++ v ∷ []) ≡ length bs + 1 = length_push bs v in
       elim (cases_lt h (length bs)) [
-        | inl below ↦
-            let e : places_at (list_of (bs ++ v ∷ [])) h ≡ places_at (list_of bs) h = places_in (bs ++ v ∷ []) h v (omega arith) ∙ ap (λ (x : Vec (K × ℕ) Z). x.cap - x.len) (get_or_append_left bs (v ∷ []) v h below) ∙ sym (places_in bs h v below) in
-            omega arith
-        | inr past ↦ let e = places_past bs h past in omega arith
+        | inl below ↦ places_in (bs ++ v ∷ []) h v (omega arith) ∙ ap (λ (x : Vec (K × ℕ) Z). x.cap - x.len) (get_or_append_left bs (v ∷ []) v h below) ∙ sym (places_in bs h v below)
+        | inr past ↦ elim (cases_eq h (length bs)) [
+          | inl last ↦ places_in (bs ++ v ∷ []) h v (omega arith) ∙ ap (λ (x : Vec (K × ℕ) Z). x.cap - x.len) (get_or_push bs v v h (sym last)) ∙ none ∙ sym (places_past bs h past)
+          | inr apart ↦ places_past (bs ++ v ∷ []) h (omega arith) ∙ sym (places_past bs h past)
+        ]
       ]
 
   -- a bucket of length 0

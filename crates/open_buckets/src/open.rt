@@ -1,6 +1,6 @@
 //! Entries in buckets, and a cursor to the lowest of them.
 
-ghost use Rattle.std.specs.Prelude.{◌≡◌, ◌<◌, ◌≤◌, ◌+◌, ◌^◌, ℕ, OnOk, OnErr, MatchOption, IsTrue, ◌↔◌};
+ghost use Rattle.std.specs.Prelude.{◌≡◌, ◌≢◌, ◌<◌, ◌≤◌, ◌+◌, ◌^◌, ℕ, OnOk, OnErr, MatchOption, IsTrue, ◌↔◌};
 ghost use Rattle.std.specs.Prelude.{vec_len, vec_capacity};
 ghost use Rattle.open_buckets.specs.OpenLists.{empty_list, entries_at, places_at, NothingWaits};
 ghost use Rattle.open_buckets.specs.OpenLists.{Puts, Takes, Sorts, IsNext, IsLowest};
@@ -38,13 +38,14 @@ impl<K> Model for Open<K> {
 }
 
 // Makes places for this many more items. Where the list has to grow, it is for PLACES_AT_ONCE at
-// least, and for just this many where memory for those is refused.
+// least, and for just this many where memory for those is refused; else it stays as it is.
 fn make_places<T>(items: &mut Vec<T>, count: usize) -> Result<(), OutOfMemory>
     requires modest { count ≤ 2 ^ 27 }
     ensures items { items.new.items ≡ items.old.items }
     ensures ok { OnOk result (vec_len items.new + count ≤ vec_capacity items.new) }
     ensures capacity { vec_capacity items.old ≤ vec_capacity items.new }
     ensures full { OnErr result (vec_capacity items.old < vec_len items.old + count) }
+    ensures enough { vec_len items.old + count ≤ vec_capacity items.old → items.new ≡ items.old }
 {
     if count <= items.capacity() - items.len() {
         return Ok(());
@@ -67,8 +68,9 @@ impl<K: Copy> Open<K> {
     }
 
     /// Makes places for this many entries at an f, and for some more where its bucket grows and
-    /// memory is given. It is refused only where there were fewer. Whether it succeeds or not, all
-    /// entries stay, and no place is lost.
+    /// memory is given. It is refused only where there were fewer, and where there were as many
+    /// nothing changes. Whether it succeeds or not, all entries stay, no place is lost, and none is
+    /// made at another f.
     pub fn reserve(&mut self, alloc: Global, f: u32, count: usize) -> Result<(), OutOfMemory>
         requires within { f ≤ GREATEST_F }
         requires modest { count ≤ 2 ^ 27 }
@@ -76,6 +78,8 @@ impl<K: Copy> Open<K> {
         ensures refused { OnErr result (places_at self.old f < count) }
         ensures entries { (h : ℕ) → entries_at self.new h ≡ entries_at self.old h }
         ensures places { (h : ℕ) → places_at self.old h ≤ places_at self.new h }
+        ensures enough { count ≤ places_at self.old f → self.new ≡ self.old }
+        ensures others { (h : ℕ) → h ≢ f → places_at self.new h ≡ places_at self.old h }
     {
         if count == 0 {
             return Ok(());

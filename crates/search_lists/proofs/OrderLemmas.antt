@@ -14,7 +14,7 @@ use Rattle.closed_table.specs.declared.table.Relaxed.TheVariants.{New, Lower, Ke
 use Rattle.world_model.specs.declared.parts.Known.{Known}
 use Rattle.world_model.specs.Knowledge.{Knowledge, is_news}
 use Rattle.world_model.proofs.TableLemmas.{with_insert, get_inserted, same_known}
-use Rattle.search_lists.specs.Lists.{Lists, both, AreKnown, HasEntriesOf}
+use Rattle.search_lists.specs.Lists.{Lists, both, AreKnown, HasEntriesOf, HasMoreRoom}
 use Rattle.open_buckets.specs.declared.open.TheConstants.{GREATEST_F}
 use Rattle.search_lists.specs.Orders.{Guide, IsOpen, IsInOrder, NoneBelow, IsFirst, IsLeastOpen, AddsUp}
 use Rattle.search_lists.specs.declared.lists.Next.{Next}
@@ -319,3 +319,16 @@ none_open guide lists n order none high key known opens =
     let waits = order.waits key known opens in
     let adds = order.adds (known.cost + guide.sum key) waits.0 known.cost waits.2 in
     omega (arith, none key known opens, adds.4, high)
+
+-- ---- more room
+
+-- more places leave the order as it is
+pub order_with_room : (guide : Guide) (old new : Lists) → HasMoreRoom old new → IsInOrder guide old → IsInOrder guide new
+order_with_room guide old new more order = record {
+  waits = λ key known at.
+      let place = order.waits key known (record { knows = ap (λ m. map.get m key) (sym more.known) ∙ at.knows; unexpanded = at.unexpanded; no_goal = at.no_goal }) in
+      (place.0, ap (λ (keys : List ℕ). slice_get keys place.0) more.keys ∙ place.1, subst (λ (xs : List (ℕ × ℕ)). Contains xs (place.0, known.cost)) (sym (more.entries (known.cost + guide.sum key))) place.2);
+  adds = λ f place cost has.
+      let found = order.adds f place cost (subst (λ (xs : List (ℕ × ℕ)). Contains xs (place, cost)) (more.entries f) has) in
+      (found.0, ap (λ (keys : List ℕ). slice_get keys place) more.keys ∙ found.1, found.2, found.3, found.4);
+}

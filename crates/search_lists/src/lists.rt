@@ -1,13 +1,14 @@
 //! Known boards, and the places of those that wait to be expanded.
 
 ghost use Rattle.std.specs.Prelude.{◌≡◌, ◌≢◌, ◌⊎◌, ◌↔◌, ◌<◌, ◌≤◌, ◌+◌, ◌^◌, ℕ, None, Some, OnOk, OnErr};
-ghost use Rattle.std.specs.Prelude.{false, true, length, slice_index, slice_get, IfSome, IfNone, MatchOption, IsTrue, IsFalse};
+ghost use Rattle.std.specs.Prelude.{false, true, length, max, slice_index, slice_get, IfSome, IfNone, MatchOption, IsTrue, IsFalse};
 ghost use Rattle.std.specs.FinMap as map;
 ghost use Rattle.closed_table.specs.Tables.{IsTable, table_relaxation, table_closure};
 ghost use Rattle.closed_table.specs.declared.table.Relaxed.TheVariants.{Kept};
 ghost use Rattle.open_buckets.specs.declared.open.TheConstants.{GREATEST_F};
 ghost use Rattle.open_buckets.specs.OpenLists.{places_at, NothingWaits, IsLowest, IsNext, Takes, Puts};
 ghost use Rattle.world_model.specs.Knowledge.{is_news};
+ghost use Rattle.search_lists.specs.declared.lists.TheConstants.{ROOM_AT_ONCE};
 ghost use Rattle.search_lists.specs.Lists.{empty_lists, both, AreKnown, HasMoreRoom, HasEntriesOf};
 ghost use Rattle.search_lists.specs.Orders.{Guide, IsInOrder, NoneBelow, IsFloor, IsFirst};
 ghost use Rattle.search_lists.specs.Orders.{IsLeastOpen, AddsUp};
@@ -108,12 +109,15 @@ impl SearchLists {
     }
 
     /// Makes places for this many boards that are not known yet, and for some more where there is
-    /// memory. It is refused only where there were fewer, and nothing has changed then.
+    /// memory, up to ROOM_AT_ONCE. It is refused only where there were fewer, and nothing has
+    /// changed then. What waits, and the places for it, stay as they are.
     pub fn reserve_boards(&mut self, alloc: Global, count: usize) -> Result<(), OutOfMemory>
         ensures ok { OnOk result (count ≤ self.new.closed.room) }
         ensures err { OnErr result (self.new ≡ self.old) }
         ensures refused { OnErr result (self.old.closed.room < count) }
         ensures enough { count ≤ self.old.closed.room → self.new ≡ self.old }
+        ensures few { self.new.closed.room ≤ max self.old.closed.room (max count ROOM_AT_ONCE) }
+        ensures waiting { self.new.waiting ≡ self.old.waiting }
         ensures same { HasMoreRoom self.old self.new }
     {
         make_room(&mut self.closed, alloc, count)
@@ -126,13 +130,17 @@ impl SearchLists {
         self.open.has_places(f, count)
     }
 
-    /// Makes places for this many entries at an f. It is refused only where there were fewer.
-    /// Whether it succeeds or not, what is known and what waits stays.
+    /// Makes places for this many entries at an f. It is refused only where there were fewer, and
+    /// where there were as many nothing changes. Whether it succeeds or not, what is known and what
+    /// waits stays, and no place is made at another f.
     pub fn reserve_places(&mut self, alloc: Global, f: u32, count: usize) -> Result<(), OutOfMemory>
         requires within { f ≤ GREATEST_F }
         requires modest { count ≤ 2 ^ 27 }
         ensures ok { OnOk result (count ≤ places_at self.new.waiting f) }
         ensures refused { OnErr result (places_at self.old.waiting f < count) }
+        ensures enough { count ≤ places_at self.old.waiting f → self.new ≡ self.old }
+        ensures others { (h : ℕ) → h ≢ f
+            → places_at self.new.waiting h ≡ places_at self.old.waiting h }
         ensures boards { self.new.closed ≡ self.old.closed }
         ensures same { HasMoreRoom self.old self.new }
     {
@@ -229,6 +237,7 @@ fn make_room(closed: &mut Closed, alloc: Global, count: usize) -> Result<(), Out
     ensures err { OnErr result (closed.new ≡ closed.old) }
     ensures refused { OnErr result (closed.old.room < count) }
     ensures enough { count ≤ closed.old.room → closed.new ≡ closed.old }
+    ensures few { closed.new.room ≤ max closed.old.room (max count ROOM_AT_ONCE) }
     ensures keys { closed.new.keys ≡ closed.old.keys }
     ensures known { closed.new.known ≡ closed.old.known }
     ensures room { closed.old.room ≤ closed.new.room }

@@ -22,7 +22,7 @@ use Rattle.worker_core.specs.Expanding.{AddsUpBy, left_out_if, role_by}
 use Rattle.worker_core.specs.Roles.{IsGuided}
 use Rattle.worker_core.proofs.ExpandLemmas.{is_next, all_add}
 use Rattle.worker_core.proofs.GuideLemmas.{some_below}
-use Rattle.worker_core.proofs.SettleLemmas.{order_with_room}
+use Rattle.search_lists.proofs.OrderLemmas.{order_with_room}
 use Rattle.worker_core.proofs.TakeLemmas.{guided_same, if_some}
 
 -- the board is to be expanded, and this is what its moves offer to so many workers

@@ -166,6 +166,14 @@ places_on me offers count entry is old new more before here i d within =
     omega (arith, places, no_less))
     (cases_eq i count)
 
+-- places were made at an entry that this worker owns, and nowhere else
+pub same_elsewhere : (me h : ℕ) (old new : Lists) (offer : Offer) → (offer.owner ≢ me → new ≡ old) → ((k : ℕ) → k ≢ offer.f → places_at new.waiting k ≡ places_at old.waiting k) → (offer.owner ≡ me → offer.f ≢ h) → places_at new.waiting h ≡ places_at old.waiting h
+same_elsewhere me h old new offer other others apart =
+    ⊎_elim
+    (λ (own : offer.owner ≡ me). others h (λ is. apart own (sym is)))
+    (λ (foreign : offer.owner ≢ me). ap (λ (lists : Lists). places_at lists.waiting h) (other foreign))
+    (cases_eq offer.owner me)
+
 -- where places were wanting at an entry, they were wanting before
 pub still_wanting : (me : ℕ) (old new : Lists) (offer : Offer) → HasMoreRoom old new → ¬ HasPlaces me new offer → ¬ HasPlaces me old offer
 still_wanting me old new offer more wanting here = wanting (λ own. let places = here own in let no_less = more.places offer.f in omega (arith, places, no_less))

@@ -1,5 +1,5 @@
 -- How a worker takes what the moves from a board offer, one after the other.
-use Rattle.std.specs.Prelude.{Bool, true, false, ⊤, ℕ, ◌≡◌, ◌+◌, ◌%◌, ◌<◌, ◌≤◌, List, [], ◌∷◌, length, slice_index_or, Option, Some, None, IfSome}
+use Rattle.std.specs.Prelude.{Bool, true, false, ⊤, ℕ, ◌≡◌, ◌≢◌, ◌⊎◌, ◌+◌, ◌%◌, ◌<◌, ◌≤◌, List, [], ◌∷◌, length, slice_index_or, Option, Some, None, IfSome}
 use Rattle.board.specs.declared.moves.Move.{Move}
 use Rattle.board.specs.declared.moves.Move.TheVariants.{U, L, R, D}
 use Rattle.board.specs.Grids.{Grid}
@@ -13,6 +13,7 @@ use Rattle.offers.specs.Room.{goes}
 use Rattle.outcomes.specs.Outcomes.{Task}
 use Rattle.search_lists.specs.Lists.{Lists}
 use Rattle.search_lists.specs.Orders.{Guide}
+use Rattle.successor_sums.specs.ByMoves.{of_move}
 use Rattle.world_model.specs.declared.limits.TheConstants.{PACKET_LIMIT}
 use Rattle.world_model.specs.declared.parts.Item.{Item}
 use Rattle.world_model.specs.declared.parts.Known.{Known}
@@ -71,6 +72,18 @@ HasPlaces me lists offer = offer.owner ≡ me → 4 ≤ places_at lists.waiting 
 -- there are places for as many boards more as there are moves, and at each offer that worker `me` owns
 abbrev pub HasAllPlaces : ℕ → Lists → Offers → Type 0
 HasAllPlaces me lists offers = (4 ≤ lists.closed.room) × OfEach (HasPlaces me lists) offers
+
+-- places for four boards more, and for four at each f, are all places, whatever is offered
+abbrev pub FourPlacesAreEnough : Type 0
+FourPlacesAreEnough = (me : ℕ) (lists : Lists) (offers : Offers) → 4 ≤ lists.closed.room → ((f : ℕ) → 4 ≤ places_at lists.waiting f) → HasAllPlaces me lists offers
+
+-- three are too few: for boards, and at an offer that the worker owns
+abbrev pub ThreePlacesAreTooFew : Type 0
+ThreePlacesAreTooFew = (me : ℕ) (lists : Lists) (offers : Offers) → (lists.closed.room ≡ 3) ⊎ ((m : Move) × (offer : Offer) × (of_move offers m ≡ Some offer) × (offer.owner ≡ me) × (places_at lists.waiting offer.f ≡ 3)) → ¬ HasAllPlaces me lists offers
+
+-- what other workers own needs no places
+abbrev pub OthersNeedNoPlaces : Type 0
+OthersNeedNoPlaces = (me : ℕ) (lists : Lists) (offers : Offers) → 4 ≤ lists.closed.room → OfEach (λ offer. offer.owner ≢ me) offers → HasAllPlaces me lists offers
 
 -- what is offered adds up by this guide
 abbrev pub AddsUpBy : Guide → Offer → Type 0

@@ -288,7 +288,7 @@ fn close_next<C: Counting>(lists: &mut SearchLists, allowance: &mut Allowance<C>
 
 // Makes places for as many boards more as there are moves, and for as many at the f of each that
 // this worker owns: several may have the same. It is refused only where some of these are wanting,
-// and where none is, nothing changes.
+// and where none is, nothing changes. At any other f no place is made.
 fn make_places(
     lists: &mut SearchLists,
     alloc: Global,
@@ -301,6 +301,8 @@ fn make_places(
         (λ offer. offer.owner ≡ me → 4 ≤ places_at lists.new.waiting offer.f) offers.now) }
     ensures refused { OnErr result (¬ HasAllPlaces me lists.old offers.now) }
     ensures enough { HasAllPlaces me lists.old offers.now → lists.new ≡ lists.old }
+    ensures others { (h : ℕ) → OfEach (λ offer. offer.owner ≡ me → offer.f ≢ h) offers.now
+        → places_at lists.new.waiting h ≡ places_at lists.old.waiting h }
     ensures same { HasMoreRoom lists.old lists.new }
 {
     lists.reserve_boards(alloc, MOVES)?;
@@ -312,7 +314,7 @@ fn make_places(
 }
 
 // Makes as many places as there are moves at the f of what is offered, where this worker owns it
-// and there are fewer.
+// and there are fewer, and none at another f.
 fn make_places_at(
     lists: &mut SearchLists,
     alloc: Global,
@@ -324,6 +326,9 @@ fn make_places_at(
         (offer.now.owner ≡ me → 4 ≤ places_at lists.new.waiting offer.now.f) }
     ensures refused { OnErr result (¬ HasPlaces me lists.old offer.now) }
     ensures enough { HasPlaces me lists.old offer.now → lists.new ≡ lists.old }
+    ensures other { offer.now.owner ≢ me → lists.new ≡ lists.old }
+    ensures others { (h : ℕ) → h ≢ offer.now.f
+        → places_at lists.new.waiting h ≡ places_at lists.old.waiting h }
     ensures boards { lists.new.closed ≡ lists.old.closed }
     ensures same { HasMoreRoom lists.old lists.new }
 {

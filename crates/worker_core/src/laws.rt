@@ -1,6 +1,8 @@
 //! What is true of the definitions.
 
 ghost use Rattle.world_model.specs.Workers.{Lane};
+ghost use Rattle.worker_core.specs.Expanding.{FourPlacesAreEnough, ThreePlacesAreTooFew};
+ghost use Rattle.worker_core.specs.Expanding.{OthersNeedNoPlaces};
 ghost use Rattle.worker_core.specs.Lanes.{IsAtSender, IsAtReceiver};
 ghost use Rattle.worker_core.specs.Roles.{TasksHaveGuides};
 
@@ -10,6 +12,21 @@ use message_ledger::{Counting, Packet};
 /// To the goal of each task a guide leads.
 pub fn tasks_have_guides()
     ensures { TasksHaveGuides }
+{}
+
+/// Places for four boards more, and for four at each f, are all places.
+pub fn four_places_are_enough()
+    ensures { FourPlacesAreEnough }
+{}
+
+/// Three places are too few: for boards, and at an offer that the worker owns.
+pub fn three_places_are_too_few()
+    ensures { ThreePlacesAreTooFew }
+{}
+
+/// What other workers own needs no places.
+pub fn others_need_no_places()
+    ensures { OthersNeedNoPlaces }
 {}
 
 /// What both ends of a queue say is said of the lane that contracts see.

@@ -1,8 +1,8 @@
-use Rattle.std.proofs.Common.{◌≡◌, ◌≤◌, ◌∙◌, sym, subst, arith}
+use Rattle.std.proofs.Common.{◌≡◌, ◌≢◌, ◌≤◌, ◌∙◌, sym, subst, arith}
 use Rattle.open_buckets.specs.declared.open.TheConstants.{GREATEST_F}
 use Rattle.search_lists.specs.Lists.{Lists}
 use Rattle.worker_core.specs.Expanding.{HasPlaces}
-use Rattle.worker_core.proofs.EntryLemmas.{entry_has, more_room, places_on, places_for_all, still_wanting}
+use Rattle.worker_core.proofs.EntryLemmas.{entry_has, more_room, places_on, places_for_all, still_wanting, same_elsewhere}
 use Rattle.std.specs.Prelude.{OnErr, Result, Ok, Err}
 use Rattle.worker_core.proofs.expanding.make_places.Goals as goal
 
@@ -34,6 +34,11 @@ offers-preserved c =
           let within = c.offers-test.true in
           let here = entry_has (HasPlaces c.args.me c.args.lists.now) c.args.offers.now c.offers.place c.entry.result c.entry.ensures (omega (arith, size, within)) all.1 in
           c.in_ok-make_places_at.ensures.enough (subst (λ (lists : Lists). HasPlaces c.args.me lists c.entry.result.1) (sym as_before) here) ∙ as_before;
+      others = λ h apart.
+          let size = c.len-place-end.ensures.value in
+          let within = c.offers-test.true in
+          let here = entry_has (λ offer. offer.owner ≡ c.args.me → offer.f ≢ h) c.args.offers.now c.offers.place c.entry.result c.entry.ensures (omega (arith, size, within)) apart in
+          same_elsewhere c.args.me h old new c.entry.result.1 c.in_ok-make_places_at.ensures.other c.in_ok-make_places_at.ensures.others here ∙ c.offers.invariant.others h apart;
     }
 
 pub returns-clause-places : goal.returns-clause-places
@@ -55,3 +60,10 @@ returns-in_err-make_places_at-clause-enough c = λ all.
     let within = c.offers-test.true in
     let none : ¬ HasPlaces c.args.me c.args.lists.now c.entry.result.1 = still_wanting c.args.me c.args.lists.now c.offers.lists c.entry.result.1 c.offers.invariant.same c.in_err-make_places_at.ensures.refused in
     absurd (none (entry_has (HasPlaces c.args.me c.args.lists.now) c.args.offers.now c.offers.place c.entry.result c.entry.ensures (omega (arith, size, within)) all.1))
+
+pub returns-in_err-make_places_at-clause-others : goal.returns-in_err-make_places_at-clause-others
+returns-in_err-make_places_at-clause-others c = λ h apart.
+    let size = c.len-place-end.ensures.value in
+    let within = c.offers-test.true in
+    let here = entry_has (λ offer. offer.owner ≡ c.args.me → offer.f ≢ h) c.args.offers.now c.offers.place c.entry.result c.entry.ensures (omega (arith, size, within)) apart in
+    same_elsewhere c.args.me h c.offers.lists c.make_places_at.new.lists c.entry.result.1 c.in_err-make_places_at.ensures.other c.in_err-make_places_at.ensures.others here ∙ c.offers.invariant.others h apart

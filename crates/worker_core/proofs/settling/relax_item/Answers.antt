@@ -6,7 +6,7 @@ use Rattle.lower_bound.specs.Tables.{parts_of}
 use Rattle.world_model.specs.Knowledge.{Knowledge}
 use Rattle.worker_core.specs.Roles.{AreTaskBoards, task_of}
 use Rattle.worker_core.proofs.TakeLemmas.{relaxed_boards}
-use Rattle.worker_core.proofs.SettleLemmas.{order_with_room}
+use Rattle.search_lists.proofs.OrderLemmas.{order_with_room}
 use Rattle.worker_core.proofs.settling.relax_item.Goals as goal
 
 pub returns-in_err-make_place-clause-order : goal.returns-in_err-make_place-clause-order

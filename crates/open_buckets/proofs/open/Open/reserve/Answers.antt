@@ -1,11 +1,11 @@
-use Rattle.std.proofs.Common.{◌≡◌, ◌<◌, ◌≤◌, ◌+◌, ◌-◌, ◌∙◌, ◌++◌, ◌∷◌, [], ℕ, length, ap, arith, length-set}
+use Rattle.std.proofs.Common.{◌≡◌, ◌<◌, ◌≤◌, ◌+◌, ◌-◌, ◌∙◌, ℕ, length, ap, sym, subst, arith, length-set}
 use Rattle.std.specs.Vec.{vec_len, vec_capacity}
 use Rattle.std.proofs.lemmas.List.{length_push}
 use Rattle.std.proofs.lemmas.Result.{on_ok_weaker}
 use Rattle.open_buckets.specs.OpenLists.{entries_at, places_at}
 use Rattle.open_buckets.specs.Buckets.{list_of}
 use Rattle.std.specs.Prelude.{set}
-use Rattle.open_buckets.proofs.BucketLemmas.{same_entries, no_fewer_places, places_set, entries_more, places_more}
+use Rattle.open_buckets.proofs.BucketLemmas.{same_entries, no_fewer_places, places_set, entries_more, places_more, has_bucket, others_set}
 use Rattle.open_buckets.proofs.open.Open.reserve.Goals as goal
 
 pub invariant_of-self-2 : goal.invariant_of-self-2
@@ -43,6 +43,12 @@ returns-clause-places g c h =
     let before = c.buckets.invariant.places h in
     omega arith
 
+pub returns-clause-others : goal.returns-clause-others
+returns-clause-others g c h apart =
+    let bs = c.buckets.self-inside.buckets.items in
+    let lt : c.args.f < length bs = let len = c.buckets.self-inside.buckets.ok.0 in omega (arith, c.len.ensures) in
+    (others_set bs c.args.f c.make_places-2.new.items lt h apart).1 ∙ c.buckets.invariant.places h
+
 pub buckets-preserved : goal.buckets-preserved
 buckets-preserved g c =
     let bs = c.buckets.self-inside.buckets.items in
@@ -51,10 +57,13 @@ buckets-preserved g c =
     record {
       entries = λ h. same h ∙ c.buckets.invariant.entries h;
       places = λ h.
-          let up = places_more bs c.new.result h in
-          let is : places_at (list_of c.push.new.items.items) h ≡ places_at (list_of (bs ++ c.new.result ∷ [])) h = ap (λ xs. places_at (list_of xs) h) more in
-          let before = c.buckets.invariant.places h in
-          omega arith;
+          ap (λ xs. places_at (list_of xs) h) more ∙ places_more bs c.new.result (let cap = c.new.ensures.capacity in let len = c.new.ensures.len in omega arith) h ∙ c.buckets.invariant.places h;
+      enough = λ some.
+          let there : 0 < places_at (list_of bs) c.args.f = subst (λ w. 0 < places_at w c.args.f) (sym (c.buckets.invariant.enough some)) some in
+          let lt = has_bucket bs c.args.f there in
+          let len = c.buckets.self-inside.buckets.ok.0 in
+          let test = c.buckets-test.true in
+          absurd (omega (arith, c.len.ensures));
       before = λ h below. same h ∙ c.buckets.invariant.before h below;
       few =
           let size : length c.push.new.items.items ≡ length bs + 1 = ap length more ∙ length_push bs c.new.result in

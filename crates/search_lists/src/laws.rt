@@ -1,0 +1,24 @@
+//! The laws of lists that have more room, which are contracts of functions that do nothing.
+
+ghost use Rattle.search_lists.specs.Laws.{SameListsLoseNothing, RoomIsMadeTwice};
+ghost use Rattle.search_lists.specs.Laws.{LostPlacesAreNoRoom, MoreRoomLeavesTheOrder};
+
+/// Lists that stay as they are have lost nothing.
+pub fn same_lists_lose_nothing()
+    ensures { SameListsLoseNothing }
+{}
+
+/// Where room is made twice, room is made.
+pub fn room_is_made_twice()
+    ensures { RoomIsMadeTwice }
+{}
+
+/// Where a place is lost, there is no more room.
+pub fn lost_places_are_no_room()
+    ensures { LostPlacesAreNoRoom }
+{}
+
+/// What was in order is in order where there is more room.
+pub fn more_room_leaves_the_order()
+    ensures { MoreRoomLeavesTheOrder }
+{}
