@@ -1,25 +1,24 @@
 -- What a move makes of a sparse place.
-use Rattle.std.proofs.Common.{◌≡◌, ◌≢◌, ℕ, ◌+◌, ◌*◌, ◌-◌, ◌^◌, ◌<◌, ◌≤◌, List, map, length, set, get_or, sym, ap, ◌∙◌, subst, arith}
+use Rattle.std.proofs.Common.{◌≡◌, ◌⊎◌, ◌≢◌, ℕ, ◌+◌, ◌*◌, ◌<◌, ◌≤◌, List, map, length, set, get_or, ap, subst, ◌∙◌, arith}
 use Rattle.std.specs.Prelude.{slice_index}
-use Rattle.std.proofs.Math.Nat.{mul-le-mul_right, mul-le-mul_left}
 use Rattle.std.proofs.lemmas.Nat.{mul-le}
-use Rattle.std.proofs.lemmas.List.{length-set, length-map, get_or-set_same, get_or-set_other}
+use Rattle.std.proofs.lemmas.List.{length-set, get_or-set_same, get_or-set_other, get_or_default}
 use Rattle.std.proofs.lemmas.List.Elements.{recursion_from_All}
 use Rattle.board.specs.Grids.{cell_count}
 use Rattle.pattern_index.specs.Selections.{Selection, IsSelection}
-use Rattle.pattern_index.specs.Sparse.{sparse_in, stride_of}
+use Rattle.pattern_index.specs.Sparse.{sparse_in, sparse_size_of, stride_of}
 use Rattle.pattern_index.specs.Views.{IsView, view_at}
 use Rattle.pattern_index.proofs.GroupLemmas.{groups_small, cells_high}
 use Rattle.pattern_index.proofs.RankLemmas.{below_in, differ_from_pairs}
 use Rattle.pattern_index.proofs.PlaceLemmas.{place_listing}
 use Rattle.pattern_index.proofs.SparseLemmas.{moved, sparse_small, stride_low, pow_low}
-use Rattle.successor_sums.specs.Unpacked.{cells_after, IsSmall}
+use Rattle.database_build.specs.Folds.{Fold}
+use Rattle.database_build.specs.declared.folding.TheConstants.{MOST_BYTES}
+use Rattle.lower_bound.specs.Folded.{value_by}
+use Rattle.successor_sums.specs.Unpacked.{cells_after, IsSmall, SomeIsLarge}
 use Rattle.successor_sums.specs.declared.unpacked.Successor.{Successor}
 
 module _ (g : Selection) (selection : IsSelection g) (cells : List ℕ) (r : Successor) (all : length cells ≡ 25) (small : IsSmall r) (view : IsView g.grid g.tiles (view_at g.tiles cells)) where
-  stride : ℕ
-  stride = stride_of (cell_count g.grid) g.tiles r.tile
-
   others : (number : ℕ) → 0 < number → number ≢ r.tile → slice_index (cells_after cells r) number ≡ slice_index cells number
   others number some other =
       get_or-set_other (set cells 0 r.cell) r.tile number (slice_index cells 0) 0 other
@@ -50,3 +49,7 @@ module _ (g : Selection) (selection : IsSelection g) (cells : List ℕ) (r : Suc
       let power = pow_low (cell_count g.grid) (length g.tiles) few short in
       let product : cell * stride_of (cell_count g.grid) g.tiles r.tile ≤ 255 * 3814697265625 = mul-le cell (stride_of (cell_count g.grid) g.tiles r.tile) 255 3814697265625 (omega (arith, low)) (omega (arith, top, power)) in
       omega (arith, product)
+
+-- one table with a large value is enough
+pub large : (folds : List Fold) (before after : List ℕ) (table : ℕ) (fold : Fold) → table < length folds → fold ≡ get_or folds table fold → (255 ≤ value_by before fold) ⊎ (255 ≤ value_by after fold) ⊎ (MOST_BYTES < sparse_size_of fold.selection) → SomeIsLarge folds before after
+large folds before after table fold within at some = (table, within, λ d. subst (λ (f : Fold). (255 ≤ value_by before f) ⊎ (255 ≤ value_by after f) ⊎ (MOST_BYTES < sparse_size_of f.selection)) (at ∙ get_or_default folds table fold d within) some)

@@ -1,5 +1,5 @@
 -- Boards with the cell of each number beside the numbers, and what is told of their successors.
-use Rattle.std.specs.Prelude.{Bool, false, if◌then◌else◌, None, ℕ, ◌≡◌, ◌≤◌, ◌<◌, List, All, length, map, set, slice_index, slice_index_or, Option, Some, IfSome, option_map, sum_by}
+use Rattle.std.specs.Prelude.{Bool, false, if◌then◌else◌, None, ℕ, ◌≡◌, ◌⊎◌, ◌≤◌, ◌<◌, List, All, length, map, set, slice_index, slice_index_or, Option, Some, IfSome, option_map, sum_by}
 use Rattle.board.specs.declared.moves.Move.{Move}
 use Rattle.board.specs.declared.costs.TheConstants.{GREATEST_EXPANDED_COST}
 use Rattle.board.specs.Equality.{move_eq}
@@ -11,9 +11,10 @@ use Rattle.board.specs.Digits.{digits_of}
 use Rattle.board.specs.Neighbours.{neighbour}
 use Rattle.board.specs.Moves.{all_moves, blank_exchange, successor}
 use Rattle.pattern_index.specs.Views.{IsView, view_at}
-use Rattle.pattern_index.specs.Sparse.{sparse_in}
+use Rattle.pattern_index.specs.Sparse.{sparse_in, sparse_size_of}
 use Rattle.database_build.specs.Tables.{Lookup}
 use Rattle.database_build.specs.Folds.{Fold}
+use Rattle.database_build.specs.declared.folding.TheConstants.{MOST_BYTES}
 use Rattle.lower_bound.specs.declared.bound.TheConstants.{GREATEST_SUM}
 use Rattle.lower_bound.specs.Bounds.{Part, sum_of}
 use Rattle.lower_bound.specs.Folded.{AreAsBefore, AreViews, IsBefore, value_by}
@@ -108,6 +109,10 @@ IsNextTo folds cells r = IsSmall r × AreViews (cells_after cells r) folds × Ar
 -- the first places are those of what the folded tables' groups see, by the cell of each number
 abbrev pub AreSparsePlaces : List Fold → List ℕ → List ℕ → Type 0
 AreSparsePlaces folds cells places = (i : ℕ) (d : Fold) → i < length folds → slice_index places i ≡ sparse_in (slice_index_or folds i d).selection.grid (view_at (slice_index_or folds i d).selection.tiles cells)
+
+-- of some folded table the value before or after is 255 or more, or its sparse places are more than `MOST_BYTES`
+abbrev pub SomeIsLarge : List Fold → List ℕ → List ℕ → Type 0
+SomeIsLarge folds before after = (i : ℕ) × (i < length folds) × ((d : Fold) → (255 ≤ value_by before (slice_index_or folds i d)) ⊎ (255 ≤ value_by after (slice_index_or folds i d)) ⊎ (MOST_BYTES < sparse_size_of (slice_index_or folds i d).selection))
 
 -- the first of what was reached, so many, has its sum now, and is as it was else
 abbrev pub IsSummed : (List ℕ → ℕ) → List ℕ → ℕ → List Successor → List Successor → Type 0

@@ -1,7 +1,7 @@
 //! A board taken apart, and what its successors are told by.
 
 ghost use Rattle.std.specs.Prelude.{ℕ, ◌≡◌, ◌*◌, ◌/◌, ◌%◌, ◌^◌, ◌<◌, ◌≤◌, [], ◌∷◌, length, map, All, AllPairs};
-ghost use Rattle.std.specs.Prelude.{IfSome, sum_by, Some, List, slice_index_or};
+ghost use Rattle.std.specs.Prelude.{IfSome, IfNone, sum_by, Some, List, slice_index_or};
 ghost use Rattle.board.specs.declared.moves.Move.{Move};
 ghost use Rattle.board.specs.declared.costs.TheConstants.{GREATEST_EXPANDED_COST};
 ghost use Rattle.board.specs.Grids.{cell_count};
@@ -19,7 +19,7 @@ ghost use Rattle.successor_sums.specs.Ranks.{AreRanks, AreRanksOf, sum_at, sum_b
 ghost use Rattle.successor_sums.specs.Unpacked.{successors_of, is_left_out, successors_but};
 ghost use Rattle.successor_sums.specs.Unpacked.{IsReached, IsSmall, cells_after, with_sum, told_by};
 ghost use Rattle.pattern_index.specs.Sparse.{sparse_in};
-ghost use Rattle.successor_sums.specs.Unpacked.{AreSparsePlaces, AreCellsOf, SeesViews, IsNextTo, IsSumOf, IsSummed, AreSummed};
+ghost use Rattle.successor_sums.specs.Unpacked.{AreSparsePlaces, SomeIsLarge, AreCellsOf, SeesViews, IsNextTo, IsSumOf, IsSummed, AreSummed};
 ghost use Rattle.successor_sums.specs.ByMoves.{OfFour, entries_of, nothing};
 
 use crate::by_moves::{ByMoves, MOVES};
@@ -503,6 +503,8 @@ fn small_sum(
     ensures value { IfSome result
         (λ sum. sum ≡ sum_by (value_by (cells_after cells.now reached.now)) folds.now) }
     ensures high { IfSome result (λ sum. sum ≤ GREATEST_SUM) }
+    ensures none { IfNone result
+        (SomeIsLarge folds.now cells.now (cells_after cells.now reached.now)) }
 {
     let tile = reached.tile as u8;
     let table = place_with(folds, tile);

@@ -1,5 +1,5 @@
-use Rattle.std.proofs.Common.{ℕ, ◌≡◌, ◌<◌, ◌^◌, length, get_or, sym, ap, ◌∙◌, subst, arith}
-use Rattle.std.specs.Prelude.{Some, min, slice_index}
+use Rattle.std.proofs.Common.{ℕ, ◌<◌, ◌^◌, length, ap, ◌∙◌, subst, arith}
+use Rattle.std.specs.Prelude.{Some}
 use Rattle.std.proofs.lemmas.Option.{slice_get-get_or}
 use Rattle.board.specs.Grids.{cell_count}
 use Rattle.pattern_index.specs.Sparse.{sparse_in, sparse_size_of}

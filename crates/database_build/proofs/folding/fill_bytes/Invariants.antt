@@ -1,4 +1,4 @@
-use Rattle.std.proofs.Common.{ℕ, ◌≡◌, ◌<◌, length, get_or}
+use Rattle.std.proofs.Common.{◌≡◌, ◌<◌, length}
 use Rattle.std.specs.Prelude.{slice_index, min}
 use Rattle.pattern_index.specs.Selections.{place_in}
 use Rattle.pattern_index.specs.Sparse.{sparse_in}

@@ -1,4 +1,4 @@
-use Rattle.std.proofs.Common.{◌≡◌, ◌*◌, ◌+◌, arith}
+use Rattle.std.proofs.Common.{◌+◌, arith}
 use Rattle.pattern_index.proofs.SparseLemmas.{stride_found, stride_on, stride_none, power_more, pow_low}
 use Rattle.pattern_index.proofs.sparse.stride_of.Goals as goal
 

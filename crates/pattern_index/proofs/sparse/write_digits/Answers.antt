@@ -1,4 +1,4 @@
-use Rattle.std.proofs.Common.{◌%◌, length, ◌∙◌, refl, arith}
+use Rattle.std.proofs.Common.{◌%◌, length, ◌∙◌, arith}
 use Rattle.std.proofs.lemmas.List.{length-set}
 use Rattle.pattern_index.specs.Sparse.{digits_in}
 use Rattle.pattern_index.proofs.SparseLemmas.{digits_more, digits_all}

@@ -1,5 +1,5 @@
-use Rattle.std.proofs.Common.{◌≡◌, ◌<◌, ℕ, List, length, get_or, sym, ap, ◌∙◌, subst, arith}
-use Rattle.std.specs.Prelude.{Contains, sum_by, slice_index}
+use Rattle.std.proofs.Common.{◌≡◌, get_or, sym, ap, ◌∙◌, subst, ⊎_elim, inl, inr, arith}
+use Rattle.std.specs.Prelude.{slice_index}
 use Rattle.std.proofs.lemmas.List.Elements.{recursion_from_All}
 use Rattle.std.proofs.lemmas.List.Sums.{get_or-le-sum_by}
 use Rattle.pattern_index.specs.Sparse.{sparse_in}
@@ -9,6 +9,7 @@ use Rattle.lower_bound.specs.Folded.{value_by}
 use Rattle.lower_bound.proofs.PartLemmas.{moved_sum}
 use Rattle.successor_sums.specs.Unpacked.{cells_after}
 use Rattle.successor_sums.proofs.SumLemmas.{same_sums}
+use Rattle.successor_sums.proofs.SparseLemmas.{large}
 use Rattle.successor_sums.proofs.unpacked.small_sum.Goals as goal
 
 pub returns-then-table-folds-clause-value : goal.returns-then-table-folds-clause-value
@@ -50,3 +51,24 @@ returns-clause-value c =
     let moved = moved_sum cells after c.args.reached.now.tile c.args.folds.now c.place_with-table.result fold within c.requires.next.2 c.requires.apart has in
     let low = get_or-le-sum_by (value_by cells) c.args.folds.now c.place_with-table.result fold within in
     omega (arith, was, now, moved, low, c.requires.sum.0)
+
+pub returns-in_default-clause-none : goal.returns-in_default-clause-none
+returns-in_default-clause-none c =
+    let fold = c.index-folds-table.result in
+    let at = c.index-folds-table.is in
+    let within = c.if-table-folds.false in
+    let cells = c.args.cells.now in
+    let view = subst (λ (f : Fold). IsView f.selection.grid f.selection.tiles (view_at f.selection.tiles cells)) (sym at) (c.requires.views c.place_with-table.result fold within) in
+    let sparse = subst (λ (f : Fold). slice_index c.args.places.now c.place_with-table.result ≡ sparse_in f.selection.grid (view_at f.selection.tiles cells)) (sym at) (c.requires.places c.place_with-table.result fold within) in
+    large c.args.folds.now cells (cells_after cells c.args.reached.now) c.place_with-table.result fold within at
+    (⊎_elim (λ high. inl high) (λ many. inr (inr many)) (c.in_default.ensures.none (view_at fold.selection.tiles cells) view (sym sparse)))
+
+pub returns-in_default-small_value-clause-none : goal.returns-in_default-small_value-clause-none
+returns-in_default-small_value-clause-none c =
+    let fold = c.index-folds-table.result in
+    let at = c.index-folds-table.is in
+    let within = c.if-table-folds.false in
+    let after = cells_after c.args.cells.now c.args.reached.now in
+    let view = subst (λ (f : Fold). IsView f.selection.grid f.selection.tiles (view_at f.selection.tiles after)) (sym at) (c.requires.next.1 c.place_with-table.result fold within) in
+    large c.args.folds.now c.args.cells.now after c.place_with-table.result fold within at
+    (⊎_elim (λ high. inr (inl high)) (λ many. inr (inr many)) (c.in_default-small_value.ensures.none (view_at fold.selection.tiles after) view (sym c.sparse_after.ensures)))

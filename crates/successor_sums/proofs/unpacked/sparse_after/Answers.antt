@@ -1,4 +1,4 @@
-use Rattle.std.proofs.Common.{◌≡◌, ◌*◌, ◌≤◌, ap, arith}
+use Rattle.std.proofs.Common.{◌*◌, ap, arith}
 use Rattle.std.specs.Prelude.{slice_index}
 use Rattle.successor_sums.proofs.SparseLemmas.{next_place, place_low, times_low}
 use Rattle.successor_sums.proofs.unpacked.sparse_after.Goals as goal

@@ -1,12 +1,12 @@
 use Rattle.std.proofs.Common.{◌≡◌, ◌≢◌, ◌<◌, ◌≤◌, ℕ, List, length, take, drop, [], ◌∷◌, ◌++◌, sym, ap, ◌∙◌, subst, arith}
-use Rattle.std.specs.Prelude.{AllPairs, IsTrue, ◌↔◌, Bool, false, Some}
+use Rattle.std.specs.Prelude.{AllPairs, Some}
 use Rattle.std.specs.List.{AllByRecursion}
 use Rattle.std.proofs.lemmas.Bool.{false≢true}
-use Rattle.board.specs.Grids.{Grid, cell_count}
+use Rattle.board.specs.Grids.{cell_count}
 use Rattle.pattern_index.specs.Ranks.{IsListing, ways, rank_of}
 use Rattle.pattern_index.specs.Views.{Sight, IsView}
 use Rattle.pattern_index.specs.Sparse.{digits_in, sparse_in}
-use Rattle.pattern_index.specs.Selections.{Selection, IsSelection, place_in, folded_size_of}
+use Rattle.pattern_index.specs.Selections.{Selection, IsSelection, folded_size_of}
 use Rattle.pattern_index.proofs.RankLemmas.{listing_from, differ_from_pairs, below_in, differ_in, rank_below}
 use Rattle.pattern_index.proofs.GroupLemmas.{groups_small}
 use Rattle.pattern_index.proofs.PlaceLemmas.{place_listing, ways-less}
