@@ -1,20 +1,24 @@
 -- Folded values kept a second time, as bytes by the sparse places of views.
-use Rattle.std.specs.Prelude.{ℕ, ◌≡◌, ◌<◌, ◌≤◌, min, List, [], Some, slice_get, slice_index}
+use Rattle.std.specs.Prelude.{ℕ, ◌≡◌, ◌*◌, ◌<◌, ◌≤◌, min, List, [], Some, slice_get, slice_index}
 use Rattle.board.specs.Grids.{cell_count}
-use Rattle.pattern_index.specs.Selections.{Selection}
+use Rattle.pattern_index.specs.Selections.{Selection, folded_size_of}
 use Rattle.pattern_index.specs.Sparse.{sparse_in, sparse_size_of, stride_of}
 use Rattle.pattern_index.specs.Views.{Sight, IsView}
 use Rattle.database_build.specs.Folds.{Fold, folded_in}
-use Rattle.database_build.specs.declared.folding.TheConstants.{MOST_BYTES}
+use Rattle.database_build.specs.declared.folding.TheConstants.{MOST_BYTES, BYTES_A_VALUE}
 
 -- at the sparse place of each view stands its folded value, or 255 where that is more
 abbrev pub AreBytesOf : Fold → List ℕ → Type 0
 AreBytesOf fold bytes = (v : Sight) → IsView fold.selection.grid fold.selection.tiles v → slice_get bytes (sparse_in fold.selection.grid v) ≡ Some (min (folded_in fold v) 255)
 
--- there are bytes where they are no more than `MOST_BYTES`
+-- how many bytes a group may have: `MOST_BYTES`, and no more than `BYTES_A_VALUE` for each value
+abbrev pub most_bytes : Selection → ℕ
+most_bytes g = min MOST_BYTES (BYTES_A_VALUE * folded_size_of g)
+
+-- there are bytes where they are no more than that, and none else
 pub record HasBytes (fold : Fold) (bytes : List ℕ) : Type 0 where
-  pub few : sparse_size_of fold.selection ≤ MOST_BYTES → AreBytesOf fold bytes
-  pub many : MOST_BYTES < sparse_size_of fold.selection → bytes ≡ []
+  pub few : sparse_size_of fold.selection ≤ most_bytes fold.selection → AreBytesOf fold bytes
+  pub many : most_bytes fold.selection < sparse_size_of fold.selection → bytes ≡ []
 
 -- the stride of each number that may be a tile
 abbrev pub AreStridesOf : Selection → List ℕ → Type 0

@@ -10,7 +10,7 @@ ghost use Rattle.board.specs.Grids.{cell_count};
 ghost use Rattle.pattern_index.specs.Selections.{place_in};
 ghost use Rattle.pattern_index.specs.Sparse.{sparse_in, sparse_size_of, stride_of};
 ghost use Rattle.pattern_index.specs.Views.{Sight};
-ghost use Rattle.database_build.specs.SmallValues.{AreBytesOf, HasBytes, AreStridesOf};
+ghost use Rattle.database_build.specs.SmallValues.{AreBytesOf, HasBytes, AreStridesOf, most_bytes};
 
 use crate::table::{NO_VALUE, Table};
 use memory::{OutOfMemory, filled};
@@ -18,8 +18,11 @@ use pattern_index::{Group, View};
 use std::alloc::Global;
 use std::marker::Model;
 
-/// The most bytes that a group has beside its values: a group with more sparse places has none.
+/// The most bytes that a group has beside its values: one with more sparse places has none.
 pub const MOST_BYTES: usize = 16_777_216;
+
+/// How many bytes a group has for each of its values at most: one with more sparse places has none.
+pub const BYTES_A_VALUE: usize = 4;
 
 /// For each way in which a group's tiles can stand, the least value of the views that show them so.
 #[derive(Debug, Drop)]
@@ -70,7 +73,7 @@ impl Folded {
     }
 
     /// The folded value of the views with a sparse place, found with one read. None where it is 255
-    /// or more, or where the group has more than `MOST_BYTES` sparse places: `value` tells it then.
+    /// or more, or where the group has too many sparse places: `value` tells it then.
     pub fn small_value(&self, sparse: usize) -> Option<u16>
         ensures some { IfSome result (λ value. (v : Sight)
             → IsView self.now.selection.grid self.now.selection.tiles v
@@ -78,7 +81,8 @@ impl Folded {
         ensures none { IfNone result ((v : Sight)
             → IsView self.now.selection.grid self.now.selection.tiles v
             → sparse_in self.now.selection.grid v ≡ sparse
-            → (255 ≤ folded_in self.now v) ⊎ (MOST_BYTES < sparse_size_of self.now.selection)) }
+            → (255 ≤ folded_in self.now v)
+            ⊎ (most_bytes self.now.selection < sparse_size_of self.now.selection)) }
         ensures high { IfSome result (λ value. value < 255) }
     {
         let Some(byte) = self.bytes.get(sparse) else {
@@ -150,14 +154,14 @@ pub fn fold(alloc: Global, table: Table) -> Result<Folded, OutOfMemory>
     })
 }
 
-// The bytes of a group with these values, where they are no more than `MOST_BYTES`.
+// The bytes of a group with these values, where they are not too many.
 fn make_bytes(alloc: Global, group: &Group, least: &[u16]) -> Result<Vec<u8>, OutOfMemory>
     requires { length least.now ≡ folded_size_of group.now }
     ensures { IfOk result (λ bytes.
         HasBytes (record { selection = group.now; least = least.now }) bytes.items) }
 {
     let size = group.sparse_size();
-    if size > MOST_BYTES {
+    if size > MOST_BYTES.min(BYTES_A_VALUE * least.len()) {
         return Ok(Vec::new(alloc));
     }
     let mut bytes = filled(alloc, u8::MAX, size)?;

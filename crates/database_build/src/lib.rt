@@ -16,6 +16,6 @@ mod table;
 
 pub use building::build;
 pub use faults::TableFault;
-pub use folding::{Folded, MOST_BYTES, fold};
+pub use folding::{BYTES_A_VALUE, Folded, MOST_BYTES, fold};
 pub use potential::is_potential;
 pub use table::{NO_VALUE, Table};

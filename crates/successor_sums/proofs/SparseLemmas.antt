@@ -13,7 +13,7 @@ use Rattle.pattern_index.proofs.RankLemmas.{below_in, differ_from_pairs}
 use Rattle.pattern_index.proofs.PlaceLemmas.{place_listing}
 use Rattle.pattern_index.proofs.SparseLemmas.{moved, sparse_small, stride_low, pow_low}
 use Rattle.database_build.specs.Folds.{Fold}
-use Rattle.database_build.specs.declared.folding.TheConstants.{MOST_BYTES}
+use Rattle.database_build.specs.SmallValues.{most_bytes}
 use Rattle.lower_bound.specs.Folded.{value_by}
 use Rattle.successor_sums.specs.Unpacked.{cells_after, IsSmall, SomeIsLarge}
 use Rattle.successor_sums.specs.declared.unpacked.Successor.{Successor}
@@ -51,5 +51,5 @@ module _ (g : Selection) (selection : IsSelection g) (cells : List ℕ) (r : Suc
       omega (arith, product)
 
 -- one table with a large value is enough
-pub large : (folds : List Fold) (before after : List ℕ) (table : ℕ) (fold : Fold) → table < length folds → fold ≡ get_or folds table fold → (255 ≤ value_by before fold) ⊎ (255 ≤ value_by after fold) ⊎ (MOST_BYTES < sparse_size_of fold.selection) → SomeIsLarge folds before after
-large folds before after table fold within at some = (table, within, λ d. subst (λ (f : Fold). (255 ≤ value_by before f) ⊎ (255 ≤ value_by after f) ⊎ (MOST_BYTES < sparse_size_of f.selection)) (at ∙ get_or_default folds table fold d within) some)
+pub large : (folds : List Fold) (before after : List ℕ) (table : ℕ) (fold : Fold) → table < length folds → fold ≡ get_or folds table fold → (255 ≤ value_by before fold) ⊎ (255 ≤ value_by after fold) ⊎ (most_bytes fold.selection < sparse_size_of fold.selection) → SomeIsLarge folds before after
+large folds before after table fold within at some = (table, within, λ d. subst (λ (f : Fold). (255 ≤ value_by before f) ⊎ (255 ≤ value_by after f) ⊎ (most_bytes f.selection < sparse_size_of f.selection)) (at ∙ get_or_default folds table fold d within) some)

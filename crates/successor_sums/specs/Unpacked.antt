@@ -14,7 +14,7 @@ use Rattle.pattern_index.specs.Views.{IsView, view_at}
 use Rattle.pattern_index.specs.Sparse.{sparse_in, sparse_size_of}
 use Rattle.database_build.specs.Tables.{Lookup}
 use Rattle.database_build.specs.Folds.{Fold}
-use Rattle.database_build.specs.declared.folding.TheConstants.{MOST_BYTES}
+use Rattle.database_build.specs.SmallValues.{most_bytes}
 use Rattle.lower_bound.specs.declared.bound.TheConstants.{GREATEST_SUM}
 use Rattle.lower_bound.specs.Bounds.{Part, sum_of}
 use Rattle.lower_bound.specs.Folded.{AreAsBefore, AreViews, IsBefore, value_by}
@@ -110,9 +110,9 @@ IsNextTo folds cells r = IsSmall r × AreViews (cells_after cells r) folds × Ar
 abbrev pub AreSparsePlaces : List Fold → List ℕ → List ℕ → Type 0
 AreSparsePlaces folds cells places = (i : ℕ) (d : Fold) → i < length folds → slice_index places i ≡ sparse_in (slice_index_or folds i d).selection.grid (view_at (slice_index_or folds i d).selection.tiles cells)
 
--- of some folded table the value before or after is 255 or more, or its sparse places are more than `MOST_BYTES`
+-- of some folded table the value before or after is 255 or more, or it has too many sparse places for bytes
 abbrev pub SomeIsLarge : List Fold → List ℕ → List ℕ → Type 0
-SomeIsLarge folds before after = (i : ℕ) × (i < length folds) × ((d : Fold) → (255 ≤ value_by before (slice_index_or folds i d)) ⊎ (255 ≤ value_by after (slice_index_or folds i d)) ⊎ (MOST_BYTES < sparse_size_of (slice_index_or folds i d).selection))
+SomeIsLarge folds before after = (i : ℕ) × (i < length folds) × ((d : Fold) → (255 ≤ value_by before (slice_index_or folds i d)) ⊎ (255 ≤ value_by after (slice_index_or folds i d)) ⊎ (most_bytes (slice_index_or folds i d).selection < sparse_size_of (slice_index_or folds i d).selection))
 
 -- the first of what was reached, so many, has its sum now, and is as it was else
 abbrev pub IsSummed : (List ℕ → ℕ) → List ℕ → ℕ → List Successor → List Successor → Type 0
