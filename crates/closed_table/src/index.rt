@@ -59,6 +59,9 @@ pub(crate) const NO_BUCKET: Bucket = Bucket {
     places: [0; ENTRIES],
 };
 
+// How many lists are read ahead at once.
+const LISTS_AT_ONCE: usize = 8;
+
 // Slots in order of arrival, and the chains to which they belong by the hashes of their keys: 127
 // chains with the first slot, from 508 slots on one more with each fourth. A link leads from a slot
 // that is in no bucket to the one before it in its chain.
@@ -69,6 +72,8 @@ pub(crate) struct Index {
     pub(crate) buckets: Pages<Bucket>,
     pub(crate) len: usize,
     pub(crate) bits: u32,
+    // What was read of lists ahead, which nobody asks for.
+    pub(crate) ahead: u64,
 }
 
 // The two buckets that become of one: that of the slots that stay in its chain, and that of those
@@ -356,6 +361,36 @@ fn bits_for_more(bits: u32, chains: usize) -> u32
     bits
 }
 
+// Reads ahead, for every eighth chain that is divided, what `relink` will read first of the lists of
+// this one and the next, so that the reads of memory overlap. The answer means nothing.
+fn read_lists(index: &Index) -> u64
+    requires small { index.now.bits ≤ 32 }
+    requires few { index.now.len ≤ 2 ^ 33 }
+{
+    let chains = chain_count_of(index.len);
+    let next = chains.saturating_sub((1usize << index.bits) / 2);
+    if next % LISTS_AT_ONCE != 0 {
+        return 0;
+    }
+    let mut all = 0;
+    'chains: for ahead in 0..LISTS_AT_ONCE {
+        all ^= read_list(index, next.saturating_add(ahead));
+    }
+    all
+}
+
+// Reads the first slot of the list of a chain and its link, if there are both.
+fn read_list(index: &Index, chain: usize) -> u64 {
+    if chain >= index.buckets.len() {
+        return 0;
+    }
+    let link = index.buckets.at(chain).link as usize;
+    if link == 0 || link > index.slots.len() || link > index.links.len() {
+        return 0;
+    }
+    index.slots.at(link - 1).high ^ u64::from(index.links.get(link - 1))
+}
+
 // Adds a chain, and divides the one chain that it halves.
 fn add_chain(index: &mut Index)
     requires indexed { IsIndexed index.old.slots index.old.links index.old.buckets index.old.len
@@ -416,7 +451,9 @@ fn make_chains(index: &mut Index)
     if index.len < FIRST_CHAINS * LOAD || index.len % LOAD != 0 {
         return;
     }
+    let ahead = read_lists(index);
     add_chain(index);
+    index.ahead = ahead;
 }
 
 // Adds a slot for a key that has none.

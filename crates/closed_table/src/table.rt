@@ -72,6 +72,7 @@ impl Closed {
                 buckets: Pages::new(alloc),
                 len: 0,
                 bits: 0,
+                ahead: 0,
             },
             room: 0,
             ahead: 0,
