@@ -1,8 +1,8 @@
 //! Groups of tiles.
 
-ghost use Rattle.std.specs.Prelude.{ℕ, suc, ◌≡◌, ◌↔◌, ◌+◌, ◌-◌, ◌/◌, ◌<◌, ◌≤◌, Some};
+ghost use Rattle.std.specs.Prelude.{ℕ, suc, ◌≡◌, ◌≢◌, ◌↔◌, ◌+◌, ◌-◌, ◌/◌, ◌<◌, ◌≤◌, Some, None};
 ghost use Rattle.std.specs.Prelude.{IsTrue, IsOk, IsErrOf, IfOk, IfErr, IfSome, OnOk, OnSome};
-ghost use Rattle.std.specs.Prelude.{MatchOption, IsPermutation, length, All};
+ghost use Rattle.std.specs.Prelude.{MatchOption, IsPermutation, length, All, AllPairs};
 ghost use Rattle.std.specs.List.Sorted.{IsNonDecreasing};
 ghost use Rattle.board.specs.Grids.{cell_count};
 ghost use Rattle.pattern_index.specs.Views.{Sight, IsView, ViewMoves, view_of, view_at};
@@ -12,7 +12,7 @@ ghost use Rattle.pattern_index.specs.Selections.{Selection, IsTile, IsGroup, IsS
 ghost use Rattle.pattern_index.specs.Selections.{size_of, rank_in, abstraction_of};
 ghost use Rattle.pattern_index.specs.Selections.{folded_size_of, place_in};
 ghost use Rattle.pattern_index.specs.Selections.{sight_successor};
-ghost use Rattle.pattern_index.specs.Sparse.{sparse_in, sparse_size_of, stride_of};
+ghost use Rattle.pattern_index.specs.Sparse.{digits_in, sparse_in, sparse_size_of, stride_of};
 ghost use Rattle.pattern_index.specs.Laws.{factorial};
 ghost use Rattle.pattern_index.specs.Faults.{IsFirstFault};
 ghost use Rattle.pattern_index.specs.declared.faults.GroupFault.{GroupFault};
@@ -244,6 +244,9 @@ impl Group {
         ensures some { IfSome result (λ place. place < folded_size_of self.now) }
         ensures view { (v : Sight) → IsView self.now.grid self.now.tiles v
             → sparse_in self.now.grid v ≡ sparse → result ≡ Some (place_in self.now.grid v) }
+        ensures none { ¬ AllPairs (λ x y. x ≢ y)
+            (digits_in (cell_count self.now.grid) (length self.now.tiles) sparse)
+            → result ≡ None }
     {
         let cells = self.shape().cells();
         let count = self.tiles().len();

@@ -79,3 +79,11 @@ returns-clause-view c = λ v view is.
     let are = list_is g c.cells-cells.result c.tiles-count.result.now c.args.sparse c.write_digits.new.digits c.tiles-count.ensures.few c.tiles-count.ensures.value c.write_digits.ensures in
     let same = view_is g c.shape.ensures.group c.cells-cells.result (length c.tiles-count.result.now) c.args.sparse cells (ap length c.tiles-count.ensures.value) _ are v view is in
     ap (λ (n : ℕ). Some n) (c.rank_cells.ensures ∙ (λ i. rank_of (cells i) (same i)))
+
+pub returns-clause-none : goal.returns-clause-none
+returns-clause-none c = λ repeated.
+    let g = c.args.self.now in
+    let cells : c.cells-cells.result ≡ cell_count g.grid = c.cells-cells.ensures.value ∙ ap cell_count c.shape.ensures.value in
+    let tiles : length c.tiles-count.result.now ≡ length g.tiles = ap length c.tiles-count.ensures.value in
+    let are = list_is g c.cells-cells.result c.tiles-count.result.now c.args.sparse c.write_digits.new.digits c.tiles-count.ensures.few c.tiles-count.ensures.value c.write_digits.ensures in
+    absurd (repeated (subst (λ xs. AllPairs (λ x y. x ≢ y) xs) (are ∙ (λ i. digits_in (cells i) (tiles i) c.args.sparse)) (c.are_different.ensures.0 c.if-not-are_different.false)))
