@@ -1,14 +1,14 @@
 //! Folded tables: those without the blank.
 
 ghost use Rattle.std.specs.Prelude.{ℕ, ◌≡◌, ◌<◌, ◌↔◌, length, replicate, slice_index_or, false, min, slice_index, ◌⊎◌, ◌≤◌};
-ghost use Rattle.std.specs.Prelude.{IfOk, IfSome, IfNone, IsTrue, Contains};
+ghost use Rattle.std.specs.Prelude.{IfOk, IfSome, IfNone, IsTrue, Contains, AllPairs, ◌≢◌};
 ghost use Rattle.pattern_index.specs.Views.{IsView};
 ghost use Rattle.pattern_index.specs.Selections.{IsSelection, folded_size_of};
 ghost use Rattle.database_build.specs.Folds.{IsFoldOf, folded_in};
 ghost use Rattle.database_build.specs.Marks.{AreMarksOf};
 ghost use Rattle.board.specs.Grids.{cell_count};
 ghost use Rattle.pattern_index.specs.Selections.{place_in};
-ghost use Rattle.pattern_index.specs.Sparse.{sparse_in, sparse_size_of, stride_of};
+ghost use Rattle.pattern_index.specs.Sparse.{digits_in, sparse_in, sparse_size_of, stride_of};
 ghost use Rattle.pattern_index.specs.Views.{Sight};
 ghost use Rattle.database_build.specs.SmallValues.{AreBytesOf, HasBytes, AreStridesOf, most_bytes};
 
@@ -184,9 +184,12 @@ fn fill_bytes(group: &Group, least: &[u16], bytes: &mut [u8])
 // such view.
 fn byte_at(group: &Group, least: &[u16], sparse: usize) -> u8
     requires { length least.now ≡ folded_size_of group.now }
-    ensures { (v : Sight) → IsView group.now.grid group.now.tiles v
+    ensures view { (v : Sight) → IsView group.now.grid group.now.tiles v
         → sparse_in group.now.grid v ≡ sparse
         → result ≡ min (slice_index least.now (place_in group.now.grid v)) 255 }
+    ensures none { ¬ AllPairs (λ x y. x ≢ y)
+        (digits_in (cell_count group.now.grid) (length group.now.tiles) sparse)
+        → result ≡ 255 }
 {
     match group.place_of_sparse(sparse) {
         Some(place) => least[place].min(255) as u8,

@@ -1,16 +1,22 @@
 //! The laws of the definitions: each is the contract of a function that does nothing.
 
-ghost use Rattle.std.specs.Prelude.{◌≡◌};
+ghost use Rattle.std.specs.Prelude.{◌≡◌, ◌^◌};
 ghost use Rattle.database_build.specs.Laws.{ValuesAreDetermined, ValuesArePotentials};
 ghost use Rattle.database_build.specs.Laws.{PotentialsAreLowerBounds};
 ghost use Rattle.database_build.specs.Laws.{FoldedValuesAreLow, FoldedValuesAreReached};
 ghost use Rattle.database_build.specs.Laws.{FoldedValuesAreDetermined};
 
+use crate::folding::MOST_BYTES;
 use crate::table::NO_VALUE;
 
 /// The value that stands for no plan is the greatest of 16 bits.
 pub fn no_value_is_greatest()
     ensures { NO_VALUE ≡ u16.MAX }
+{}
+
+/// The most bytes of a group are one for each sparse place of six tiles of a board of 4 by 4.
+pub fn most_bytes_are_those_of_six_tiles()
+    ensures { MOST_BYTES ≡ 16 ^ 6 }
 {}
 
 /// A view has one value.
