@@ -1,21 +1,19 @@
 -- What a move makes of a sparse place.
-use Rattle.std.proofs.Common.{◌≡◌, ◌⊎◌, ◌≢◌, ℕ, ◌+◌, ◌*◌, ◌<◌, ◌≤◌, List, map, length, set, get_or, ap, subst, ◌∙◌, arith}
-use Rattle.std.specs.Prelude.{slice_index}
+use Rattle.std.proofs.Common.{◌≡◌, ◌≢◌, ℕ, ◌+◌, ◌*◌, ◌<◌, ◌≤◌, List, map, length, set, get_or, ap, subst, ◌∙◌, arith}
+use Rattle.std.specs.Prelude.{slice_index, Contains}
 use Rattle.std.proofs.lemmas.Nat.{mul-le}
 use Rattle.std.proofs.lemmas.List.{length-set, get_or-set_same, get_or-set_other, get_or_default}
 use Rattle.std.proofs.lemmas.List.Elements.{recursion_from_All}
 use Rattle.board.specs.Grids.{cell_count}
 use Rattle.pattern_index.specs.Selections.{Selection, IsSelection}
-use Rattle.pattern_index.specs.Sparse.{sparse_in, sparse_size_of, stride_of}
+use Rattle.pattern_index.specs.Sparse.{sparse_in, stride_of}
 use Rattle.pattern_index.specs.Views.{IsView, view_at}
 use Rattle.pattern_index.proofs.GroupLemmas.{groups_small, cells_high}
 use Rattle.pattern_index.proofs.RankLemmas.{below_in, differ_from_pairs}
 use Rattle.pattern_index.proofs.PlaceLemmas.{place_listing}
 use Rattle.pattern_index.proofs.SparseLemmas.{moved, sparse_small, stride_low, pow_low}
 use Rattle.database_build.specs.Folds.{Fold}
-use Rattle.database_build.specs.SmallValues.{most_bytes}
-use Rattle.lower_bound.specs.Folded.{value_by}
-use Rattle.successor_sums.specs.Unpacked.{cells_after, IsSmall, SomeIsLarge}
+use Rattle.successor_sums.specs.Unpacked.{cells_after, IsSmall, IsLarge, SomeIsLarge}
 use Rattle.successor_sums.specs.declared.unpacked.Successor.{Successor}
 
 module _ (g : Selection) (selection : IsSelection g) (cells : List ℕ) (r : Successor) (all : length cells ≡ 25) (small : IsSmall r) (view : IsView g.grid g.tiles (view_at g.tiles cells)) where
@@ -50,6 +48,6 @@ module _ (g : Selection) (selection : IsSelection g) (cells : List ℕ) (r : Suc
       let product : cell * stride_of (cell_count g.grid) g.tiles r.tile ≤ 255 * 3814697265625 = mul-le cell (stride_of (cell_count g.grid) g.tiles r.tile) 255 3814697265625 (omega (arith, low)) (omega (arith, top, power)) in
       omega (arith, product)
 
--- one table with a large value is enough
-pub large : (folds : List Fold) (before after : List ℕ) (table : ℕ) (fold : Fold) → table < length folds → fold ≡ get_or folds table fold → (255 ≤ value_by before fold) ⊎ (255 ≤ value_by after fold) ⊎ (most_bytes fold.selection < sparse_size_of fold.selection) → SomeIsLarge folds before after
-large folds before after table fold within at some = (table, within, λ d. subst (λ (f : Fold). (255 ≤ value_by before f) ⊎ (255 ≤ value_by after f) ⊎ (most_bytes f.selection < sparse_size_of f.selection)) (at ∙ get_or_default folds table fold d within) some)
+-- one table that has the tile, with a large value, is enough
+pub large : (folds : List Fold) (before after : List ℕ) (tile table : ℕ) (fold : Fold) → table < length folds → fold ≡ get_or folds table fold → ((d : Fold) → Contains (get_or folds table d).selection.tiles tile) → IsLarge before after fold → SomeIsLarge folds before after tile
+large folds before after tile table fold within at has some = (table, within, λ d. (has d, subst (λ (f : Fold). IsLarge before after f) (at ∙ get_or_default folds table fold d within) some))

@@ -1,5 +1,5 @@
 -- Boards with the cell of each number beside the numbers, and what is told of their successors.
-use Rattle.std.specs.Prelude.{Bool, false, if◌then◌else◌, None, ℕ, ◌≡◌, ◌⊎◌, ◌≤◌, ◌<◌, List, All, length, map, set, slice_index, slice_index_or, Option, Some, IfSome, option_map, sum_by}
+use Rattle.std.specs.Prelude.{Bool, false, if◌then◌else◌, None, ℕ, ◌≡◌, ◌⊎◌, ◌≤◌, ◌<◌, List, All, Contains, length, map, set, slice_index, slice_index_or, Option, Some, IfSome, option_map, sum_by}
 use Rattle.board.specs.declared.moves.Move.{Move}
 use Rattle.board.specs.declared.costs.TheConstants.{GREATEST_EXPANDED_COST}
 use Rattle.board.specs.Equality.{move_eq}
@@ -110,9 +110,13 @@ IsNextTo folds cells r = IsSmall r × AreViews (cells_after cells r) folds × Ar
 abbrev pub AreSparsePlaces : List Fold → List ℕ → List ℕ → Type 0
 AreSparsePlaces folds cells places = (i : ℕ) (d : Fold) → i < length folds → slice_index places i ≡ sparse_in (slice_index_or folds i d).selection.grid (view_at (slice_index_or folds i d).selection.tiles cells)
 
--- of some folded table the value before or after is 255 or more, or it has too many sparse places for bytes
-abbrev pub SomeIsLarge : List Fold → List ℕ → List ℕ → Type 0
-SomeIsLarge folds before after = (i : ℕ) × (i < length folds) × ((d : Fold) → (255 ≤ value_by before (slice_index_or folds i d)) ⊎ (255 ≤ value_by after (slice_index_or folds i d)) ⊎ (most_bytes (slice_index_or folds i d).selection < sparse_size_of (slice_index_or folds i d).selection))
+-- a folded table says 255 or more of the cells before or after, or it has too many sparse places for bytes
+abbrev pub IsLarge : List ℕ → List ℕ → Fold → Type 0
+IsLarge before after fold = (255 ≤ value_by before fold) ⊎ (255 ≤ value_by after fold) ⊎ (most_bytes fold.selection < sparse_size_of fold.selection)
+
+-- so does some folded table whose group has the tile
+abbrev pub SomeIsLarge : List Fold → List ℕ → List ℕ → ℕ → Type 0
+SomeIsLarge folds before after tile = (i : ℕ) × (i < length folds) × ((d : Fold) → Contains (slice_index_or folds i d).selection.tiles tile × IsLarge before after (slice_index_or folds i d))
 
 -- the first of what was reached, so many, has its sum now, and is as it was else
 abbrev pub IsSummed : (List ℕ → ℕ) → List ℕ → ℕ → List Successor → List Successor → Type 0

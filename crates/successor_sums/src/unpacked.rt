@@ -504,7 +504,7 @@ fn small_sum(
         (λ sum. sum ≡ sum_by (value_by (cells_after cells.now reached.now)) folds.now) }
     ensures high { IfSome result (λ sum. sum ≤ GREATEST_SUM) }
     ensures none { IfNone result
-        (SomeIsLarge folds.now cells.now (cells_after cells.now reached.now)) }
+        (SomeIsLarge folds.now cells.now (cells_after cells.now reached.now) reached.now.tile) }
 {
     let tile = reached.tile as u8;
     let table = place_with(folds, tile);

@@ -60,7 +60,7 @@ returns-in_default-clause-none c =
     let cells = c.args.cells.now in
     let view = subst (λ (f : Fold). IsView f.selection.grid f.selection.tiles (view_at f.selection.tiles cells)) (sym at) (c.requires.views c.place_with-table.result fold within) in
     let sparse = subst (λ (f : Fold). slice_index c.args.places.now c.place_with-table.result ≡ sparse_in f.selection.grid (view_at f.selection.tiles cells)) (sym at) (c.requires.places c.place_with-table.result fold within) in
-    large c.args.folds.now cells (cells_after cells c.args.reached.now) c.place_with-table.result fold within at
+    large c.args.folds.now cells (cells_after cells c.args.reached.now) c.args.reached.now.tile c.place_with-table.result fold within at (c.place_with-table.ensures.some within)
     (⊎_elim (λ high. inl high) (λ many. inr (inr many)) (c.in_default.ensures.none (view_at fold.selection.tiles cells) view (sym sparse)))
 
 pub returns-in_default-small_value-clause-none : goal.returns-in_default-small_value-clause-none
@@ -70,5 +70,5 @@ returns-in_default-small_value-clause-none c =
     let within = c.if-table-folds.false in
     let after = cells_after c.args.cells.now c.args.reached.now in
     let view = subst (λ (f : Fold). IsView f.selection.grid f.selection.tiles (view_at f.selection.tiles after)) (sym at) (c.requires.next.1 c.place_with-table.result fold within) in
-    large c.args.folds.now c.args.cells.now after c.place_with-table.result fold within at
+    large c.args.folds.now c.args.cells.now after c.args.reached.now.tile c.place_with-table.result fold within at (c.place_with-table.ensures.some within)
     (⊎_elim (λ high. inr (inl high)) (λ many. inr (inr many)) (c.in_default-small_value.ensures.none (view_at fold.selection.tiles after) view (sym c.sparse_after.ensures)))
