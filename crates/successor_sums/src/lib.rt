@@ -6,6 +6,7 @@
 
 mod by_moves;
 mod exits;
+pub mod laws;
 mod ranks;
 mod unpacked;
 

@@ -1,0 +1,9 @@
+//! The law of large values: the contract of a function that does nothing.
+
+ghost use Rattle.successor_sums.specs.Laws.{SmallValuesAreNotLarge};
+
+/// Where each folded table whose group has the tile that is moved says less than 255 before and
+/// after, and doesn't have too many sparse places for bytes, no value is large.
+pub fn small_values_are_not_large()
+    ensures { SmallValuesAreNotLarge }
+{}
