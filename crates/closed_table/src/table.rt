@@ -151,6 +151,14 @@ impl Closed {
         self.ahead = index::read_ahead(&self.index, keys);
     }
 
+    /// Reads ahead what `at` will read of a place. It changes nothing.
+    pub fn read_ahead_at(&mut self, place: usize)
+        requires { place < length self.old.keys }
+        ensures { self.new ≡ self.old }
+    {
+        self.ahead = self.index.slots.at(place).cost;
+    }
+
     /// Takes a board that was met at a cost by a last move: it is put in where it was absent or
     /// known at a greater cost, and is not expanded then. Answers the key's place too.
     pub fn relax(&mut self, key: u128, cost: u32, via: Move) -> (Relaxed, u32)

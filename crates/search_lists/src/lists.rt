@@ -221,6 +221,7 @@ impl SearchLists {
         };
         take_first(&mut self.open, first);
         self.closed.mark_expanded_at(next.place as usize);
+        read_next(&mut self.closed, &self.open, next.f);
     }
 
     /// Reads ahead what `relax` will read of these keys, up to four. It changes nothing.
@@ -228,6 +229,17 @@ impl SearchLists {
         ensures { self.new ≡ self.old }
     {
         self.closed.read_ahead(keys);
+    }
+}
+
+// Reads ahead what is known of the board that waits next, where its f is no greater than this.
+fn read_next(closed: &mut Closed, waiting: &Open<u32>, f: u32)
+    requires within { f + 1 < 2 ^ 32 }
+    requires known { AreKnown (both closed.old waiting.now) }
+    ensures { closed.new ≡ closed.old }
+{
+    if let Some((place, _)) = waiting.peek_lowest(f + 1) {
+        closed.read_ahead_at(place as usize);
     }
 }
 
