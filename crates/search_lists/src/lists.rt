@@ -234,12 +234,15 @@ impl SearchLists {
 
 // Reads ahead what is known of the board that waits next, where its f is no greater than this.
 fn read_next(closed: &mut Closed, waiting: &Open<u32>, f: u32)
-    requires within { f + 1 < 2 ^ 32 }
-    requires known { AreKnown (both closed.old waiting.now) }
+    requires { f + 1 < 2 ^ 32 }
     ensures { closed.new ≡ closed.old }
 {
-    if let Some((place, _)) = waiting.peek_lowest(f + 1) {
-        closed.read_ahead_at(place as usize);
+    let Some((place, _)) = waiting.peek_lowest(f + 1) else {
+        return;
+    };
+    let place = place as usize;
+    if place < closed.len() {
+        closed.read_ahead_at(place);
     }
 }
 
