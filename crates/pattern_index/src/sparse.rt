@@ -11,8 +11,26 @@ pub(crate) fn sparse_tiles(count: usize, tiles: &[u8], cells: &[u8; 25]) -> usiz
     requires within { All (λ cell. cell < count) (map (slice_index cells.now) tiles.now) }
     ensures { result ≡ sparse_of count (map (slice_index cells.now) tiles.now) }
 {
+    // A loop whose length is known is unrolled.
+    match tiles.len() {
+        4 => sparse_of_all(4, count, tiles, cells),
+        5 => sparse_of_all(5, count, tiles, cells),
+        6 => sparse_of_all(6, count, tiles, cells),
+        all => sparse_of_all(all, count, tiles, cells),
+    }
+}
+
+// The same, where there are so many tiles.
+fn sparse_of_all(all: usize, count: usize, tiles: &[u8], cells: &[u8; 25]) -> usize
+    requires all { all ≡ length tiles.now }
+    requires few { count ≤ 25 }
+    requires short { length tiles.now ≤ 9 }
+    requires tiles { All (λ tile. tile < 25) tiles.now }
+    requires within { All (λ cell. cell < count) (map (slice_index cells.now) tiles.now) }
+    ensures { result ≡ sparse_of count (map (slice_index cells.now) tiles.now) }
+{
     let mut sparse = 0;
-    let mut place = tiles.len();
+    let mut place = all;
     'tiles: while place > 0 {
         place -= 1;
         sparse = sparse * count + cells[tiles[place] as usize] as usize;

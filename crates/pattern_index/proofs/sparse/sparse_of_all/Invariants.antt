@@ -1,7 +1,7 @@
 use Rattle.std.proofs.Common.{◌≡◌, ◌≤◌, map, drop, length}
 use Rattle.std.specs.Prelude.{slice_index}
 use Rattle.pattern_index.specs.Sparse.{sparse_of}
-use Rattle.pattern_index.proofs.sparse.sparse_tiles.Given as goal
+use Rattle.pattern_index.proofs.sparse.sparse_of_all.Given as goal
 
 -- the digits from the place on are in
 abbrev pub invariant-tiles : goal.invariant-tiles

@@ -1,12 +1,12 @@
-use Rattle.std.proofs.Common.{◌≡◌, ◌+◌, ◌-◌, ◌*◌, ◌<◌, ◌≤◌, ℕ, List, length, map, drop, get_or, arith}
+use Rattle.std.proofs.Common.{◌≡◌, ◌+◌, ◌-◌, ◌*◌, ◌<◌, ◌≤◌, ℕ, List, length, map, drop, get_or, arith, ap, sym, ◌∙◌}
 use Rattle.std.specs.Prelude.{slice_index, All}
 use Rattle.std.proofs.lemmas.List.Elements.{recursion_from_All}
 use Rattle.pattern_index.specs.Sparse.{sparse_of}
 use Rattle.pattern_index.proofs.SparseLemmas.{sparse_none, sparse_more, sparse_low}
-use Rattle.pattern_index.proofs.sparse.sparse_tiles.Goals as goal
+use Rattle.pattern_index.proofs.sparse.sparse_of_all.Goals as goal
 
 pub tiles-init : goal.tiles-init
-tiles-init c = record { within = omega arith; sparse = sparse_none c.args.count (slice_index c.args.cells.now) c.args.tiles.now }
+tiles-init c = record { within = omega (arith, c.requires.all); sparse = sparse_none c.args.count (slice_index c.args.cells.now) c.args.tiles.now ∙ ap (λ (k : ℕ). sparse_of c.args.count (map (slice_index c.args.cells.now) (drop k c.args.tiles.now))) (sym c.requires.all) }
 
 module _ (count place sparse : ℕ) (cells tiles : List ℕ) (some : 0 < place) (within : place ≤ length tiles) (is : sparse ≡ sparse_of count (map (slice_index cells) (drop place tiles))) where
   next : sparse * count + slice_index cells (get_or tiles (place - 1) 0) ≡ sparse_of count (map (slice_index cells) (drop (place - 1) tiles))
