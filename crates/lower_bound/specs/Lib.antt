@@ -5,3 +5,4 @@ pub mod Held
 pub mod Lists
 pub mod Faults
 pub mod Laws
+pub mod ByTile

@@ -13,8 +13,9 @@ ghost use Rattle.lower_bound.specs.Folded.{AreFoldsOf, AreFolded, IsBefore, valu
 ghost use Rattle.lower_bound.specs.Tables.{IsTables, AreTablesOf, ArePotentials, AreWhole};
 ghost use Rattle.lower_bound.specs.Tables.{parts_of};
 ghost use Rattle.lower_bound.specs.Lists.{AreListed, IsFoldedBound};
+ghost use Rattle.lower_bound.specs.ByTile.{AreTablesByTile};
 
-use crate::parts::{MOST_GROUPS, Parts};
+use crate::parts::{MOST_GROUPS, Parts, find_tables_by_tile};
 use board::Board;
 use database_build::{Folded, NO_VALUE, Table, TableFault, fold};
 use memory::{OutOfMemory, push, with_capacity};
@@ -30,6 +31,8 @@ pub const GREATEST_SUM: u32 = 1_572_840;
 pub struct Bound {
     partition: Partition,
     held: Held,
+    // Of each number that may be a tile the place of the folded table whose group has it.
+    by_tile: [usize; 25],
 }
 
 // The tables that a bound holds.
@@ -50,13 +53,15 @@ pub enum TableList<'a> {
 
 impl Model for Bound {
     ghost use Rattle.lower_bound.specs.Tables.{Tables, IsTables};
-    ghost use Rattle.lower_bound.specs.Held.{tables_in};
+    ghost use Rattle.lower_bound.specs.Held.{tables_in, folds_in};
+    ghost use Rattle.lower_bound.specs.ByTile.{AreTablesByTile};
 
     ghost Value = { Tables };
 
     ghost view = { λ b. tables_in b.partition b.held };
 
-    ghost invariant = { λ b. IsTables (tables_in b.partition b.held) };
+    ghost invariant = { λ b. IsTables (tables_in b.partition b.held)
+        × AreTablesByTile (folds_in b.held) b.by_tile };
 }
 
 impl Bound {
@@ -75,6 +80,7 @@ impl Bound {
         Ok(Bound {
             partition,
             held: Held::Whole(tables),
+            by_tile: find_tables_by_tile(&[]),
         })
     }
 
@@ -89,9 +95,11 @@ impl Bound {
         if !are_folds_of(partition.groups(), &folds) {
             return Err(TableFault::WrongCount);
         }
+        let by_tile = find_tables_by_tile(&folds);
         Ok(Bound {
             partition,
             held: Held::Folded(folds),
+            by_tile,
         })
     }
 
@@ -103,14 +111,20 @@ impl Bound {
         ensures potentials { (rule : CostRule) (goal : Position) →
             ArePotentials rule goal self → IfOk result (ArePotentials rule goal) }
     {
-        let Bound { partition, held } = self;
+        let Bound {
+            partition,
+            held,
+            by_tile: _,
+        } = self;
         let folds = match held {
             Held::Whole(tables) => fold_all(alloc, tables)?,
             Held::Folded(folds) => folds,
         };
+        let by_tile = find_tables_by_tile(&folds);
         Ok(Bound {
             partition,
             held: Held::Folded(folds),
+            by_tile,
         })
     }
 
@@ -184,6 +198,14 @@ impl Bound {
             Held::Whole(tables) => TableList::Whole(tables),
             Held::Folded(folds) => TableList::Folded(folds),
         }
+    }
+
+    /// Of each number that may be a tile the place of the folded table whose group has it, or how
+    /// many folded tables there are where none has.
+    pub fn tables_by_tile(&self) -> &[usize; 25]
+        ensures { AreTablesByTile self.now.folds result.now }
+    {
+        &self.by_tile
     }
 
     /// The table of a group, by the group's place in the partition; None where it is folded.

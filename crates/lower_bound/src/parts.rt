@@ -8,6 +8,7 @@ ghost use Rattle.pattern_index.specs.Splits.{ShareNoTile};
 ghost use Rattle.database_build.specs.Folds.{Fold};
 ghost use Rattle.lower_bound.specs.Folded.{folded_parts, values_of, value_for, IsBefore};
 ghost use Rattle.lower_bound.specs.Folded.{value_by, AreViews, AreAsBefore};
+ghost use Rattle.lower_bound.specs.ByTile.{AreTablesByTile};
 
 use crate::bound::GREATEST_SUM;
 use board::Board;
@@ -134,6 +135,17 @@ pub fn place_with(folds: &[Folded], tile: u8) -> usize
         };
     }
     place
+}
+
+/// Of each number that may be a tile what `place_with` answers of it.
+pub(crate) fn find_tables_by_tile(folds: &[Folded]) -> [usize; 25]
+    ensures { AreTablesByTile folds.now result }
+{
+    let mut by_tile = [0; 25];
+    'numbers: for number in 0..25 {
+        by_tile[number] = place_with(folds, number as u8);
+    }
+    by_tile
 }
 
 // Adds values.

@@ -14,6 +14,7 @@ ghost use Rattle.pattern_index.specs.Splits.{ShareNoTile};
 ghost use Rattle.pattern_index.specs.Views.{IsView, view_at};
 ghost use Rattle.lower_bound.specs.Bounds.{sum_of};
 ghost use Rattle.lower_bound.specs.Folded.{value_by, AreViews};
+ghost use Rattle.lower_bound.specs.ByTile.{AreTablesByTile};
 ghost use Rattle.lower_bound.specs.Tables.{ArePotentials, parts_of};
 ghost use Rattle.successor_sums.specs.Ranks.{AreRanks, AreRanksOf, sum_at, sum_by_cells};
 ghost use Rattle.successor_sums.specs.Unpacked.{successors_of, is_left_out, successors_but};
@@ -27,7 +28,7 @@ use crate::exits::{find_exits, tell};
 use crate::ranks::{FEW_TABLES, MOST_TABLES, sum_ranks, write_ranks};
 use board::{Board, Move, Shape, Weights};
 use database_build::{Folded, Table};
-use lower_bound::{Bound, GREATEST_SUM, Parts, TableList, place_with, sum_after};
+use lower_bound::{Bound, GREATEST_SUM, Parts, TableList, sum_after};
 use pattern_index::cells_of;
 use std::marker::Model;
 
@@ -274,7 +275,10 @@ impl UnpackedBoard {
     {
         match bound.tables() {
             TableList::Whole(tables) => add_whole_sums(tables, &self.cells, count, reached),
-            TableList::Folded(folds) => add_folded_sums(folds, sum, &self.cells, count, reached),
+            TableList::Folded(folds) => {
+                let by_tile = bound.tables_by_tile();
+                add_folded_sums(folds, by_tile, sum, &self.cells, count, reached);
+            }
         }
     }
 }
@@ -364,12 +368,14 @@ fn find_ranks(
 // it is known.
 fn add_folded_sums(
     folds: &[Folded],
+    by_tile: &[usize; 25],
     sum: Option<u32>,
     cells: &[u8; 25],
     count: usize,
     reached: &mut [Successor; MOVES],
 )
     requires few { length folds.now ≤ MOST_TABLES }
+    requires by_tile { AreTablesByTile folds.now by_tile.now }
     requires apart { AllPairs
         (λ f g. ShareNoTile f.selection.tiles g.selection.tiles) folds.now }
     requires views { AreViews cells.now folds.now }
@@ -388,7 +394,7 @@ fn add_folded_sums(
         add_each_sum(folds, sum, cells, count, reached);
         return;
     }
-    add_next_sums(folds, known, cells, count, reached);
+    add_next_sums(folds, by_tile, known, cells, count, reached);
 }
 
 // The same, each sum by itself.
@@ -419,12 +425,14 @@ fn add_each_sum(
 // those of a successor differ in one.
 fn add_next_sums(
     folds: &[Folded],
+    by_tile: &[usize; 25],
     known: u32,
     cells: &[u8; 25],
     count: usize,
     reached: &mut [Successor; MOVES],
 )
     requires few { length folds.now ≤ FEW_TABLES }
+    requires by_tile { AreTablesByTile folds.now by_tile.now }
     requires apart { AllPairs
         (λ f g. ShareNoTile f.selection.tiles g.selection.tiles) folds.now }
     requires views { AreViews cells.now folds.now }
@@ -438,7 +446,7 @@ fn add_next_sums(
     let mut places = [0; FEW_TABLES];
     find_sparse_places(folds, cells, &mut places);
     'reached: for i in 0..count {
-        reached[i].sum = next_sum(folds, known, cells, &places, &reached[i]);
+        reached[i].sum = next_sum(folds, by_tile, known, cells, &places, &reached[i]);
     }
 }
 
@@ -464,12 +472,14 @@ fn folded_sum(folds: &[Folded], sum: Option<u32>, cells: &[u8; 25], reached: &Su
 // The sum of a successor by folded tables, from the board's own sum and its sparse places.
 fn next_sum(
     folds: &[Folded],
+    by_tile: &[usize; 25],
     known: u32,
     cells: &[u8; 25],
     places: &[usize; FEW_TABLES],
     reached: &Successor,
 ) -> u32
     requires few { length folds.now ≤ FEW_TABLES }
+    requires by_tile { AreTablesByTile folds.now by_tile.now }
     requires apart { AllPairs
         (λ f g. ShareNoTile f.selection.tiles g.selection.tiles) folds.now }
     requires views { AreViews cells.now folds.now }
@@ -479,7 +489,7 @@ fn next_sum(
     ensures value { result ≡ sum_by (value_by (cells_after cells.now reached.now)) folds.now }
     ensures high { result ≤ GREATEST_SUM }
 {
-    match small_sum(folds, known, cells, places, reached) {
+    match small_sum(folds, by_tile, known, cells, places, reached) {
         Some(sum) => sum,
         None => folded_sum(folds, Some(known), cells, reached),
     }
@@ -488,12 +498,14 @@ fn next_sum(
 // That sum, where the values before the move and after it are small ones.
 fn small_sum(
     folds: &[Folded],
+    by_tile: &[usize; 25],
     known: u32,
     cells: &[u8; 25],
     places: &[usize; FEW_TABLES],
     reached: &Successor,
 ) -> Option<u32>
     requires few { length folds.now ≤ FEW_TABLES }
+    requires by_tile { AreTablesByTile folds.now by_tile.now }
     requires apart { AllPairs
         (λ f g. ShareNoTile f.selection.tiles g.selection.tiles) folds.now }
     requires views { AreViews cells.now folds.now }
@@ -507,7 +519,7 @@ fn small_sum(
         (SomeIsLarge folds.now cells.now (cells_after cells.now reached.now) reached.now.tile) }
 {
     let tile = reached.tile as u8;
-    let table = place_with(folds, tile);
+    let table = by_tile[tile as usize];
     if table >= folds.len() {
         return Some(known);
     }

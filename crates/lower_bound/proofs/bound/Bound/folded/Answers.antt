@@ -1,8 +1,9 @@
-use Rattle.std.proofs.Common.{rules, ◌≡◌, map, refl, ap, ◌∙◌, subst, inr, Vec, Global}
+use Rattle.std.proofs.Common.{rules, ◌≡◌, map, refl, ap, ◌∙◌, subst, inr, List, Vec, Global}
 use Rattle.database_build.specs.Folds.{Fold}
 use Rattle.lower_bound.specs.Folded.{AreFoldsOf}
 use Rattle.lower_bound.specs.Tables.{IsTables}
 use Rattle.lower_bound.specs.Held.{tables_in}
+use Rattle.lower_bound.specs.ByTile.{AreTablesByTile}
 use Rattle.lower_bound.specs.declared.bound.Held.{Held}
 use Rattle.lower_bound.specs.declared.bound.Held.TheVariants.{Whole, Folded}
 use Rattle.lower_bound.proofs.FoldedLemmas.{folded_groups}
@@ -11,13 +12,10 @@ use Rattle.lower_bound.proofs.bound.Bound.folded.Goals as goal
 use Rattle.lower_bound.proofs.bound.Bound.folded.Goals.{in-Whole+in_ok-folds-in-Whole, in-Folded}
 
 pub invariant_of-result : goal.invariant_of-result
-invariant_of-result c = record {
-  partition = c.self.invariant.partition;
-  one_each = inr (each, refl);
-}
+invariant_of-result c = (is_tables, subst (λ (folds : List Fold). AreTablesByTile folds c.find_tables_by_tile-by_tile.result) c.deref.ensures.value c.find_tables_by_tile-by_tile.ensures)
   where
     there : (held : Held) → c.self.inside.held ≡ held → IsTables (tables_in c.self.inside.partition held)
-    there held is = subst (λ (h : Held). IsTables (tables_in c.self.inside.partition h)) is c.self.invariant
+    there held is = subst (λ (h : Held). IsTables (tables_in c.self.inside.partition h)) is c.self.invariant.0
 
     each : AreFoldsOf c.self.inside.partition.groups c.match-held.folds.items
     each = elim c.match-held.branch [
@@ -30,9 +28,15 @@ invariant_of-result c = record {
           ∙ folded_each (tables_in c.self.inside.partition (Folded w.in-Folded.folds)) (there (Folded w.in-Folded.folds) w.in-Folded.is) refl
     ]
 
+    is_tables : IsTables (tables_in c.self.inside.partition (Folded c.match-held.folds))
+    is_tables = record {
+      partition = c.self.invariant.0.partition;
+      one_each = inr (each, refl);
+    }
+
 pub returns-clause-folded : goal.returns-clause-folded
 returns-clause-folded c = search rules
 
 pub returns-clause-potentials : goal.returns-clause-potentials
 returns-clause-potentials c = λ rule goal potentials.
-    folded_potentials rule goal c.args.self (tables_in c.self.inside.partition (Folded c.match-held.folds)) (subst IsTables c.self.view_is c.self.invariant) (returns-clause-folded c) potentials
+    folded_potentials rule goal c.args.self (tables_in c.self.inside.partition (Folded c.match-held.folds)) (subst IsTables c.self.view_is c.self.invariant.0) (returns-clause-folded c) potentials

@@ -15,13 +15,13 @@ use Rattle.lower_bound.proofs.bound.Bound.of.Goals as goal
 
 pub sum_values-requires-clause-grid : goal.sum_values-requires-clause-grid
 sum_values-requires-clause-grid c =
-    let is : IsTables c.args.self.now = subst IsTables c.self.view_is c.self.invariant in
+    let is : IsTables c.args.self.now = subst IsTables c.self.view_is c.self.invariant.0 in
     let lookups : c.args.self.now.lookups ≡ c.in-Whole.tables.items = ap (λ (t : Tables). t.lookups) (sym c.self.view_is) ∙ ap (λ (h : Held). (tables_in c.self.inside.partition h).lookups) c.in-Whole.is in
     grids_fit c.args.self.now c.deref.result.now c.args.board.now.grid is (lookups ∙ sym c.deref.ensures.value) c.requires
 
 pub sum_folded-requires-clause-grid : goal.sum_folded-requires-clause-grid
 sum_folded-requires-clause-grid c =
-    let is : IsTables c.args.self.now = subst IsTables c.self.view_is c.self.invariant in
+    let is : IsTables c.args.self.now = subst IsTables c.self.view_is c.self.invariant.0 in
     let folds : c.args.self.now.folds ≡ c.in-Folded.folds.items = ap (λ (t : Tables). t.folds) (sym c.self.view_is) ∙ ap (λ (h : Held). (tables_in c.self.inside.partition h).folds) c.in-Folded.is in
     folds_fit c.args.self.now c.deref-in-Folded.result.now c.args.board.now.grid is (folds ∙ sym c.deref-in-Folded.ensures.value) c.requires
 
@@ -45,8 +45,8 @@ returns-in-Folded-clause-value c =
 
 pub returns-in-Whole-clause-nothing_below : goal.returns-in-Whole-clause-nothing_below
 returns-in-Whole-clause-nothing_below c = λ rule goal potentials.
-    nothing_below rule goal c.args.board.now c.args.self.now c.sum_values.result (subst IsTables c.self.view_is c.self.invariant) c.shape.ensures.board c.requires (returns-in-Whole-clause-value c) potentials
+    nothing_below rule goal c.args.board.now c.args.self.now c.sum_values.result (subst IsTables c.self.view_is c.self.invariant.0) c.shape.ensures.board c.requires (returns-in-Whole-clause-value c) potentials
 
 pub returns-in-Folded-clause-nothing_below : goal.returns-in-Folded-clause-nothing_below
 returns-in-Folded-clause-nothing_below c = λ rule goal potentials.
-    nothing_below rule goal c.args.board.now c.args.self.now c.sum_folded.result (subst IsTables c.self.view_is c.self.invariant) c.shape.ensures.board c.requires (returns-in-Folded-clause-value c) potentials
+    nothing_below rule goal c.args.board.now c.args.self.now c.sum_folded.result (subst IsTables c.self.view_is c.self.invariant.0) c.shape.ensures.board c.requires (returns-in-Folded-clause-value c) potentials
