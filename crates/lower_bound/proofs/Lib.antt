@@ -4,3 +4,4 @@ pub mod FoldedLemmas
 pub mod TableLemmas
 pub mod MovedLemmas
 pub mod PartLemmas
+pub mod ByTileLemmas

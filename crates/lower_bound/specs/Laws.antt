@@ -1,14 +1,15 @@
 -- The laws of sums. Each is the contract of a function that does nothing.
-use Rattle.std.specs.Prelude.{ℕ, ◌≡◌, List, get_or, sum}
+use Rattle.std.specs.Prelude.{ℕ, ◌≡◌, ◌<◌, ◌↔◌, List, length, All, AllPairs, Contains, get_or, slice_index, slice_index_or, sum}
 use Rattle.board.specs.declared.moves.Move.{Move}
 use Rattle.board.specs.Positions.{Position, IsBoard, blank_of}
 use Rattle.board.specs.CostRules.{CostRule}
 use Rattle.board.specs.Moves.{Moves}
 use Rattle.board.specs.Rows.{IsLowerBound}
-use Rattle.pattern_index.specs.Splits.{Split, IsSplit}
+use Rattle.pattern_index.specs.Splits.{Split, IsSplit, ShareNoTile}
 use Rattle.database_build.specs.Folds.{Fold}
 use Rattle.lower_bound.specs.Bounds.{Part, IsBound, sum_of}
 use Rattle.lower_bound.specs.Tables.{Tables, IsTables, ArePotentials, parts_of}
+use Rattle.lower_bound.specs.ByTile.{AreTablesByTile}
 use Rattle.lower_bound.specs.Folded.{AreFoldsOf, AreFoldedPotentials, IsBefore, folded_parts, values_of}
 
 -- a sum of potentials of groups that share no tile is admissible: never above the cost of a plan
@@ -41,3 +42,13 @@ MovesMoveOneTile = (rule : CostRule) (b : Position) (m : Move) (b' : Position) (
 -- the values of a board, added up, are its sum
 abbrev pub ValuesAddUp : Type 0
 ValuesAddUp = (parts : List Part) (b : Position) → sum (values_of parts b) ≡ sum_of parts b
+
+-- where no two groups share a tile, a group has a tile exactly where its table stands at the tile's place;
+-- where no group has the tile, the place is behind the last table
+abbrev pub ATileHasOneTable : Type 0
+ATileHasOneTable =
+    (folds : List Fold) (places : List ℕ) (tile : ℕ)
+    → AreTablesByTile folds places
+    → tile < 25
+    → (AllPairs (λ f g. ShareNoTile f.selection.tiles g.selection.tiles) folds → (i : ℕ) (d : Fold) → i < length folds → Contains (slice_index_or folds i d).selection.tiles tile ↔ (slice_index places tile ≡ i))
+    × (All (λ fold. ¬ Contains fold.selection.tiles tile) folds → slice_index places tile ≡ length folds)

@@ -3,6 +3,7 @@
 ghost use Rattle.std.specs.Prelude.{◌≡◌, ◌*◌};
 ghost use Rattle.lower_bound.specs.Laws.{SumsAreLowerBounds, TablesAreLowerBounds};
 ghost use Rattle.lower_bound.specs.Laws.{FoldedSumsAreLowerBounds, MovesMoveOneTile, ValuesAddUp};
+ghost use Rattle.lower_bound.specs.Laws.{ATileHasOneTable};
 
 use crate::bound::GREATEST_SUM;
 use database_build::NO_VALUE;
@@ -31,4 +32,10 @@ pub fn moves_move_one_tile()
 /// The values of a board, added up, are its sum.
 pub fn values_add_up()
     ensures { ValuesAddUp }
+{}
+
+/// Of groups that share no tile one at most has a tile, and its table stands at the tile's place.
+/// Where none has it, the place is behind the last table.
+pub fn a_tile_has_one_table()
+    ensures { ATileHasOneTable }
 {}

@@ -1,0 +1,5 @@
+use Rattle.lower_bound.proofs.ByTileLemmas.{has_one_table}
+use Rattle.lower_bound.proofs.laws.a_tile_has_one_table.Goals as goal
+
+pub returns : goal.returns
+returns c = has_one_table
