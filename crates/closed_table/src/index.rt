@@ -362,7 +362,7 @@ fn bits_for_more(bits: u32, chains: usize) -> u32
 }
 
 // Reads ahead, for every eighth chain that is divided, what `relink` will read first of the lists of
-// this one and the next, so that the reads of memory overlap. The answer means nothing.
+// this one and the seven next, so that the reads of memory overlap. The answer means nothing.
 fn read_lists(index: &Index) -> u64
     requires small { index.now.bits ≤ 32 }
     requires few { index.now.len ≤ 2 ^ 33 }
