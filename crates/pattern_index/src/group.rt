@@ -7,7 +7,7 @@ ghost use Rattle.std.specs.List.Sorted.{IsNonDecreasing};
 ghost use Rattle.board.specs.Grids.{cell_count};
 ghost use Rattle.pattern_index.specs.Views.{Sight, IsView, ViewMoves, view_of, view_at};
 ghost use Rattle.pattern_index.specs.Views.{weight_on};
-ghost use Rattle.pattern_index.specs.Ranks.{ways};
+ghost use Rattle.pattern_index.specs.Ranks.{ways, rank_of};
 ghost use Rattle.pattern_index.specs.Selections.{Selection, IsTile, IsGroup, IsSelection};
 ghost use Rattle.pattern_index.specs.Selections.{size_of, rank_in, abstraction_of};
 ghost use Rattle.pattern_index.specs.Selections.{folded_size_of, place_in};
@@ -238,8 +238,8 @@ impl Group {
         stride_of(self.shape().cells(), self.tiles(), tile)
     }
 
-    /// The place of the views that have a sparse place. None where two digits of it are the same:
-    /// no view has that.
+    /// The place of the views that have a sparse place: the rank of its digits. None where two of
+    /// these are the same: no view has that.
     pub fn place_of_sparse(&self, sparse: usize) -> Option<usize>
         ensures some { IfSome result (λ place. place < folded_size_of self.now) }
         ensures view { (v : Sight) → IsView self.now.grid self.now.tiles v
@@ -247,6 +247,10 @@ impl Group {
         ensures none { ¬ AllPairs (λ x y. x ≢ y)
             (digits_in (cell_count self.now.grid) (length self.now.tiles) sparse)
             → result ≡ None }
+        ensures digits { AllPairs (λ x y. x ≢ y)
+            (digits_in (cell_count self.now.grid) (length self.now.tiles) sparse)
+            → result ≡ Some (rank_of (cell_count self.now.grid)
+            (digits_in (cell_count self.now.grid) (length self.now.tiles) sparse)) }
     {
         let cells = self.shape().cells();
         let count = self.tiles().len();

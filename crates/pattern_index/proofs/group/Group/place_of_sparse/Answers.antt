@@ -46,6 +46,15 @@ returns-then-not-are_different-clause-view c = λ v view is.
     let differ = (place_listing g.grid g.tiles v view).different in
     absurd (false≢true (sym c.if-not-are_different.true ∙ c.are_different.ensures.1 (subst (λ xs. AllPairs (λ x y. x ≢ y) xs) (sym same) differ)))
 
+pub returns-then-not-are_different-clause-digits : goal.returns-then-not-are_different-clause-digits
+returns-then-not-are_different-clause-digits c = λ differ.
+    let g = c.args.self.now in
+    let cells : c.cells-cells.result ≡ cell_count g.grid = c.cells-cells.ensures.value ∙ ap cell_count c.shape.ensures.value in
+    let tiles : length c.tiles-count.result.now ≡ length g.tiles = ap length c.tiles-count.ensures.value in
+    let are = list_is g c.cells-cells.result c.tiles-count.result.now c.args.sparse c.write_digits.new.digits c.tiles-count.ensures.few c.tiles-count.ensures.value c.write_digits.ensures in
+    let same = are ∙ (λ i. digits_in (cells i) (tiles i) c.args.sparse) in
+    absurd (false≢true (sym c.if-not-are_different.true ∙ c.are_different.ensures.1 (subst (λ xs. AllPairs (λ x y. x ≢ y) xs) (sym same) differ)))
+
 pub rank_cells-requires-clause-listing : goal.rank_cells-requires-clause-listing
 rank_cells-requires-clause-listing c =
     let g = c.args.self.now in
@@ -87,3 +96,12 @@ returns-clause-none c = λ repeated.
     let tiles : length c.tiles-count.result.now ≡ length g.tiles = ap length c.tiles-count.ensures.value in
     let are = list_is g c.cells-cells.result c.tiles-count.result.now c.args.sparse c.write_digits.new.digits c.tiles-count.ensures.few c.tiles-count.ensures.value c.write_digits.ensures in
     absurd (repeated (subst (λ xs. AllPairs (λ x y. x ≢ y) xs) (are ∙ (λ i. digits_in (cells i) (tiles i) c.args.sparse)) (c.are_different.ensures.0 c.if-not-are_different.false)))
+
+pub returns-clause-digits : goal.returns-clause-digits
+returns-clause-digits c = λ differ.
+    let g = c.args.self.now in
+    let cells : c.cells-cells.result ≡ cell_count g.grid = c.cells-cells.ensures.value ∙ ap cell_count c.shape.ensures.value in
+    let tiles : length c.tiles-count.result.now ≡ length g.tiles = ap length c.tiles-count.ensures.value in
+    let are = list_is g c.cells-cells.result c.tiles-count.result.now c.args.sparse c.write_digits.new.digits c.tiles-count.ensures.few c.tiles-count.ensures.value c.write_digits.ensures in
+    let same = are ∙ (λ i. digits_in (cells i) (tiles i) c.args.sparse) in
+    ap (λ (n : ℕ). Some n) (c.rank_cells.ensures ∙ (λ i. rank_of (cells i) (same i)))
