@@ -1,10 +1,10 @@
--- The law of large values. It is the contract of a function that does nothing.
-use Rattle.std.specs.Prelude.{ℕ, ◌<◌, ◌≤◌, List, All, Contains}
+-- The laws of large values. Each is the contract of a function that does nothing.
+use Rattle.std.specs.Prelude.{ℕ, ◌⊎◌, ◌<◌, ◌≤◌, List, All, Contains}
 use Rattle.pattern_index.specs.Sparse.{sparse_size_of}
 use Rattle.database_build.specs.Folds.{Fold}
 use Rattle.database_build.specs.SmallValues.{most_bytes}
 use Rattle.lower_bound.specs.Folded.{value_by}
-use Rattle.successor_sums.specs.Unpacked.{SomeIsLarge}
+use Rattle.successor_sums.specs.Unpacked.{IsLarge, SomeIsLarge}
 
 -- a folded table says less than 255 of the cells before and after, and hasn't too many sparse places for bytes
 abbrev pub SaysLittle : List ℕ → List ℕ → Fold → Type 0
@@ -13,3 +13,7 @@ SaysLittle before after fold = (value_by before fold < 255) × (value_by after f
 -- where each folded table whose group has the tile says little, none is large
 abbrev pub SmallValuesAreNotLarge : Type 0
 SmallValuesAreNotLarge = (folds : List Fold) (before after : List ℕ) (tile : ℕ) → All (λ fold. Contains fold.selection.tiles tile → SaysLittle before after fold) folds → ¬ SomeIsLarge folds before after tile
+
+-- a folded table is large or says little
+abbrev pub ATableIsLargeOrSaysLittle : Type 0
+ATableIsLargeOrSaysLittle = (before after : List ℕ) (fold : Fold) → IsLarge before after fold ⊎ SaysLittle before after fold
