@@ -1,16 +1,16 @@
 //! Folded tables: those without the blank.
 
 ghost use Rattle.std.specs.Prelude.{ℕ, ◌≡◌, ◌<◌, ◌↔◌, length, replicate, slice_index_or, false, min, slice_index, ◌⊎◌, ◌≤◌};
-ghost use Rattle.std.specs.Prelude.{IfOk, IfSome, IfNone, IsTrue, Contains, AllPairs, ◌≢◌};
+ghost use Rattle.std.specs.Prelude.{IfOk, IfSome, IfNone, IsTrue, Contains, slice_get};
 ghost use Rattle.pattern_index.specs.Views.{IsView};
 ghost use Rattle.pattern_index.specs.Selections.{IsSelection, folded_size_of};
 ghost use Rattle.database_build.specs.Folds.{IsFoldOf, folded_in};
 ghost use Rattle.database_build.specs.Marks.{AreMarksOf};
 ghost use Rattle.board.specs.Grids.{cell_count};
 ghost use Rattle.pattern_index.specs.Selections.{place_in};
-ghost use Rattle.pattern_index.specs.Sparse.{digits_in, sparse_in, sparse_size_of, stride_of};
+ghost use Rattle.pattern_index.specs.Sparse.{sparse_in, sparse_size_of, stride_of};
 ghost use Rattle.pattern_index.specs.Views.{Sight};
-ghost use Rattle.database_build.specs.SmallValues.{AreBytesOf, HasBytes, AreStridesOf, most_bytes};
+ghost use Rattle.database_build.specs.SmallValues.{AreBytesOf, HasBytes, HasNoView, AreStridesOf, most_bytes};
 
 use crate::table::{NO_VALUE, Table};
 use memory::{OutOfMemory, filled};
@@ -84,6 +84,7 @@ impl Folded {
             → (255 ≤ folded_in self.now v)
             ⊎ (most_bytes self.now.selection < sparse_size_of self.now.selection)) }
         ensures high { IfSome result (λ value. value < 255) }
+        ensures others { HasNoView self.now.selection sparse → result ≡ None }
     {
         let Some(byte) = self.bytes.get(sparse) else {
             return None;
@@ -173,7 +174,9 @@ fn make_bytes(alloc: Global, group: &Group, least: &[u16]) -> Result<Vec<u8>, Ou
 fn fill_bytes(group: &Group, least: &[u16], bytes: &mut [u8])
     requires size { length least.now ≡ folded_size_of group.now }
     requires all { length bytes.old ≡ sparse_size_of group.now }
-    ensures { AreBytesOf (record { selection = group.now; least = least.now }) bytes.new }
+    ensures views { AreBytesOf (record { selection = group.now; least = least.now }) bytes.new }
+    ensures others { (sparse : ℕ) (byte : ℕ) → HasNoView group.now sparse
+        → slice_get bytes.new sparse ≡ Some byte → byte ≡ 255 }
 {
     'bytes: for sparse in 0..bytes.len() {
         bytes[sparse] = byte_at(group, least, sparse);
@@ -183,13 +186,12 @@ fn fill_bytes(group: &Group, least: &[u16], bytes: &mut [u8])
 // The value of the views with a sparse place as a byte: 255 where it is more, or where there is no
 // such view.
 fn byte_at(group: &Group, least: &[u16], sparse: usize) -> u8
-    requires { length least.now ≡ folded_size_of group.now }
+    requires size { length least.now ≡ folded_size_of group.now }
+    requires below { sparse < sparse_size_of group.now }
     ensures view { (v : Sight) → IsView group.now.grid group.now.tiles v
         → sparse_in group.now.grid v ≡ sparse
         → result ≡ min (slice_index least.now (place_in group.now.grid v)) 255 }
-    ensures none { ¬ AllPairs (λ x y. x ≢ y)
-        (digits_in (cell_count group.now.grid) (length group.now.tiles) sparse)
-        → result ≡ 255 }
+    ensures none { HasNoView group.now sparse → result ≡ 255 }
 {
     match group.place_of_sparse(sparse) {
         Some(place) => least[place].min(255) as u8,

@@ -6,7 +6,7 @@ ghost use Rattle.database_build.specs.Laws.{PotentialsAreLowerBounds};
 ghost use Rattle.database_build.specs.Laws.{FoldedValuesAreLow, FoldedValuesAreReached};
 ghost use Rattle.database_build.specs.Laws.{FoldedValuesAreDetermined};
 
-use crate::folding::MOST_BYTES;
+use crate::folding::{BYTES_A_VALUE, MOST_BYTES};
 use crate::table::NO_VALUE;
 
 /// The value that stands for no plan is the greatest of 16 bits.
@@ -17,6 +17,11 @@ pub fn no_value_is_greatest()
 /// The most bytes of a group are one for each sparse place of six tiles of a board of 4 by 4.
 pub fn most_bytes_are_those_of_six_tiles()
     ensures { MOST_BYTES ≡ 16 ^ 6 }
+{}
+
+/// A group has at most four bytes for each of its values.
+pub fn bytes_a_value_are_four()
+    ensures { BYTES_A_VALUE ≡ 4 }
 {}
 
 /// A view has one value.
