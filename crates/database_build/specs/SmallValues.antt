@@ -19,10 +19,11 @@ HasNoView g sparse = ¬ AllPairs (λ x y. x ≢ y) (digits_in (cell_count g.grid
 abbrev pub most_bytes : Selection → ℕ
 most_bytes g = min MOST_BYTES (BYTES_A_VALUE * folded_size_of g)
 
--- there are bytes where they are no more than that, and none else
+-- there are bytes where they are no more than that, and none else; there is none behind the last sparse place
 pub record HasBytes (fold : Fold) (bytes : List ℕ) : Type 0 where
   pub few : sparse_size_of fold.selection ≤ most_bytes fold.selection → AreBytesOf fold bytes
   pub many : most_bytes fold.selection < sparse_size_of fold.selection → bytes ≡ []
+  pub no_more : length bytes ≤ sparse_size_of fold.selection
   -- a byte where no view is says that there is no value
   pub others : (sparse byte : ℕ) → HasNoView fold.selection sparse → slice_get bytes sparse ≡ Some byte → byte ≡ 255
 

@@ -85,6 +85,7 @@ impl Folded {
             ⊎ (most_bytes self.now.selection < sparse_size_of self.now.selection)) }
         ensures high { IfSome result (λ value. value < 255) }
         ensures others { HasNoView self.now.selection sparse → result ≡ None }
+        ensures past { sparse_size_of self.now.selection ≤ sparse → result ≡ None }
     {
         let Some(byte) = self.bytes.get(sparse) else {
             return None;
@@ -177,6 +178,7 @@ fn fill_bytes(group: &Group, least: &[u16], bytes: &mut [u8])
     ensures views { AreBytesOf (record { selection = group.now; least = least.now }) bytes.new }
     ensures others { (sparse : ℕ) (byte : ℕ) → HasNoView group.now sparse
         → slice_get bytes.new sparse ≡ Some byte → byte ≡ 255 }
+    ensures all { length bytes.new ≡ sparse_size_of group.now }
 {
     'bytes: for sparse in 0..bytes.len() {
         bytes[sparse] = byte_at(group, least, sparse);
