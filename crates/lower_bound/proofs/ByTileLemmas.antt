@@ -5,7 +5,7 @@ use Rattle.std.proofs.lemmas.Bool.{cases_order}
 use Rattle.std.proofs.Math.Nat.{eq-or-lt_of_le}
 use Rattle.pattern_index.specs.Splits.{ShareNoTile}
 use Rattle.database_build.specs.Folds.{Fold}
-use Rattle.lower_bound.specs.ByTile.{IsTableWith, AreTablesByTile}
+use Rattle.lower_bound.specs.ByTile.{IsTableWith}
 use Rattle.lower_bound.specs.Laws.{ATileHasOneTable}
 
 -- where none of the groups has a tile, no table does

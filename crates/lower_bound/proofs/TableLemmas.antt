@@ -14,8 +14,11 @@ use Rattle.database_build.specs.Tables.{Lookup, value_in}
 use Rattle.database_build.specs.Folds.{Fold}
 use Rattle.lower_bound.specs.Bounds.{Part, sum_of}
 use Rattle.lower_bound.specs.Folded.{AreFoldsOf, AreFoldedPotentials, folded_parts}
-use Rattle.lower_bound.specs.Lists.{IsFoldedBound}
+use Rattle.lower_bound.specs.Laws.{AreOneEach}
+use Rattle.lower_bound.specs.Lists.{AreListed, IsFoldedBound}
 use Rattle.lower_bound.specs.Tables.{Tables, IsTables, AreTablesOf, ArePotentials, AreWhole, part_of, parts_of}
+use Rattle.lower_bound.specs.declared.bound.TableList.{TableList}
+use Rattle.lower_bound.specs.declared.bound.TableList.TheVariants.{Whole, Folded}
 use Rattle.lower_bound.proofs.BoundLemmas.{led_grid}
 use Rattle.lower_bound.proofs.WholeLemmas.{of_each, of_tables, whole_bound}
 use Rattle.lower_bound.proofs.FoldedLemmas.{folded_sums_below, folds_of_potentials}
@@ -52,6 +55,11 @@ folded_each tables is none_whole =
     ap (map (λ (fold : Fold). fold.selection)) each.1 ∙ sym (ap (map (λ (table : Lookup). table.selection)) none_whole) ∙ each.0)
     (λ (folded : AreFoldsOf tables.split.groups tables.folds × (tables.lookups ≡ [])). folded.0)
     is.one_each
+
+-- so tables that are given out are one for each group
+pub listed_each : (tables : Tables) (list : TableList) → IsTables tables → AreListed tables list → AreOneEach tables.split.groups list
+listed_each tables (Whole lookups) is listed = ap (map (λ (table : Lookup). table.selection)) listed.0 ∙ whole_each tables is listed.1
+listed_each tables (Folded folds) is listed = ap (map (λ (fold : Fold). fold.selection)) listed.0 ∙ folded_each tables is listed.1
 
 -- each table is of the partition's grid
 pub table_grids : (tables : Tables) → IsTables tables → All (λ table. table.selection.grid ≡ tables.split.grid) tables.lookups

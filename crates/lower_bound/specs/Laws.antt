@@ -5,10 +5,14 @@ use Rattle.board.specs.Positions.{Position, IsBoard, blank_of}
 use Rattle.board.specs.CostRules.{CostRule}
 use Rattle.board.specs.Moves.{Moves}
 use Rattle.board.specs.Rows.{IsLowerBound}
+use Rattle.pattern_index.specs.Selections.{Selection}
 use Rattle.pattern_index.specs.Splits.{Split, IsSplit, ShareNoTile}
 use Rattle.database_build.specs.Folds.{Fold}
 use Rattle.lower_bound.specs.Bounds.{Part, IsBound, sum_of}
-use Rattle.lower_bound.specs.Tables.{Tables, IsTables, ArePotentials, parts_of}
+use Rattle.lower_bound.specs.Tables.{Tables, IsTables, AreTablesOf, ArePotentials, parts_of}
+use Rattle.lower_bound.specs.Lists.{AreListed}
+use Rattle.lower_bound.specs.declared.bound.TableList.{TableList}
+use Rattle.lower_bound.specs.declared.bound.TableList.TheVariants.{Whole, Folded}
 use Rattle.lower_bound.specs.ByTile.{AreTablesByTile}
 use Rattle.lower_bound.specs.Folded.{AreFoldsOf, AreFoldedPotentials, IsBefore, folded_parts, values_of}
 
@@ -34,6 +38,15 @@ FoldedSumsAreLowerBounds =
     → AreFoldsOf split.groups folds
     → AreFoldedPotentials rule goal folds
     → IsLowerBound rule (sum_of (folded_parts folds)) goal
+
+-- tables as they are given out: one for each group, in the order of the groups
+abbrev pub AreOneEach : List Selection → TableList → Type 0
+AreOneEach groups (Whole lookups) = AreTablesOf groups lookups.now
+AreOneEach groups (Folded folds) = AreFoldsOf groups folds.now
+
+-- the tables that are given out are one for each group
+abbrev pub ListedTablesAreOneEach : Type 0
+ListedTablesAreOneEach = (tables : Tables) (list : TableList) → IsTables tables → AreListed tables list → AreOneEach tables.split.groups list
 
 -- a move leaves each tile but one where it stood: all but that which stood where the blank is after it
 abbrev pub MovesMoveOneTile : Type 0

@@ -3,7 +3,7 @@
 ghost use Rattle.std.specs.Prelude.{◌≡◌, ◌*◌};
 ghost use Rattle.lower_bound.specs.Laws.{SumsAreLowerBounds, TablesAreLowerBounds};
 ghost use Rattle.lower_bound.specs.Laws.{FoldedSumsAreLowerBounds, MovesMoveOneTile, ValuesAddUp};
-ghost use Rattle.lower_bound.specs.Laws.{ATileHasOneTable};
+ghost use Rattle.lower_bound.specs.Laws.{ATileHasOneTable, ListedTablesAreOneEach};
 
 use crate::bound::GREATEST_SUM;
 use database_build::NO_VALUE;
@@ -22,6 +22,11 @@ pub fn sums_are_lower_bounds()
 /// So is a sum of folded values, where each table was folded from a potential.
 pub fn folded_sums_are_lower_bounds()
     ensures { FoldedSumsAreLowerBounds }
+{}
+
+/// The tables that a bound gives out are one for each of its groups, in the order of the groups.
+pub fn listed_tables_are_one_each()
+    ensures { ListedTablesAreOneEach }
 {}
 
 /// A move leaves each tile but one where it stood.

@@ -1,5 +1,5 @@
 -- What lies in memory, and `==` of it.
-use Rattle.std.proofs.Common.{◌≡◌, ◌≢◌, ℕ, suc, ◌+◌, ◌-◌, ◌<◌, ◌≤◌, Bool, List, [], ◌∷◌, ◌++◌, length, map, set, drop, take, replicate, get_or, refl, sym, ap, ◌∙◌, ⊎_elim, arith, add-one}
+use Rattle.std.proofs.Common.{◌≡◌, ◌≢◌, ℕ, zero, suc, ◌+◌, ◌-◌, ◌<◌, ◌≤◌, Bool, List, [], ◌∷◌, ◌++◌, length, map, set, drop, take, replicate, get_or, refl, sym, ap, ◌∙◌, ⊎_elim, arith, add-one}
 use Rattle.std.specs.Prelude.{slice_index}
 use Rattle.std.specs.Bool.{Decides}
 use Rattle.std.specs.List.{AllByRecursion}
@@ -35,6 +35,22 @@ met_more b tiles cells cell board is cell_in room met number number_in low =
   where
     less : (x y : ℕ) → x < y + 1 → x ≢ y → x < y
     less x y lt ne = ⊎_elim (λ (h : x < y). h) (λ (h : y ≤ x). absurd (ne (omega arith))) (cases_lt x y)
+
+-- a number that the board doesn't have has no cell
+pub met_no_other : (b : Position) (tiles cells : List ℕ) (cell : ℕ) → IsBoard b → tiles ≡ b.tiles → cell < length tiles → ((number : ℕ) → cell_count b.grid ≤ number → get_or cells number 0 ≡ 0) → (number : ℕ) → cell_count b.grid ≤ number → get_or (set cells (get_or tiles cell 0) cell) number 0 ≡ 0
+met_no_other b tiles cells cell board is cell_in others number high =
+    let tile : ℕ = get_or tiles cell 0 in
+    let holds : get_or b.tiles cell 0 ≡ tile = ap (λ (ts : List ℕ). get_or ts cell 0) (sym is) in
+    let within : cell < length b.tiles = rw is at cell_in in
+    let small = board.in_range cell 0 within in
+    let other : number ≢ tile = λ same. absurd (omega (arith, small, holds, same, high)) in
+    get_or-set_other cells tile number cell 0 other ∙ others number high
+
+-- zeros are 0 at each place, and behind the last
+pub zeros_are_0 : (count place : ℕ) → ◌≡◌ {A = ℕ} (get_or (replicate count 0) place 0) 0
+zeros_are_0 zero place = refl
+zeros_are_0 (suc count) zero = refl
+zeros_are_0 (suc count) (suc place) = zeros_are_0 count place
 
 -- ---- a view of a board
 

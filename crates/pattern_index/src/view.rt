@@ -128,12 +128,14 @@ impl View {
     }
 }
 
-/// The cell of each number of a board, by the number.
+/// The cell of each number of a board, by the number, and 0 for those that it doesn't have.
 pub fn cells_of(board: &Board) -> [u8; 25]
     ensures board { IsBoard board.now }
     ensures few { cell_count board.now.grid ≤ 25 }
     ensures cells { (number : ℕ) → number < cell_count board.now.grid
         → slice_index result number ≡ cell_of board.now number }
+    ensures others { (number : ℕ) → cell_count board.now.grid ≤ number
+        → slice_index result number ≡ 0 }
 {
     let mut cells = [0; 25];
     'cells: for (cell, tile) in board.tiles().iter().enumerate() {

@@ -1,0 +1,5 @@
+use Rattle.lower_bound.proofs.TableLemmas.{listed_each}
+use Rattle.lower_bound.proofs.laws.listed_tables_are_one_each.Goals as goal
+
+pub returns : goal.returns
+returns c = listed_each
