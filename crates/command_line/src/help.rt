@@ -174,9 +174,9 @@ by 2 up to 6 cells, by 4 up to 10, by 5 up to 16, else by 4]";
 /// The option `--fold`.
 pub(crate) const FOLD: &str = "\
 Folds the tables: for each way in which a group's tiles can stand, the least value over the
-blank's places is kept. On 4 by 4 they take an eleventh of the memory (a tenth for groups
-of 6 tiles) and add up faster, but to lower sums, so that more boards are expanded; the
-costs of plans stay the same";
+blank's places is kept. On 4 by 4 they take less than a fifth of the memory (a quarter for
+groups of 6 tiles) and add up faster, but to lower sums, so that more boards are expanded;
+the costs of plans stay the same";
 
 /// The option `--workers`.
 pub(crate) const WORKERS: &str = "Workers that share the search, 1 to 16";

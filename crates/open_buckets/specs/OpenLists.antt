@@ -48,7 +48,7 @@ pub record Takes {K : Type 0} (f : ℕ) (entry : K × ℕ) (old new : OpenList K
   pub places : places_at new f ≡ places_at old f + 1
   pub others : OthersStay f old new
 
--- the entry that is taken next: the last that was put at f, which is the least f of all
+-- the entry that is taken next: the last one at f, which is the least f of all
 pub record IsNext {K : Type 0} (f : ℕ) (entry : K × ℕ) (list : OpenList K) : Type 0 where
   pub last : (rest : List (K × ℕ)) × (entries_at list f ≡ rest ++ entry ∷ [])
   pub least : NothingWaits list f
