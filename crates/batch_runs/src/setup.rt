@@ -1,6 +1,6 @@
 //! What all lines of a batch have in common.
 
-ghost use Rattle.std.specs.Prelude.{◌≡◌, ◌≤◌, ◌↔◌, IsOk, IfOk, IfErr};
+ghost use Rattle.std.specs.Prelude.{◌≡◌, ◌≤◌, ◌↔◌, [], Ok, IsOk, IfOk, IfErr};
 ghost use Rattle.batch_runs.specs.Setups.{Guides, IsFoldedSetup, plain_setup};
 ghost use Rattle.world_model.specs.declared.limits.TheConstants.{WORKER_LIMIT};
 
@@ -89,10 +89,11 @@ impl Setup {
         setup
     }
 
-    /// The setup with the same tables, folded: no sum of theirs is higher. An error is answered
-    /// only where memory was refused.
+    /// The setup with the same tables, folded: no sum of theirs is higher. A setup that has no whole
+    /// table stays as it is. An error is answered only where memory was refused.
     pub fn folded(self, alloc: Global) -> Result<Self, OutOfMemory>
-        ensures { IfOk result (IsFoldedSetup self) }
+        ensures folded { IfOk result (IsFoldedSetup self) }
+        ensures kept { self.tables.lookups ≡ [] → result ≡ Ok self }
     {
         let Setup {
             goal,

@@ -78,6 +78,18 @@ folded_sums_below rule goal split folds is same each slow b board plan k leads =
     let bound = whole_bound rule goal split made.lookups is (made.selections ∙ each) same potentials b board plan k leads in
     omega arith
 
+-- what folded tables say of a board adds up to no more than what those say that they were folded from
+pub folds_low : (b : Position) (tables : List Lookup) (folds : List Fold) → IsBoard b → AreFolded tables folds → AllByRecursion (λ table. IsSelection table.selection × (table.selection.grid ≡ b.grid)) tables → sum_of (folded_parts folds) b ≤ sum_of (map part_of tables) b
+folds_low b [] [] board is fits = omega arith
+folds_low b [] (f ∷ folds) board is fits = absurd is
+folds_low b (t ∷ tables) [] board is fits = absurd is
+folds_low b (t ∷ tables) (f ∷ folds) board is fits =
+    let first = fold_low t f b is.0 board (subst (λ (g : Selection). Fits b.grid g) (sym is.0.selection) fits.0) in
+    let rest = folds_low b tables folds board is.1 fits.1 in
+    let before = sum_by-cons (λ (p : Part). p.value (view_of p.tiles b)) (part_folded f) (folded_parts folds) in
+    let after = sum_by-cons (λ (p : Part). p.value (view_of p.tiles b)) (part_of t) (map part_of tables) in
+    omega (arith, first, rest, before, after)
+
 -- what folded tables say of a board adds up to its sum
 pub folds_sum : (folds : List Fold) (b : Position) → sum_by (value_for b) folds ≡ sum_of (folded_parts folds) b
 folds_sum [] b = refl

@@ -1,27 +1,28 @@
 -- Why tables of a partition, whole or folded, are a bound.
 use Rattle.std.proofs.Common.{◌≡◌, ℕ, ◌+◌, ◌<◌, ◌≤◌, List, [], ◌++◌, map, length, get_or, sym, ap, ◌∙◌, subst, ⊎_elim, arith}
 use Rattle.std.specs.Prelude.{All, AllPairs}
+use Rattle.std.proofs.lemmas.List.Elements.{recursion_from_All}
 use Rattle.std.proofs.lemmas.List.{append-nil, length-map, get_or-map}
 use Rattle.board.specs.Grids.{Grid}
 use Rattle.board.specs.Positions.{Position, IsBoard}
 use Rattle.board.specs.CostRules.{CostRule}
 use Rattle.board.specs.Plans.{NothingBelow}
 use Rattle.board.specs.Rows.{IsLowerBound}
-use Rattle.pattern_index.specs.Selections.{Selection}
+use Rattle.pattern_index.specs.Selections.{Selection, IsSelection}
 use Rattle.pattern_index.specs.Splits.{ShareNoTile}
 use Rattle.database_build.specs.Values.{IsPotential}
 use Rattle.database_build.specs.Tables.{Lookup, value_in}
 use Rattle.database_build.specs.Folds.{Fold}
 use Rattle.lower_bound.specs.Bounds.{Part, sum_of}
 use Rattle.lower_bound.specs.Folded.{AreFoldsOf, AreFoldedPotentials, folded_parts}
-use Rattle.lower_bound.specs.Laws.{AreOneEach}
+use Rattle.lower_bound.specs.Laws.{AreOneEach, FoldedBoundsSayNoMore}
 use Rattle.lower_bound.specs.Lists.{AreListed, IsFoldedBound}
 use Rattle.lower_bound.specs.Tables.{Tables, IsTables, AreTablesOf, ArePotentials, AreWhole, part_of, parts_of}
 use Rattle.lower_bound.specs.declared.bound.TableList.{TableList}
 use Rattle.lower_bound.specs.declared.bound.TableList.TheVariants.{Whole, Folded}
 use Rattle.lower_bound.proofs.BoundLemmas.{led_grid}
 use Rattle.lower_bound.proofs.WholeLemmas.{of_each, of_tables, whole_bound}
-use Rattle.lower_bound.proofs.FoldedLemmas.{folded_sums_below, folds_of_potentials}
+use Rattle.lower_bound.proofs.FoldedLemmas.{folded_sums_below, folds_low, folds_of_potentials}
 
 none : {X : Type 0} (P : X → Type 0) (xs : List X) → xs ≡ [] → All P xs
 none P xs same k d k_in = let long : length xs ≡ 0 = ap length same in absurd (omega arith)
@@ -136,6 +137,25 @@ folded_potentials rule goal tables folded is made potentials = record {
       (λ (old : AreFoldsOf tables.split.groups tables.folds × (tables.lookups ≡ [])). subst (λ (fs : List Fold). AreFoldedPotentials rule goal fs) (sym (made.kept old.1)) potentials.folded)
       is.one_each;
 }
+
+-- a bound whose tables were folded says no more
+pub folded_no_more : FoldedBoundsSayNoMore
+folded_no_more tables folded is made b board same =
+    let sum : sum_of (parts_of folded) b ≡ sum_of (folded_parts folded.folds) b = ap (λ (ps : List Part). sum_of ps b) (all_folded_parts folded made.none_whole) in
+    ⊎_elim
+    (λ (whole : AreTablesOf tables.split.groups tables.lookups × AreWhole tables).
+    let fit : All (λ table. IsSelection table.selection × (table.selection.grid ≡ b.grid)) tables.lookups = λ k d k_in. (
+      each_lookup (λ g. IsSelection g) tables is is.partition.groups k d k_in,
+      table_grids tables is k d k_in ∙ sym same,
+    ) in
+    let low = folds_low b tables.lookups folded.folds board (made.each whole.1) (recursion_from_All (λ table. IsSelection table.selection × (table.selection.grid ≡ b.grid)) tables.lookups fit) in
+    let before : sum_of (parts_of tables) b ≡ sum_of (map part_of tables.lookups) b = ap (λ (ps : List Part). sum_of ps b) (whole_parts tables whole.1) in
+    omega (arith, sum, low, before))
+    (λ (old : AreFoldsOf tables.split.groups tables.folds × (tables.lookups ≡ [])).
+    let kept : sum_of (folded_parts folded.folds) b ≡ sum_of (folded_parts tables.folds) b = ap (λ (fs : List Fold). sum_of (folded_parts fs) b) (made.kept old.1) in
+    let before : sum_of (parts_of tables) b ≡ sum_of (folded_parts tables.folds) b = ap (λ (ps : List Part). sum_of ps b) (all_folded_parts tables old.1) in
+    omega (arith, sum, kept, before))
+    is.one_each
 
 -- no more tables than a partition may have groups
 pub few_folds : (tables : Tables) → IsTables tables → length tables.folds ≤ 24

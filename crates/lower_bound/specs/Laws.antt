@@ -1,5 +1,5 @@
 -- The laws of sums. Each is the contract of a function that does nothing.
-use Rattle.std.specs.Prelude.{ℕ, ◌≡◌, ◌<◌, ◌↔◌, List, length, All, AllPairs, Contains, get_or, slice_index, slice_index_or, sum}
+use Rattle.std.specs.Prelude.{ℕ, ◌≡◌, ◌<◌, ◌≤◌, ◌↔◌, List, length, All, AllPairs, Contains, get_or, slice_index, slice_index_or, sum}
 use Rattle.board.specs.declared.moves.Move.{Move}
 use Rattle.board.specs.Positions.{Position, IsBoard, blank_of}
 use Rattle.board.specs.CostRules.{CostRule}
@@ -10,7 +10,7 @@ use Rattle.pattern_index.specs.Splits.{Split, IsSplit, ShareNoTile}
 use Rattle.database_build.specs.Folds.{Fold}
 use Rattle.lower_bound.specs.Bounds.{Part, IsBound, sum_of}
 use Rattle.lower_bound.specs.Tables.{Tables, IsTables, AreTablesOf, ArePotentials, parts_of}
-use Rattle.lower_bound.specs.Lists.{AreListed}
+use Rattle.lower_bound.specs.Lists.{AreListed, IsFoldedBound}
 use Rattle.lower_bound.specs.declared.bound.TableList.{TableList}
 use Rattle.lower_bound.specs.declared.bound.TableList.TheVariants.{Whole, Folded}
 use Rattle.lower_bound.specs.ByTile.{AreTablesByTile}
@@ -38,6 +38,17 @@ FoldedSumsAreLowerBounds =
     → AreFoldsOf split.groups folds
     → AreFoldedPotentials rule goal folds
     → IsLowerBound rule (sum_of (folded_parts folds)) goal
+
+-- a bound whose tables were folded says no more of a board than it said before
+abbrev pub FoldedBoundsSayNoMore : Type 0
+FoldedBoundsSayNoMore =
+    (tables folded : Tables)
+    → IsTables tables
+    → IsFoldedBound tables folded
+    → (b : Position)
+    → IsBoard b
+    → b.grid ≡ tables.split.grid
+    → sum_of (parts_of folded) b ≤ sum_of (parts_of tables) b
 
 -- tables as they are given out: one for each group, in the order of the groups
 abbrev pub AreOneEach : List Selection → TableList → Type 0

@@ -1,7 +1,7 @@
 //! Tables for the groups of a partition, whole or folded, whose values are added.
 
 ghost use Rattle.std.specs.Prelude.{◌≡◌, ◌↔◌, ◌*◌, ◌<◌, ◌≤◌, [], length, slice_get, All, Some, sum_by};
-ghost use Rattle.std.specs.Prelude.{IsTrue, IsOk, IsErrOf, IfOk, MatchOption};
+ghost use Rattle.std.specs.Prelude.{IsTrue, IsOk, IsErrOf, IfOk, MatchOption, Ok};
 ghost use Rattle.board.specs.Positions.{Position};
 ghost use Rattle.board.specs.CostRules.{CostRule};
 ghost use Rattle.board.specs.Plans.{NothingBelow};
@@ -104,10 +104,11 @@ impl Bound {
     }
 
     /// The bound by the same tables, folded: each whole one is given back when it was folded.
-    /// Where they are potentials, or were folded from such, so are the folded ones. An error is
-    /// answered only where memory was refused.
+    /// Where they are potentials, or were folded from such, so are the folded ones. A bound that
+    /// has no whole table stays as it is. An error is answered only where memory was refused.
     pub fn folded(self, alloc: Global) -> Result<Self, OutOfMemory>
         ensures folded { IfOk result (IsFoldedBound self) }
+        ensures kept { self.lookups ≡ [] → result ≡ Ok self }
         ensures potentials { (rule : CostRule) (goal : Position) →
             ArePotentials rule goal self → IfOk result (ArePotentials rule goal) }
     {
@@ -118,7 +119,7 @@ impl Bound {
         } = self;
         let folds = match held {
             Held::Whole(tables) => fold_all(alloc, tables)?,
-            Held::Folded(folds) => folds,
+            Held::Folded(kept) => kept,
         };
         let by_tile = find_tables_by_tile(&folds);
         Ok(Bound {
@@ -253,10 +254,11 @@ fn are_folds_of(groups: &[Group], folds: &[Folded]) -> bool
     true
 }
 
-// The tables folded, each given back then.
+// The tables folded, each given back then. Where there is none, nothing is refused.
 fn fold_all(alloc: Global, tables: Vec<Table>) -> Result<Vec<Folded>, OutOfMemory>
     requires { length tables.items ≤ 24 }
-    ensures { IfOk result (λ folds. AreFolded tables.items folds.items) }
+    ensures folded { IfOk result (λ folds. AreFolded tables.items folds.items) }
+    ensures none { tables.items ≡ [] → IsOk result }
 {
     let mut folds = with_capacity(alloc, tables.len())?;
     'whole: for table in tables {

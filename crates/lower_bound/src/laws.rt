@@ -4,6 +4,7 @@ ghost use Rattle.std.specs.Prelude.{◌≡◌, ◌*◌};
 ghost use Rattle.lower_bound.specs.Laws.{SumsAreLowerBounds, TablesAreLowerBounds};
 ghost use Rattle.lower_bound.specs.Laws.{FoldedSumsAreLowerBounds, MovesMoveOneTile, ValuesAddUp};
 ghost use Rattle.lower_bound.specs.Laws.{ATileHasOneTable, ListedTablesAreOneEach};
+ghost use Rattle.lower_bound.specs.Laws.{FoldedBoundsSayNoMore};
 
 use crate::bound::GREATEST_SUM;
 use database_build::NO_VALUE;
@@ -22,6 +23,11 @@ pub fn sums_are_lower_bounds()
 /// So is a sum of folded values, where each table was folded from a potential.
 pub fn folded_sums_are_lower_bounds()
     ensures { FoldedSumsAreLowerBounds }
+{}
+
+/// A bound whose tables were folded says no more of a board than it said before.
+pub fn folded_bounds_say_no_more()
+    ensures { FoldedBoundsSayNoMore }
 {}
 
 /// The tables that a bound gives out are one for each of its groups, in the order of the groups.

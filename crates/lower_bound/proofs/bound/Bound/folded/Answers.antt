@@ -21,11 +21,11 @@ invariant_of-result c = (is_tables, subst (λ (folds : List Fold). AreTablesByTi
     each = elim c.match-held.branch [
       | in-Whole+in_ok-folds-in-Whole w ↦
           ap (λ (folds : Vec Fold Global). map (λ (fold : Fold). fold.selection) folds.items) w.folds-is
-          ∙ folded_groups w.in-Whole.tables.items w.in_ok-folds-in-Whole.folds.items w.in_ok-folds-in-Whole.ensures
+          ∙ folded_groups w.in-Whole.tables.items w.in_ok-folds-in-Whole.folds.items w.in_ok-folds-in-Whole.ensures.folded
           ∙ whole_each (tables_in c.self.inside.partition (Whole w.in-Whole.tables)) (there (Whole w.in-Whole.tables) w.in-Whole.is) refl
       | in-Folded w ↦
           ap (λ (folds : Vec Fold Global). map (λ (fold : Fold). fold.selection) folds.items) w.folds-is
-          ∙ folded_each (tables_in c.self.inside.partition (Folded w.in-Folded.folds)) (there (Folded w.in-Folded.folds) w.in-Folded.is) refl
+          ∙ folded_each (tables_in c.self.inside.partition (Folded w.in-Folded.kept)) (there (Folded w.in-Folded.kept) w.in-Folded.is) refl
     ]
 
     is_tables : IsTables (tables_in c.self.inside.partition (Folded c.match-held.folds))
