@@ -5,3 +5,4 @@ pub mod GroupLemmas
 pub mod BlockLemmas
 pub mod LookupLemmas
 pub mod SuccessorLemmas
+pub mod LawLemmas

@@ -1,6 +1,9 @@
-//! A law: the contract of a function that does no more than it says.
+//! The laws of refusals: each is the contract of a function that does no more than it says.
 
 ghost use Rattle.std.specs.Prelude.{◌≡◌, ◌↔◌, IsTrue};
+ghost use Rattle.certificate_check.specs.Laws.{FoldedTablesAreRefused};
+ghost use Rattle.certificate_check.specs.Laws.{TablesOfAnotherShapeAreRefused};
+ghost use Rattle.certificate_check.specs.Laws.{ProvedWithWholeTables, ProvedHasNoCause, NoCauseIsProved};
 
 use crate::refusals::Refusal;
 
@@ -10,3 +13,18 @@ pub fn refusals_are_compared(a: Refusal, b: Refusal) -> bool
 {
     a == b
 }
+
+/// Folded tables are refused by C4 at the first place, whatever they were folded from, where the
+/// plan leads, if one is claimed. So are tables of another shape than the certificate's groups.
+pub fn folded_tables_are_refused()
+    ensures folded { FoldedTablesAreRefused }
+    ensures shape { TablesOfAnotherShapeAreRefused }
+{}
+
+/// A certificate is proved with whole tables only, and where there is no cause to refuse it, and
+/// only there.
+pub fn proved_certificates_are_not_refused()
+    ensures whole { ProvedWithWholeTables }
+    ensures none { ProvedHasNoCause }
+    ensures all { NoCauseIsProved }
+{}

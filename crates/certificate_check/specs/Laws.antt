@@ -1,0 +1,27 @@
+-- The laws of refusals. Each is the contract of a function that does nothing.
+use Rattle.std.specs.Prelude.{◌≡◌, ◌≢◌, []}
+use Rattle.lower_bound.specs.Tables.{Tables, IsTables}
+use Rattle.certificate.specs.Certificates.{Statement, IsCertificate}
+use Rattle.certificate_check.specs.declared.refusals.Refusal.{Refusal}
+use Rattle.certificate_check.specs.declared.refusals.Refusal.TheVariants.{UnfitGroup}
+use Rattle.certificate_check.specs.Refusals.{ItsPlanLeads, IsProved, IsCause, IsFirstRefusal}
+
+-- where a table is folded and the plan leads, if one is claimed, the first refusal is that of the first place
+abbrev pub FoldedTablesAreRefused : Type 0
+FoldedTablesAreRefused = (c : Statement) (tables : Tables) → ItsPlanLeads c → tables.folds ≢ [] → IsFirstRefusal c tables (UnfitGroup 0)
+
+-- and so it is where the tables are of another shape than the certificate's groups
+abbrev pub TablesOfAnotherShapeAreRefused : Type 0
+TablesOfAnotherShapeAreRefused = (c : Statement) (tables : Tables) → ItsPlanLeads c → c.groups.grid ≢ tables.split.grid → IsFirstRefusal c tables (UnfitGroup 0)
+
+-- a certificate is proved with tables of which none is folded
+abbrev pub ProvedWithWholeTables : Type 0
+ProvedWithWholeTables = (c : Statement) (tables : Tables) → IsProved c tables → tables.folds ≡ []
+
+-- there is no cause to refuse a certificate that is proved
+abbrev pub ProvedHasNoCause : Type 0
+ProvedHasNoCause = (c : Statement) (tables : Tables) → IsProved c tables → (refusal : Refusal) → ¬ IsCause c tables refusal
+
+-- and where there is none, it is proved
+abbrev pub NoCauseIsProved : Type 0
+NoCauseIsProved = (c : Statement) (tables : Tables) → IsCertificate c → IsTables tables → ((refusal : Refusal) → ¬ IsCause c tables refusal) → IsProved c tables
