@@ -1,10 +1,25 @@
 -- The laws of refusals. Each is the contract of a function that does nothing.
-use Rattle.std.specs.Prelude.{◌≡◌, ◌≢◌, []}
+use Rattle.std.specs.Prelude.{ℕ, ◌≡◌, ◌≢◌, List, [], Some}
+use Rattle.board.specs.declared.moves.Move.{Move}
+use Rattle.board.specs.Positions.{Position}
+use Rattle.board.specs.Plans.{Leads, IsStuckAt}
 use Rattle.lower_bound.specs.Tables.{Tables, IsTables}
 use Rattle.certificate.specs.Certificates.{Statement, IsCertificate}
 use Rattle.certificate_check.specs.declared.refusals.Refusal.{Refusal}
-use Rattle.certificate_check.specs.declared.refusals.Refusal.TheVariants.{UnfitGroup}
+use Rattle.certificate_check.specs.declared.refusals.Refusal.TheVariants.{IllegalMove, OtherEnd, OtherCost, UnfitGroup}
 use Rattle.certificate_check.specs.Refusals.{ItsPlanLeads, IsProved, IsCause, IsFirstRefusal}
+
+-- whatever the tables are, a claimed plan with an illegal move is refused for its first such move
+abbrev pub IllegalMovesAreRefusedFirst : Type 0
+IllegalMovesAreRefusedFirst = (c : Statement) (tables : Tables) (plan : List Move) (place : ℕ) → c.plan ≡ Some plan → IsStuckAt c.costs c.start plan place → IsFirstRefusal c tables (IllegalMove place)
+
+-- one that ends at another board than the goal is refused for that
+abbrev pub OtherEndsAreRefusedFirst : Type 0
+OtherEndsAreRefusedFirst = (c : Statement) (tables : Tables) (plan : List Move) (end : Position) (k : ℕ) → c.plan ≡ Some plan → Leads c.costs c.start plan end k → end ≢ c.goal → IsFirstRefusal c tables OtherEnd
+
+-- and one that ends there at another cost than the stated one for that
+abbrev pub OtherCostsAreRefusedFirst : Type 0
+OtherCostsAreRefusedFirst = (c : Statement) (tables : Tables) (plan : List Move) (k : ℕ) → c.plan ≡ Some plan → Leads c.costs c.start plan c.goal k → k ≢ c.cost → IsFirstRefusal c tables OtherCost
 
 -- where a table is folded and the plan leads, if one is claimed, the first refusal is that of the first place
 abbrev pub FoldedTablesAreRefused : Type 0

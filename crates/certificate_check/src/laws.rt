@@ -1,6 +1,8 @@
 //! The laws of refusals: each is the contract of a function that does no more than it says.
 
 ghost use Rattle.std.specs.Prelude.{◌≡◌, ◌↔◌, IsTrue};
+ghost use Rattle.certificate_check.specs.Laws.{IllegalMovesAreRefusedFirst};
+ghost use Rattle.certificate_check.specs.Laws.{OtherEndsAreRefusedFirst, OtherCostsAreRefusedFirst};
 ghost use Rattle.certificate_check.specs.Laws.{FoldedTablesAreRefused};
 ghost use Rattle.certificate_check.specs.Laws.{TablesOfAnotherShapeAreRefused};
 ghost use Rattle.certificate_check.specs.Laws.{ProvedWithWholeTables, ProvedHasNoCause, NoCauseIsProved};
@@ -13,6 +15,14 @@ pub fn refusals_are_compared(a: Refusal, b: Refusal) -> bool
 {
     a == b
 }
+
+/// A claimed plan is judged before all else: by its first illegal move (C1), else by the board where
+/// it ends (C2), else by its cost (C3).
+pub fn plans_are_judged_first()
+    ensures illegal { IllegalMovesAreRefusedFirst }
+    ensures end { OtherEndsAreRefusedFirst }
+    ensures cost { OtherCostsAreRefusedFirst }
+{}
 
 /// Folded tables are refused by C4 at the first place, whatever they were folded from, where the
 /// plan leads, if one is claimed. So are tables of another shape than the certificate's groups.
