@@ -9,6 +9,7 @@ mod faults;
 mod folds;
 #[cfg(test)]
 mod groups;
+#[cfg(test)]
 mod parts;
 #[cfg(test)]
 mod sums;

@@ -24,7 +24,12 @@ fn partition_of(alloc: Global, shape: Shape, tiles: &[&[u8]]) -> Result<Partitio
 }
 
 // The bound of the groups of these tiles, by built tables.
-fn bound_of(alloc: Global, goal: &Board, weights: &Weights, tiles: &[&[u8]]) -> Result<Bound, Fail>
+pub(crate) fn bound_of(
+    alloc: Global,
+    goal: &Board,
+    weights: &Weights,
+    tiles: &[&[u8]],
+) -> Result<Bound, Fail>
     requires { weights.now.grid ≡ goal.now.grid }
     ensures { IfOk result (λ b. b.split.grid ≡ goal.now.grid) }
 {
