@@ -6,12 +6,13 @@ use crate::vectors::{GOAL, WITH_GROUPS};
 use board::{Board, Shape, Weights};
 use byte_streams::ByteSource;
 use certificate::{Certificate, FormatFault, ReadFault, read};
-use certificate_check::{Refusal, check};
+use certificate_check::{Refusal, check, check_parallel};
 use database_build::{Table, build};
 use lower_bound::{Bound, TableList};
 use pattern_index::{Group, Partition};
 use std::alloc::Global;
 use std::test::Fail;
+use std::thread::Threads;
 
 // The groups of these tiles.
 pub(crate) fn partition_of(alloc: Global, shape: Shape, tiles: &[&[u8]]) -> Result<Partition, Fail>
@@ -60,6 +61,18 @@ fn bound_of(alloc: Global, goal: &Board, groups: &[&[u8]]) -> Result<Bound, Fail
     let shape = goal.shape();
     let partition = partition_of(alloc, shape, groups)?;
     tables_of(alloc, partition, goal, &Weights::unit(shape))
+}
+
+// What is answered of a certificate by one thread, and by several.
+fn both_answers<R: Threads + Sync>(
+    rt: &R,
+    certificate: &Certificate,
+    bound: &Bound,
+) -> [Result<(), Refusal>; 2] {
+    [
+        check(certificate, bound),
+        check_parallel(rt, certificate, bound).unwrap(),
+    ]
 }
 
 #[test]
@@ -133,9 +146,16 @@ fn each_unfit_table(rt: HostRuntime) -> Result<(), Fail> {
     // Tables for another goal, and boards of another shape.
     let other = bound_of(rt.alloc(), &certificate.start(), &[&[1], &[3]])?;
     assert_eq!(rt; check(&certificate, &other), Err(Refusal::UnfitGroup(0)));
+    // The tables that fit, folded.
+    let folded = bound_of(rt.alloc(), &certificate.goal(), &[&[1], &[3]])?.folded(rt.alloc())?;
+    let answers = both_answers(&rt, &certificate, &folded);
+    assert_eq!(rt; answers, [Err(Refusal::UnfitGroup(0)); 2]);
     let goal = read(rt.alloc(), &mut ByteSource::new(&GOAL[..]))?;
     let wide = bound_of(rt.alloc(), &Board::goal(Shape::new(3, 3)?), &[])?;
     assert_eq!(rt; check(&goal, &wide), Err(Refusal::UnfitGroup(0)));
+    // Where there is no group, there is no table that could be folded.
+    let none = bound_of(rt.alloc(), &goal.goal(), &[])?.folded(rt.alloc())?;
+    assert_eq!(rt; both_answers(&rt, &goal, &none), [Ok(()); 2]);
     Ok(())
 }
 
@@ -179,6 +199,7 @@ fn one_value_too_high(rt: HostRuntime) -> Result<(), Fail> {
     }
     // A certificate is checked with whole tables.
     let folded = bound.folded(rt.alloc())?;
-    assert_eq!(rt; check(&certificate, &folded), Err(Refusal::UnfitGroup(0)));
+    let answers = both_answers(&rt, &certificate, &folded);
+    assert_eq!(rt; answers, [Err(Refusal::UnfitGroup(0)); 2]);
     Ok(())
 }
