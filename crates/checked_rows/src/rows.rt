@@ -31,6 +31,7 @@ const WORKERS: [usize; 3] = [1, 2, 16];
 #[derive(Clone, Copy)]
 enum Judge {
     Own,
+    OwnFolded,
     OfOtherGroups,
     OfNoGroups,
     OfAnotherGoal,
@@ -38,8 +39,9 @@ enum Judge {
 }
 
 impl Judge {
-    const ALL: [Judge; 5] = [
+    const ALL: [Judge; 6] = [
         Judge::Own,
+        Judge::OwnFolded,
         Judge::OfOtherGroups,
         Judge::OfNoGroups,
         Judge::OfAnotherGoal,
@@ -49,7 +51,8 @@ impl Judge {
     // The words for them.
     fn words(self) -> &'static str {
         match self {
-            Judge::Own => "the search's tables, built anew",
+            Judge::Own => "tables of the same groups, built anew",
+            Judge::OwnFolded => "tables of the same groups, folded",
             Judge::OfOtherGroups => "tables of other groups",
             Judge::OfNoGroups => "no tables",
             Judge::OfAnotherGoal => "tables for another goal",
@@ -59,7 +62,7 @@ impl Judge {
 }
 
 /// Prints for each judge what so many workers answer, and what the checker says of a plan that was
-/// found without it.
+/// found without it: where whole tables guide the search, and where the same guide it, folded.
 pub fn print_rows<R: Threads + Wait + Print + AllocGlobal + Sync>(rt: &R) -> io::Result<()> {
     let Some(problem) = problem(Costs::Unit) else {
         return Err(ErrorKind::InvalidData.into());
@@ -67,8 +70,16 @@ pub fn print_rows<R: Threads + Wait + Print + AllocGlobal + Sync>(rt: &R) -> io:
     let Some(bound) = bound_of(rt.alloc(), &problem.goal, &problem.weights, &GROUPS) else {
         return Err(ErrorKind::OutOfMemory.into());
     };
+    rt.println("## Guided by whole tables\n")?;
     for judge in Judge::ALL {
         print_judge(rt, &problem, &bound, judge)?;
+    }
+    let Ok(folded) = bound.folded(rt.alloc()) else {
+        return Err(ErrorKind::OutOfMemory.into());
+    };
+    rt.println("## Guided by folded tables\n")?;
+    for judge in [Judge::Own, Judge::OwnFolded] {
+        print_judge(rt, &problem, &folded, judge)?;
     }
     Ok(())
 }
@@ -128,6 +139,10 @@ fn tables_of(alloc: Global, judge: Judge) -> Option<Bound> {
     let unit = problem(Costs::Unit)?;
     match judge {
         Judge::Own => bound_of(alloc, &unit.goal, &unit.weights, &GROUPS),
+        Judge::OwnFolded => {
+            let whole = bound_of(alloc, &unit.goal, &unit.weights, &GROUPS)?;
+            whole.folded(alloc).ok()
+        }
         Judge::OfOtherGroups => bound_of(alloc, &unit.goal, &unit.weights, &OTHER_GROUPS),
         Judge::OfNoGroups => bound_of(alloc, &unit.goal, &unit.weights, &[]),
         Judge::OfAnotherGoal => tables_for_another_goal(alloc),
