@@ -3,6 +3,7 @@
 ghost use Rattle.std.specs.Prelude.{◌≡◌, IfSome};
 
 use crate::answer::{Answer, whole_if};
+use batch_runs::Setup;
 use board::{Board, Shape, Weights};
 use database_build::{Table, build, fold};
 use lower_bound::{Bound, TableList};
@@ -10,7 +11,7 @@ use memory::{copy_of, push};
 use pattern_index::{Group, Partition};
 use std::alloc::Global;
 use std::thread::Threads;
-use table_sets::build_folded_bound;
+use table_sets::{build_bound, build_folded_bound};
 
 /// Builds the table of tile 3 of 2 by 2 at face cost.
 pub fn build_table(alloc: Global) -> Answer {
@@ -88,6 +89,27 @@ pub fn fold_bound(alloc: Global) -> Answer {
     };
     match bound.folded(alloc) {
         Ok(folded) => whole_if(holds_folds_of_singles(&folded), "other folded tables"),
+        Err(_) => Answer::Refused,
+    }
+}
+
+/// Folds the tables of a setup, those of the same tiles. Where they find no memory, there are none
+/// to fold.
+pub fn fold_setup(rt: &(impl Threads + AllocGlobal + Sync)) -> Answer {
+    let goal = Board::goal(Shape::new(2, 2).unwrap());
+    let weights = Weights::face(goal.shape());
+    let Some(groups) = singles_of(rt.alloc(), goal.shape()) else {
+        return Answer::Refused;
+    };
+    let Ok(bound) = build_bound(rt, rt.alloc(), groups, &goal, &weights) else {
+        return Answer::Refused;
+    };
+    let setup = Setup::new(rt.alloc(), goal, weights).bound(bound);
+    match setup.folded(rt.alloc()) {
+        Ok(folded) => whole_if(
+            holds_folds_of_singles(folded.tables()),
+            "other folded tables",
+        ),
         Err(_) => Answer::Refused,
     }
 }

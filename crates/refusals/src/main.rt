@@ -21,7 +21,7 @@ mod workers;
 use answer::Answer;
 use certificates::{read_announcement, read_certificate};
 use containers::{reserve_closed, reserve_open};
-use databases::{build_folds, build_table, copy_partition, fold_bound, fold_table};
+use databases::{build_folds, build_table, copy_partition, fold_bound, fold_setup, fold_table};
 use runs::{
     check_certificate, check_groups, run_one_line, run_two_lines, write_certificate, write_groups,
 };
@@ -36,11 +36,12 @@ use std::thread::Threads;
 use workers::{expand_board, expand_in_full_table, meet_board, settle_items};
 
 // The names of all calls.
-const CALLS: [&str; 25] = [
+const CALLS: [&str; 26] = [
     "partition",
     "table",
     "fold",
     "fold-bound",
+    "fold-setup",
     "folded",
     "unit-2x2",
     "face-2x2",
@@ -72,6 +73,7 @@ fn call<R: Threads + Wait + AllocGlobal + Sync>(rt: &R, name: &str) -> Option<An
         "table" => Some(build_table(alloc)),
         "fold" => Some(fold_table(alloc)),
         "fold-bound" => Some(fold_bound(alloc)),
+        "fold-setup" => Some(fold_setup(rt)),
         "folded" => Some(build_folds(rt)),
         "unit-2x2" => Some(search(alloc, 2, &[3, 2, 1, 0], false, Some(6))),
         "face-2x2" => Some(search(alloc, 2, &[3, 2, 1, 0], true, Some(12))),
