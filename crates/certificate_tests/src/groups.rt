@@ -63,18 +63,6 @@ fn bound_of(alloc: Global, goal: &Board, groups: &[&[u8]]) -> Result<Bound, Fail
     tables_of(alloc, partition, goal, &Weights::unit(shape))
 }
 
-// What is answered of a certificate by one thread, and by several.
-fn both_answers<R: Threads + Sync>(
-    rt: &R,
-    certificate: &Certificate,
-    bound: &Bound,
-) -> [Result<(), Refusal>; 2] {
-    [
-        check(certificate, bound),
-        check_parallel(rt, certificate, bound).unwrap(),
-    ]
-}
-
 #[test]
 fn each_fault_of_groups(rt: HostRuntime) {
     let inputs: [(&[u8], FormatFault); 15] = [
@@ -146,16 +134,39 @@ fn each_unfit_table(rt: HostRuntime) -> Result<(), Fail> {
     // Tables for another goal, and boards of another shape.
     let other = bound_of(rt.alloc(), &certificate.start(), &[&[1], &[3]])?;
     assert_eq!(rt; check(&certificate, &other), Err(Refusal::UnfitGroup(0)));
-    // The tables that fit, folded.
-    let folded = bound_of(rt.alloc(), &certificate.goal(), &[&[1], &[3]])?.folded(rt.alloc())?;
-    let answers = both_answers(&rt, &certificate, &folded);
-    assert_eq!(rt; answers, [Err(Refusal::UnfitGroup(0)); 2]);
     let goal = read(rt.alloc(), &mut ByteSource::new(&GOAL[..]))?;
     let wide = bound_of(rt.alloc(), &Board::goal(Shape::new(3, 3)?), &[])?;
     assert_eq!(rt; check(&goal, &wide), Err(Refusal::UnfitGroup(0)));
-    // Where there is no group, there is no table that could be folded.
-    let none = bound_of(rt.alloc(), &goal.goal(), &[])?.folded(rt.alloc())?;
-    assert_eq!(rt; both_answers(&rt, &goal, &none), [Ok(()); 2]);
+    Ok(())
+}
+
+// What is answered of a certificate with folded tables of these groups, by one thread and by
+// several.
+fn answers_with_folded<R: Threads + Sync>(
+    rt: &R,
+    alloc: Global,
+    certificate: &Certificate,
+    groups: &[&[u8]],
+) -> Result<[Result<(), Refusal>; 2], Fail> {
+    let folded = bound_of(alloc, &certificate.goal(), groups)?.folded(alloc)?;
+    Ok([
+        check(certificate, &folded),
+        check_parallel(rt, certificate, &folded).unwrap(),
+    ])
+}
+
+#[test]
+fn folded_tables(rt: HostRuntime) -> Result<(), Fail> {
+    // Tables that fit but for that; and none, so that none is folded.
+    let rows: [(&[u8], &[&[u8]], Result<(), Refusal>); 2] = [
+        (&WITH_GROUPS, &[&[1], &[3]], Err(Refusal::UnfitGroup(0))),
+        (&GOAL, &[], Ok(())),
+    ];
+    for (bytes, groups, want) in rows {
+        let certificate = read(rt.alloc(), &mut ByteSource::new(bytes))?;
+        let answers = answers_with_folded(&rt, rt.alloc(), &certificate, groups)?;
+        assert_eq!(rt; answers, [want; 2], "{groups:?}");
+    }
     Ok(())
 }
 
@@ -199,7 +210,6 @@ fn one_value_too_high(rt: HostRuntime) -> Result<(), Fail> {
     }
     // A certificate is checked with whole tables.
     let folded = bound.folded(rt.alloc())?;
-    let answers = both_answers(&rt, &certificate, &folded);
-    assert_eq!(rt; answers, [Err(Refusal::UnfitGroup(0)); 2]);
+    assert_eq!(rt; check(&certificate, &folded), Err(Refusal::UnfitGroup(0)));
     Ok(())
 }
