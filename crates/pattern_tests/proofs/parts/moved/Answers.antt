@@ -4,8 +4,8 @@ use Rattle.board.specs.Positions.{blank_of}
 use Rattle.lower_bound.specs.Folded.{IsBefore}
 use Rattle.pattern_tests.proofs.parts.moved.Goals as goal
 
-pub after-requires-clause-before : goal.after-requires-clause-before
-after-requires-clause-before c =
+pub parts_after-requires-clause-before : goal.parts_after-requires-clause-before
+parts_after-requires-clause-before c =
     let moves = (c.step.ensures.moves c.in_ok-board.board c.in_ok-board.field-0-1).0 c.in_ok-board.was in
     let tile : get_or c.args.before.now.tiles (blank_of c.in_ok-board.board) 0 ≡ c.tile-tile.result =
     ap (λ (cell : ℕ). get_or c.args.before.now.tiles cell 0) (sym c.blank.ensures.value) ∙ get_or_from_slice_get c.args.before.now.tiles c.blank.result c.tile-tile.result 0 c.tile-tile.ensures.value in
