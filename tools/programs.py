@@ -1,0 +1,126 @@
+"""The programs that ./tilesolve runs: which are built, what they were made of, and which one counts now.
+
+out/quick and out/proved hold a program each, beside a record of the toolchain's version, a checksum of the sources and
+one of the program. A program whose record doesn't fit counts for nothing. out/choice names the kind that was found
+last; ./tilesolve takes it as long as no file is newer.
+"""
+import contextlib
+import fcntl
+import hashlib
+import os
+import shutil
+import signal
+import sys
+import tempfile
+
+from quick_build import ROOT, below, crates_listed
+
+PROGRAM = "tilesolve"
+OUT = f"{ROOT}/out"
+# The toolchain that the quick build is written for, as `rt version` prints it.
+VERSION = "rattle-kit-13f logic dac8208d650f15bf"
+NEEDED = f"x86-64 Linux, python3 and the Rattle toolchain {VERSION.split()[0]}, with its command rt in PATH, are needed"
+# What of a crate a program is made of, and what besides.
+PARTS = {"quick": ("src",), "proved": ("src", "specs", "proofs")}
+BESIDES = {"quick": "tools/quick_build.py", "proved": "HANDLES"}
+# The exit status where there is no program to run.
+NO_PROGRAM = 70
+
+
+def fail(text):
+    """Ends with a message on standard error, and the status for a missing program."""
+    print(f"{os.path.basename(sys.argv[0]).replace('launch.py', PROGRAM)}: {text}", file=sys.stderr)
+    sys.exit(NO_PROGRAM)
+
+
+def kit():
+    """The toolchain's folder, or None where it is missing."""
+    rt = shutil.which("rt")
+    return rt and os.path.dirname(os.path.dirname(os.path.realpath(rt)))
+
+
+def version():
+    """The toolchain's version, or an empty text where it is missing."""
+    try:
+        with open(f"{kit()}/KIT-ID", encoding="utf-8") as file:
+            return file.read().strip()
+    except OSError:
+        return ""
+
+
+def checksum_of(path):
+    with open(path, "rb") as file:
+        return hashlib.sha256(file.read()).hexdigest()
+
+
+def sources(kind):
+    """A checksum of what a program is made of: the files of its crates by their paths, and what each crate stands on."""
+    crates = crates_listed()
+    names = [*below(PROGRAM, crates), PROGRAM]
+    paths = [f"{ROOT}/{BESIDES[kind]}"]
+    for name in names:
+        for part in PARTS[kind]:
+            for at, folders, files in os.walk(f"{ROOT}/crates/{name}/{part}"):
+                folders.sort()
+                paths += [f"{at}/{it}" for it in sorted(files)]
+    read = [(os.path.relpath(it, ROOT), checksum_of(it)) for it in paths]
+    return hashlib.sha256(repr(([(it, crates[it]) for it in names], read)).encode()).hexdigest()
+
+
+def is_current(kind):
+    """Whether the program of a kind is there, made of the sources that are here, by the toolchain that is here if any."""
+    program = f"{OUT}/{kind}/{PROGRAM}"
+    try:
+        with open(f"{OUT}/{kind}/record", encoding="utf-8") as file:
+            found = dict(line.rstrip("\n").split(" ", 1) for line in file)
+        fits = {"toolchain": version() or found["toolchain"], "sources": sources(kind), "program": checksum_of(program)}
+    except (OSError, KeyError, ValueError):
+        return False
+    return found == fits and os.access(program, os.X_OK)
+
+
+@contextlib.contextmanager
+def locked():
+    """Holds the lock for building and replacing programs, and removes what builds that were cut off have left."""
+    os.makedirs(OUT, exist_ok=True)
+    with open(f"{OUT}/lock", "w", encoding="utf-8") as file:
+        try:
+            fcntl.flock(file, fcntl.LOCK_EX | fcntl.LOCK_NB)
+        except BlockingIOError:
+            print(f"{PROGRAM}: waiting for another call that builds", file=sys.stderr)
+            fcntl.flock(file, fcntl.LOCK_EX)
+        for name in os.listdir(OUT):
+            if name.startswith("building-"):
+                shutil.rmtree(f"{OUT}/{name}", ignore_errors=True)
+        yield
+
+
+def keep(kind, built, made_of):
+    """Puts a program that was built of these sources in the place of its kind, with its record. The lock is held."""
+    with tempfile.TemporaryDirectory(prefix="building-", dir=OUT) as room:
+        os.mkdir(f"{room}/new")
+        shutil.copy(built, f"{room}/new/{PROGRAM}")
+        with open(f"{room}/new/record", "w", encoding="utf-8") as file:
+            file.write(f"toolchain {version()}\nsources {made_of}\nprogram {checksum_of(built)}\n")
+        if os.path.isdir(f"{OUT}/{kind}"):
+            os.rename(f"{OUT}/{kind}", f"{room}/old")
+        os.rename(f"{room}/new", f"{OUT}/{kind}")
+    for name in os.listdir(OUT):
+        if name.startswith("choice"):
+            os.remove(f"{OUT}/{name}")
+
+
+def note_choice(wanted, kind, since):
+    """Notes for ./tilesolve which kind counts, for a file system that was looked at from `since` on (in seconds)."""
+    with tempfile.TemporaryDirectory(prefix="building-", dir=OUT) as room:
+        with open(f"{room}/choice", "w", encoding="utf-8") as file:
+            file.write(f"{kind}\n{version()}\n")
+        # (what changes in the same tick of the clock is to count as newer)
+        os.utime(file.name, (since - 0.02, since - 0.02))
+        os.replace(file.name, f"{OUT}/choice{wanted and f'.{wanted}'}")
+
+
+def end_in_order():
+    """Has the signals that end a program raise an exception, so that nothing is left behind."""
+    for number in (signal.SIGTERM, signal.SIGHUP, signal.SIGINT):
+        signal.signal(number, lambda number, _: sys.exit(128 + number))
