@@ -29,7 +29,8 @@ NO_PROGRAM = 70
 
 def fail(text):
     """Ends with a message on standard error, and the status for a missing program."""
-    print(f"{os.path.basename(sys.argv[0]).replace('launch.py', PROGRAM)}: {text}", file=sys.stderr)
+    name = os.path.basename(sys.argv[0])
+    print(f"{PROGRAM if name == 'launch.py' else name}: {text}", file=sys.stderr)
     sys.exit(NO_PROGRAM)
 
 
@@ -111,8 +112,9 @@ def keep(kind, built, made_of):
 
 
 def note_choice(wanted, kind, since):
-    """Notes for ./tilesolve which kind counts, for a file system that was looked at from `since` on (in seconds)."""
-    with tempfile.TemporaryDirectory(prefix="building-", dir=OUT) as room:
+    """Notes for ./tilesolve which kind counts, for a file system that was looked at from `since` on (in seconds). Where
+    that can't be written, the next call looks again."""
+    with contextlib.suppress(OSError), tempfile.TemporaryDirectory(prefix="building-", dir=OUT) as room:
         with open(f"{room}/choice", "w", encoding="utf-8") as file:
             file.write(f"{kind}\n{version()}\n")
         # (what changes in the same tick of the clock is to count as newer)
