@@ -16,7 +16,7 @@ WHAT_IS_BUILT = f"""{PROGRAM}: building the program without repeating its proofs
 
 
 def build_quick():
-    """Builds the quick program. Sources that change meanwhile are built again."""
+    """Builds the quick program. Where sources change meanwhile, it is built again."""
     if version() != VERSION:
         fail(f"{NEEDED}; found is {version() or 'no toolchain'}")
     print(WHAT_IS_BUILT, file=sys.stderr, flush=True)
@@ -32,16 +32,18 @@ def find(wanted):
     """Returns the kind of the program to be run, which is there then."""
     if wanted not in ("", "quick", "proved"):
         fail(f"TILESOLVE_BUILD is quick or proved, and not {wanted}")
-    since = time.time()
-    if wanted != "quick" and is_current("proved"):
-        kind = "proved"
-    elif wanted == "proved":
-        fail("these sources have no proved program: ./prove makes it")
-    else:
-        kind = "quick"
-        if not is_current(kind):
+    kind = None
+    while not kind:
+        since = time.time()
+        if wanted != "quick" and is_current("proved"):
+            kind = "proved"
+        elif wanted == "proved":
+            fail("these sources have no proved program: ./prove makes it")
+        elif is_current("quick"):
+            kind = "quick"
+        else:
             with locked():
-                if not is_current(kind):
+                if not is_current("quick"):
                     build_quick()
     note_choice(wanted, kind, since)
     return kind
