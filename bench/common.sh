@@ -1,5 +1,6 @@
-# What the scripts of this folder share. Each times one kind of walk of the program walks, which `walk` names, beside the
-# same walk in plain Rust (bench/NAME.rs). A script that sources this file is at the top of the repository then.
+# What some scripts of this folder share. Each times the part of bench_kernels that `part` names beside the same in plain
+# Rust (bench/NAME.rs). PROGRAM may name a bench_kernels that is built already. A script that sources this file is at the
+# top of the repository then.
 set -euo pipefail
 shopt -s inherit_errexit
 export LC_ALL=C
@@ -14,14 +15,14 @@ fail() {
     exit 1
 }
 
-# Builds the proved program and the plain one, both for the processor that rt builds for.
+# Builds the plain program and, unless PROGRAM names one, the proved one, both for the processor that rt builds for.
 build() {
     rustc --edition 2024 -C opt-level=3 -C target-cpu=x86-64-v2 -o "$made/plain" "bench/$name.rs"
-    if ! (cd crates/walks && rt run) >"$made/log" 2>&1; then
+    if [[ -z ${PROGRAM:-} ]] && ! (cd crates/bench_kernels && rt run) >"$made/log" 2>&1; then
         cat "$made/log" >&2
-        fail 'walks was not proved, built and run'
+        fail 'bench_kernels was not proved, built and run'
     fi
-    cp crates/walks/out/walks "$made/proved"
+    cp "${PROGRAM:-crates/bench_kernels/out/bench_kernels}" "$made/proved"
 }
 
 # The most kilobytes of addresses that the proved program has.
@@ -29,7 +30,7 @@ addresses=unlimited
 
 proved() (
     ulimit -v "$addresses"
-    exec "$made/proved" "$walk" "$@"
+    exec "$made/proved" "$part" "$@"
 )
 
 plain() {
@@ -39,9 +40,9 @@ plain() {
 # Fails where the two programs print something else for the same words.
 compare() {
     local ours theirs
-    ours=$(proved "$@") || fail "the proved walk fails at $*"
-    theirs=$(plain "$@") || fail "the plain walk fails at $*"
-    [[ $ours == "$theirs" ]] || fail "the walks differ at $*"$'\n'"$ours"$'\n'"$theirs"
+    ours=$(proved "$@") || fail "the proved program fails at $*"
+    theirs=$(plain "$@") || fail "the plain program fails at $*"
+    [[ $ours == "$theirs" ]] || fail "the programs differ at $*"$'\n'"$ours"$'\n'"$theirs"
 }
 
 # Prints the milliseconds of processor time that a command takes.

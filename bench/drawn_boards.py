@@ -1,6 +1,6 @@
 """Boards of 4 by 4 that the scripts of this folder time, with the costs of their least plans."""
 
-# Drawn at random from one class, with the costs that batch_walk found.
+# Drawn at random from one class, with the costs that `batch` of bench_searches found.
 DRAWN = {
     "3 15 14 13 4 12 5 7 6 0 10 11 8 1 2 9": 51,
     "14 3 9 11 8 2 5 12 6 4 13 7 1 10 0 15": 53,
@@ -17,7 +17,7 @@ DRAWN = {
 }
 # The board of bench/expand, of which no plan costs less than 57 (Korf 1985, the first of his hundred).
 KORF = "14 13 15 7 11 12 9 5 6 0 2 1 4 8 10 3"
-# Boards of cost 58 to 62, with the costs that batch_walk found.
+# Boards of cost 58 to 62, with the costs that `batch` of bench_searches found.
 FAR = {
     "14 7 8 2 13 11 10 4 9 12 5 0 3 6 1 15": 59,
     "13 11 8 9 0 15 7 10 4 3 6 14 5 12 2 1": 59,

@@ -1,4 +1,4 @@
-//! The search of `expand_walks` in plain safe Rust: the same A* with the same tables over a `HashMap` with a fast hash,
+//! The search of `bench_searches expand` in plain safe Rust: the same A* with the same tables over a `HashMap` with a fast hash,
 //! and buckets of which the last entry is taken first.
 
 use std::collections::HashMap;

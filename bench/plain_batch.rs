@@ -1,5 +1,5 @@
 //! A batch in plain safe Rust: A* with the tables of the default groups over a `HashMap` with a fast hash, for boards
-//! of at most 16 cells with Korf's goal and unit costs. `bench/all` times it beside `batch_walk`.
+//! of at most 16 cells with Korf's goal and unit costs. `bench/all` times it beside `batch` of `bench_searches`.
 //!
 //!     plain_batch ROWS COLS    answers the lines `ID TILE TILE ..` of standard input, each by `ID COST`
 //!

@@ -1,6 +1,6 @@
 //! A batch in plain safe Rust by IDA* with folded tables of the default groups, for boards of 11 to 16 cells with
 //! Korf's goal and unit costs. A folded table has for each way in which a group's tiles can stand the least value over
-//! the blank's places. `bench/all` times it beside `batch_walk`.
+//! the blank's places. `bench/all` times it beside `batch` of `bench_searches`.
 //!
 //!     plain_ida ROWS COLS    answers the lines `ID TILE TILE ..` of standard input, each by `ID COST NODES`
 //!

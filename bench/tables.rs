@@ -1,4 +1,4 @@
-//! The tables of `walks table` in plain safe Rust, to time the building of a table beside it.
+//! The tables of `bench_kernels table` in plain safe Rust, to time the building of a table beside it.
 
 use std::env;
 use std::process::ExitCode;

@@ -1,0 +1,150 @@
+//! A whole search (A*, Hart, Nilsson, Raphael 1968) on 4 by 4 by the distances of the tiles, over
+//! the open list and the known boards, which stops at a number of known boards. `bench/containers`
+//! times it beside the same search in plain Rust.
+
+mod start;
+
+use board::Move;
+use closed_table::{Closed, Relaxed};
+use open_buckets::Open;
+use start::{distances, scrambled};
+use std::alloc::Global;
+
+/// Where a search has stopped: after how many expansions, at how many known boards, and at which
+/// cost plus sum.
+#[derive(Clone, Copy)]
+pub(crate) struct Stop {
+    pub(crate) expanded: u64,
+    pub(crate) known: usize,
+    pub(crate) f: u32,
+}
+
+// What a search has: the known boards, those that wait by their places, and the distances.
+#[derive(Drop)]
+struct Lists {
+    closed: Closed,
+    open: Open<u32>,
+    distances: [u32; 256],
+}
+
+// A board is met; None where there is no memory for it.
+fn meet(alloc: Global, lists: &mut Lists, key: u128, g: u32, f: u32, via: Move) -> Option<()> {
+    let Ok(()) = lists.closed.reserve(alloc, 1) else {
+        return None;
+    };
+    let f = f & 255;
+    let Ok(()) = lists.open.reserve(alloc, f, 1) else {
+        return None;
+    };
+    let (answer, place) = lists.closed.relax(key, g, via);
+    match answer {
+        Relaxed::Kept => {}
+        _ => lists.open.put(f, place, g),
+    }
+    Some(())
+}
+
+// The key after a tile went from a cell to another.
+fn moved(key: u128, tile: usize, from: usize, to: usize) -> u128 {
+    let low = (tile & 31) as u128;
+    let a = (15 - (from & 15)) as u32 * 5;
+    let b = (15 - (to & 15)) as u32 * 5;
+    key ^ (low << a) ^ (low << b)
+}
+
+// Expands a board: its successors are made, read ahead, and met.
+fn expand(alloc: Global, lists: &mut Lists, key: u128, g: u32, f: u32) -> Option<()> {
+    let mut tiles = [0u8; 16];
+    let mut blank = 0usize;
+    let mut rest = key;
+    for back in 0..16u32 {
+        let cell = (15 - back) as usize;
+        let tile = (rest & 31) as u8;
+        tiles[cell & 15] = tile;
+        if tile == 0 {
+            blank = cell;
+        }
+        rest >>= 5;
+    }
+    let mut keys = [0u128; 4];
+    let mut sums = [0u32; 4];
+    let mut moves = [Move::U; 4];
+    let mut count = 0usize;
+    for direction in 0..4u32 {
+        let (to, via, is_move) = match direction {
+            0 => (blank.wrapping_sub(4), Move::U, blank >= 4),
+            1 => (blank.wrapping_sub(1), Move::L, blank & 3 != 0),
+            2 => (blank.wrapping_add(1), Move::R, blank & 3 != 3),
+            _ => (blank.wrapping_add(4), Move::D, blank < 12),
+        };
+        if is_move {
+            let tile = (tiles[to & 15] & 15) as usize;
+            let before = lists.distances[(tile * 16 + (to & 15)) & 255];
+            let after = lists.distances[(tile * 16 + (blank & 15)) & 255];
+            keys[count & 3] = moved(key, tile, to, blank);
+            sums[count & 3] = f.wrapping_add(1).wrapping_add(after).wrapping_sub(before);
+            moves[count & 3] = via;
+            count = count.wrapping_add(1);
+        }
+    }
+    if count > 4 {
+        return None;
+    }
+    lists.closed.read_ahead(&keys[..count]);
+    for n in 0..count {
+        meet(
+            alloc,
+            lists,
+            keys[n & 3],
+            g.wrapping_add(1),
+            sums[n & 3],
+            moves[n & 3],
+        )?;
+    }
+    Some(())
+}
+
+// The key of a board that is to be expanded: one that waits at the cost at which it is known.
+fn key_to_expand(closed: &mut Closed, place: u32, g: u32) -> Option<u128> {
+    if place as usize >= closed.len() {
+        return None;
+    }
+    let (key, known) = closed.at(place as usize);
+    if known.cost != g || known.expanded {
+        return None;
+    }
+    closed.mark_expanded_at(place as usize);
+    Some(key)
+}
+
+/// Searches until this many boards are known; None where there is no memory for it.
+pub(crate) fn search(alloc: Global, count: usize) -> Option<Stop> {
+    let distances = distances();
+    let (start, sum) = scrambled(&distances);
+    let mut lists = Lists {
+        closed: Closed::new(alloc),
+        open: Open::new(alloc),
+        distances,
+    };
+    meet(alloc, &mut lists, start, 0, sum, Move::U)?;
+    let mut expanded = 0u64;
+    let mut f = sum & 255;
+    for _ in 0..u64::MAX {
+        if lists.closed.len() >= count || f >= 200 {
+            break;
+        }
+        let Some((place, g)) = lists.open.take_lowest(f.wrapping_add(1)) else {
+            f = f.wrapping_add(1);
+            continue;
+        };
+        if let Some(key) = key_to_expand(&mut lists.closed, place, g) {
+            expanded = expanded.wrapping_add(1);
+            expand(alloc, &mut lists, key, g, f)?;
+        }
+    }
+    Some(Stop {
+        expanded,
+        known: lists.closed.len(),
+        f,
+    })
+}

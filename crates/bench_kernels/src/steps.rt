@@ -1,0 +1,49 @@
+//! Walks over boards.
+
+ghost use Rattle.std.specs.Prelude.{◌≡◌, ◌≤◌, ◌*◌};
+
+use crate::states::next_state;
+use board::{Board, Move, Shape, Weights};
+
+/// Where a walk is, how many of its moves stayed on the board, and what these cost.
+#[derive(Clone, Copy)]
+pub struct Walk {
+    pub board: Board,
+    pub accepted: u32,
+    pub cost: u64,
+}
+
+/// The walk of this many moves from the goal of a shape, where moving a tile costs its number. A
+/// move that would leave the board is passed over.
+pub fn walk_from_goal(shape: Shape, steps: u32) -> Walk
+    ensures accepted { result.accepted ≤ steps }
+    ensures cost { result.cost ≤ 255 * result.accepted }
+{
+    let weights = Weights::face(shape);
+    let mut walk = Walk {
+        board: Board::goal(shape),
+        accepted: 0,
+        cost: 0,
+    };
+    let mut state = 1;
+    'steps: for _ in 0..steps {
+        state = next_state(state);
+        if let Some(moved) = walk.board.step(direction_of(state), &weights) {
+            walk.board = moved.0;
+            walk.accepted += 1;
+            walk.cost += moved.1 as u64;
+        }
+    }
+    walk
+}
+
+// The move that the two highest bits of a state stand for. The lower bits of such states repeat
+// sooner.
+fn direction_of(state: u64) -> Move {
+    match state >> 62 {
+        0 => Move::U,
+        1 => Move::L,
+        2 => Move::R,
+        _ => Move::D,
+    }
+}

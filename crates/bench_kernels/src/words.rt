@@ -1,0 +1,121 @@
+//! The parts that words name.
+
+ghost use Rattle.std.specs.Prelude.{◌≡◌, All, IfSome};
+
+use crate::sums::drawn_bound;
+use board::Shape;
+use lower_bound::Bound;
+use pattern_index::Group;
+use std::alloc::Global;
+use std::env;
+use std::rt::Env;
+
+// The tiles that the boards of some shape have.
+const TILES: [u8; 24] = [
+    1, 2, 3, 4, 5, 6, 7, 8, 9, 10, 11, 12, 13, 14, 15, 16, 17, 18, 19, 20, 21, 22, 23, 24,
+];
+
+/// The parts, in the order in which they are printed, each with the numbers of its small run.
+pub const SMALL: [(&str, &[usize]); 5] = [
+    ("step", &[3, 1000]),
+    ("rank", &[4, 5, 1000]),
+    ("table", &[2, 3, 2, 3]),
+    ("sums", &[3, 100, 2, 3, 4]),
+    ("containers", &[1000]),
+];
+
+/// A part with its numbers.
+#[derive(Drop)]
+pub enum Part {
+    /// Steps from the goal of a shape.
+    Steps(Shape, u32),
+    /// Ranks of views of a group.
+    Ranks(Group, u32),
+    /// The tables of these groups.
+    Tables(Vec<Group>),
+    /// A count of boards, and how often each is expanded, with the sums of a bound.
+    Sums(Bound, u32, u32),
+    /// A search until this many boards are known.
+    Containers(usize),
+}
+
+/// What the words ask for.
+#[derive(Drop)]
+pub enum Asked {
+    /// The small run of each part.
+    All,
+    /// One part.
+    One(Part),
+}
+
+/// What the words ask for, or `None` where they name no part, or there is no memory for it.
+pub fn read_words(rt: &(impl Env + AllocGlobal)) -> Option<Asked> {
+    let mut words = env::args(rt).ok()?.skip(1);
+    let Some(name) = words.next() else {
+        return Some(Asked::All);
+    };
+    let mut numbers = Vec::new(rt.alloc());
+    for word in words {
+        numbers.push(word.parse().ok()?).ok()?;
+    }
+    if numbers.is_empty() {
+        return Some(Asked::One(read_part(rt.alloc(), &name, small(&name))?));
+    }
+    Some(Asked::One(read_part(rt.alloc(), &name, &numbers)?))
+}
+
+// The numbers of the small run of a part; none for a name of no part.
+fn small(name: &str) -> &'static [usize] {
+    for (part, numbers) in SMALL {
+        if part == name {
+            return numbers;
+        }
+    }
+    &[]
+}
+
+/// The part of a name with its numbers, or `None` where there is none, or no memory for it.
+pub fn read_part(alloc: Global, name: &str, numbers: &[usize]) -> Option<Part> {
+    match (name, numbers) {
+        ("step", [side, steps]) => {
+            let shape = shape_of(*side, *side)?;
+            Some(Part::Steps(shape, u32::try_from(*steps).ok()?))
+        }
+        ("rank", [side, count, ranks]) => {
+            let group = Group::new(shape_of(*side, *side)?, TILES.get(..*count)?).ok()?;
+            Some(Part::Ranks(group, u32::try_from(*ranks).ok()?))
+        }
+        ("table", [rows, cols, counts @ ..]) => {
+            let shape = shape_of(*rows, *cols)?;
+            Some(Part::Tables(read_groups(alloc, shape, counts)?))
+        }
+        ("sums", [side, boards, rounds, counts @ ..]) => {
+            let shape = shape_of(*side, *side)?;
+            let groups = read_groups(alloc, shape, counts)?;
+            let bound = drawn_bound(alloc, shape, groups)?;
+            let boards = u32::try_from(*boards).ok()?;
+            Some(Part::Sums(bound, boards, u32::try_from(*rounds).ok()?))
+        }
+        ("containers", [count]) => Some(Part::Containers(*count)),
+        _ => None,
+    }
+}
+
+// The shape with these sides.
+fn shape_of(rows: usize, cols: usize) -> Option<Shape> {
+    Shape::new(u8::try_from(rows).ok()?, u8::try_from(cols).ok()?).ok()
+}
+
+// Groups of these counts of tiles: the first has the first tiles, and each takes the next.
+fn read_groups(alloc: Global, shape: Shape, counts: &[usize]) -> Option<Vec<Group>>
+    ensures { IfSome result (λ groups. All (λ g. g.grid ≡ shape) groups.items) }
+{
+    let mut groups = Vec::new(alloc);
+    let mut left = TILES.as_slice();
+    'counts: for count in counts {
+        let group = Group::new(shape, left.get(..*count)?).ok()?;
+        groups.push(group).ok()?;
+        left = left.get(*count..)?;
+    }
+    Some(groups)
+}

@@ -1,0 +1,128 @@
+//! Calls that start no threads.
+
+mod answer;
+mod certificates;
+mod containers;
+mod databases;
+mod runs;
+mod searches;
+mod workers;
+
+use crate::requests::is_refused;
+use answer::Answer;
+use certificates::{read_announcement, read_certificate};
+use containers::{reserve_closed, reserve_open};
+use databases::{build_folds, build_table, copy_partition, fold_bound, fold_setup, fold_table};
+use runs::{
+    check_certificate, check_groups, run_one_line, run_two_lines, write_certificate, write_groups,
+};
+use searches::{search, search_with_tables};
+use std::alloc::Global;
+use std::io::{Eprint, Print};
+use std::sync::Wait;
+use std::thread::Threads;
+use workers::{expand_board, expand_in_full_table, meet_board, settle_items};
+
+// The names of all calls.
+const CALLS: [&str; 26] = [
+    "partition",
+    "table",
+    "fold",
+    "fold-bound",
+    "fold-setup",
+    "folded",
+    "unit-2x2",
+    "face-2x2",
+    "unit-2x3",
+    "face-2x3",
+    "with-tables",
+    "no-plan",
+    "read",
+    "cut-off",
+    "batch",
+    "batch-line",
+    "write",
+    "write-groups",
+    "check",
+    "check-groups",
+    "open",
+    "closed",
+    "meet",
+    "settle",
+    "expand",
+    "expand-more",
+];
+
+// Makes the call of this name, or answers None where there is none.
+fn call<R: Threads + Wait + AllocGlobal + Sync>(rt: &R, name: &str) -> Option<Answer> {
+    let alloc = rt.alloc();
+    match name {
+        "partition" => Some(copy_partition(alloc)),
+        "table" => Some(build_table(alloc)),
+        "fold" => Some(fold_table(alloc)),
+        "fold-bound" => Some(fold_bound(alloc)),
+        "fold-setup" => Some(fold_setup(rt)),
+        "folded" => Some(build_folds(rt)),
+        "unit-2x2" => Some(search(alloc, 2, &[3, 2, 1, 0], false, Some(6))),
+        "face-2x2" => Some(search(alloc, 2, &[3, 2, 1, 0], true, Some(12))),
+        "unit-2x3" => Some(search(alloc, 3, &[2, 3, 5, 0, 1, 4], false, Some(9))),
+        "face-2x3" => Some(search(alloc, 3, &[2, 3, 5, 0, 1, 4], true, Some(22))),
+        "with-tables" => Some(search_with_tables(rt)),
+        "no-plan" => Some(search(alloc, 2, &[0, 2, 1, 3], false, None)),
+        "read" => Some(read_certificate(alloc)),
+        "cut-off" => Some(read_announcement(alloc)),
+        "batch" => Some(run_two_lines(rt)),
+        "batch-line" => Some(run_one_line(rt)),
+        "write" => Some(write_certificate(rt)),
+        "write-groups" => Some(write_groups(rt)),
+        "check" => Some(check_certificate(rt)),
+        "check-groups" => Some(check_groups(rt)),
+        "open" => Some(reserve_open(alloc)),
+        "closed" => Some(reserve_closed(alloc)),
+        "meet" => Some(meet_board(alloc)),
+        "settle" => Some(settle_items(alloc)),
+        "expand" => Some(expand_board(alloc)),
+        "expand-more" => Some(expand_in_full_table(alloc)),
+        _ => None,
+    }
+}
+
+// What is printed of an answer, or why it is wrong. Where memory is refused only after the call,
+// the call met no refusal, so that its answer has to be whole.
+fn judge(answer: Answer, is_refused_later: bool) -> Result<&'static str, &'static str> {
+    match answer {
+        Answer::Whole if is_refused_later => Ok("whole, refused later"),
+        Answer::Whole => Ok("whole"),
+        Answer::Refused if is_refused_later => Err("no memory, though none was refused"),
+        Answer::Refused => Ok("refused"),
+        Answer::Wrong(why) => Err(why),
+    }
+}
+
+/// Makes each call, and answers the exit status.
+pub fn make_all<R: Print + Eprint + AllocGlobal + Threads + Wait + Sync>(rt: &R) -> u8 {
+    let mut status = 0;
+    for name in CALLS {
+        status = status.max(make(rt, name).unwrap_or(2));
+    }
+    status
+}
+
+/// Makes the call of this name, prints what it answered, and answers the exit status; or None where
+/// there is no such call.
+pub fn make<R: Print + Eprint + AllocGlobal + Threads + Wait + Sync>(
+    rt: &R,
+    name: &str,
+) -> Option<u8> {
+    let answer = call(rt, name)?;
+    match judge(answer, is_refused(rt.alloc(), 1000)) {
+        Ok(text) => {
+            let _ = println!(rt; "{name} {text}");
+            Some(0)
+        }
+        Err(text) => {
+            let _ = eprintln!(rt; "bench_refusals: {name}: {text}");
+            Some(1)
+        }
+    }
+}

@@ -1,0 +1,180 @@
+//! Runs over lines and with certificates.
+
+ghost use Rattle.std.specs.Prelude.{IfSome};
+
+use super::answer::{Answer, refused_if, whole_if};
+use super::searches::bound_of;
+use batch_runs::{LinesFault, Setup};
+use board::{Board, Shape, Weights};
+use byte_streams::{ByteSink, ByteSource};
+use certificate_runs::{CertifyFault, CheckFault, run_check};
+use hda_run::Free;
+use memory::{OutOfMemory, with_capacity};
+use setup_runs::{run_batch, run_cert};
+use std::alloc::Global;
+use std::sync::Wait;
+use std::thread::Threads;
+
+// 1 0 over 2 3, which one move to the left solves.
+const ONE_MOVE: [u8; 46] = [
+    0x54, 0x49, 0x4c, 0x45, 0x43, 0x52, 0x54, 0x32, 0, 2, 2, 0, 0, // the opening
+    1, 0, 2, 3, 0, 1, 2, 3, // start and goal
+    1, 0, 0, 0, 1, 0, 0, 0, 0x4c, // the cost and the plan
+    1, 0, 0, 0, 0, 0, 0, 0, // the count of rows
+    1, 0, 2, 3, 0, 0, 0, 0, // the row
+];
+
+// The same with the groups 1,2 and 3. Their sum is the cost, so no row is due.
+const ONE_MOVE_BY_TABLES: [u8; 43] = [
+    0x54, 0x49, 0x4c, 0x45, 0x43, 0x52, 0x54, 0x32, 0, 2, 2, 0, // the opening
+    2, 2, 1, 2, 1, 3, // the groups
+    1, 0, 2, 3, 0, 1, 2, 3, // start and goal
+    1, 0, 0, 0, 1, 0, 0, 0, 0x4c, // the cost and the plan
+    0, 0, 0, 0, 0, 0, 0, 0, // the count of rows
+];
+
+// Korf's goal of 2 by 2, at unit cost.
+fn plain(alloc: Global) -> Setup {
+    let shape = Shape::new(2, 2).unwrap();
+    Setup::new(alloc, Board::goal(shape), Weights::unit(shape))
+}
+
+// The same with tables, or None where they find no memory.
+fn guided<R: Threads + Sync>(rt: &R, alloc: Global) -> Option<Setup> {
+    let shape = Shape::new(2, 2).unwrap();
+    let goal = Board::goal(shape);
+    let weights = Weights::unit(shape);
+    let bound = bound_of(rt, alloc, &goal, &weights)?;
+    Some(Setup::new(alloc, goal, weights).bound(bound))
+}
+
+// A sink with room for all that is written here, so that no write takes memory.
+fn page(alloc: Global) -> Result<ByteSink<Vec<u8>>, OutOfMemory> {
+    Ok(ByteSink::new(with_capacity(alloc, 200)?))
+}
+
+/// Reports two lines that need no search.
+pub fn run_two_lines<R: Threads + Wait + AllocGlobal + Sync>(rt: &R) -> Answer {
+    let due = b"{\"id\":\"a\",\"status\":\"unsolvable\",\"why\":\"parity\"}\n\
+        {\"fault\":\"E2\",\"line\":2,\"status\":\"refused\"}\n";
+    let Ok(mut page) = page(rt.alloc()) else {
+        return Answer::Refused;
+    };
+    let mut source = ByteSource::new("a 0 2 1 3\nb 0\n".as_bytes());
+    let setup = plain(rt.alloc());
+    let ended = run_batch(rt, rt.alloc(), &mut source, &mut page, &setup, &Free);
+    let written = page.into_inner();
+    match ended {
+        Ok(_) => whole_if(written.as_slice() == due.as_slice(), "other reports"),
+        Err(fault) => refused_if(
+            matches!(fault, LinesFault::Memory(_)) && due.starts_with(&written),
+            "no beginning of the reports",
+        ),
+    }
+}
+
+/// Reports a line whose board is searched for. Where memory is refused, the report may be of the
+/// want of memory.
+pub fn run_one_line<R: Threads + Wait + AllocGlobal + Sync>(rt: &R) -> Answer {
+    let due = b"{\"cost\":1,\"id\":\"r\",\"plan\":\"L\",\"status\":\"optimal\"}\n";
+    let Some(setup) = guided(rt, rt.alloc()) else {
+        return Answer::Refused;
+    };
+    let Ok(mut page) = page(rt.alloc()) else {
+        return Answer::Refused;
+    };
+    let mut source = ByteSource::new("r 1 0 2 3\n".as_bytes());
+    let ended = run_batch(rt, rt.alloc(), &mut source, &mut page, &setup, &Free);
+    let written = page.into_inner();
+    match ended {
+        Ok(_) if written.as_slice() == due.as_slice() => Answer::Whole,
+        Ok(_) => refused_if(is_for_want_of_memory(&written), "another report"),
+        Err(fault) => refused_if(
+            matches!(fault, LinesFault::Memory(_)) && written.is_empty(),
+            "another fault",
+        ),
+    }
+}
+
+/// Writes the certificate of a line's board. Where memory is refused, a report may stand in its
+/// place, or nothing.
+pub fn write_certificate<R: Threads + Wait + AllocGlobal + Sync>(rt: &R) -> Answer {
+    let setup = plain(rt.alloc());
+    certify(rt, &setup, "r 1 0 2 3\n", &ONE_MOVE)
+}
+
+/// The same with groups, whose tables are built before.
+pub fn write_groups<R: Threads + Wait + AllocGlobal + Sync>(rt: &R) -> Answer {
+    match guided(rt, rt.alloc()) {
+        Some(setup) => certify(rt, &setup, "r 1 0 2 3\n", &ONE_MOVE_BY_TABLES),
+        None => Answer::Refused,
+    }
+}
+
+// Writes the certificate of a line's board, whose bytes are known.
+fn certify<R: Threads + Wait + AllocGlobal + Sync>(
+    rt: &R,
+    setup: &Setup,
+    line: &str,
+    due: &[u8],
+) -> Answer {
+    let Ok(mut page) = page(rt.alloc()) else {
+        return Answer::Refused;
+    };
+    let mut source = ByteSource::new(line.as_bytes());
+    let ended = run_cert(rt, rt.alloc(), &mut source, &mut page, setup, &Free);
+    let written = page.into_inner();
+    match ended {
+        Ok(0) => whole_if(written.as_slice() == due, "another certificate"),
+        Ok(status) => refused_if(
+            status == 1 && is_for_want_of_memory(&written),
+            "another report",
+        ),
+        Err(fault) => {
+            let is_memory = matches!(
+                fault,
+                CertifyFault::Memory(_) | CertifyFault::GroupsMemory(_)
+            );
+            refused_if(is_memory && written.is_empty(), "another fault")
+        }
+    }
+}
+
+// Whether a report says that there was no memory for the line, or none for more than a bound.
+fn is_for_want_of_memory(report: &[u8]) -> bool {
+    report == b"{\"fault\":\"V3\",\"line\":1,\"status\":\"refused\"}\n".as_slice()
+        || report.ends_with(b"\"cause\":\"memory\",\"id\":\"r\",\"status\":\"bounded\"}\n")
+}
+
+/// Checks a certificate that is to be accepted, without groups.
+pub fn check_certificate<R: Threads + AllocGlobal + Sync>(rt: &R) -> Answer {
+    check(rt, &ONE_MOVE)
+}
+
+/// The same with groups, whose tables are built.
+pub fn check_groups<R: Threads + AllocGlobal + Sync>(rt: &R) -> Answer {
+    check(rt, &ONE_MOVE_BY_TABLES)
+}
+
+// Checks a certificate of cost 1 that is to be accepted.
+fn check<R: Threads + AllocGlobal + Sync>(rt: &R, bytes: &[u8]) -> Answer {
+    let Ok(mut page) = page(rt.alloc()) else {
+        return Answer::Refused;
+    };
+    let ended = run_check(rt, rt.alloc(), &mut ByteSource::new(bytes), &mut page);
+    let written = page.into_inner();
+    match ended {
+        Ok(status) => whole_if(
+            status == 0
+                && written.as_slice() == b"{\"cost\":1,\"status\":\"accepted\"}\n".as_slice(),
+            "another verdict",
+        ),
+        Err(fault) => {
+            let is_memory = matches!(
+                fault,
+                CheckFault::CertificateMemory(_) | CheckFault::Memory(_)
+            );
+            refused_if(is_memory && written.is_empty(), "another fault")
+        }
+    }
+}

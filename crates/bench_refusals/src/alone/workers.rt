@@ -1,0 +1,379 @@
+//! Steps of a worker that take memory. Where one is refused, nothing may have changed; made once
+//! more it has to do the same as where nothing is refused.
+
+ghost use Rattle.std.specs.Prelude.{◌≡◌, IfSome};
+ghost use Rattle.test_worlds.specs.Jobs.{IsFit, IsLed};
+
+use super::answer::Answer;
+use arrayvec::ArrayVec;
+use board::{Board, Move, Shape, Weights};
+use memory::PAGE_LENGTH;
+use message_ledger::{Allowance, Credit, Grants, Packet, Plain, Purse};
+use owners::ByBlank;
+use quiescence::Book;
+use search_lists::SearchLists;
+use std::alloc::Global;
+use test_worlds::{Job, bound_of, expand, hire, meet, settle};
+use worker_core::{LaneOut, Queue, Worker};
+use world_model::{Item, Refusal};
+
+// The worker that is tried, of two, to which boards are given by the blank's cell.
+const ME: usize = 1;
+
+// A board of 4 by 4. At face cost its moves U, L, R and D cost 5, 4, 6 and 9. The boards behind U
+// and D are those of the worker that is tried.
+const START: [u8; 16] = [1, 5, 2, 3, 4, 0, 6, 7, 8, 9, 10, 11, 12, 13, 14, 15];
+
+const BEHIND_UP: [u8; 16] = [1, 0, 2, 3, 4, 5, 6, 7, 8, 9, 10, 11, 12, 13, 14, 15];
+
+const BEHIND_DOWN: [u8; 16] = [1, 5, 2, 3, 4, 9, 6, 7, 8, 0, 10, 11, 12, 13, 14, 15];
+
+// What a worker has, its lists as numbers that are made of all that is in them.
+#[derive(Clone, Copy, PartialEq, Eq)]
+struct Standing {
+    count: usize,
+    known: u128,
+    held: u128,
+    unsent: [u128; 2],
+    purse: u64,
+    allowance: u32,
+    expansions: u64,
+    best: Option<u32>,
+}
+
+fn standing_of(worker: &Worker<Plain>) -> Standing {
+    let mut unsent = [0; 2];
+    'workers: for to in 0..worker.workers().min(2) {
+        unsent[to] = sum_of_items(worker.unsent(to));
+    }
+    Standing {
+        count: worker.lists().len(),
+        known: sum_of_boards(worker.lists()),
+        held: sum_of_items(worker.held()),
+        unsent,
+        purse: worker.purse(),
+        allowance: worker.allowance(),
+        expansions: worker.expansions(),
+        best: worker.best().cost(),
+    }
+}
+
+// A number for a sum so far, a board and what is said of it.
+fn sum_with(sum: u128, key: u128, cost: u32, via: Move) -> u128 {
+    sum.wrapping_mul(0x1_0000_0000_0000_01B3)
+        .wrapping_add(key)
+        .wrapping_mul(0x1_0000_0000_0000_01B3)
+        .wrapping_add(u128::from(cost) * 256 + u128::from(via.letter()))
+}
+
+fn sum_of_boards(lists: &SearchLists) -> u128 {
+    let mut sum = 0;
+    'boards: for place in 0..lists.len() {
+        let (key, known) = lists.at(place);
+        sum = sum_with(sum, key, known.cost, known.via);
+        if known.expanded {
+            sum = sum.wrapping_add(128);
+        }
+    }
+    sum
+}
+
+fn sum_of_items(items: &[Item]) -> u128 {
+    let mut sum = 0;
+    'items: for item in items {
+        sum = sum_with(sum, item.key(), item.cost, item.via);
+    }
+    sum
+}
+
+// The search from START at face cost, led by no table. It takes no memory.
+fn job(alloc: Global) -> Option<Job>
+    ensures { IfSome result (λ job. IsFit job) }
+{
+    let shape = Shape::new(4, 4).unwrap();
+    let goal = Board::goal(shape);
+    let weights = Weights::face(shape);
+    let bound = bound_of(alloc, &goal, &weights, &[])?;
+    Some(Job {
+        goal,
+        weights,
+        bound,
+    })
+}
+
+// An item of a board with the goal's sides.
+fn item(job: &Job, tiles: &[u8], cost: u32) -> Option<Item> {
+    let Ok(board) = Board::from_tiles(job.goal.shape(), tiles) else {
+        return None;
+    };
+    Some(Item {
+        board,
+        cost,
+        via: Move::U,
+    })
+}
+
+// Whether a worker knows a board so.
+fn knows(worker: &Worker<Plain>, job: &Job, row: (&[u8], u32, Move, bool)) -> bool {
+    let (tiles, cost, via, expanded) = row;
+    let Ok(board) = Board::from_tiles(job.goal.shape(), tiles) else {
+        return false;
+    };
+    match worker.lists().get(board.key()) {
+        Some(known) => known.cost == cost && known.via == via && known.expanded == expanded,
+        None => false,
+    }
+}
+
+// Meets a board, once more where memory is refused.
+fn meet_it(alloc: Global, job: &Job, worker: &mut Worker<Plain>, item: &Item) -> Answer
+    requires job { IsFit job.now }
+    requires led { IsLed job.now worker.old.lists }
+    ensures led { IsLed job.now worker.new.lists }
+{
+    let before = standing_of(worker);
+    match meet(alloc, job, worker, item) {
+        Some(Ok(())) => return Answer::Whole,
+        Some(Err(_)) => {}
+        None => return Answer::Wrong("not met"),
+    }
+    if standing_of(worker) != before {
+        return Answer::Wrong("a refused meeting changed something");
+    }
+    match meet(alloc, job, worker, item) {
+        Some(Ok(())) => Answer::Refused,
+        _ => Answer::Wrong("not met at last"),
+    }
+}
+
+// Settles an item, once more where memory is refused.
+fn settle_it(alloc: Global, job: &Job, worker: &mut Worker<Plain>) -> Answer
+    requires job { IsFit job.now }
+    requires led { IsLed job.now worker.old.lists }
+    ensures led { IsLed job.now worker.new.lists }
+{
+    let before = standing_of(worker);
+    match settle(alloc, job, worker) {
+        Some(Ok(())) => return Answer::Whole,
+        Some(Err(Refusal::Memory(_))) => {}
+        _ => return Answer::Wrong("not settled"),
+    }
+    if standing_of(worker) != before {
+        return Answer::Wrong("a refused settling changed something");
+    }
+    match settle(alloc, job, worker) {
+        Some(Ok(())) => Answer::Refused,
+        _ => Answer::Wrong("not settled at last"),
+    }
+}
+
+// Expands a board, once more where memory is refused.
+fn expand_it(alloc: Global, job: &Job, worker: &mut Worker<Plain>) -> Answer
+    requires job { IsFit job.now }
+    requires led { IsLed job.now worker.old.lists }
+    ensures led { IsLed job.now worker.new.lists }
+{
+    let before = standing_of(worker);
+    match expand(alloc, job, &ByBlank, ME, worker) {
+        Some(Ok(())) => return Answer::Whole,
+        Some(Err(Refusal::Memory(_))) => {}
+        _ => return Answer::Wrong("not expanded"),
+    }
+    if standing_of(worker) != before {
+        return Answer::Wrong("a refused expansion changed something");
+    }
+    match expand(alloc, job, &ByBlank, ME, worker) {
+        Some(Ok(())) => Answer::Refused,
+        _ => Answer::Wrong("not expanded at last"),
+    }
+}
+
+// What two calls in a row answer together.
+fn both(first: Answer, second: Answer) -> Answer {
+    match (first, second) {
+        (Answer::Wrong(why), _) => Answer::Wrong(why),
+        (_, Answer::Wrong(why)) => Answer::Wrong(why),
+        (Answer::Whole, Answer::Whole) => Answer::Whole,
+        _ => Answer::Refused,
+    }
+}
+
+// The answer, where this is so at last.
+fn if_so(answer: Answer, is_so: bool, why: &'static str) -> Answer {
+    if is_so { answer } else { Answer::Wrong(why) }
+}
+
+/// Meets a board, at a cost for which the list of buckets grows.
+pub fn meet_board(alloc: Global) -> Answer {
+    let Some(job) = job(alloc) else {
+        return Answer::Wrong("no job");
+    };
+    let purse = Credit::plain().1;
+    let Some(mut worker) = hire(alloc, &job, purse, Allowance::plain()) else {
+        return Answer::Refused;
+    };
+    let Some(start) = item(&job, &START, 20) else {
+        return Answer::Wrong("no board");
+    };
+    let answer = meet_it(alloc, &job, &mut worker, &start);
+    let is_known = knows(&worker, &job, (&START, 20, Move::U, false));
+    if_so(answer, is_known && worker.lists().len() == 1, "not known")
+}
+
+// Two items that come in by a lane; None where there is no memory for the lane.
+fn hold_two(
+    alloc: Global,
+    job: &Job,
+    worker: &mut Worker<Plain>,
+    purse: &mut Purse<Plain>,
+) -> Option<()>
+    ensures { worker.new.lists ≡ worker.old.lists }
+{
+    let mut items = ArrayVec::new();
+    items.push(item(job, &BEHIND_UP, 30)?);
+    items.push(item(job, &START, 20)?);
+    if purse.amount() == 0 {
+        return None;
+    }
+    let mut lane = Queue::new(alloc).ok()?;
+    let Ok(()) = lane.push(Packet::seal(items, purse)) else {
+        return None;
+    };
+    worker.deliver(&mut lane).ok()
+}
+
+/// Settles two items, one after the other.
+pub fn settle_items(alloc: Global) -> Answer {
+    let Some(job) = job(alloc) else {
+        return Answer::Wrong("no job");
+    };
+    let (mut credit, purse) = Credit::plain();
+    let mut other = credit.empty_purse();
+    credit.draw(&mut other, 1);
+    let Some(mut worker) = hire(alloc, &job, purse, Allowance::plain()) else {
+        return Answer::Refused;
+    };
+    let Some(()) = hold_two(alloc, &job, &mut worker, &mut other) else {
+        return Answer::Refused;
+    };
+    let first = settle_it(alloc, &job, &mut worker);
+    let second = settle_it(alloc, &job, &mut worker);
+    let is_so = knows(&worker, &job, (&START, 20, Move::U, false))
+        && knows(&worker, &job, (&BEHIND_UP, 30, Move::U, false))
+        && worker.lists().len() == 2
+        && worker.held().is_empty();
+    if_so(both(first, second), is_so, "not settled so")
+}
+
+/// Expands a board, for whose moves the list of buckets grows, and two buckets.
+pub fn expand_board(alloc: Global) -> Answer {
+    let Some(job) = job(alloc) else {
+        return Answer::Wrong("no job");
+    };
+    let (credit, purse) = Credit::plain();
+    let mut book = Book::new(credit, Grants::plain(), 7, 2);
+    let Some(mut worker) = hire(alloc, &job, purse, Allowance::plain()) else {
+        return Answer::Refused;
+    };
+    let Some(start) = item(&job, &START, 0) else {
+        return Answer::Wrong("no board");
+    };
+    let met = meet_it(alloc, &job, &mut worker, &start);
+    if worker.allowance() != 0 || worker.expansions() != 0 || worker.grant(&mut book).is_err() {
+        return Answer::Wrong("not granted");
+    }
+    let expanded = expand_it(alloc, &job, &mut worker);
+    if_so(
+        both(met, expanded),
+        is_expanded(&worker, &job, 3),
+        "not expanded so",
+    )
+}
+
+/// Expands a board where the table of known boards is full but for three places, so that the table
+/// grows too.
+pub fn expand_in_full_table(alloc: Global) -> Answer {
+    let Some(job) = job(alloc) else {
+        return Answer::Wrong("no job");
+    };
+    let (credit, purse) = Credit::plain();
+    let mut book = Book::new(credit, Grants::plain(), 7, 2);
+    let Some(mut worker) = hire(alloc, &job, purse, Allowance::plain()) else {
+        return Answer::Refused;
+    };
+    let met = fill_table(alloc, &job, &mut worker);
+    if worker.allowance() != 0 || worker.expansions() != 0 || worker.grant(&mut book).is_err() {
+        return Answer::Wrong("not granted");
+    }
+    let expanded = expand_it(alloc, &job, &mut worker);
+    if_so(
+        both(met, expanded),
+        is_expanded(&worker, &job, PAGE_LENGTH - 1),
+        "not expanded so",
+    )
+}
+
+// Meets the start at no cost, and others at a greater one, until three places are left in the first
+// page of the table. A board that is refused memory is met once more.
+fn fill_table(alloc: Global, job: &Job, worker: &mut Worker<Plain>) -> Answer
+    requires job { IsFit job.now }
+    requires led { IsLed job.now worker.old.lists }
+    ensures led { IsLed job.now worker.new.lists }
+{
+    let mut answer = Answer::Whole;
+    'boards: for number in 0..PAGE_LENGTH - 3 {
+        let cost = if number == 0 { 0 } else { 20 };
+        let Some(board) = item(job, &numbered_tiles(number), cost) else {
+            return Answer::Wrong("no board");
+        };
+        if matches!(meet(alloc, job, worker, &board), Some(Ok(()))) {
+            continue;
+        }
+        let Some(Ok(())) = meet(alloc, job, worker, &board) else {
+            return Answer::Wrong("not met at last");
+        };
+        answer = Answer::Refused;
+    }
+    answer
+}
+
+// START with its last eight tiles in an order of their own for each number below 8!; START itself
+// for 0.
+fn numbered_tiles(number: usize) -> [u8; 16] {
+    let mut tiles = START;
+    let mut left = number;
+    'places: for place in 8..15 {
+        let choices = 16 - place;
+        let other = place + left % choices;
+        let tile = tiles[place];
+        tiles[place] = tiles[other];
+        tiles[other] = tile;
+        left /= choices;
+    }
+    tiles
+}
+
+// Whether a worker that knew the start at no cost has expanded it, and knows so many boards now.
+fn is_expanded(worker: &Worker<Plain>, job: &Job, known: usize) -> bool {
+    knows(worker, job, (&START, 0, Move::U, true))
+        && knows(worker, job, (&BEHIND_UP, 5, Move::U, false))
+        && knows(worker, job, (&BEHIND_DOWN, 9, Move::D, false))
+        && worker.lists().len() == known
+        && worker.allowance() == 6
+        && worker.expansions() == 1
+        && sends_two(worker)
+}
+
+// Whether the boards behind L and R wait to be sent.
+fn sends_two(worker: &Worker<Plain>) -> bool {
+    if worker.workers() != 2 {
+        return false;
+    }
+    let items = worker.unsent(0);
+    items.len() == 2
+        && items[0].g() == 4
+        && items[0].via() == Move::L
+        && items[1].g() == 6
+        && items[1].via() == Move::R
+        && worker.unsent(1).is_empty()
+}

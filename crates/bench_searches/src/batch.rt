@@ -1,0 +1,188 @@
+//! A batch with tables: the lines on standard input are answered on standard output, by the groups
+//! that are the default for their shape. `bench/batch` times it.
+//!
+//! Standard error has a line when the tables are built, and one at the end: how many lines are
+//! optimal, unsolvable, bounded and refused, and how many boards were expanded for them. To count
+//! these takes time, so `uncounted` leaves it out, and 0 is printed.
+
+mod setup;
+
+use batch_runs::{Setup, SpreadKind, Summary};
+use board::Shape;
+use byte_streams::{BufferedSource, ByteSink, Sink, Source};
+use hda_run::{Free, Gate, Kind};
+use setup::guided_setup;
+use setup_runs::run_batch;
+use std::array;
+use std::io::{self, BufWriter, Eprint, Read, Write};
+use std::sync::Wait;
+use std::sync::atomic::{AtomicU64, Ordering};
+use std::thread::Threads;
+use world_model::WORKER_LIMIT;
+
+// How many counts there are from one worker's on to the next one's: as many as a cache line and the
+// one that is fetched beside it have, so that workers don't wait for one another's.
+const STRIDE: usize = 16;
+
+// A gate that counts the boards that each worker expands.
+#[derive(Drop)]
+struct Counter {
+    expanded: [AtomicU64; STRIDE * WORKER_LIMIT],
+}
+
+impl Gate for Counter {
+    fn pass(&self, worker: usize, kind: Kind) {
+        if kind != Kind::Expand || worker >= WORKER_LIMIT {
+            return;
+        }
+        // Nobody else writes the count of this worker, so no lock of the bus is needed.
+        let count = &self.expanded[worker * STRIDE];
+        count.store(
+            count.load(Ordering::Relaxed).wrapping_add(1),
+            Ordering::Relaxed,
+        );
+    }
+}
+
+impl Counter {
+    fn new() -> Self {
+        Counter {
+            expanded: array::from_fn(|_| AtomicU64::new(0)),
+        }
+    }
+
+    // How many boards were expanded by all.
+    fn total(&self) -> u64 {
+        let mut total = 0u64;
+        for count in &self.expanded {
+            total = total.saturating_add(count.load(Ordering::Relaxed));
+        }
+        total
+    }
+}
+
+// What the words ask for.
+#[derive(Clone, Copy)]
+struct Asked {
+    shape: Shape,
+    workers: usize,
+    spread: SpreadKind,
+    fold: bool,
+    counted: bool,
+}
+
+// What the words ask for, or None where they are others than those of a batch.
+fn read_words(words: &[String]) -> Option<Asked> {
+    let mut words = words.iter();
+    let Some(rows) = words.next() else {
+        return by_one(3, 3);
+    };
+    let rows = rows.parse().ok()?;
+    let cols = words.next()?.parse().ok()?;
+    let by_one = by_one(rows, cols)?;
+    let Some(workers) = words.next() else {
+        return Some(by_one);
+    };
+    let workers = workers.parse().ok()?;
+    let spread = match words.next() {
+        Some(word) => read_spread(word)?,
+        None => SpreadKind::Zobrist,
+    };
+    let fold = match words.next() {
+        Some(word) => word.as_str() == "fold",
+        None => false,
+    };
+    let counted = words.next().is_none();
+    Some(Asked {
+        workers,
+        spread,
+        fold,
+        counted,
+        ..by_one
+    })
+}
+
+// Boards of this shape by one worker.
+fn by_one(rows: u8, cols: u8) -> Option<Asked> {
+    Some(Asked {
+        shape: Shape::new(rows, cols).ok()?,
+        workers: 1,
+        spread: SpreadKind::Zobrist,
+        fold: false,
+        counted: true,
+    })
+}
+
+fn read_spread(word: &str) -> Option<SpreadKind> {
+    match word {
+        "zobrist" => Some(SpreadKind::Zobrist),
+        "blank" => Some(SpreadKind::Blank),
+        _ => None,
+    }
+}
+
+// Answers the lines of the source, and prints the counts.
+fn run_lines<R: Threads + Wait + Eprint + AllocGlobal + Sync, S: Source, K: Sink>(
+    rt: &R,
+    source: &mut S,
+    sink: &mut K,
+    setup: &Setup,
+    counted: bool,
+) -> Option<()> {
+    if !counted {
+        let counts = run_batch(rt, rt.alloc(), source, sink, setup, &Free).ok()?;
+        return print_counts(rt, counts, 0).ok();
+    }
+    let counter = Counter::new();
+    let counts = run_batch(rt, rt.alloc(), source, sink, setup, &counter).ok()?;
+    print_counts(rt, counts, counter.total()).ok()
+}
+
+fn print_counts(
+    rt: &(impl Eprint + AllocGlobal),
+    counts: Summary,
+    expanded: u64,
+) -> io::Result<()> {
+    let Summary {
+        optimal,
+        unsolvable,
+        bounded,
+        refused,
+    } = counts;
+    eprintln!(rt;
+        "optimal {optimal} unsolvable {unsolvable} bounded {bounded} refused {refused} expanded {expanded}"
+    )
+}
+
+/// Answers the lines of the input as the words after the part's name ask for. Answers the exit
+/// status.
+pub fn run<R, I, O>(rt: &R, words: &[String], input: I, output: O) -> u8
+where
+    R: Threads + Wait + Eprint + AllocGlobal + Sync,
+    I: Read + Drop,
+    O: Write + Drop,
+{
+    let alloc = rt.alloc();
+    let Some(asked) = read_words(words) else {
+        return 2;
+    };
+    let (Ok(source), Ok(writer)) = (
+        BufferedSource::new(alloc, input),
+        BufWriter::new(alloc, output),
+    ) else {
+        return 4;
+    };
+    let Ok(setup) = guided_setup(rt, alloc, asked.shape, asked.fold) else {
+        return 4;
+    };
+    let Ok(setup) = setup.spread(asked.spread).workers(asked.workers) else {
+        return 2;
+    };
+    let _ = eprintln!(rt; "tables are built");
+    let mut source = source;
+    let mut sink = ByteSink::new(writer);
+    match run_lines(rt, &mut source, &mut sink, &setup, asked.counted) {
+        Some(()) => 0,
+        None => 3,
+    }
+}

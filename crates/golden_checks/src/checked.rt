@@ -1,0 +1,132 @@
+//! Prints what is answered of a board that is as far from the goal as one of 3 by 3 can be, where
+//! the checker has to accept the plan: with the tables of the search built anew, with these folded,
+//! and with tables of other problems.
+
+ghost use Rattle.lower_bound.specs.Tables.{ArePotentials};
+
+mod judging;
+
+use crate::problems::{Costs, Problem, problem_at};
+use board::{Board, Shape, Weights};
+use judging::{checked_answer, verdict_on_plan};
+use lower_bound::Bound;
+use std::alloc::Global;
+use std::io::{self, ErrorKind, Print};
+use std::sync::Wait;
+use std::thread::Threads;
+use test_worlds::bound_of;
+
+// Another goal of the same class.
+const OTHER_GOAL: [u8; 9] = [1, 2, 0, 3, 4, 5, 6, 7, 8];
+
+// The groups whose tables guide the search.
+const GROUPS: [&[u8]; 2] = [&[1, 2, 3, 4], &[5, 6, 7, 8]];
+
+// Other groups, as the second is smaller.
+const OTHER_GROUPS: [&[u8]; 2] = [&[1, 2, 3, 4], &[5, 6, 7]];
+
+// How many workers solve it.
+const WORKERS: [usize; 3] = [1, 2, 16];
+
+// Whose tables the checker has.
+#[derive(Clone, Copy)]
+enum Judge {
+    Own,
+    OwnFolded,
+    OfOtherGroups,
+    OfNoGroups,
+    OfAnotherGoal,
+    OfFaceCosts,
+}
+
+impl Judge {
+    const ALL: [Judge; 6] = [
+        Judge::Own,
+        Judge::OwnFolded,
+        Judge::OfOtherGroups,
+        Judge::OfNoGroups,
+        Judge::OfAnotherGoal,
+        Judge::OfFaceCosts,
+    ];
+
+    // The words for them.
+    fn words(self) -> &'static str {
+        match self {
+            Judge::Own => "tables of the same groups, built anew",
+            Judge::OwnFolded => "tables of the same groups, folded",
+            Judge::OfOtherGroups => "tables of other groups",
+            Judge::OfNoGroups => "no tables",
+            Judge::OfAnotherGoal => "tables for another goal",
+            Judge::OfFaceCosts => "tables for face costs",
+        }
+    }
+}
+
+/// Prints for each judge what 1, 2 and 16 workers answer, and what the checker says of a plan that
+/// was found without it: where whole tables guide the search, and where the same guide it, folded.
+pub fn print_checked<R: Threads + Wait + Print + AllocGlobal + Sync>(rt: &R) -> io::Result<()> {
+    let Some(problem) = problem_at(Costs::Unit) else {
+        return Err(ErrorKind::InvalidData.into());
+    };
+    let Some(bound) = bound_of(rt.alloc(), &problem.goal, &problem.weights, &GROUPS) else {
+        return Err(ErrorKind::OutOfMemory.into());
+    };
+    rt.println("## Guided by whole tables\n")?;
+    for judge in Judge::ALL {
+        print_judge(rt, &problem, &bound, judge)?;
+    }
+    let Ok(folded) = bound.folded(rt.alloc()) else {
+        return Err(ErrorKind::OutOfMemory.into());
+    };
+    rt.println("## Guided by folded tables\n")?;
+    for judge in [Judge::Own, Judge::OwnFolded] {
+        print_judge(rt, &problem, &folded, judge)?;
+    }
+    Ok(())
+}
+
+fn print_judge<R: Threads + Wait + Print + AllocGlobal + Sync>(
+    rt: &R,
+    problem: &Problem,
+    bound: &Bound,
+    judge: Judge,
+) -> io::Result<()>
+    requires potentials { ArePotentials problem.now.weights problem.now.goal bound.now }
+{
+    let Some(tables) = tables_of(rt.alloc(), judge) else {
+        return Err(ErrorKind::OutOfMemory.into());
+    };
+    let verdict = verdict_on_plan(rt.alloc(), problem, bound, &tables);
+    println!(rt; "# {}: {verdict:?}", judge.words())?;
+    for workers in WORKERS {
+        let answer = checked_answer(rt, rt.alloc(), problem, bound, workers, &tables);
+        println!(rt; "workers {workers}: {answer:?}")?;
+    }
+    rt.println("")
+}
+
+// The tables of a judge, or None where memory was refused.
+fn tables_of(alloc: Global, judge: Judge) -> Option<Bound> {
+    let unit = problem_at(Costs::Unit)?;
+    match judge {
+        Judge::Own => bound_of(alloc, &unit.goal, &unit.weights, &GROUPS),
+        Judge::OwnFolded => {
+            let whole = bound_of(alloc, &unit.goal, &unit.weights, &GROUPS)?;
+            whole.folded(alloc).ok()
+        }
+        Judge::OfOtherGroups => bound_of(alloc, &unit.goal, &unit.weights, &OTHER_GROUPS),
+        Judge::OfNoGroups => bound_of(alloc, &unit.goal, &unit.weights, &[]),
+        Judge::OfAnotherGoal => tables_for_another_goal(alloc),
+        Judge::OfFaceCosts => {
+            let face = problem_at(Costs::Face)?;
+            bound_of(alloc, &face.goal, &face.weights, &GROUPS)
+        }
+    }
+}
+
+// The tables of the same groups for another goal.
+fn tables_for_another_goal(alloc: Global) -> Option<Bound> {
+    let shape = Shape::new(3, 3).ok()?;
+    let goal = Board::from_tiles(shape, &OTHER_GOAL).ok()?;
+    bound_of(alloc, &goal, &Weights::unit(shape), &GROUPS)
+}

@@ -1,0 +1,82 @@
+//! How often the cost of the far board is found, by one worker and by more.
+
+use crate::far::{GROUPS, START, problem};
+use hda_run::Free;
+use std::alloc::Global;
+use std::io::{self, ErrorKind, Print};
+use std::sync::Wait;
+use std::thread::Threads;
+use test_worlds::{Answer, Division, Team, answer_with_rows, answer_without_rows, bound_of};
+
+const COST: u32 = 31;
+
+// How many workers solve it without tables.
+const WORKERS: [usize; 4] = [1, 2, 3, 16];
+
+// So often each count of workers solves it by each spread with these tables.
+const RUNS: u64 = 5;
+
+// How many runs found the cost: with rows that the checker accepts, and without rows.
+#[derive(Clone, Copy)]
+struct Count {
+    proved: u64,
+    found: u64,
+}
+
+/// Prints how many runs of so many workers find the cost, by both spreads.
+pub fn print_counts<R: Threads + Wait + Print + AllocGlobal + Sync>(rt: &R) -> io::Result<()> {
+    println!(rt; "# {START:?} at unit cost, without tables")?;
+    for workers in WORKERS {
+        print_both(rt, workers, &[], 1)?;
+    }
+    println!(rt; "# The same with tables, {RUNS} runs each")?;
+    for workers in 1..17 {
+        print_both(rt, workers, &GROUPS, RUNS)?;
+    }
+    rt.println("")
+}
+
+// The same of these workers, whom tables of these groups guide, in so many runs.
+fn print_both<R: Threads + Wait + Print + AllocGlobal + Sync>(
+    rt: &R,
+    workers: usize,
+    groups: &[&[u8]],
+    runs: u64,
+) -> io::Result<()> {
+    for division in Division::ALL {
+        let team = Team { workers, division };
+        let Some(Count { proved, found }) = count_runs(rt, rt.alloc(), team, groups, runs) else {
+            return Err(ErrorKind::OutOfMemory.into());
+        };
+        println!(rt;
+            "workers {workers}, by the {}: cost {COST} with a certificate {proved}, without rows {found}",
+            division.word()
+        )?;
+    }
+    Ok(())
+}
+
+// Counts the runs that find the cost, or None where memory was refused for the board's bound.
+fn count_runs<R: Threads + Wait + Sync>(
+    rt: &R,
+    alloc: Global,
+    team: Team,
+    groups: &[&[u8]],
+    runs: u64,
+) -> Option<Count> {
+    let problem = problem(u64::MAX)?;
+    let bound = bound_of(alloc, &problem.goal, &problem.weights, groups)?;
+    let mut count = Count {
+        proved: 0,
+        found: 0,
+    };
+    for _ in 0..runs {
+        if answer_with_rows(rt, alloc, &problem, &bound, team, &Free) == Answer::Plan(COST) {
+            count.proved = count.proved.saturating_add(1);
+        }
+        if answer_without_rows(rt, alloc, &problem, &bound, team, &Free) == Answer::Plan(COST) {
+            count.found = count.found.saturating_add(1);
+        }
+    }
+    Some(count)
+}

@@ -1,0 +1,251 @@
+//! Lines whose reports are known.
+
+ghost use Rattle.std.specs.Prelude.{◌≡◌, IfSome};
+
+use crate::guided::tables::bound_of;
+use batch_runs::{Setup, SpreadKind};
+use board::{Board, Shape, Weights};
+use byte_streams::{ByteSink, ByteSource};
+use hda_run::Free;
+use setup_runs::run_batch;
+use std::alloc::Global;
+use std::io::{self, ErrorKind, Print};
+use std::sync::Wait;
+use std::thread::Threads;
+
+/// What moves cost.
+#[derive(Clone, Copy, Debug)]
+pub enum Costs {
+    /// Every move costs 1.
+    Unit,
+    /// To move tile t costs t.
+    Face,
+}
+
+/// A line, and what its batch has in common.
+#[derive(Clone, Copy)]
+pub struct Asked {
+    /// How many rows and columns the board has.
+    side: u8,
+    costs: Costs,
+    groups: &'static [&'static [u8]],
+    fold: bool,
+    limit: u64,
+    workers: usize,
+    spread: SpreadKind,
+    pub line: &'static str,
+}
+
+// The goal itself.
+const SOLVED: Asked = Asked {
+    side: 3,
+    costs: Costs::Unit,
+    groups: &[],
+    fold: false,
+    limit: 0,
+    workers: 1,
+    spread: SpreadKind::Zobrist,
+    line: "g 0 1 2 3 4 5 6 7 8",
+};
+
+// A board of 5 by 5 that has one plan of five moves.
+const LARGE: Asked = Asked {
+    side: 5,
+    costs: Costs::Unit,
+    groups: &[
+        &[1],
+        &[2],
+        &[3],
+        &[4],
+        &[5],
+        &[6],
+        &[7],
+        &[8],
+        &[9],
+        &[10],
+        &[11],
+        &[12],
+        &[13],
+        &[14],
+        &[15],
+        &[16],
+        &[17],
+        &[18],
+        &[19],
+        &[20],
+        &[21],
+        &[22],
+        &[23],
+        &[24],
+    ],
+    fold: false,
+    limit: u64::MAX,
+    workers: 1,
+    spread: SpreadKind::Zobrist,
+    line: "b 1 2 3 4 9 5 6 7 8 0 10 11 12 13 14 15 16 17 18 19 20 21 22 23 24",
+};
+
+// As far from the goal as a board of 3 by 3 can be, and nothing may be expanded. The tiles 1 to 8
+// are 3, 4, 2, 0, 2, 4, 2 and 4 cells away from their own.
+const FAR: Asked = Asked {
+    side: 3,
+    costs: Costs::Unit,
+    groups: &[&[1], &[2], &[3], &[4], &[5], &[6], &[7], &[8]],
+    fold: false,
+    limit: 0,
+    workers: 1,
+    spread: SpreadKind::Zobrist,
+    line: "h 8 0 6 5 4 7 2 3 1",
+};
+
+// The same board, with tables and without a limit.
+const PROVED: Asked = Asked {
+    groups: &[&[1, 2, 3, 4], &[5, 6, 7, 8]],
+    limit: u64::MAX,
+    ..FAR
+};
+
+/// The lines. Those of several workers have one report, whatever their threads do.
+pub static LINES: [Asked; 12] = [
+    SOLVED,
+    LARGE,
+    Asked {
+        costs: Costs::Face,
+        ..LARGE
+    },
+    FAR,
+    Asked {
+        costs: Costs::Face,
+        ..FAR
+    },
+    // Only the board itself may be expanded.
+    Asked {
+        groups: &[],
+        limit: 1,
+        ..FAR
+    },
+    Asked {
+        workers: 2,
+        spread: SpreadKind::Blank,
+        ..LARGE
+    },
+    Asked {
+        costs: Costs::Face,
+        workers: 4,
+        ..LARGE
+    },
+    Asked { workers: 16, ..FAR },
+    // With one tile in a group, and a least value over the blank's places, the sums are the same.
+    Asked { fold: true, ..FAR },
+    Asked {
+        costs: Costs::Face,
+        fold: true,
+        ..FAR
+    },
+    Asked {
+        costs: Costs::Face,
+        fold: true,
+        workers: 3,
+        ..LARGE
+    },
+];
+
+/// The lines whose certificates are written.
+pub static CERTIFIED: [Asked; 6] = [
+    // The sums leave the start alone to be proved by a row.
+    Asked {
+        side: 2,
+        groups: &[&[1], &[3]],
+        line: "x 1 3 0 2",
+        ..LARGE
+    },
+    PROVED,
+    Asked {
+        workers: 2,
+        ..PROVED
+    },
+    Asked {
+        workers: 3,
+        spread: SpreadKind::Blank,
+        ..PROVED
+    },
+    // The checker builds whole tables for these too.
+    Asked {
+        fold: true,
+        ..PROVED
+    },
+    Asked {
+        fold: true,
+        workers: 2,
+        ..PROVED
+    },
+];
+
+impl Asked {
+    /// Prints the line, and what its batch has.
+    pub fn print(&self, rt: &impl Print) -> io::Result<()> {
+        let Asked {
+            costs,
+            groups,
+            fold,
+            limit,
+            workers,
+            spread,
+            line,
+            ..
+        } = self;
+        let kind = if *fold { "folded" } else { "whole" };
+        println!(rt;
+            "# {line}\n# at {costs:?} cost, {} groups, {kind}, limit {limit}, workers {workers}, by {spread:?}",
+            groups.len()
+        )
+    }
+}
+
+/// Prints a line, and the report that a batch makes of it.
+pub fn print_report<R: Print + AllocGlobal + Threads + Wait + Sync>(
+    rt: &R,
+    asked: &Asked,
+) -> io::Result<()> {
+    asked.print(rt)?;
+    let Some(setup) = setup_of(rt, rt.alloc(), asked) else {
+        return Err(ErrorKind::InvalidData.into());
+    };
+    let mut source = ByteSource::new(asked.line.as_bytes());
+    let mut sink = ByteSink::new(Vec::new(rt.alloc()));
+    let Ok(_) = run_batch(rt, rt.alloc(), &mut source, &mut sink, &setup, &Free) else {
+        return Err(ErrorKind::InvalidData.into());
+    };
+    let report = sink.into_inner();
+    let Ok(text) = str::from_utf8(report.as_slice()) else {
+        return Err(ErrorKind::InvalidData.into());
+    };
+    rt.println(text)
+}
+
+/// The setup of a line's batch, or None where memory was refused.
+pub fn setup_of<R: Threads + Sync>(rt: &R, alloc: Global, asked: &Asked) -> Option<Setup> {
+    let shape = Shape::new(asked.side, asked.side).ok()?;
+    let goal = Board::goal(shape);
+    let weights = weights_of(asked.costs, shape);
+    let bound = bound_of(rt, alloc, &goal, &weights, asked.groups)?;
+    let setup = Setup::new(alloc, goal, weights)
+        .bound(bound)
+        .limit(asked.limit)
+        .spread(asked.spread);
+    let setup = setup.workers(asked.workers).ok()?;
+    if asked.fold {
+        return setup.folded(alloc).ok();
+    }
+    Some(setup)
+}
+
+// What the moves of boards of this shape cost.
+fn weights_of(costs: Costs, shape: Shape) -> Weights
+    ensures sides { result.grid ≡ shape }
+{
+    match costs {
+        Costs::Unit => Weights::unit(shape),
+        Costs::Face => Weights::face(shape),
+    }
+}

@@ -1,0 +1,103 @@
+//! All boards of small shapes that a plan leads from.
+
+ghost use Rattle.std.specs.Prelude.{◌≡◌};
+ghost use Rattle.lower_bound.specs.Tables.{ArePotentials};
+
+use board::{Board, Shape, Weights};
+use hda_run::Free;
+use lower_bound::Bound;
+use std::alloc::Global;
+use std::io::{self, ErrorKind, Print};
+use std::sync::Wait;
+use std::thread::Threads;
+use test_support::least_costs;
+use test_worlds::{
+    Answer, Division, Problem, Team, answer_with_rows, answer_without_rows, bound_of,
+};
+
+// How many boards a plan leads from, and of how many of them the least cost is found, with rows that
+// the checker accepts and without rows.
+#[derive(Clone, Copy)]
+struct Count {
+    plans: u64,
+    right: u64,
+}
+
+/// Prints of how many boards of 2 by 2, and of 2 by 3, so many workers find the least cost.
+pub fn print_counts<R: Threads + Wait + Print + AllocGlobal + Sync>(rt: &R) -> io::Result<()> {
+    for (cols, workers) in [(2, 2), (2, 3), (3, 3)] {
+        let Ok(shape) = Shape::new(2, cols) else {
+            return Err(ErrorKind::InvalidData.into());
+        };
+        println!(rt; "# All boards of 2 by {cols}, workers {workers}")?;
+        for division in Division::ALL {
+            let team = Team { workers, division };
+            print_count(rt, "unit", Weights::unit(shape), team)?;
+            print_count(rt, "face", Weights::face(shape), team)?;
+        }
+        rt.println("")?;
+    }
+    Ok(())
+}
+
+fn print_count<R: Threads + Wait + Print + AllocGlobal + Sync>(
+    rt: &R,
+    name: &str,
+    weights: Weights,
+    team: Team,
+) -> io::Result<()> {
+    let goal = Board::goal(weights.shape());
+    let Some(Count { plans, right }) = count_boards(rt, rt.alloc(), goal, weights, team) else {
+        return Err(ErrorKind::OutOfMemory.into());
+    };
+    let word = team.division.word();
+    println!(rt; "at {name} cost, by the {word}: {right} of {plans} costs are the least")
+}
+
+// Counts the boards, or None where memory was refused.
+fn count_boards<R: Threads + Wait + Sync>(
+    rt: &R,
+    alloc: Global,
+    goal: Board,
+    weights: Weights,
+    team: Team,
+) -> Option<Count>
+    requires { weights.grid ≡ goal.grid }
+{
+    let bound = bound_of(alloc, &goal, &weights, &[])?;
+    let boards = least_costs(alloc, &goal, &weights).ok()?;
+    let mut count = Count { plans: 0, right: 0 };
+    for (start, least) in boards.as_slice() {
+        let problem = Problem {
+            start: *start,
+            goal,
+            weights,
+            limit: u64::MAX,
+        };
+        if let Some(cost) = least {
+            count_board(&mut count, rt, alloc, &problem, &bound, team, *cost);
+        }
+    }
+    Some(count)
+}
+
+// Counts a board that has a plan of this cost, and none of a lower one.
+fn count_board<R: Threads + Wait + Sync>(
+    count: &mut Count,
+    rt: &R,
+    alloc: Global,
+    problem: &Problem,
+    bound: &Bound,
+    team: Team,
+    cost: u32,
+)
+    requires { ArePotentials problem.now.weights problem.now.goal bound.now }
+{
+    let due = Answer::Plan(cost);
+    let with_rows = answer_with_rows(rt, alloc, problem, bound, team, &Free);
+    let without_rows = answer_without_rows(rt, alloc, problem, bound, team, &Free);
+    count.plans = count.plans.saturating_add(1);
+    if with_rows == due && without_rows == due {
+        count.right = count.right.saturating_add(1);
+    }
+}

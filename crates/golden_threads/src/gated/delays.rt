@@ -1,0 +1,73 @@
+//! Runs in which one worker is slower than the others.
+
+ghost use Rattle.lower_bound.specs.Tables.{ArePotentials};
+
+use crate::far::{GROUPS, START, problem};
+use lower_bound::Bound;
+use std::alloc::Global;
+use std::io::{self, ErrorKind, Print};
+use std::sync::Wait;
+use std::thread::Threads;
+use test_worlds::{Answer, Delay, Division, Problem, Team, answer_with_rows, bound_of};
+
+// So many turns the slow worker spins after each step, more than a step takes.
+const TURNS: u32 = 1000;
+
+const WORKERS: [usize; 4] = [2, 3, 4, 16];
+
+/// Prints what is answered where the first worker is slow, and where the last is, by both spreads.
+pub fn print_runs<R: Threads + Wait + Print + AllocGlobal + Sync>(rt: &R) -> io::Result<()> {
+    println!(rt; "# {START:?} at unit cost, with tables for {GROUPS:?}")?;
+    for workers in WORKERS {
+        for division in Division::ALL {
+            print_run(rt, Team { workers, division })?;
+        }
+    }
+    Ok(())
+}
+
+fn print_run<R: Threads + Wait + Print + AllocGlobal + Sync>(rt: &R, team: Team) -> io::Result<()> {
+    let Some((first, last)) = run(rt, rt.alloc(), team) else {
+        return Err(ErrorKind::OutOfMemory.into());
+    };
+    let Team { workers, division } = team;
+    let word = division.word();
+    println!(rt;
+        "workers {workers}, by the {word}: {first:?} where the first is slow, {last:?} where the last is"
+    )
+}
+
+// What is answered where the first worker is slow, and where the last is; or None where memory was
+// refused.
+fn run<R: Threads + Wait + Sync>(rt: &R, alloc: Global, team: Team) -> Option<(Answer, Answer)> {
+    let problem = problem(u64::MAX)?;
+    let bound = bound_of(alloc, &problem.goal, &problem.weights, &GROUPS)?;
+    let first = run_delayed(rt, alloc, &problem, &bound, team, 0);
+    let last = run_delayed(
+        rt,
+        alloc,
+        &problem,
+        &bound,
+        team,
+        team.workers.saturating_sub(1),
+    );
+    Some((first, last))
+}
+
+// What is answered where this worker is slow.
+fn run_delayed<R: Threads + Wait + Sync>(
+    rt: &R,
+    alloc: Global,
+    problem: &Problem,
+    bound: &Bound,
+    team: Team,
+    worker: usize,
+) -> Answer
+    requires { ArePotentials problem.now.weights problem.now.goal bound.now }
+{
+    let delay = Delay {
+        worker,
+        turns: TURNS,
+    };
+    answer_with_rows(rt, alloc, problem, bound, team, &delay)
+}

@@ -1,0 +1,74 @@
+//! Runs that a limit on expansions stops.
+
+use crate::far::{START, problem};
+use outcomes::Cause;
+use std::alloc::Global;
+use std::io::{self, ErrorKind, Print};
+use std::sync::Wait;
+use std::thread::Threads;
+use test_worlds::{Answer, Counter, Division, Team, answer_with_rows, bound_of};
+
+const LIMIT: u64 = 4000;
+
+// So many expansions are granted to a worker at most that it may leave.
+const LEFT_BY_EACH: u64 = 256;
+
+/// Prints whether the limit bounds the runs of one worker, and of four, by both spreads.
+pub fn print_runs<R: Threads + Wait + Print + AllocGlobal + Sync>(rt: &R) -> io::Result<()> {
+    println!(rt; "# {START:?} at unit cost, limit {LIMIT}")?;
+    for division in Division::ALL {
+        print_run(
+            rt,
+            Team {
+                workers: 1,
+                division,
+            },
+            LIMIT,
+        )?;
+        print_run(
+            rt,
+            Team {
+                workers: 4,
+                division,
+            },
+            LIMIT - 4 * LEFT_BY_EACH,
+        )?;
+    }
+    rt.println("")
+}
+
+// Prints whether a run is bounded by the limit, after so many expansions at least.
+fn print_run<R: Threads + Wait + Print + AllocGlobal + Sync>(
+    rt: &R,
+    team: Team,
+    fewest: u64,
+) -> io::Result<()> {
+    let Some((answer, expanded)) = run(rt, rt.alloc(), team) else {
+        return Err(ErrorKind::OutOfMemory.into());
+    };
+    let Team { workers, division } = team;
+    let word = division.word();
+    print!(rt; "workers {workers}, by the {word}: ")?;
+    if is_bound(answer) && fewest <= expanded && expanded <= LIMIT {
+        return println!(rt; "a bound of 1 at least, {fewest} to {LIMIT} boards expanded");
+    }
+    println!(rt; "{answer:?}, {expanded} boards expanded")
+}
+
+// Whether it is a bound that says something, for the limit.
+fn is_bound(answer: Answer) -> bool {
+    match answer {
+        Answer::Bound(bound, cause) => 1 <= bound && cause == Cause::Limit,
+        _ => false,
+    }
+}
+
+// What is answered without tables, and how many boards were expanded for it; or None where memory
+// was refused.
+fn run<R: Threads + Wait + Sync>(rt: &R, alloc: Global, team: Team) -> Option<(Answer, u64)> {
+    let problem = problem(LIMIT)?;
+    let bound = bound_of(alloc, &problem.goal, &problem.weights, &[])?;
+    let counter = Counter::new();
+    let answer = answer_with_rows(rt, alloc, &problem, &bound, team, &counter);
+    Some((answer, counter.expanded()))
+}

@@ -1,0 +1,149 @@
+//! Goals that are near.
+
+use board::{Board, Move, Shape, Weights};
+use hda_run::Free;
+use memory::push;
+use std::alloc::Global;
+use std::io::{self, ErrorKind, Print};
+use std::sync::Wait;
+use std::thread::Threads;
+use test_worlds::{
+    Answer, Division, Problem, Team, answer_with_rows, answer_without_rows, bound_of,
+};
+
+// The blank is in a corner, on a side, and in the middle.
+const STARTS: [[u8; 9]; 3] = [
+    [0, 1, 2, 3, 4, 5, 6, 7, 8],
+    [1, 0, 2, 3, 4, 5, 6, 7, 8],
+    [1, 2, 3, 4, 0, 5, 6, 7, 8],
+];
+
+// So many moves a goal is away at most.
+const FARTHEST: u32 = 3;
+
+// How many workers go there at most.
+const MOST_WORKERS: usize = 16;
+
+// How many goals there are, how many runs, and how many of these find the least cost, with rows that
+// the checker accepts and without rows.
+#[derive(Clone, Copy)]
+struct Count {
+    goals: u64,
+    runs: u64,
+    right: u64,
+}
+
+/// Prints of how many goals up to three moves away 2 to 16 workers find the cost, by both spreads.
+pub fn print_counts<R: Threads + Wait + Print + AllocGlobal + Sync>(rt: &R) -> io::Result<()> {
+    println!(rt; "# Goals 1 to {FARTHEST} moves away at unit cost, workers 2 to {MOST_WORKERS}")?;
+    for tiles in STARTS {
+        print_count(rt, &tiles)?;
+    }
+    Ok(())
+}
+
+fn print_count<R: Threads + Wait + Print + AllocGlobal + Sync>(
+    rt: &R,
+    tiles: &[u8],
+) -> io::Result<()> {
+    let Some(Count { goals, runs, right }) = count_goals(rt, rt.alloc(), tiles) else {
+        return Err(ErrorKind::OutOfMemory.into());
+    };
+    println!(rt; "{tiles:?}: {goals} goals, {right} of {runs} costs are the least")
+}
+
+// Counts the goals and the runs, or None where memory was refused.
+fn count_goals<R: Threads + Wait + Sync>(rt: &R, alloc: Global, tiles: &[u8]) -> Option<Count> {
+    let shape = Shape::new(3, 3).ok()?;
+    let start = Board::from_tiles(shape, tiles).ok()?;
+    let boards = boards_near(alloc, start)?;
+    let mut count = Count {
+        goals: 0,
+        runs: 0,
+        right: 0,
+    };
+    for (goal, cost) in boards.as_slice() {
+        if *cost != 0 {
+            count.goals = count.goals.saturating_add(1);
+            count_goal(&mut count, rt, alloc, start, *goal, *cost)?;
+        }
+    }
+    Some(count)
+}
+
+// Counts the runs to a goal that is so many moves away.
+fn count_goal<R: Threads + Wait + Sync>(
+    count: &mut Count,
+    rt: &R,
+    alloc: Global,
+    start: Board,
+    goal: Board,
+    cost: u32,
+) -> Option<()> {
+    let problem = Problem {
+        start,
+        goal,
+        weights: Weights::unit(goal.shape()),
+        limit: u64::MAX,
+    };
+    let bound = bound_of(alloc, &problem.goal, &problem.weights, &[])?;
+    let due = Answer::Plan(cost);
+    for workers in 2..MOST_WORKERS + 1 {
+        for division in Division::ALL {
+            let team = Team { workers, division };
+            let with_rows = answer_with_rows(rt, alloc, &problem, &bound, team, &Free);
+            let without_rows = answer_without_rows(rt, alloc, &problem, &bound, team, &Free);
+            count.runs = count.runs.saturating_add(1);
+            if with_rows == due && without_rows == due {
+                count.right = count.right.saturating_add(1);
+            }
+        }
+    }
+    Some(())
+}
+
+// The boards up to so many moves away, each with the fewest moves that lead there: first the start
+// itself, and then round by round those that were not met before. None where memory was refused.
+fn boards_near(alloc: Global, start: Board) -> Option<Vec<(Board, u32)>> {
+    let mut met = Vec::new(alloc);
+    push(&mut met, (start, 0)).ok()?;
+    for cost in 1..FARTHEST + 1 {
+        let round = round_of(alloc, met.as_slice(), cost)?;
+        for board in round.as_slice() {
+            if !has(met.as_slice(), board) {
+                push(&mut met, (*board, cost)).ok()?;
+            }
+        }
+    }
+    Some(met)
+}
+
+// The boards one move away from those that were met in the round before.
+fn round_of(alloc: Global, met: &[(Board, u32)], cost: u32) -> Option<Vec<Board>> {
+    let mut round = Vec::new(alloc);
+    for (board, before) in met {
+        if before.saturating_add(1) == cost {
+            push_successors(&mut round, board)?;
+        }
+    }
+    Some(round)
+}
+
+fn push_successors(round: &mut Vec<Board>, board: &Board) -> Option<()> {
+    for direction in Move::ALL {
+        if let Some((next, _)) = board.step(direction, &Weights::unit(board.shape())) {
+            push(round, next).ok()?;
+        }
+    }
+    Some(())
+}
+
+// Whether a board was met.
+fn has(met: &[(Board, u32)], board: &Board) -> bool {
+    for (known, _) in met {
+        if known.key() == board.key() {
+            return true;
+        }
+    }
+    false
+}

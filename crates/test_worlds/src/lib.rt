@@ -1,0 +1,19 @@
+//! What programs share that try workers: steps of one worker, whose requirements are looked at
+//! before each step, which is left out where they are not met; tables for groups of tiles; and what
+//! workers in threads answer. A plan with rows, or a bound with rows, counts as found where the
+//! checker accepts its certificate.
+#![tactic(auto)]
+
+mod gates;
+mod job;
+mod problems;
+mod solving;
+mod steps;
+mod tables;
+
+pub use gates::{Counter, Delay};
+pub use job::Job;
+pub use problems::{Answer, Division, Problem, Team};
+pub use solving::{answer_with_rows, answer_without_rows};
+pub use steps::{expand, hire, meet, settle};
+pub use tables::bound_of;
