@@ -56,8 +56,8 @@ def main():
     except (CannotBuild, OSError) as why:
         print(f"{PROGRAM}: the program can't be built: {why}", file=sys.stderr)
         sys.exit(NO_PROGRAM)
-    for number in (signal.SIGTERM, signal.SIGHUP, signal.SIGINT, signal.SIGPIPE):
-        signal.signal(number, signal.SIG_DFL)
+    # (Python ignores a closed pipe, and the program is not to)
+    signal.signal(signal.SIGPIPE, signal.SIG_DFL)
     # As ./tilesolve does: the C library is asked for large pages, in which a search finds its boards faster.
     os.environ.setdefault("GLIBC_TUNABLES", "glibc.malloc.hugetlb=1")
     os.execv(program, [program, *sys.argv[1:]])

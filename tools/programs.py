@@ -123,6 +123,8 @@ def note_choice(wanted, kind, since):
 
 
 def end_in_order():
-    """Has the signals that end a program raise an exception, so that nothing is left behind."""
+    """Has the signals that end a program raise an exception, so that nothing is left behind. One that is ignored, as by
+    nohup, stays ignored."""
     for number in (signal.SIGTERM, signal.SIGHUP, signal.SIGINT):
-        signal.signal(number, lambda number, _: sys.exit(128 + number))
+        if signal.getsignal(number) != signal.SIG_IGN:
+            signal.signal(number, lambda number, _: sys.exit(128 + number))
