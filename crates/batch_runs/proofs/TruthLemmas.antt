@@ -198,7 +198,7 @@ outcome_true task id (Bounded bound best cause) answers = record {
   named = refl;
   optimal = λ e. let z = ap first_letter e in absurd (omega arith);
   unsolvable = λ e. let z = ap first_letter e in absurd (omega arith);
-  bounded = λ e. (bound, best_of best, cause, refl, refl, refl, answers.0, answers.3, answers.4);
+  bounded = λ e. (bound, best_of best, cause, refl, refl, refl, answers.0.0, answers.0.3, answers.0.4);
 }
 
 module _ (rules : Rules) (n : ℕ) (id : List ℕ) (b : Position) where

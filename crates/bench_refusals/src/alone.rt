@@ -7,6 +7,7 @@ mod databases;
 mod runs;
 mod searches;
 mod workers;
+mod worlds;
 
 use crate::requests::is_refused;
 use answer::Answer;
@@ -22,9 +23,10 @@ use std::io::{Eprint, Print};
 use std::sync::Wait;
 use std::thread::Threads;
 use workers::{expand_board, expand_in_full_table, meet_board, settle_items};
+use worlds::{finish_world, open_world};
 
 // The names of all calls.
-const CALLS: [&str; 26] = [
+const CALLS: [&str; 28] = [
     "partition",
     "table",
     "fold",
@@ -51,6 +53,8 @@ const CALLS: [&str; 26] = [
     "settle",
     "expand",
     "expand-more",
+    "world",
+    "finish",
 ];
 
 // Makes the call of this name, or answers None where there is none.
@@ -83,6 +87,8 @@ fn call<R: Threads + Wait + AllocGlobal + Sync>(rt: &R, name: &str) -> Option<An
         "settle" => Some(settle_items(alloc)),
         "expand" => Some(expand_board(alloc)),
         "expand-more" => Some(expand_in_full_table(alloc)),
+        "world" => Some(open_world(alloc)),
+        "finish" => Some(finish_world(alloc)),
         _ => None,
     }
 }

@@ -27,7 +27,7 @@ lone_bound (outcome.Bounded bound' best' cause' None) bound best cause says none
 
 -- what answers a task does so without rows too
 pub ends_answered : (task : Task) (given : Outcome) → Answers task given → EndAnswers task (without_rows given)
-ends_answered task (outcome.Optimal cost plan rows) answers = (answers.0, answers.1, answers.3, answers.4)
+ends_answered task (outcome.Optimal cost plan rows) answers = (answers.0, answers.1, (rows.items, answers.2), answers.3, answers.4)
 ends_answered task (outcome.Unsolvable why) answers = answers
-ends_answered task (outcome.Bounded bound best cause (Some rows)) answers = answers.0
-ends_answered task (outcome.Bounded bound best cause None) answers = answers.0
+ends_answered task (outcome.Bounded bound best cause (Some rows)) answers = (answers.0, (rows.items, answers.1))
+ends_answered task (outcome.Bounded bound best cause None) answers = (answers.0, answers.2)

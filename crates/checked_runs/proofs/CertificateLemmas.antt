@@ -18,7 +18,7 @@ use Rattle.certificate_check.specs.Refusals.{sum_in, IsProved}
 use Rattle.certificate_check.proofs.SumLemmas.{proved_above}
 use Rattle.hda_run.specs.Problems.{Problem, task_in}
 use Rattle.checked_runs.specs.Certificates.{certificate_in, AreAsGood}
-use Rattle.checked_runs.specs.Laws.{BoundsAreAccepted}
+use Rattle.checked_runs.specs.Laws.{BoundsAreAccepted, PlansAreAccepted}
 
 -- these fields are those of it
 pub stated : (p : Problem) (shape : Grid) (costs : CostRule) (groups : Split) (start goal : Position) (cost : ℕ) (plan : List Move) (rows : List (Position × ℕ)) → shape ≡ p.goal.grid → costs ≡ p.rule → groups ≡ p.tables.split → start ≡ p.start → goal ≡ p.goal
@@ -54,7 +54,11 @@ module _ (p : Problem) (cost : ℕ) (plan : Vec Move Global) (rows : Vec (Positi
     rows = proved_above p.rule rows.items (sum_in p.tables) (sum_in tables) p.start p.goal cost task.start task.sides answers.2.boards good.sums answers.2.proves;
   }
 
--- so does the certificate of a bound
+-- so it is accepted with them
+pub plans_accepted : PlansAreAccepted
+plans_accepted p tables cost plan rows task good answers = proved_with p cost plan rows answers task tables good
+
+-- and so is the certificate of a bound
 pub bounds_accepted : BoundsAreAccepted
 bounds_accepted p tables bound best cause rows task good answers = record {
   plan = tt;

@@ -17,7 +17,7 @@ use Rattle.certificate_check.specs.declared.refusals.Refusal.{Refusal}
 use Rattle.thread_runs.specs.Solved.{IsSolved}
 use Rattle.outcomes.specs.declared.outcome.Outcome.{Outcome}
 use Rattle.checked_runs.specs.Checked.{IsProvedWith, IsCheckedRun, IsRefusedRun}
-use Rattle.checked_runs.specs.Certificates.{AreAsGood, bound_certificate_in}
+use Rattle.checked_runs.specs.Certificates.{AreAsGood, certificate_in, bound_certificate_in}
 
 -- whole tables are as good as themselves, where they are potentials
 abbrev pub OwnTablesAreAsGood : Type 0
@@ -42,6 +42,16 @@ BoundsAreAccepted =
     → AreAsGood p tables
     → Answers (task_in p) (Bounded bound best cause (Some rows))
     → IsProved (bound_certificate_in p bound rows.items) tables
+
+-- The certificate of a plan that answers a problem is accepted with tables that are as good as the problem's. These are its own where they
+-- are whole potentials, or else the whole potentials that its own were folded from.
+abbrev pub PlansAreAccepted : Type 0
+PlansAreAccepted =
+    (p : Problem) (tables : Tables) (cost : ℕ) (plan : Vec Move Global) (rows : Vec (Position × ℕ) Global)
+    → IsTask (task_in p)
+    → AreAsGood p tables
+    → Answers (task_in p) (Optimal cost plan rows)
+    → IsProved (certificate_in p cost plan.items rows.items) tables
 
 -- a plan that is called least, and is proved with these tables, leads from the problem's start to its goal at its cost, which its rows prove with their sums
 abbrev pub ProvedPlansAreLeast : Type 0

@@ -1,7 +1,7 @@
 //! The laws of the definitions: each is the contract of a function that does nothing.
 
 ghost use Rattle.checked_runs.specs.Laws.{OwnTablesAreAsGood, TablesFoldedFromAreAsGood};
-ghost use Rattle.checked_runs.specs.Laws.{BoundsAreAccepted, ProvedPlansAreLeast};
+ghost use Rattle.checked_runs.specs.Laws.{BoundsAreAccepted, PlansAreAccepted, ProvedPlansAreLeast};
 ghost use Rattle.checked_runs.specs.Laws.{CheckedRunsAreRuns};
 
 use owners::Spread;
@@ -21,6 +21,12 @@ pub fn tables_folded_from_are_as_good()
 /// The checker accepts the rows of each bound that answers a problem, with tables as good.
 pub fn bounds_are_accepted()
     ensures { BoundsAreAccepted }
+{}
+
+/// The checker accepts the plan and the rows of each optimal outcome that answers a problem, with
+/// tables as good. `World::finish`, `solve` and `solve_one` ensure `Answers`, so it accepts theirs.
+pub fn plans_are_accepted()
+    ensures { PlansAreAccepted }
 {}
 
 /// A plan that is called least, and is proved with tables, leads to the goal at its cost, which its

@@ -5,43 +5,43 @@ pub(crate) const VERSION: &str = "1.0.0";
 
 /// What the program does.
 pub(crate) const PROGRAM: &str =
-    "Finds plans of least cost for sliding-tile puzzles, and checks them";
+    "Solve sliding-tile puzzles optimally, and check certificates of the answers";
 
-/// The same, in two sentences.
+/// The same in detail.
 pub(crate) const PROGRAM_LONG: &str = "\
-Finds plans of least cost for sliding-tile puzzles of 2 by 2 to 5 by 5 cells, and checks the
-certificates of such plans, and of bounds. It reads standard input and writes standard output: a board is a line
-of an id and of the tiles, cell by cell, with 0 for the blank.";
+Solve sliding-tile puzzles of 2 by 2 to 5 by 5 cells optimally, and check certificates of the
+answers. Boards are read from standard input, and answers go to standard output. A board is
+one line: an id, then the tile on each cell, row by row, with 0 for the blank.";
 
-/// Examples of the program, its statuses, and where the formats stand.
+/// Examples of the program, its statuses, and where its formats are described.
 pub(crate) const PROGRAM_AFTER: &str = "\
 Examples:
-  echo 'a 1 2 0 3 4 5 6 7 8' | tilesolve
+  echo 'easy 1 2 0 3 4 5 6 7 8' | tilesolve
   echo 'b 1 0 2 3' | tilesolve solve --rows 2 --cols 2
   echo 'b 1 0 2 3' | tilesolve solve --rows 2 --cols 2 --cert | tilesolve check
 
-Without words it is: tilesolve solve --rows 3 --cols 3
+Without arguments: tilesolve solve --rows 3 --cols 3
 
 Exit status:
   0  every line is optimal or unsolvable, or the certificate is accepted or upgraded
-  1  some line is bounded or refused, or a replay's step was none
-  2  the words are at fault, with --goal, --cost and --groups among them
-  3  standard input can't be read (B1, F6), or standard output can't be written (B2, F8)
-  4  no memory (memory, B3, F7)
+  1  some line is bounded or refused, or a replay line is not a step (B4)
+  2  invalid arguments, including the values of --goal, --cost and --groups
+  3  standard input can't be read (B1, F6) or standard output can't be written (B2, F8)
+  4  out of memory (memory, B3, F7)
   5  the certificate is refused (F1 to F5, C1 to C7)
 
-The formats stand in docs/FORMATS.md.";
+Formats: docs/CLI.md and docs/CERTIFICATE.md";
 
 /// What `solve` does.
-pub(crate) const SOLVE: &str = "Reports a plan of least cost for each board";
+pub(crate) const SOLVE: &str = "Report an optimal plan for each board";
 
-/// The same, in two sentences.
+/// The same in detail.
 pub(crate) const SOLVE_LONG: &str = "\
-Reports for each board on standard input a plan of least cost, or that there is none, or a bound
-where the search ended early. Tables of groups of tiles are built once, and guide the search for
-all boards.";
+Report an optimal plan for each board on standard input, or that no plan exists, or, if the search
+ends early, a lower bound on the cost of every plan. The pattern databases that guide the search are
+built once for all boards.";
 
-/// Examples of `solve`, its statuses, its codes, and where the formats stand.
+/// Examples of `solve`, its statuses, its codes, and where its formats are described.
 pub(crate) const SOLVE_AFTER: &str = "\
 Examples:
   echo 'a 8 0 6 5 4 7 2 3 1' | tilesolve solve --rows 3 --cols 3
@@ -54,40 +54,39 @@ Examples:
 Exit status:
   0  every line is optimal or unsolvable
   1  some line is bounded or refused
-  2  the words are at fault, with --goal, --cost and --groups among them
-  3  standard input can't be read (B1), or standard output can't be written (B2, F8)
-  4  no memory for the tables (memory) or for a report (B3)
+  2  invalid arguments, including the values of --goal, --cost and --groups
+  3  standard input can't be read (B1) or standard output can't be written (B2, F8)
+  4  out of memory for the tables (memory) or for a report (B3)
 
-Codes of a refused line, and of a fault of --goal:
-  E2   there are more tiles than cells, or fewer
-  E3   a tile is no number below the count of cells
-  E4   a tile stood before
-  E12  the line is longer than 1024 bytes, or no UTF-8
-  V3   no memory before the first step
-Codes of a fault of --cost:
-  E13  there are more weights than tiles, or fewer
-  E14  a weight is no number from 1 to 255
-Codes of a fault of --groups:
-  E5   a group has no tile
-  E6   a word is no tile
-  E7   a tile stood before in its group
+Codes of a refused line and of --goal:
+  E2   wrong number of tiles
+  E3   a tile is not a number below the number of cells
+  E4   duplicate tile
+  E12  the line is longer than 1024 bytes or not UTF-8
+  V3   out of memory before the search starts
+Codes of --cost:
+  E13  wrong number of weights
+  E14  a weight is not a number from 1 to 255
+Codes of --groups:
+  E5   empty group
+  E6   not a tile
+  E7   duplicate tile in a group
   E8   a group has more than 67108864 views
   E9   two groups share a tile
-  E10  there are more than 24 groups
+  E10  more than 24 groups
 
-The formats stand in docs/FORMATS.md.";
+Formats: docs/CLI.md";
 
 /// What `check` does.
-pub(crate) const CHECK: &str = "Checks a certificate";
+pub(crate) const CHECK: &str = "Check a certificate";
 
-/// The same, in two sentences.
+/// The same in detail.
 pub(crate) const CHECK_LONG: &str = "\
-Checks whether the certificate on standard input proves that its plan is one of least cost, or that
-no plan undercuts its bound, and trusts nothing of the run that wrote it. It builds the tables of the
-certificate's own groups, and reports that the certificate is accepted or by which code it is
-refused.";
+Check that the certificate on standard input proves its claim: that its plan is optimal, or that no
+plan costs less than its bound. The check trusts nothing of the run that wrote the
+certificate, and builds the pattern databases of the certificate's groups itself.";
 
-/// Examples of `check`, its statuses, and where the formats stand.
+/// Examples of `check`, its statuses, and where its formats are described.
 pub(crate) const CHECK_AFTER: &str = "\
 Examples:
   echo 'a 1 0 2 3' | tilesolve solve --rows 2 --cols 2 --cert > a.cert
@@ -96,22 +95,22 @@ Examples:
 
 Exit status:
   0  the certificate is accepted
-  2  the words are at fault
-  3  standard input can't be read (F6), or standard output can't be written (B2)
-  4  no memory for the certificate or its tables (F7), or for the report (B3)
-  5  the certificate is refused: it is spelled wrong (F1 to F5), or proves too little (C1 to C7)
+  2  invalid arguments
+  3  standard input can't be read (F6) or standard output can't be written (B2)
+  4  out of memory for the certificate or its tables (F7) or for the report (B3)
+  5  the certificate is refused: malformed (F1 to F5) or not a proof (C1 to C7)
 
-The codes and formats stand in docs/FORMATS.md.";
+Format and codes: docs/CERTIFICATE.md";
 
 /// What `upgrade` does.
-pub(crate) const UPGRADE: &str = "Writes a certificate in version 2";
+pub(crate) const UPGRADE: &str = "Rewrite a certificate in version 2";
 
-/// The same, in two sentences.
+/// The same in detail.
 pub(crate) const UPGRADE_LONG: &str = "\
-Reads a certificate of version 1 or 2 on standard input, and writes the same in version 2. What it
-claims is not checked.";
+Read a certificate of version 1 or 2 on standard input and write it in version 2. Its claim is not
+checked.";
 
-/// Examples of `upgrade`, its statuses, and where the formats stand.
+/// Examples of `upgrade`, its statuses, and where its formats are described.
 pub(crate) const UPGRADE_AFTER: &str = "\
 Examples:
   tilesolve upgrade < old.cert > new.cert
@@ -119,22 +118,22 @@ Examples:
 
 Exit status:
   0  the certificate is written
-  2  the words are at fault
-  3  standard input can't be read (F6), or standard output can't be written (F8)
-  4  no memory for the certificate (F7)
-  5  standard input is no certificate, and nothing is written (F1 to F5)
+  2  invalid arguments
+  3  standard input can't be read (F6) or standard output can't be written (F8)
+  4  out of memory for the certificate (F7)
+  5  standard input is not a certificate (F1 to F5), and nothing is written
 
-The codes and formats stand in docs/FORMATS.md.";
+Format and codes: docs/CERTIFICATE.md";
 
 /// What `replay` does.
-pub(crate) const REPLAY: &str = "Takes the steps of a search one by one";
+pub(crate) const REPLAY: &str = "Run the steps of a parallel search one by one";
 
-/// The same, in two sentences.
+/// The same in detail.
 pub(crate) const REPLAY_LONG: &str = "\
-Takes the steps of workers that share the search for a board, one by one as standard input says
-them, and answers each. Its first line is the board; at the end it reports what the workers know.";
+Run the steps of workers that share the search for one board, as standard input lists them, and
+answer each step. The first line is the board. At the end, report what the workers know.";
 
-/// Examples of `replay`, its statuses, and where the formats stand.
+/// Examples of `replay`, its statuses, and where its formats are described.
 pub(crate) const REPLAY_AFTER: &str = "\
 Examples:
   printf 'a 1 0 2 3\\ngrant 0\\nexpand 0\\nannounce 0\\nrest 0\\n' |
@@ -144,13 +143,13 @@ Examples:
   printf 'c 1 0 2 3\\nhalt 0 memory\\n' | tilesolve replay --rows 2 --cols 2
 
 Exit status:
-  0  the report is optimal or unsolvable, and each line said a step
-  1  the report is bounded or refused, or some line said no step (B4)
-  2  the words are at fault, with --goal, --cost and --groups among them
-  3  standard input can't be read (B1), or standard output can't be written (B2)
-  4  no memory for the tables (memory) or for a report (B3)
+  0  the report is optimal or unsolvable, and every line is a step
+  1  the report is bounded or refused, or some line is not a step (B4)
+  2  invalid arguments, including the values of --goal, --cost and --groups
+  3  standard input can't be read (B1) or standard output can't be written (B2)
+  4  out of memory for the tables (memory) or for a report (B3)
 
-The steps, the codes of their refusals and the formats stand in docs/FORMATS.md.";
+Steps, answers and codes: docs/CLI.md";
 
 /// The option `--rows`.
 pub(crate) const ROWS: &str = "Rows of each board, 2 to 5";
@@ -160,37 +159,36 @@ pub(crate) const COLS: &str = "Columns of each board, 2 to 5";
 
 /// The option `--cost`.
 pub(crate) const COST: &str = "\
-What a move costs: unit (1), face (the number on its tile), or a weight from 1 to 255
-for each tile, as 3,1,2";
+Cost of a move: unit (1), face (the number on the tile), or a weight from 1 to 255 for each
+tile, such as 3,1,2";
 
 /// The option `--goal`.
-pub(crate) const GOAL: &str = "Tiles of the goal, cell by cell, as 1,2,3,0 [default: 0,1,2, ..]";
+pub(crate) const GOAL: &str = "Tiles of the goal, row by row, such as 1,2,3,0 [default: 0,1,2, ..]";
 
 /// The option `--groups`.
 pub(crate) const GROUPS: &str = "\
-Groups of tiles that have a table each, as 1,2/3, or none [default: the tiles in order,
-by 2 up to 6 cells, by 4 up to 10, by 5 up to 16, else by 4]";
+Groups of tiles, each with a pattern database, such as 1,2/3, or none [default: the tiles in
+order, in groups of 2 (up to 6 cells), 4 (up to 10), 5 (up to 16) or 4 (more)]";
 
 /// The option `--fold`.
 pub(crate) const FOLD: &str = "\
-Folds the tables: for each way in which a group's tiles can stand, the least value over the
-blank's places is kept. On 4 by 4 they take less than a fifth of the memory (a quarter for
-groups of 6 tiles) and add up faster, but to lower sums, so that more boards are expanded;
-the costs of plans stay the same";
+Fold the pattern databases: for each placement of a group's tiles, keep only the least value
+over the blank's cells. This takes less memory, but more boards are expanded. The costs of
+plans stay the same";
 
 /// The option `--workers`.
-pub(crate) const WORKERS: &str = "Workers that share the search, 1 to 16";
+pub(crate) const WORKERS: &str = "Number of workers that share the search, 1 to 16";
 
 /// The option `--spread`.
 pub(crate) const SPREAD: &str =
-    "What of a board says its worker: a hash of all tiles, or the blank";
+    "How boards are divided among workers: by a hash of all tiles, or by the blank's cell";
 
 /// The option `--limit`.
-pub(crate) const LIMIT: &str = "Boards that are expanded at most for a line, 0 or more";
+pub(crate) const LIMIT: &str = "Maximum number of boards to expand for each line, 0 or more";
 
 /// The option `--cert`.
-pub(crate) const CERT: &str = "Writes the certificate of the first board in place of reports";
+pub(crate) const CERT: &str = "Write the certificate of the first board instead of reports";
 
 /// The option `--progress`.
 pub(crate) const PROGRESS: &str =
-    "Tells on standard error, at each million, how many boards were expanded so far";
+    "Print the number of expanded boards on standard error, at each million";

@@ -1,4 +1,5 @@
-//! How often the cost of the far board is found, by one worker and by more.
+//! How often the cost of the far board is found, by one worker and by more, and how often the world
+//! of joined threads is kept.
 
 use crate::far::{GROUPS, START, problem};
 use hda_run::Free;
@@ -6,7 +7,9 @@ use std::alloc::Global;
 use std::io::{self, ErrorKind, Print};
 use std::sync::Wait;
 use std::thread::Threads;
-use test_worlds::{Answer, Division, Team, answer_with_rows, answer_without_rows, bound_of};
+use test_worlds::{
+    Answer, Division, Team, answer_of_threads, answer_with_rows, answer_without_rows, bound_of,
+};
 
 const COST: u32 = 31;
 
@@ -23,6 +26,14 @@ struct Count {
     found: u64,
 }
 
+// How many runs by threads were made, and how many of them ended in a world that is kept, and found
+// the cost.
+#[derive(Clone, Copy)]
+struct Kept {
+    kept: u64,
+    runs: u64,
+}
+
 /// Prints how many runs of so many workers find the cost, by both spreads.
 pub fn print_counts<R: Threads + Wait + Print + AllocGlobal + Sync>(rt: &R) -> io::Result<()> {
     println!(rt; "# {START:?} at unit cost, without tables")?;
@@ -33,7 +44,14 @@ pub fn print_counts<R: Threads + Wait + Print + AllocGlobal + Sync>(rt: &R) -> i
     for workers in 1..17 {
         print_both(rt, workers, &GROUPS, RUNS)?;
     }
-    rt.println("")
+    println!(rt; "# By 2 to 16 threads alone, with tables, {RUNS} runs each")?;
+    let Some(count) = count_kept(rt, rt.alloc()) else {
+        return Err(ErrorKind::OutOfMemory.into());
+    };
+    println!(rt;
+        "kept, and of cost {COST} with a certificate: {} of {}",
+        count.kept, count.runs
+    )
 }
 
 // The same of these workers, whom tables of these groups guide, in so many runs.
@@ -76,6 +94,27 @@ fn count_runs<R: Threads + Wait + Sync>(
         }
         if answer_without_rows(rt, alloc, &problem, &bound, team, &Free) == Answer::Plan(COST) {
             count.found = count.found.saturating_add(1);
+        }
+    }
+    Some(count)
+}
+
+// Counts the runs of 2 to 16 workers, whom tables guide, that end in a world that is kept, and find
+// the cost; or None where memory was refused for the board's bound.
+fn count_kept<R: Threads + Wait + Sync>(rt: &R, alloc: Global) -> Option<Kept> {
+    let problem = problem(u64::MAX)?;
+    let bound = bound_of(alloc, &problem.goal, &problem.weights, &GROUPS)?;
+    let mut count = Kept { kept: 0, runs: 0 };
+    for workers in 2..17 {
+        for division in Division::ALL {
+            let team = Team { workers, division };
+            for _ in 0..RUNS {
+                let answer = answer_of_threads(rt, alloc, &problem, &bound, team, &Free);
+                if answer == Some(Answer::Plan(COST)) {
+                    count.kept = count.kept.saturating_add(1);
+                }
+                count.runs = count.runs.saturating_add(1);
+            }
         }
     }
     Some(count)

@@ -21,7 +21,7 @@ use Rattle.world_model.specs.Worlds.{WorldState}
 use Rattle.world_model.proofs.KeptLemmas.{causes_stop}
 use Rattle.world_model.proofs.ListLemmas.{cons_cases, none_in_empty}
 use Rattle.hda_run.specs.Alone.{AreLast, HaltsNowhere, IsHalt}
-use Rattle.hda_run.specs.Laws.{BoundsSpendTheLimit, BoundTruthsAreBelow, HaltsAreDue, OptimalTruthsAgree, OutcomesAreOfTheirSteps, QuietRunsHaveNoHalt, RunsAloneStop, TrueRowsProve, TrueRowsProveBounds, UnsolvableTruthsHaveNoPlan}
+use Rattle.hda_run.specs.Laws.{BoundsSpendTheLimit, BoundTruthsAreBelow, HaltsAreDue, OptimalTruthsAgree, OutcomesAreOfTheirSteps, QuietRunsHaveNoHalt, RunsAloneStop, TrueBoundsHaveProofs, TrueRowsProve, TrueRowsProveBounds, UnsolvableTruthsHaveNoPlan}
 use Rattle.hda_run.specs.Headline.{TellsTruth}
 use Rattle.hda_run.proofs.AloneOutcomes.{has_stopped}
 use Rattle.hda_run.proofs.RunLemmas.{Made}
@@ -92,6 +92,9 @@ rows_prove p cost plan rows told = told.2.proves
 
 pub bounds_prove : TrueRowsProveBounds
 bounds_prove p bound best cause rows told = told.2.proves
+
+pub proofs_exist : TrueBoundsHaveProofs
+proofs_exist p bound best cause told = (told.2.0, told.2.1.proves)
 
 -- the step, with its answer, leads to a world that gives the outcome
 abbrev IsOfOne : Job → Step → Outcome → Type 0

@@ -17,7 +17,7 @@ use Rattle.search_lists.specs.Lists.{Lists}
 use Rattle.search_lists.specs.Orders.{Guide}
 use Rattle.worker_core.specs.declared.worker.Worker.{Worker}
 use Rattle.worker_core.specs.Expanding.{role_by}
-use Rattle.worker_core.specs.Roles.{IsGuided, AreAtHome, WereReached, guide_of, task_of}
+use Rattle.worker_core.specs.Roles.{IsGuided, WereReached, guide_of, task_of}
 use Rattle.worker_core.specs.Workers.{state_of, packets_of, with_book}
 use Rattle.world_model.specs.declared.limits.TheConstants.{PACKET_LIMIT}
 use Rattle.world_model.specs.declared.steps.Refusal.{Refusal}
@@ -127,15 +127,6 @@ module _ {S : Type 0} (hash_of : S → Position → ℕ) (parts : Parts S) (me :
   pub few_unsent : IsShaped (world_of hash_of parts) → (to : ℕ) → length (get_or (packets_of worker.unsent.items) to []) ≤ PACKET_LIMIT
   few_unsent shaped to =
       each_few PACKET_LIMIT (packets_of worker.unsent.items) to (λ k packet there. ((shaped.workers me (state_of worker) is_worker).unsent k packet there).few)
-
-  pub at_home : IsShaped (world_of hash_of parts) → (goal : Position) → goal ≡ parts.job.goal → AreAtHome goal worker.held.items
-  at_home shaped goal same =
-      let held = (shaped.workers me (state_of worker) is_worker).held in
-      record {
-        few = held.few;
-        sides = λ item has. (held.items item has).0.1 ∙ ap (λ (b : Position). b.grid) (sym same);
-        costs = λ item has. (held.items item has).2;
-      }
 
   pub purse_funded : IsCredited (world_of hash_of parts) → worker.purse ≤ parts.book.credit
   purse_funded credited = funds (world_of hash_of parts) credited me (state_of worker) is_worker

@@ -15,7 +15,7 @@ pub truth : (p : Problem) (outcome : Outcome) → Answers (task_in p) outcome �
 truth p (Optimal cost plan rows) answers = (answers.0, answers.1.none_below, answers.2)
 truth p (Unsolvable why) answers = answers.0
 truth p (Bounded bound best cause (Some rows)) answers = (answers.0.0, best_leads p bound (best_of best) answers.0.3, answers.1)
-truth p (Bounded bound best cause None) answers = (answers.0.0, answers.1)
+truth p (Bounded bound best cause None) answers = (answers.0.0, answers.1, answers.2)
 
 -- what answers the job of a world that comes of this job answers this one
 pub truth_of : (p p' : Problem) (outcome : Outcome) → p' ≡ p → Answers (task_in p') outcome → TellsTruth p outcome

@@ -104,6 +104,13 @@ TrueRowsProveBounds =
     → TellsTruth p (Bounded bound best cause (Some rows))
     → Proves p.rule rows.items (task_in p).sum p.start p.goal bound
 
+-- where a bound has no rows, others prove it
+abbrev pub TrueBoundsHaveProofs : Type 0
+TrueBoundsHaveProofs =
+    (p : Problem) (bound : ℕ) (best : Option (ℕ × Vec Move Global)) (cause : Cause)
+    → TellsTruth p (Bounded bound best cause None)
+    → (rows : List (Position × ℕ)) × Proves p.rule rows (task_in p).sum p.start p.goal bound
+
 -- the outcome of one step is given by a world to which just that step leads, with some answer, from the opening one
 abbrev pub OutcomesAreOfTheirSteps : Type 0
 OutcomesAreOfTheirSteps =

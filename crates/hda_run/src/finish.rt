@@ -25,7 +25,7 @@ use std::alloc::Global;
 use worker_core::Queue;
 use world_ends::laws::endings_answer;
 use world_ends::{Asked, ending_of, lowest_of, outcome_of};
-use world_model::laws::outcomes_answer;
+use world_model::laws::{outcomes_answer, quiet_is_true};
 
 impl<'a, S: Spread + Drop> World<'a, S> {
     /// The outcome that the world gives, at any moment: a plan of least cost with rows that prove
@@ -37,6 +37,7 @@ impl<'a, S: Spread + Drop> World<'a, S> {
         ensures answers { Answers (task_in self.entry.job) result }
     {
         outcomes_answer();
+        quiet_is_true();
         // That the sums are lower bounds is told by this call.
         let _ = self.parts.job.bound();
         finish_parts(alloc, self.parts)
@@ -48,6 +49,7 @@ impl<'a, S: Spread + Drop> World<'a, S> {
         ensures answers { EndAnswers (task_in self.entry.job) result }
     {
         endings_answer();
+        quiet_is_true();
         // That the sums are lower bounds is told by this call.
         let _ = self.parts.job.bound();
         end_parts(alloc, self.parts)

@@ -4,7 +4,7 @@ ghost use Rattle.hda_run.specs.Laws.{RunsAloneStop, QuietRunsHaveNoHalt};
 ghost use Rattle.hda_run.specs.Laws.{HaltsAreDue, BoundsSpendTheLimit};
 ghost use Rattle.hda_run.specs.Laws.{OptimalTruthsAgree, BoundTruthsAreBelow};
 ghost use Rattle.hda_run.specs.Laws.{UnsolvableTruthsHaveNoPlan, TrueRowsProve};
-ghost use Rattle.hda_run.specs.Laws.{TrueRowsProveBounds};
+ghost use Rattle.hda_run.specs.Laws.{TrueRowsProveBounds, TrueBoundsHaveProofs};
 ghost use Rattle.hda_run.specs.Laws.{OutcomesAreOfTheirSteps};
 
 /// A run by one worker has stopped, and for a cause that it met.
@@ -22,6 +22,7 @@ pub fn truths_agree()
     ensures unsolvable { UnsolvableTruthsHaveNoPlan }
     ensures rows { TrueRowsProve }
     ensures below { TrueRowsProveBounds }
+    ensures unlisted { TrueBoundsHaveProofs }
 {}
 
 /// The outcome of one step is given by a world to which just that step leads.

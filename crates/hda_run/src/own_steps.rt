@@ -73,6 +73,6 @@ impl<'a, S: Spread> Parts<'a, S> {
             return Err(Refusal::NoSuchWorker);
         }
         let job = &self.job;
-        self.workers[me].settle(alloc, job.keyed_goal(), job.bound())
+        self.workers[me].settle(alloc, me, job.keyed_goal(), job.bound(), &self.owners)
     }
 }

@@ -1,5 +1,5 @@
 -- The laws of answers: outcomes that answer one task agree. Each is the contract of a function that does nothing.
-use Rattle.std.specs.Prelude.{ℕ, ◌≡◌, ◌+◌, ◌<◌, ◌≤◌, Vec, Option, Some, None}
+use Rattle.std.specs.Prelude.{ℕ, ◌≡◌, ◌+◌, ◌<◌, ◌≤◌, List, Vec, Option, Some, None}
 use Rattle.std.specs.declared.alloc.Global.{Global}
 use Rattle.memory.specs.declared.OutOfMemory.{OutOfMemory}
 use Rattle.board.specs.declared.costs.TheConstants.{GREATEST_COST}
@@ -16,7 +16,7 @@ use Rattle.outcomes.specs.declared.outcome.Want.TheVariants.{Refused}
 use Rattle.outcomes.specs.declared.outcome.Outcome.{Outcome}
 use Rattle.outcomes.specs.declared.outcome.Outcome.TheVariants.{Optimal, Unsolvable, Bounded}
 use Rattle.outcomes.specs.declared.outcome.Ending.TheVariants as ending
-use Rattle.outcomes.specs.Outcomes.{Task, Answers, IsAboveSums}
+use Rattle.outcomes.specs.Outcomes.{Task, Answers, AreRowsOf, IsAboveSums}
 use Rattle.outcomes.specs.Endings.{EndAnswers, without_rows}
 
 -- optimal outcomes of one task have one cost
@@ -66,6 +66,12 @@ BoundsLackRowsForMemory =
     (task : Task) (bound : ℕ) (best : Option (ℕ × Vec Move Global)) (cause : Cause)
     → Answers task (Bounded bound best cause None)
     → (best ≡ None) × ((refused : OutOfMemory) × (cause ≡ Memory (Refused refused)))
+
+-- rows prove the cost of each plan that an ending says is least, and each bound, though the ending doesn't list them; they are such as an outcome has
+abbrev pub EndingsHaveProofs : Type 0
+EndingsHaveProofs =
+    ((task : Task) (cost : ℕ) (plan : Vec Move Global) → EndAnswers task (ending.Optimal cost plan) → (rows : List (Position × ℕ)) × AreRowsOf task rows cost)
+    × ((task : Task) (bound : ℕ) (best : Option (ℕ × Vec Move Global)) (cause : Cause) → EndAnswers task (ending.Bounded bound best cause) → (rows : List (Position × ℕ)) × AreRowsOf task rows bound)
 
 -- no bound is below the heuristic of the start
 abbrev pub BoundsReachTheStart : Type 0

@@ -37,6 +37,10 @@ pub record AreRowsOf (task : Task) (rows : List (Position × ℕ)) (cost : ℕ) 
   pub boards : All (λ row. IsBoard row.0 × (row.0.grid ≡ task.goal.grid)) rows
   pub low : All (λ row. row.1 ≤ GREATEST_COST) rows
 
+-- rows that prove the cost exist, whether or not there is memory to list them
+abbrev pub HasProof : Task → ℕ → Type 0
+HasProof task cost = (rows : List (Position × ℕ)) × AreRowsOf task rows cost
+
 -- parity is named only where the start isn't in the goal's class
 abbrev pub AllowsWhy : Task → Why → Type 0
 AllowsWhy task Parity = ¬ SameClass task.start task.goal
@@ -71,11 +75,11 @@ abbrev pub StandsAlone : Option (ℕ × Vec Move Global) → Cause → Type 0
 StandsAlone best cause = (best ≡ None) × ((refused : OutOfMemory) × (cause ≡ Memory (Refused refused)))
 
 -- What an outcome says is true: that its plan is least and its rows prove it, of which neither the cost nor the count of moves is
--- above `GREATEST_COST`; that no plan leads to the goal; or that no plan costs less than a bound, which its rows prove where memory was
--- not refused for them.
+-- above `GREATEST_COST`; that no plan leads to the goal; or that no plan costs less than a bound, which its rows prove. Where memory was
+-- refused for these rows, they exist all the same.
 abbrev pub Answers : Task → Outcome → Type 0
 Answers task (Optimal cost plan rows) =
     Leads task.rule task.start plan.items task.goal cost × IsLeast task.rule task.start task.goal cost × AreRowsOf task rows.items cost × (cost ≤ GREATEST_COST) × (length plan.items ≤ GREATEST_COST)
 Answers task (Unsolvable why) = ((plan : List Move) (cost : ℕ) → ¬ Leads task.rule task.start plan task.goal cost) × AllowsWhy task why
 Answers task (Bounded bound best cause (Some rows)) = IsTrueBound task bound best cause × AreRowsOf task rows.items bound
-Answers task (Bounded bound best cause None) = IsTrueBound task bound best cause × StandsAlone best cause
+Answers task (Bounded bound best cause None) = IsTrueBound task bound best cause × StandsAlone best cause × HasProof task bound

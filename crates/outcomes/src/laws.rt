@@ -2,7 +2,7 @@
 
 ghost use Rattle.outcomes.specs.Laws.{OptimalsAgree, OptimalsAreSolvable, BoundsAreBelow};
 ghost use Rattle.outcomes.specs.Laws.{ParityIsOfAnotherClass, BestPlansAreAbove};
-ghost use Rattle.outcomes.specs.Laws.{RowsProveBounds, BoundsLackRowsForMemory};
+ghost use Rattle.outcomes.specs.Laws.{RowsProveBounds, BoundsLackRowsForMemory, EndingsHaveProofs};
 ghost use Rattle.outcomes.specs.Laws.{BoundsAreLow, BoundsReachTheStart, RowsCanBeLeft};
 
 /// Optimal outcomes of one task have one cost.
@@ -40,6 +40,11 @@ pub fn rows_prove_bounds()
 pub fn bounds_are_low()
     ensures low { BoundsAreLow }
     ensures start { BoundsReachTheStart }
+{}
+
+/// Rows prove what an ending says of a cost, though it lists none.
+pub fn endings_have_proofs()
+    ensures { EndingsHaveProofs }
 {}
 
 /// What answers a task does so without rows too.

@@ -1,7 +1,7 @@
 //! The two ends of a ring, by which packets go from one thread to another.
 
 ghost use Rattle.std.specs.Prelude.{◌≡◌, ◌<◌, ◌≤◌, ◌∷◌, ◌++◌, [], ⊤, length};
-ghost use Rattle.std.specs.Prelude.{IfErr, IfSome, IfNone, OnOk, OnErr};
+ghost use Rattle.std.specs.Prelude.{IfErr, IfOk, IfSome, IfNone, OnOk, OnErr};
 ghost use Rattle.world_model.specs.declared.limits.TheConstants.{LANE_LIMIT};
 ghost use Rattle.rings.specs.Rings.{TakesIn, GivesOut, Looks, room_of};
 
@@ -46,19 +46,28 @@ impl<C: Counting> Model for Receiver<C> {
     ghost invariant = { λ r. consumer_capacity r.consumer ≤ LANE_LIMIT };
 }
 
-/// Both ends of a new ring with room for so many packets, or nothing where memory was refused.
-pub(crate) fn open_ring<C: Counting>(alloc: Global, room: usize) -> Option<(Sender<C>, Receiver<C>)>
+/// Memory was refused for a ring. Only `open_ring` makes one, where the growth of a ring failed.
+#[derive(Clone, Copy, Debug, PartialEq, Eq)]
+pub struct NoRing {
+    seal: (),
+}
+
+/// Both ends of a new ring with room for `room` packets.
+pub(crate) fn open_ring<C: Counting>(
+    alloc: Global,
+    room: usize,
+) -> Result<(Sender<C>, Receiver<C>), NoRing>
     requires { room ≤ LANE_LIMIT }
-    ensures pair { IfSome result (λ ends. ends.1.ring ≡ ends.0.ring) }
-    ensures room { IfSome result (λ ends. room_of ends.0.ring ≡ room) }
-    ensures sent { IfSome result (λ ends. ends.0.sent ≡ []) }
-    ensures received { IfSome result (λ ends. ends.1.received ≡ []) }
-    ensures left { IfSome result (λ ends. ends.1.left ≡ []) }
+    ensures pair { IfOk result (λ ends. ends.1.ring ≡ ends.0.ring) }
+    ensures room { IfOk result (λ ends. room_of ends.0.ring ≡ room) }
+    ensures sent { IfOk result (λ ends. ends.0.sent ≡ []) }
+    ensures received { IfOk result (λ ends. ends.1.received ≡ []) }
+    ensures left { IfOk result (λ ends. ends.1.left ≡ []) }
 {
-    let Ok((producer, consumer)) = RingBuffer::new(alloc, room) else {
-        return None;
-    };
-    Some((Sender { producer }, Receiver { consumer }))
+    match RingBuffer::new(alloc, room) {
+        Ok((producer, consumer)) => Ok((Sender { producer }, Receiver { consumer })),
+        Err(_refused) => Err(NoRing { seal: () }),
+    }
 }
 
 impl<C: Counting> LaneOut<Packet<C>> for Sender<C> {

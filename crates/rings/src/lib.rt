@@ -6,6 +6,6 @@ mod ends;
 mod rows;
 mod ties;
 
-pub use ends::{Receiver, Sender};
-pub use rows::{Rings, open_rings, take_row};
+pub use ends::{NoRing, Receiver, Sender};
+pub use rows::{NoMemory, Rings, open_rings, take_row};
 pub use ties::tie;

@@ -1,13 +1,14 @@
 //! The rings of a run.
 
 ghost use Rattle.std.specs.Prelude.{ℕ, ◌≡◌, ◌≤◌, ◌<◌, ◌∷◌, ◌++◌, [], length, vec_len, replicate};
-ghost use Rattle.std.specs.Prelude.{IfSome, Some, slice_get, slice_index_or};
+ghost use Rattle.std.specs.Prelude.{IfOk, Some, slice_get, slice_index_or};
 ghost use Rattle.world_model.specs.declared.limits.TheConstants.{LANE_LIMIT};
 ghost use Rattle.rings.specs.Rings.{Ring, out_rings, in_rings, sent_lanes, received_lanes};
 ghost use Rattle.rings.specs.Rings.{rings_of_outs, rings_of_ins, sent_rows, received_rows};
 ghost use Rattle.rings.specs.Rings.{lane_at, ArePaired, HaveRoom, IsRoomBetween, room_of};
 
-use crate::ends::{Receiver, Sender, open_ring};
+use crate::ends::{NoRing, Receiver, Sender, open_ring};
+use memory::OutOfMemory;
 use message_ledger::Counting;
 use std::alloc::Global;
 use world_model::LANE_LIMIT;
@@ -20,25 +21,35 @@ pub struct Rings<C: Counting> {
     pub ins: Vec<Vec<Receiver<C>>>,
 }
 
-/// A ring from each of so many workers to each, or nothing where memory was refused.
-pub fn open_rings<C: Counting>(alloc: Global, n: usize) -> Option<Rings<C>>
-    ensures paired { IfSome result (λ rings. ArePaired n
+/// Memory was refused: for a list, or for a ring.
+#[derive(Clone, Copy, Debug, PartialEq, Eq)]
+pub enum NoMemory {
+    List(OutOfMemory),
+    Ring(NoRing),
+}
+
+/// A ring from each of `n` workers to each.
+pub fn open_rings<C: Counting>(alloc: Global, n: usize) -> Result<Rings<C>, NoMemory>
+    ensures paired { IfOk result (λ rings. ArePaired n
         (rings_of_outs rings.outs.items) (rings_of_ins rings.ins.items)) }
-    ensures sent { IfSome result (λ rings. sent_rows rings.outs.items
+    ensures sent { IfOk result (λ rings. sent_rows rings.outs.items
         ≡ replicate n (replicate n [])) }
-    ensures received { IfSome result (λ rings. received_rows rings.ins.items
+    ensures received { IfOk result (λ rings. received_rows rings.ins.items
         ≡ replicate n (replicate n [])) }
-    ensures rooms { IfSome result (λ rings. HaveRoom (rings_of_outs rings.outs.items)) }
+    ensures rooms { IfOk result (λ rings. HaveRoom (rings_of_outs rings.outs.items)) }
 {
-    let mut ins = no_receivers(alloc, n)?;
+    let mut ins = match no_receivers(alloc, n) {
+        Ok(ins) => ins,
+        Err(refused) => return Err(NoMemory::List(refused)),
+    };
     let mut outs = Vec::new(alloc);
     'rows: for from in 0..n {
         let row = open_row(alloc, from, &mut ins)?;
-        if memory::push(&mut outs, row).is_err() {
-            return None;
+        if let Err(refused) = memory::push(&mut outs, row) {
+            return Err(NoMemory::List(refused));
         }
     }
-    Some(Rings { outs, ins })
+    Ok(Rings { outs, ins })
 }
 
 /// Takes one row out of its place, where an empty one is left.
@@ -54,20 +65,18 @@ pub fn take_row<T: Drop>(alloc: Global, rows: &mut Vec<Vec<T>>, at: usize) -> Ve
 }
 
 // No receivers for each of so many workers.
-fn no_receivers<C: Counting>(alloc: Global, n: usize) -> Option<Vec<Vec<Receiver<C>>>>
-    ensures len { IfSome result (λ ins. vec_len ins ≡ n) }
-    ensures rings { IfSome result (λ ins. (j : ℕ)
+fn no_receivers<C: Counting>(alloc: Global, n: usize) -> Result<Vec<Vec<Receiver<C>>>, OutOfMemory>
+    ensures len { IfOk result (λ ins. vec_len ins ≡ n) }
+    ensures rings { IfOk result (λ ins. (j : ℕ)
         → slice_index_or (rings_of_ins ins.items) j [] ≡ []) }
-    ensures received { IfSome result (λ ins. (j i : ℕ)
+    ensures received { IfOk result (λ ins. (j i : ℕ)
         → lane_at (received_rows ins.items) j i ≡ []) }
 {
     let mut ins = Vec::new(alloc);
     'workers: for made in 0..n {
-        if memory::push(&mut ins, Vec::new(alloc)).is_err() {
-            return None;
-        }
+        memory::push(&mut ins, Vec::new(alloc))?;
     }
-    Some(ins)
+    Ok(ins)
 }
 
 // The rings from one worker to each: a receiver goes to the end of each row.
@@ -75,28 +84,28 @@ fn open_row<C: Counting>(
     alloc: Global,
     from: usize,
     ins: &mut Vec<Vec<Receiver<C>>>,
-) -> Option<Vec<Sender<C>>>
+) -> Result<Vec<Sender<C>>, NoMemory>
     ensures len { vec_len ins.new ≡ vec_len ins.old }
-    ensures outs_len { IfSome result (λ outs. vec_len outs ≡ vec_len ins.old) }
-    ensures sent { IfSome result (λ outs. (j : ℕ)
+    ensures outs_len { IfOk result (λ outs. vec_len outs ≡ vec_len ins.old) }
+    ensures sent { IfOk result (λ outs. (j : ℕ)
         → slice_index_or (sent_lanes outs.items) j [] ≡ []) }
     ensures received { ((j i : ℕ) → lane_at (received_rows ins.old.items) j i ≡ [])
-        → IfSome result (λ outs. (j i : ℕ) → lane_at (received_rows ins.new.items) j i ≡ []) }
-    ensures rings { IfSome result (λ outs. (j : ℕ) (d : Ring) → j < vec_len ins.old
+        → IfOk result (λ outs. (j i : ℕ) → lane_at (received_rows ins.new.items) j i ≡ []) }
+    ensures rings { IfOk result (λ outs. (j : ℕ) (d : Ring) → j < vec_len ins.old
         → slice_index_or (rings_of_ins ins.new.items) j []
         ≡ slice_index_or (rings_of_ins ins.old.items) j []
         ++ slice_index_or (out_rings outs.items) j d ∷ []) }
-    ensures rooms { IfSome result (λ outs. (j : ℕ) (ring : Ring)
+    ensures rooms { IfOk result (λ outs. (j : ℕ) (ring : Ring)
         → slice_get (out_rings outs.items) j ≡ Some ring → IsRoomBetween from j (room_of ring)) }
 {
     let mut outs = Vec::new(alloc);
     'workers: for to in 0..ins.len() {
         let sender = add_ring(alloc, room_between(from, to), &mut ins[to])?;
-        if memory::push(&mut outs, sender).is_err() {
-            return None;
+        if let Err(refused) = memory::push(&mut outs, sender) {
+            return Err(NoMemory::List(refused));
         }
     }
-    Some(outs)
+    Ok(outs)
 }
 
 // For how many packets a ring has room. A worker sends nothing to itself.
@@ -112,18 +121,21 @@ fn add_ring<C: Counting>(
     alloc: Global,
     room: usize,
     ins: &mut Vec<Receiver<C>>,
-) -> Option<Sender<C>>
+) -> Result<Sender<C>, NoMemory>
     requires { room ≤ LANE_LIMIT }
-    ensures rings { IfSome result (λ sender. in_rings ins.new.items
+    ensures rings { IfOk result (λ sender. in_rings ins.new.items
         ≡ in_rings ins.old.items ++ sender.ring ∷ []) }
-    ensures room { IfSome result (λ sender. room_of sender.ring ≡ room) }
-    ensures sent { IfSome result (λ sender. sender.sent ≡ []) }
-    ensures received { IfSome result (λ sender. received_lanes ins.new.items
+    ensures room { IfOk result (λ sender. room_of sender.ring ≡ room) }
+    ensures sent { IfOk result (λ sender. sender.sent ≡ []) }
+    ensures received { IfOk result (λ sender. received_lanes ins.new.items
         ≡ received_lanes ins.old.items ++ [] ∷ []) }
 {
-    let (sender, receiver) = open_ring(alloc, room)?;
-    if memory::push(ins, receiver).is_err() {
-        return None;
+    let (sender, receiver) = match open_ring(alloc, room) {
+        Ok(ends) => ends,
+        Err(refused) => return Err(NoMemory::Ring(refused)),
+    };
+    if let Err(refused) = memory::push(ins, receiver) {
+        return Err(NoMemory::List(refused));
     }
-    Some(sender)
+    Ok(sender)
 }

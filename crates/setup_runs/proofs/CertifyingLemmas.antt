@@ -26,7 +26,7 @@ use Rattle.certificate_runs.specs.Rules.{MayProve, ProvesTruly}
 use Rattle.certificate_runs.proofs.RowLemmas.{ends_answered}
 use Rattle.setup_runs.specs.Laws.{CertifiedEndsAreAnswered, IsAloneBound, ParityIsCertified}
 use Rattle.setup_runs.specs.Solving.{IsOfProvedRun, MayAnswer, MayCertify, certifying_rules_of, problem_of}
-use Rattle.setup_runs.proofs.SolvingLemmas.{lone_owner, one_class}
+use Rattle.setup_runs.proofs.SolvingLemmas.{left_any, lone_owner, one_class}
 
 -- what an ending says of its bound's cause
 abbrev cause_or : Cause → Ending → Cause
@@ -67,7 +67,8 @@ module _ (setup : SetupState) (start : Position) where
 
   spread_any : {S T : Type 0} (hash_of : S → Position → ℕ) (owners : S) (other_of : T → Position → ℕ) (others : T) (given : Outcome) → ((b : Position) → hash_of owners b % setup.workers ≡ other_of others b % setup.workers) → Solves hash_of owners given → Solves other_of others given
   spread_any hash_of owners other_of others given same (inl (several, by)) = inl (several, subst (JoinedOwned given) (λ t b. same b t) by)
-  spread_any hash_of owners other_of others given same (inr run) = inr (subst (AloneOwned given) (lone_owner (hash_of owners) (other_of others)) run)
+  spread_any hash_of owners other_of others given same (inr (run, left)) =
+      inr (subst (AloneOwned given) (lone_owner (hash_of owners) (other_of others)) run, left_any setup start hash_of owners other_of others same left)
 
   pub may_prove : {S : Type 0} (hash_of : S → Position → ℕ) (owners : S) → ((b : Position) → hash_of owners b % setup.workers ≡ hash_by setup.spread b % setup.workers) → (result : Result Outcome OutOfMemory) → (result ≡ Ok (outcome.Unsolvable Parity)) ↔ (¬ SameClass start setup.goal) → (SameClass start setup.goal → IfOk result (Solves hash_of owners)) → IfOk result (Answers (task_of setup start)) → IfOk result HasWholeRun → MayProve (certifying_rules_of setup) start result
   may_prove hash_of owners same (Err refused) parity run answers kept = of_class (one_class start setup.goal)
@@ -98,7 +99,7 @@ certified_answered setup b o (answers, inr (other, is)) = inl (ends_answered (ta
 certified_answered setup b o (answers, inl (together, (solved, kept))) = by_rows o answers solved kept
   where
     ends : (o : Outcome) → HasItsRows o → Answers (task_of setup b) o → IsSolved hash_by (problem_of setup b) setup.spread setup.workers o → HasWholeRun o → MayAnswer setup b (Some (without_rows o))
-    ends o has answers solved kept = (ends_answered (task_of setup b) o answers, inl (together, (solved_ends hash_by (problem_of setup b) setup.spread setup.workers o solved has, ending_kept o kept)))
+    ends o has answers solved kept = (ends_answered (task_of setup b) o answers, inl (together, (inl (solved_ends hash_by (problem_of setup b) setup.spread setup.workers o solved has), ending_kept o kept)))
 
     by_rows : (o : Outcome) → Answers (task_of setup b) o → IsSolved hash_by (problem_of setup b) setup.spread setup.workers o → HasWholeRun o → MayAnswer setup b (Some (without_rows o)) ⊎ IsAloneBound o
     by_rows (outcome.Optimal cost plan rows) answers solved kept = inl (ends (outcome.Optimal cost plan rows) tt answers solved kept)

@@ -1,6 +1,8 @@
 -- What the setup's workers answer is what its rules allow.
 use Rattle.std.proofs.Common.{ℕ, ◌≡◌, ◌≢◌, Option, ◌+◌, ◌%◌, ◌==◌, ◌⊎◌, ◌↔◌, Bool, true, false, Result, Ok, Err, IfOk, refl, ap, sym, ◌∙◌, subst, inl, inr}
 use Rattle.std.specs.Bool.{Decides}
+use Rattle.std.specs.Prelude.{◌≤◌}
+use Rattle.board.specs.Grids.{cell_count}
 use Rattle.std.proofs.Math.Nat.{mod-one}
 use Rattle.std.proofs.lemmas.Bool.Decides.{Decides-eqb, not_from_Decides}
 use Rattle.board.specs.Positions.{Position, blank_of}
@@ -26,8 +28,8 @@ use Rattle.world_ends.specs.Endings.{EndsIn}
 use Rattle.batch_runs.specs.Setups.{SetupState, hash_by, task_of}
 use Rattle.batch_runs.specs.Batches.{IsTruthful, MayGive}
 use Rattle.thread_joins.specs.Threads.{IsJoined}
-use Rattle.thread_runs.specs.Solved.{IsEnded, EndsWholeRun}
-use Rattle.setup_runs.specs.Solving.{problem_of, rules_of}
+use Rattle.thread_runs.specs.Solved.{IsEnded, IsLeftToOne, EndsWholeRun}
+use Rattle.setup_runs.specs.Solving.{IsSmallAlone, problem_of, rules_of}
 
 decided : {P : Type 0} (r : Bool) → Decides r P → P ⊎ (¬ P)
 decided true decides = inl (decides.0 refl)
@@ -80,24 +82,41 @@ module _ (setup : SetupState) (start : Position) where
   abbrev AloneOwned : Ending → (Position → ℕ) → Type 0
   AloneOwned ending owner = (w : WorldState) × IsRunAlone (job_owned 1 owner) w × EndsIn w ending
 
+  abbrev LeftOwned : (Position → ℕ) → Type 0
+  LeftOwned owner = (w : WorldState) × IsJoined (job_owned setup.workers owner) w × (¬ IsKept w)
+
+  -- what is left to one worker is so, whatever the hash by which each board has the same owner
+  pub left_any : {S T : Type 0} (hash_of : S → Position → ℕ) (owners : S) (other_of : T → Position → ℕ) (others : T) → ((b : Position) → hash_of owners b % setup.workers ≡ other_of others b % setup.workers) → IsLeftToOne hash_of (problem_of setup start) owners setup.workers → IsLeftToOne other_of (problem_of setup start) others setup.workers
+  left_any hash_of owners other_of others same (inl one) = inl one
+  left_any hash_of owners other_of others same (inr dropped) = inr (subst LeftOwned (λ t b. same b t) dropped)
+
   spread_any : {S T : Type 0} (hash_of : S → Position → ℕ) (owners : S) (other_of : T → Position → ℕ) (others : T) (ending : Ending) → ((b : Position) → hash_of owners b % setup.workers ≡ other_of others b % setup.workers) → Ends hash_of owners ending → Ends other_of others ending
   spread_any hash_of owners other_of others ending same (inl (several, by)) = inl (several, subst (JoinedOwned ending) (λ t b. same b t) by)
-  spread_any hash_of owners other_of others ending same (inr run) = inr (subst (AloneOwned ending) (lone_owner (hash_of owners) (other_of others)) run)
+  spread_any hash_of owners other_of others ending same (inr (run, left)) = inr (subst (AloneOwned ending) (lone_owner (hash_of owners) (other_of others)) run, left_any hash_of owners other_of others same left)
 
-  -- what one worker ends, the setup's workers may have ended
-  pub ends_alone : {S : Type 0} (hash_of : S → Position → ℕ) (owners : S) (ending : Ending) → EndsByOne hash_of (problem_of setup start) owners ending → Ends hash_by setup.spread ending
-  ends_alone hash_of owners ending run = inr (subst (AloneOwned ending) (lone_owner (hash_of owners) (hash_by setup.spread)) run)
+  -- by the setup's workers, or, of a small board, by one of them
+  abbrev pub Answered : Ending → Type 0
+  Answered ending = Ends hash_by setup.spread ending ⊎ IsSmallAlone setup start ending
 
-  pub may_give : {S : Type 0} (hash_of : S → Position → ℕ) (owners : S) → ((b : Position) → hash_of owners b % setup.workers ≡ hash_by setup.spread b % setup.workers) → (result : Result Ending OutOfMemory) → (result ≡ Ok (Unsolvable Parity)) ↔ (¬ SameClass start setup.goal) → (SameClass start setup.goal → IfOk result (Ends hash_of owners)) → IfOk result (EndAnswers (task_of setup start)) → IfOk result EndsWholeRun → MayGive (rules_of setup) start result
-  may_give hash_of owners same (Err refused) parity run answers kept = of_class (one_class start setup.goal)
+  -- what workers end who own each board as the setup says, its workers may have ended
+  pub ends_so : {S : Type 0} (hash_of : S → Position → ℕ) (owners : S) → ((b : Position) → hash_of owners b % setup.workers ≡ hash_by setup.spread b % setup.workers) → (result : Result Ending OutOfMemory) → IfOk result (Ends hash_of owners) → IfOk result Answered
+  ends_so hash_of owners same (Err refused) run = run
+  ends_so hash_of owners same (Ok ending) run = inl (spread_any hash_of owners hash_by setup.spread ending same run)
+
+  -- so they may what one worker ends of a small board
+  pub ends_alone : {S : Type 0} (hash_of : S → Position → ℕ) (owners : S) (ending : Ending) → cell_count setup.goal.grid ≤ 9 → EndsByOne hash_of (problem_of setup start) owners ending → Answered ending
+  ends_alone hash_of owners ending small run = inr (small, subst (AloneOwned ending) (lone_owner (hash_of owners) (hash_by setup.spread)) run)
+
+  pub may_give : (result : Result Ending OutOfMemory) → (result ≡ Ok (Unsolvable Parity)) ↔ (¬ SameClass start setup.goal) → (SameClass start setup.goal → IfOk result Answered) → IfOk result (EndAnswers (task_of setup start)) → IfOk result EndsWholeRun → MayGive (rules_of setup) start result
+  may_give (Err refused) parity run answers kept = of_class (one_class start setup.goal)
     where
       of_class : SameClass start setup.goal ⊎ (¬ SameClass start setup.goal) → SameClass start setup.goal
       of_class (inl together) = together
       of_class (inr other) = absurd (is_no_error refused (parity.1 other))
-  may_give hash_of owners same (Ok ending) parity run answers kept = (answers, of_class (one_class start setup.goal))
+  may_give (Ok ending) parity run answers kept = (answers, of_class (one_class start setup.goal))
     where
-      of_class : SameClass start setup.goal ⊎ (¬ SameClass start setup.goal) → (SameClass start setup.goal × (Ends hash_by setup.spread ending × EndsWholeRun ending)) ⊎ ((¬ SameClass start setup.goal) × (ending ≡ Unsolvable Parity))
-      of_class (inl together) = inl (together, (spread_any hash_of owners hash_by setup.spread ending same (run together), kept))
+      of_class : SameClass start setup.goal ⊎ (¬ SameClass start setup.goal) → (SameClass start setup.goal × (Answered ending × EndsWholeRun ending)) ⊎ ((¬ SameClass start setup.goal) × (ending ≡ Unsolvable Parity))
+      of_class (inl together) = inl (together, (run together, kept))
       of_class (inr other) = inr (other, ap (value_or ending) (parity.1 other))
 
 -- a bound that no want of memory gave is of a whole run, where it was not cut

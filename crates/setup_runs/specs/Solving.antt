@@ -1,5 +1,6 @@
 -- How the boards of a setup are answered.
-use Rattle.std.specs.Prelude.{◌≡◌, ◌⊎◌, Option, None, Some}
+use Rattle.std.specs.Prelude.{◌≡◌, ◌≤◌, ◌⊎◌, Option, None, Some}
+use Rattle.board.specs.Grids.{cell_count}
 use Rattle.board.specs.Positions.{Position}
 use Rattle.board.specs.Classes.{SameClass}
 use Rattle.outcomes.specs.declared.outcome.Ending.{Ending}
@@ -9,6 +10,7 @@ use Rattle.outcomes.specs.declared.outcome.Outcome.{Outcome}
 use Rattle.outcomes.specs.declared.outcome.Outcome.TheVariants as outcome
 use Rattle.outcomes.specs.Outcomes.{Answers}
 use Rattle.outcomes.specs.Endings.{EndAnswers}
+use Rattle.hda_run.specs.Alone.{EndsByOne}
 use Rattle.hda_run.specs.Problems.{Problem, problem}
 use Rattle.thread_runs.specs.Solved.{IsSolved, IsEnded, HasWholeRun, EndsWholeRun}
 use Rattle.batch_runs.specs.Setups.{SetupState, hash_by, task_of}
@@ -19,9 +21,13 @@ use Rattle.certificate_runs.specs.Rules.{ProofRules}
 abbrev pub problem_of : SetupState → Position → Problem
 problem_of setup start = problem start setup.goal setup.rule setup.tables setup.limit
 
--- the ending is that of a run by the setup's workers, which are guided by its tables and keep to its limit
+-- a board of at most 9 cells ended by one worker: small boards may be solved side by side
+abbrev pub IsSmallAlone : SetupState → Position → Ending → Type 0
+IsSmallAlone setup start ending = (cell_count setup.goal.grid ≤ 9) × EndsByOne hash_by (problem_of setup start) setup.spread ending
+
+-- the ending is that of a run by the setup's workers, which are guided by its tables and keep to its limit; or, of a small board, by one of them
 abbrev pub IsOfRun : SetupState → Position → Ending → Type 0
-IsOfRun setup start ending = IsEnded hash_by (problem_of setup start) setup.spread setup.workers ending × EndsWholeRun ending
+IsOfRun setup start ending = (IsEnded hash_by (problem_of setup start) setup.spread setup.workers ending ⊎ IsSmallAlone setup start ending) × EndsWholeRun ending
 
 -- A board is answered by an ending that answers its task. A board that isn't in the goal's class is answered by its parity; any other one by a run, which may want memory before the first step: when it does, no definition can tell.
 abbrev pub MayAnswer : SetupState → Position → Option Ending → Type 0

@@ -1,8 +1,9 @@
 //! Small boards, which are solved side by side before their lines are taken.
 
-ghost use Rattle.std.specs.Prelude.{◌≡◌, ◌≢◌, ◌<◌, ℕ, All, IfSome, Option, Some, Vec, false};
+ghost use Rattle.std.specs.Prelude.{◌≡◌, ◌≢◌, ◌<◌, ◌≤◌, ℕ, All, IfSome, Option, Some, Vec, false};
 ghost use Rattle.std.specs.declared.alloc.Global.{Global};
 ghost use Rattle.board.specs.declared.moves.Move.{Move};
+ghost use Rattle.board.specs.Grids.{cell_count};
 ghost use Rattle.outcomes.specs.declared.outcome.Cause.TheVariants.{Memory};
 ghost use Rattle.outcomes.specs.declared.outcome.Ending.TheVariants.{Bounded};
 ghost use Rattle.outcomes.specs.declared.outcome.Want.{Want};
@@ -136,6 +137,7 @@ fn end_places<R: Threads + Sync, G: Gate + Sync>(
     gate: &G,
 )
     requires some { 0 < workers }
+    requires small { cell_count setup.now.goal.grid ≤ 9 }
     requires boards { All (λ place. Stands setup.now.goal.grid place) places.old }
     ensures { All (λ place. IsAnswered setup.now place) places.new }
 {
@@ -144,7 +146,8 @@ fn end_places<R: Threads + Sync, G: Gate + Sync>(
         places,
         workers,
         &|_: usize, place: &mut Place|
-            requires { Stands setup.now.goal.grid place.old }
+            requires stands { Stands setup.now.goal.grid place.old }
+            requires small { cell_count setup.now.goal.grid ≤ 9 }
             ensures { IsAnswered setup.entry.now place.new }
         {
             place.ending = end_alone(alloc, setup, &place.board, ByBlank, gate);
@@ -152,8 +155,8 @@ fn end_places<R: Threads + Sync, G: Gate + Sync>(
     );
 }
 
-// The ending of a board by one worker, if memory sufficed. It owns all boards, whatever they are
-// spread by.
+// The ending of a small board by one worker, if memory sufficed. It owns all boards, whatever they
+// are spread by.
 fn end_alone<S: Spread + Drop, G: Gate>(
     alloc: Global,
     setup: &Setup,
@@ -161,7 +164,8 @@ fn end_alone<S: Spread + Drop, G: Gate>(
     spread: S,
     gate: &G,
 ) -> Option<Ending>
-    requires { start.now.grid ≡ setup.now.goal.grid }
+    requires sides { start.now.grid ≡ setup.now.goal.grid }
+    requires small { cell_count setup.now.goal.grid ≤ 9 }
     ensures { IfSome result (λ ending. MayAnswer setup.now start.now (Some ending)) }
 {
     let Ok(ending) = end_one(alloc, job_for(setup, start), spread, gate) else {

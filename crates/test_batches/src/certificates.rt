@@ -96,6 +96,22 @@ const CHANGES: [(usize, usize, &[u8], &str); 13] = [
     ),
 ];
 
+// By which code `ONE_MOVE_ONE` is refused where one of its bytes is 255: those below this place, and
+// from that of the row above on.
+const HIGH_BYTES: [(usize, &str); 8] = [
+    (8, "F1"),
+    (20, "F3"),
+    // The lowest bytes of the cost.
+    (22, "C3"),
+    (29, "F3"),
+    // The count of rows.
+    (37, "F2"),
+    (41, "F3"),
+    // The lowest bytes of what the start's row costs.
+    (43, "C5"),
+    (45, "F3"),
+];
+
 // Whether bytes are judged so, with this status.
 fn is_judged<R: Threads + AllocGlobal + Sync>(
     rt: &R,
@@ -146,6 +162,21 @@ fn is_hardest_accepted<R: Threads + Wait + AllocGlobal + Sync>(rt: &R) -> Option
 fn certificates_are_judged(rt: HostRuntime) {
     for (from, to, by, code) in CHANGES {
         assert_eq!(rt; is_refused(&rt, from, to, by, code), Some(true), "{code}");
+    }
+    for length in 0..45 {
+        assert_eq!(rt;
+            is_refused(&rt, length, 45, &[], "F2"),
+            Some(true),
+            "{length}"
+        );
+    }
+    let mut from = 0;
+    for (end, code) in HIGH_BYTES {
+        for place in from..end {
+            let is_refused = is_refused(&rt, place, place + 1, &[255], code);
+            assert_eq!(rt; is_refused, Some(true), "{place}");
+        }
+        from = end;
     }
     assert_eq!(rt; is_hardest_accepted(&rt), Some(true));
 }

@@ -1,4 +1,4 @@
-//! The six runs, with each call of each stream failing in turn.
+//! The seven runs, with each call of each stream failing in turn.
 
 ghost use Rattle.std.specs.Prelude.{◌≡◌, false};
 ghost use Rattle.byte_streams.specs.ByteSink.{sink_has_failed};
@@ -7,7 +7,7 @@ ghost use Rattle.board.specs.CostRules.{unit_rule};
 use crate::certificates::{BOUND, ONE_MOVE, ONE_MOVE_ONE, SOLVED, THREE_MOVES};
 use batch_cli::{
     BatchFault, Cause, Free, LinesFault, Ruled, Setup, Summary, Why, run_batch, run_cert,
-    run_check, run_lines, run_program, run_upgrade,
+    run_check, run_lines, run_program, run_replay, run_upgrade,
 };
 use board::{Board, Move, Shape, Weights};
 use byte_streams::{BufferedSource, ByteSink, ByteSource, Sink, Source};
@@ -71,6 +71,8 @@ enum Run {
     Check,
     // `run_upgrade`.
     Upgrade,
+    // `run_replay` over a board of 2 by 2, with one worker, Korf's goal and unit costs.
+    Replay,
 }
 
 // A line for each answer of `ByBlank`, one that is refused before it is asked, and one that is
@@ -90,7 +92,7 @@ struct Case {
     unwritten: &'static str,
 }
 
-fn cases() -> [Case; 16] {
+fn cases() -> [Case; 18] {
     [
         Case {
             run: Run::Lines,
@@ -227,6 +229,24 @@ fn cases() -> [Case; 16] {
             status: 5,
             unwritten: "",
         },
+        // A step is answered where its line is whole, and the report stands behind the end.
+        Case {
+            run: Run::Replay,
+            input: b"r 1 0 2 3\ngrant 0\nrest 1\nexpand\nexpand 0\nannounce 0\nrest 0",
+            reads: 59,
+            output: b"ok\nS15\nB4\nok\nok\nok\n\
+                {\"cost\":1,\"id\":\"r\",\"plan\":\"L\",\"status\":\"optimal\"}\n",
+            status: 1,
+            unwritten: "tilesolve: B2\n",
+        },
+        Case {
+            run: Run::Replay,
+            input: b"x 1 0 2\ngrant 0\n",
+            reads: 8,
+            output: b"{\"fault\":\"E2\",\"line\":1,\"status\":\"refused\"}\n",
+            status: 1,
+            unwritten: "tilesolve: B2\n",
+        },
     ]
 }
 
@@ -241,17 +261,22 @@ impl Case {
     }
 
     // What is due where the read after so many others fails: of a batch the reports of the lines
-    // that are whole, and else nothing.
+    // that are whole, of a replay the answers to those behind the first, and else nothing.
     fn due_before(&self, read: usize) -> &'static [u8] {
-        if matches!(self.run, Run::Certify | Run::Check | Run::Upgrade) {
-            return b"";
+        let lines = lines_of(beginning(self.input, read));
+        match self.run {
+            Run::Certify | Run::Check | Run::Upgrade => b"",
+            Run::Replay => first_lines(self.output, lines.saturating_sub(1)),
+            _ => first_lines(self.output, lines),
         }
-        first_lines(self.output, lines_of(beginning(self.input, read)))
     }
 
     // Whether it flushes after each report.
     fn reports_lines(&self) -> bool {
-        matches!(self.run, Run::Lines | Run::Batch | Run::Program)
+        matches!(
+            self.run,
+            Run::Lines | Run::Batch | Run::Program | Run::Replay
+        )
     }
 
     // How many writes and flushes it makes for such a beginning of the output: one for each byte,
@@ -395,6 +420,10 @@ fn start<R: Threads + Wait + AllocGlobal + Sync>(
         }
         Run::Check => tell_status(run_check(rt, alloc, source, sink), errors),
         Run::Upgrade => tell_status(run_upgrade(alloc, source, sink), errors),
+        Run::Replay => {
+            let setup = setup_of_square(alloc);
+            tell_status(run_replay(rt, alloc, source, sink, &setup), errors)
+        }
     }
 }
 

@@ -14,6 +14,6 @@ mod tables;
 pub use gates::{Counter, Delay};
 pub use job::Job;
 pub use problems::{Answer, Division, Problem, Team};
-pub use solving::{answer_with_rows, answer_without_rows};
+pub use solving::{answer_of_threads, answer_with_rows, answer_without_rows};
 pub use steps::{expand, hire, meet, settle};
 pub use tables::bound_of;

@@ -1,6 +1,7 @@
 //! What is answered by so many workers.
 
 ghost use Rattle.lower_bound.specs.Tables.{ArePotentials};
+ghost use Rattle.hda_run.specs.Worlds.{IsWorkerCount};
 
 use crate::problems::{Answer, Division, Problem, Team};
 use board::Board;
@@ -13,7 +14,9 @@ use owners::{ByBlank, Spread, Zobrist};
 use std::alloc::Global;
 use std::sync::Wait;
 use std::thread::Threads;
-use thread_runs::{end, solve};
+use thread_joins::WithRows;
+use thread_runs::{end, run_by_threads, solve};
+use world_model::WORKER_LIMIT;
 
 /// What `solve` answers. The rows of a plan, and those of a bound, are looked at by the checker.
 pub fn answer_with_rows<R: Threads + Wait + Sync, G: Gate + Sync>(
@@ -55,6 +58,30 @@ pub fn answer_without_rows<R: Threads + Wait + Sync, G: Gate + Sync>(
     }
 }
 
+/// What the team's threads answer, each of which has a worker; the rows are looked at by the checker.
+/// None where the world of the joined workers is not kept.
+pub fn answer_of_threads<R: Threads + Wait + Sync, G: Gate + Sync>(
+    rt: &R,
+    alloc: Global,
+    problem: &Problem,
+    bound: &Bound,
+    team: Team,
+    gate: &G,
+) -> Option<Answer>
+    requires { ArePotentials problem.now.weights problem.now.goal bound.now }
+{
+    if team.workers < 1 || WORKER_LIMIT < team.workers {
+        return Some(Answer::Invalid);
+    }
+    match team.division {
+        Division::ByBlank => find_by(rt, alloc, problem, bound, team.workers, &ByBlank, gate),
+        Division::ByHash => {
+            let spread = Zobrist::new(problem.goal.shape());
+            find_by(rt, alloc, problem, bound, team.workers, &spread, gate)
+        }
+    }
+}
+
 fn solve_by<R: Threads + Wait + Sync, S: Spread + Drop + Sync, G: Gate + Sync>(
     rt: &R,
     alloc: Global,
@@ -92,6 +119,28 @@ fn end_by<R: Threads + Wait + Sync, S: Spread + Drop + Sync, G: Gate + Sync>(
     match end(rt, alloc, job, workers, spread, gate) {
         Ok(ending) => answer_of_ending(ending),
         Err(fault) => answer_of_fault(fault),
+    }
+}
+
+fn find_by<R: Threads + Wait + Sync, S: Spread + Sync, G: Gate + Sync>(
+    rt: &R,
+    alloc: Global,
+    problem: &Problem,
+    bound: &Bound,
+    workers: usize,
+    spread: &S,
+    gate: &G,
+) -> Option<Answer>
+    requires tables { ArePotentials problem.now.weights problem.now.goal bound.now }
+    requires count { IsWorkerCount workers }
+{
+    let Some(job) = job_of(problem, bound) else {
+        return Some(Answer::Invalid);
+    };
+    match run_by_threads::<WithRows, R, S, G>(rt, alloc, &job, workers, spread, gate) {
+        Ok(Some(outcome)) => Some(answer_of_outcome(alloc, problem, bound, outcome)),
+        Ok(None) => None,
+        Err(_refused) => Some(Answer::NoMemory),
     }
 }
 

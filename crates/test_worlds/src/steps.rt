@@ -1,12 +1,11 @@
 //! The steps.
 
 ghost use Rattle.std.specs.Prelude.{◌≡◌, ◌<◌, ◌≤◌, IfSome, IsTrue, length};
-ghost use Rattle.worker_core.specs.Roles.{AreAtHome};
 ghost use Rattle.worker_core.specs.Workers.{packets_of};
 ghost use Rattle.test_worlds.specs.Jobs.{IsFit, IsLed, HasFew};
 
 use crate::job::Job;
-use board::{Board, GREATEST_COST};
+use board::GREATEST_COST;
 use memory::OutOfMemory;
 use message_ledger::{Allowance, Counting, Purse};
 use owners::Spread;
@@ -98,37 +97,20 @@ fn is_one_of_two<C: Counting>(worker: &Worker<C>) -> bool
     worker.unsent(1).len() <= PACKET_LIMIT
 }
 
-/// The last item that is held is taken in. None where an item that is held has other sides than the
-/// goal, or costs too much.
-pub fn settle<C: Counting>(
+/// The last item that is held is taken in. None where there are no workers.
+pub fn settle<C: Counting, S: Spread>(
     alloc: Global,
     job: &Job,
+    owners: &S,
+    me: usize,
     worker: &mut Worker<C>,
 ) -> Option<Result<(), Refusal>>
     requires job { IsFit job.now }
     requires led { IsLed job.now worker.old.lists }
     ensures led { IsLed job.now worker.new.lists }
 {
-    if !are_at_home(&job.goal, worker.held()) {
+    if worker.workers() == 0 {
         return None;
     }
-    Some(worker.settle(alloc, &Goal::new(&job.goal), &job.bound))
-}
-
-// Whether items are of boards with the goal's sides.
-fn are_at_home(goal: &Board, items: &[Item]) -> bool
-    ensures { IsTrue result → AreAtHome goal.now items.now }
-{
-    if items.len() > PACKET_LIMIT {
-        return false;
-    }
-    'items: for i in 0..items.len() {
-        if items[i].board.shape() != goal.shape() {
-            return false;
-        }
-        if items[i].cost > GREATEST_COST {
-            return false;
-        }
-    }
-    true
+    Some(worker.settle(alloc, me, &Goal::new(&job.goal), &job.bound, owners))
 }

@@ -9,6 +9,7 @@ use Rattle.world_model.specs.declared.parts.Item.{Item}
 use Rattle.world_model.specs.Workers.{Lane, WorkerState}
 use Rattle.world_model.specs.Worlds.{IsUnderWay, LiesIn, WorldState}
 use Rattle.world_model.proofs.ListLemmas.{part_le, none_in_empty}
+use Rattle.world_model.proofs.KeptLemmas.{kept_quiet}
 use Rattle.world_model.proofs.OutcomeLemmas.{outcomes_answer}
 use Rattle.thread_joins.specs.Worlds.{AreAtRest}
 use Rattle.thread_joins.specs.Laws.{BoardsHaveOwners, JoinedWorldsAnswer, LimitsAreKept, LimitsAreSpent, NoListStopsThreads, QuietHasNoCredit, QuietIsStill}
@@ -63,9 +64,9 @@ pub still : QuietIsStill
 still job w joined quiet to item under_way = none_under_way w (joined.at_quiet quiet) to item under_way
 
 pub joined_answers : JoinedWorldsAnswer
-joined_answers job w outcome joined bound given =
+joined_answers job w outcome joined kept bound given =
     let below : IsLowerBound w.task.rule w.task.sum w.task.goal = subst (λ (t : Task). IsLowerBound t.rule t.sum t.goal) (sym joined.task) bound in
-    subst (λ (t : Task). Answers t outcome) joined.task (outcomes_answer w outcome joined.shaped joined.sound below given)
+    subst (λ (t : Task). Answers t outcome) joined.task (outcomes_answer w outcome joined.shaped joined.sound (kept_quiet w kept) below given)
 
 pub no_list_stops : NoListStopsThreads
 no_list_stops job w joined = joined.no_list

@@ -1,10 +1,11 @@
 -- When a world of joined workers is kept.
 use Rattle.std.proofs.Common.{◌≡◌, ℕ, ◌+◌, ◌*◌, ◌<◌, ◌≤◌, true, List, [], length, get_or, set, Option, Some, None, refl, sym, ap, ◌∙◌, subst, inl, inr, arith}
+use Rattle.std.specs.Prelude.{◌↔◌}
 use Rattle.std.specs.Prelude.{All, slice_get, sum_by, option_map}
 use Rattle.std.proofs.Math.Seq.{map-set_same}
 use Rattle.std.proofs.lemmas.Bool.Decides.{eqb_tells}
 use Rattle.std.proofs.lemmas.List.Elements.{All-get_or, All-set}
-use Rattle.std.proofs.lemmas.Option.{slice_get_within, get_or_from_slice_get}
+use Rattle.std.proofs.lemmas.Option.{none-some, slice_get_within, get_or_from_slice_get}
 use Rattle.board.specs.Positions.{Position}
 use Rattle.outcomes.specs.Outcomes.{Task}
 use Rattle.world_model.specs.declared.parts.Item.{Item}
@@ -16,14 +17,16 @@ use Rattle.world_model.specs.Costs.{limit_of}
 use Rattle.world_model.specs.Frontiers.{IsInFrontier, IsReached}
 use Rattle.world_model.specs.Quiet.{IsQuiet, IsKept, IsKeptAt, HasBegun}
 use Rattle.world_model.specs.Workers.{WorkerState, Lane, IsTaskBoard, IsFloor, HasNothingBelow}
-use Rattle.world_model.specs.Worlds.{IsUnderWay, Knows, LiesIn, WorldState}
+use Rattle.world_model.specs.Worlds.{IsUnderWay, IsWorker, Knows, LiesIn, WorldState}
 use Rattle.world_model.proofs.ListLemmas.{part_le, none_in_empty, all_from_places}
+use Rattle.world_model.proofs.OutcomeLemmas.{least_unique}
+use Rattle.world_model.proofs.ShapeLemmas.{knows_owned}
 use Rattle.search_lists.specs.Orders.{Guide}
 use Rattle.worker_core.specs.declared.worker.Worker.{Worker}
 use Rattle.worker_core.specs.Roles.{IsGuided}
 use Rattle.worker_core.specs.Workers.{state_of}
 use Rattle.world_ends.specs.Parts.{AreGuided, HasParts, known_in, states_of}
-use Rattle.world_ends.proofs.PartLemmas.{worker_from, knows_of, reached_is}
+use Rattle.world_ends.proofs.PartLemmas.{worker_at, worker_from, knows_of, known_from, reached_is}
 use Rattle.thread_joins.specs.Worlds.{AreAtRest}
 use Rattle.thread_joins.proofs.PartLemmas.{some_is}
 
@@ -48,10 +51,25 @@ high_more task limit states i here at high before k worker low is = elim (eqb_te
 pub high_all : (task : Task) (limit : ℕ) (states : List WorkerState) (n : ℕ) → length states ≤ n → ((k : ℕ) (worker : WorkerState) → k < n → slice_get states k ≡ Some worker → HasNothingBelow task worker limit) → All (λ worker. HasNothingBelow task worker limit) states
 high_all task limit states n ended each = all_from_places (λ (worker : WorkerState). HasNothingBelow task worker limit) states (λ k worker at. each k worker (let low = slice_get_within states k worker at in omega (arith, low, ended)) at)
 
--- by the floor of its open list a worker has nothing below it
-pub floor_high : (task : Task) (worker : WorkerState) (floor : Option ℕ) (limit : ℕ) → IsFloor task worker floor → ((least : ℕ) → floor ≡ Some least → limit ≤ least) → HasNothingBelow task worker limit
-floor_high task worker None limit none high b known at = absurd (none (known.cost + task.sum b) (b, known, at, refl))
-floor_high task worker (Some least) limit is high b known at = let le = is.1 (known.cost + task.sum b) (b, known, at, refl) in let le' = high least refl in omega (arith, le, le')
+-- what holds of all workers holds of each
+pub high_at : (task : Task) (limit : ℕ) (states : List WorkerState) (i : ℕ) (here : WorkerState) → slice_get states i ≡ Some here → All (λ worker. HasNothingBelow task worker limit) states → HasNothingBelow task here limit
+high_at task limit states i here at all =
+    subst (λ (worker : WorkerState). HasNothingBelow task worker limit) (get_or_from_slice_get states i here here at)
+    (All-get_or (λ (worker : WorkerState). HasNothingBelow task worker limit) states i here (slice_get_within states i here at) all)
+
+-- where its open list has no floor, a worker has nothing below any limit
+pub no_floor : (task : Task) (worker : WorkerState) (floor : Option ℕ) (limit : ℕ) → IsFloor task worker floor → floor ≡ None → HasNothingBelow task worker limit
+no_floor task worker None limit none is = λ b known at. absurd (none (known.cost + task.sum b) (b, known, at, refl))
+no_floor task worker (Some least) limit floor is = absurd (none-some least (sym is))
+
+-- by the floor of its open list a worker has nothing below a limit exactly where the floor is not below it
+pub floor_high : (task : Task) (worker : WorkerState) (floor : Option ℕ) (limit least : ℕ) → IsFloor task worker floor → floor ≡ Some least → (limit ≤ least) ↔ HasNothingBelow task worker limit
+floor_high task worker None limit least none is = absurd (none-some least is)
+floor_high task worker (Some floor) limit least least_is is =
+    let same = some_is floor least is in (
+      (λ le b known at. let le' = least_is.1 (known.cost + task.sum b) (b, known, at, refl) in omega (arith, le, le', same)),
+      (λ high. let has = least_is.0 in let le = high has.0 has.1 has.2 in let at = has.3 in omega (arith, le, at, same)),
+    )
 
 module _ (w : WorldState) (rest : AreAtRest w) where
   none_lies : (from to : ℕ) (packet : List Item) → LiesIn w from to packet → ⊥
@@ -81,16 +99,14 @@ module _ (task : Task) (hash : Position → ℕ) (states : List WorkerState) (w 
   high_frontier rest limit high b cost (inl has) =
       let knows = has.2 in
       let at = worker_from task hash states w parts has.0 knows.worker knows.is in
-      let here : HasNothingBelow task knows.worker limit =
-      subst (λ (x : WorkerState). HasNothingBelow task x limit) (get_or_from_slice_get states has.0 knows.worker knows.worker at)
-      (All-get_or (λ (x : WorkerState). HasNothingBelow task x limit) states has.0 knows.worker (slice_get_within states has.0 knows.worker at) high) in
+      let here : HasNothingBelow task knows.worker limit = high_at task limit states has.0 knows.worker at high in
       let there : HasNothingBelow w.task knows.worker limit = subst (λ (t : Task). HasNothingBelow t knows.worker limit) (sym parts.asks) here in
       let le = there b has.1 (record { board = knows.board; knows = knows.knows; unexpanded = has.3; no_goal = has.4 }) in
       omega (arith, le, has.5)
   high_frontier rest limit high b cost (inr has) = absurd (none_under_way w rest has.0 has.1 has.2)
 
   -- it is quiet where all is at rest, the frontier is not below the limit, and the best cost is that at which the goal is known
-  pub quiet_is : AreAtRest w → All (λ worker. HasNothingBelow task worker (limit_of w.book.best)) states → option_map (λ known. known.cost) (known_in hash states task.goal) ≡ w.book.best → IsQuiet w
+  quiet_is : AreAtRest w → All (λ worker. HasNothingBelow task worker (limit_of w.book.best)) states → option_map (λ known. known.cost) (known_in hash states task.goal) ≡ w.book.best → IsQuiet w
   quiet_is rest high reached = record {
     lanes = rest.lanes;
     workers = rest.workers;
@@ -98,21 +114,56 @@ module _ (task : Task) (hash : Position → ℕ) (states : List WorkerState) (w 
     best = subst (λ (o : Option ℕ). IsReached w o) reached (reached_is task hash states w parts (known_in hash states task.goal) goal_board refl);
   }
 
-  -- it has begun where the start is expanded at its owner
-  pub begun_is : (known : Known) → known_in hash states task.start ≡ Some known → known.expanded ≡ true → HasBegun w
-  begun_is known found expanded =
-      (w.owner task.start, known, subst (λ (b : Position). Knows w (w.owner task.start) b known) (ap (λ (t : Task). t.start) (sym parts.asks)) (knows_of task hash states w parts task.start known start_board found), expanded)
+  -- where it is quiet, no worker has anything below the limit
+  all_high : IsQuiet w → All (λ worker. HasNothingBelow task worker (limit_of w.book.best)) states
+  all_high quiet =
+      all_from_places (λ (worker : WorkerState). HasNothingBelow task worker (limit_of w.book.best)) states
+      (λ i worker at. subst (λ (t : Task). HasNothingBelow t worker (limit_of w.book.best)) parts.asks (high_here i worker (worker_at task hash states w parts i worker at)))
+    where
+      high_here : (i : ℕ) (worker : WorkerState) → IsWorker w i worker → HasNothingBelow w.task worker (limit_of w.book.best)
+      high_here i worker is b known at =
+          quiet.frontier b known.cost (inl (i, known, record { worker = worker; is = is; board = at.board; knows = at.knows }, at.unexpanded, at.no_goal, refl))
 
-  -- so it is kept, where it stopped so
-  pub kept_quiet : w.book.stop ≡ Some Quiet → IsQuiet w → IsKept w
-  kept_quiet stop quiet = subst (λ (o : Option Stop). IsKeptAt w o) (sym stop) quiet
+  -- and the best cost is that at which the goal is known
+  best_known : IsQuiet w → option_map (λ known. known.cost) (known_in hash states task.goal) ≡ w.book.best
+  best_known quiet = least_unique _ _ w.book.best (reached_is task hash states w parts (known_in hash states task.goal) goal_board refl) quiet.best
 
-  pub kept_limit : w.book.stop ≡ Some Limit → (limit : ℕ) → w.book.limit ≡ limit
-      → (GREATEST_GRANT * length states < limit → (known : Known) × (known_in hash states task.start ≡ Some known) × (known.expanded ≡ true)) → IsKept w
-  kept_limit stop limit is begun =
-      subst (λ (o : Option Stop). IsKeptAt w o) (sym stop)
-      (λ low.
-      let same = ap (λ (ws : List WorkerState). length ws) parts.works in
-      let lt : GREATEST_GRANT * length states < limit = subst (λ (k : ℕ). GREATEST_GRANT * k < limit) same (subst (λ (k : ℕ). GREATEST_GRANT * length w.workers < k) is low) in
-      let has = begun lt in
-      begun_is has.0 has.1 has.2)
+  -- the start is expanded at its owner
+  abbrev pub HasExpanded : Type 0
+  HasExpanded = (known : Known) × (known_in hash states task.start ≡ Some known) × (known.expanded ≡ true)
+
+  -- it has begun exactly where the start is expanded at its owner
+  has_begun : HasExpanded → HasBegun w
+  has_begun has = (
+    w.owner task.start,
+    has.0,
+    subst (λ (b : Position). Knows w (w.owner task.start) b has.0) (ap (λ (t : Task). t.start) (sym parts.asks)) (knows_of task hash states w parts task.start has.0 start_board has.1),
+    has.2,
+  )
+
+  is_expanded : HasBegun w → HasExpanded
+  is_expanded has =
+      let known = has.1 in
+      let own : w.owner w.task.start ≡ has.0 = (knows_owned w parts.shaped has.0 w.task.start known has.2).0 in
+      let there : Knows w (w.owner w.task.start) w.task.start known = subst (λ (i : ℕ). Knows w i w.task.start known) (sym own) has.2 in
+      let here : Knows w (w.owner task.start) task.start known = subst (λ (t : Task). Knows w (w.owner t.start) t.start known) parts.asks there in
+      (known, known_from task hash states w parts task.start known here, has.3)
+
+  -- by what it stopped, it is kept exactly where it is so at that
+  pub kept_at : (stop : Option Stop) → w.book.stop ≡ stop → IsKeptAt w stop ↔ IsKept w
+  kept_at stop is = ((λ kept. subst (λ (o : Option Stop). IsKeptAt w o) (sym is) kept), (λ kept. subst (λ (o : Option Stop). IsKeptAt w o) is kept))
+
+  -- stopped by Quiet it is kept exactly where the best cost is that at which the goal is known, and no worker has anything below the limit
+  pub kept_quiet : w.book.stop ≡ Some Quiet → AreAtRest w → (best : Option ℕ) → best ≡ w.book.best
+      → ((option_map (λ known. known.cost) (known_in hash states task.goal) ≡ best) × All (λ worker. HasNothingBelow task worker (limit_of best)) states) ↔ IsKept w
+  kept_quiet stop rest best is =
+      subst (λ (o : Option ℕ). ((option_map (λ known. known.cost) (known_in hash states task.goal) ≡ o) × All (λ worker. HasNothingBelow task worker (limit_of o)) states) ↔ IsKept w) (sym is)
+      ((λ both. (kept_at (Some Quiet) stop).0 (quiet_is rest both.1 both.0)), (λ kept. let quiet = (kept_at (Some Quiet) stop).1 kept in (best_known quiet, all_high quiet)))
+
+  -- halted for the limit it is kept exactly where the start is expanded, or the limit is no more than one grant for each worker
+  pub kept_limit : w.book.stop ≡ Some Limit → (count limit : ℕ) → length states ≡ count → w.book.limit ≡ limit → (GREATEST_GRANT * count < limit → HasExpanded) ↔ IsKept w
+  kept_limit stop count limit is same =
+      let workers : length w.workers ≡ count = ap (λ (ws : List WorkerState). length ws) parts.works ∙ is in
+      subst (λ (k : ℕ). (GREATEST_GRANT * k < limit → HasExpanded) ↔ IsKept w) workers
+      (subst (λ (k : ℕ). (GREATEST_GRANT * length w.workers < k → HasExpanded) ↔ IsKept w) same
+      ((λ spent. (kept_at (Some Limit) stop).0 (λ low. has_begun (spent low))), (λ kept low. is_expanded ((kept_at (Some Limit) stop).1 kept low))))

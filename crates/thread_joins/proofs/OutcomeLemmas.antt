@@ -11,7 +11,6 @@ use Rattle.rings.specs.Rings.{ReceivingEnd}
 use Rattle.world_model.specs.declared.limits.TheConstants.{GREATEST_GRANT}
 use Rattle.world_model.specs.declared.steps.Stop.TheVariants.{Limit, Memory}
 use Rattle.world_model.specs.Books.{BookState}
-use Rattle.world_model.specs.Quiet.{IsKept}
 use Rattle.world_model.specs.Workers.{WorkerState}
 use Rattle.world_model.specs.Worlds.{WorldState}
 use Rattle.worker_core.specs.declared.worker.Worker.{Worker}
@@ -48,8 +47,8 @@ module _ {S C D E K G : Type 0} (hash_of : S → Position → ℕ) (p : Problem)
     at_quiet = is.at_quiet;
   }
 
-  -- what the world gives is given by threads, where the workers' expansions add up
-  pub by_threads : {X : Type 0} (Gives : WorldState → X → Type 0) (workers : List (Worker C D E K G)) (ins : List (Vec ReceivingEnd Global)) (w : WorldState) (it : X) (expanded : ℕ) → IsWorldOf hash_of p owners n book workers ins w → IsKept w × Gives w it
+  -- the world is that of threads that were joined, where the workers' expansions add up
+  pub joined_is : (workers : List (Worker C D E K G)) (ins : List (Vec ReceivingEnd Global)) (w : WorldState) (expanded : ℕ) → IsWorldOf hash_of p owners n book workers ins w
       → book.limit ≡ p.limit
       → expanded ≡ sum_by (λ worker. worker.expansions) (states_of workers)
       → expanded ≤ book.granted
@@ -57,26 +56,22 @@ module _ {S C D E K G : Type 0} (hash_of : S → Position → ℕ) (p : Problem)
       → book.granted ≤ book.limit
       → (book.stop ≡ Some Limit → book.granted ≡ book.limit)
       → book.stop ≢ Some (Memory Stated)
-      → (w : WorldState) × IsJoined (job_of hash_of p owners n) w × IsKept w × Gives w it
-  by_threads {X} Gives workers ins w it expanded is given limit sum within high capped at_limit no_list =
+      → IsJoined (job_of hash_of p owners n) w
+  joined_is workers ins w expanded is limit sum within high capped at_limit no_list =
       let states : length (states_of workers) ≡ n = length-map workers (λ (x : Worker C D E K G). state_of x) ∙ is.count in
       let total : expanded ≡ sum_by (λ worker. worker.expansions) w.workers = sum ∙ ap (λ (ws : List WorkerState). sum_by (λ worker. worker.expansions) ws) (sym is.parts.works) in
-      let book_limit : w.book.limit ≡ p.limit = ap (λ (b : BookState). b.limit) is.book_is ∙ limit in (
-        w,
-        record {
-          task = is.parts.asks;
-          owners = λ b. is.parts.owns b ∙ ap (λ (k : ℕ). hash_of owners b % k) states;
-          count = ap (λ (ws : List WorkerState). length ws) is.parts.works ∙ states;
-          limit = book_limit;
-          shaped = is.parts.shaped;
-          sound = is.parts.sound;
-          at_quiet = λ quiet. is.at_quiet (sym (ap (λ (b : BookState). b.stop) is.book_is) ∙ quiet);
-          within_limit = omega (arith, total, within, capped, limit);
-          at_limit = λ stopped.
-              let all = at_limit (sym (ap (λ (b : BookState). b.stop) is.book_is) ∙ stopped) in
-              (ap (λ (b : BookState). b.granted) is.book_is ∙ (all ∙ limit), omega (arith, total, high, all, limit));
-          no_list = λ stopped. no_list (sym (ap (λ (b : BookState). b.stop) is.book_is) ∙ stopped);
-        },
-        given.0,
-        given.1,
-      )
+      let book_limit : w.book.limit ≡ p.limit = ap (λ (b : BookState). b.limit) is.book_is ∙ limit in
+      record {
+        task = is.parts.asks;
+        owners = λ b. is.parts.owns b ∙ ap (λ (k : ℕ). hash_of owners b % k) states;
+        count = ap (λ (ws : List WorkerState). length ws) is.parts.works ∙ states;
+        limit = book_limit;
+        shaped = is.parts.shaped;
+        sound = is.parts.sound;
+        at_quiet = λ quiet. is.at_quiet (sym (ap (λ (b : BookState). b.stop) is.book_is) ∙ quiet);
+        within_limit = omega (arith, total, within, capped, limit);
+        at_limit = λ stopped.
+            let all = at_limit (sym (ap (λ (b : BookState). b.stop) is.book_is) ∙ stopped) in
+            (ap (λ (b : BookState). b.granted) is.book_is ∙ (all ∙ limit), omega (arith, total, high, all, limit));
+        no_list = λ stopped. no_list (sym (ap (λ (b : BookState). b.stop) is.book_is) ∙ stopped);
+      }

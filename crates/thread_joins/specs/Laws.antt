@@ -11,6 +11,7 @@ use Rattle.world_model.specs.declared.steps.Stop.TheVariants.{Quiet, Limit, Memo
 use Rattle.world_model.specs.Credit.{expansion_count, packet_count, purse_total}
 use Rattle.world_model.specs.Openings.{Job}
 use Rattle.world_model.specs.Outcomes.{IsGiven}
+use Rattle.world_model.specs.Quiet.{IsKept}
 use Rattle.world_model.specs.Worlds.{WorldState, IsUnderWay}
 use Rattle.thread_joins.specs.Threads.{IsJoined}
 
@@ -38,11 +39,12 @@ QuietHasNoCredit = (job : Job) (w : WorldState) → IsJoined job w → w.book.st
 abbrev pub QuietIsStill : Type 0
 QuietIsStill = (job : Job) (w : WorldState) → IsJoined job w → w.book.stop ≡ Some Quiet → (to : ℕ) (item : Item) → ¬ IsUnderWay w to item
 
--- what a joined world gives answers the job, where its sums are lower bounds
+-- what a joined world that is kept gives answers the job, where its sums are lower bounds
 abbrev pub JoinedWorldsAnswer : Type 0
 JoinedWorldsAnswer =
     (job : Job) (w : WorldState) (outcome : Outcome)
     → IsJoined job w
+    → IsKept w
     → IsLowerBound job.task.rule job.task.sum job.task.goal
     → IsGiven w outcome
     → Answers job.task outcome

@@ -1,5 +1,5 @@
 -- Runs by threads.
-use Rattle.std.specs.Prelude.{ℕ, ◌≡◌, ◌≢◌, ◌+◌, ◌*◌, ◌≤◌, length, Some}
+use Rattle.std.specs.Prelude.{ℕ, ◌≡◌, ◌≢◌, ◌+◌, ◌*◌, ◌≤◌, length, Option, None, Some}
 use Rattle.board.specs.Positions.{Position}
 use Rattle.outcomes.specs.declared.outcome.Ending.{Ending}
 use Rattle.outcomes.specs.declared.outcome.Outcome.{Outcome}
@@ -32,6 +32,15 @@ pub record IsJoined (job : Job) (w : WorldState) : Type 0 where
   pub within_limit : expansion_count w ≤ job.limit
   pub at_limit : w.book.stop ≡ Some Limit → (w.book.granted ≡ job.limit) × (job.limit ≤ expansion_count w + GREATEST_GRANT * job.count)
   pub no_list : w.book.stop ≢ Some (Memory Stated)
+
+-- What is found of a world: where it is kept, what it gives; where it isn't, nothing.
+abbrev pub GivesIfKept : {X : Type 0} → (WorldState → X → Type 0) → WorldState → Option X → Type 0
+GivesIfKept gives w None = ¬ IsKept w
+GivesIfKept gives w (Some answer) = IsKept w × gives w answer
+
+-- What is found of n threads: their joined workers make a world, of which this is found.
+abbrev pub IsFoundByThreads : {S X : Type 0} → (WorldState → X → Type 0) → (S → Position → ℕ) → Problem → S → ℕ → Option X → Type 0
+IsFoundByThreads gives hash_of p owners n found = (w : WorldState) × IsJoined (job_of hash_of p owners n) w × GivesIfKept gives w found
 
 -- The outcome is that of n threads: their joined workers make a world that is kept, and it gives the outcome.
 abbrev pub IsByThreads : {S : Type 0} → (S → Position → ℕ) → Problem → S → ℕ → Outcome → Type 0

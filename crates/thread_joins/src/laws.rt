@@ -22,7 +22,7 @@ pub fn quiet_is_at_rest()
     ensures still { QuietIsStill }
 {}
 
-/// What a joined world gives answers its job, and no list of steps stopped it.
+/// What a joined world that is kept gives answers its job. No list of steps stopped a joined world.
 pub fn joined_worlds_answer()
     ensures answers { JoinedWorldsAnswer }
     ensures no_list { NoListStopsThreads }

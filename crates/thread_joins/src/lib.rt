@@ -4,13 +4,13 @@
 
 mod apart;
 mod counting;
-mod ending;
 pub mod laws;
 mod looks;
 mod lowest;
 mod outcome;
+mod reading;
 mod ties;
 mod world;
 
-pub use ending::ending_of_joined;
 pub use outcome::outcome_of_joined;
+pub use reading::{Reading, WithRows, WithoutRows};

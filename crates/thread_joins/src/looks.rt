@@ -1,6 +1,6 @@
 //! Whether a world of joined workers is kept.
 
-ghost use Rattle.std.specs.Prelude.{ℕ, ◌≡◌, ◌≤◌, ◌<◌, ◌*◌, true, All, IsTrue, Option, Some, length};
+ghost use Rattle.std.specs.Prelude.{◌≡◌, ◌↔◌, ◌≤◌, ◌<◌, ◌*◌, true, All, IsTrue, Some, length};
 ghost use Rattle.std.specs.Prelude.{option_map};
 ghost use Rattle.outcomes.specs.Outcomes.{Task};
 ghost use Rattle.search_lists.specs.Orders.{Guide};
@@ -37,9 +37,10 @@ pub(crate) fn is_kept<C: Tokens, S: Spread>(
     requires some { 0 < length workers.old }
     requires few { length workers.old ≤ WORKER_LIMIT }
     requires guided { AreGuided (task_in job.now) (guide_of (task_in job.now)) workers.old }
-    ensures yes { IsTrue result → (w : WorldState)
+    ensures kept { (w : WorldState)
         → HasParts (task_in job.now) (S.hash_of owners.now) (states_of workers.old) w
-        → w.book ≡ book.now → (book.now.stop ≡ Some Stop.Quiet → AreAtRest w) → IsKept w }
+        → w.book ≡ book.now → (book.now.stop ≡ Some Stop.Quiet → AreAtRest w)
+        → IsTrue result ↔ IsKept w }
     ensures same { states_of workers.new ≡ states_of workers.old }
     ensures guided { AreGuided (task_in job.now) (guide_of (task_in job.now)) workers.new }
 {
@@ -64,10 +65,10 @@ fn is_quiet<C: Counting, S: Spread>(
 ) -> bool
     requires some { 0 < length workers.old }
     requires guided { AreGuided (task_in job.now) (guide_of (task_in job.now)) workers.old }
-    ensures high { IsTrue result → All (λ worker.
-        HasNothingBelow (task_in job.now) worker (limit_of best)) (states_of workers.old) }
-    ensures reached { IsTrue result → option_map (λ known. known.cost)
-        (known_in (S.hash_of owners.now) (states_of workers.old) job.now.goal) ≡ best }
+    ensures quiet { IsTrue result ↔ ((option_map (λ known. known.cost)
+        (known_in (S.hash_of owners.now) (states_of workers.old) job.now.goal) ≡ best)
+        × All (λ worker. HasNothingBelow (task_in job.now) worker (limit_of best))
+        (states_of workers.old)) }
     ensures same { states_of workers.new ≡ states_of workers.old }
     ensures guided { AreGuided (task_in job.now) (guide_of (task_in job.now)) workers.new }
 {
@@ -85,8 +86,8 @@ fn is_reached<C: Counting, S: Spread>(
     workers: &[Worker<C>],
 ) -> bool
     requires { 0 < length workers.now }
-    ensures { IsTrue result → option_map (λ known. known.cost)
-        (known_in (S.hash_of owners.now) (states_of workers.now) job.now.goal) ≡ best }
+    ensures { IsTrue result ↔ (option_map (λ known. known.cost)
+        (known_in (S.hash_of owners.now) (states_of workers.now) job.now.goal) ≡ best) }
 {
     let Some(known) = known_of(owners, workers, job.goal()) else {
         return best.cost().is_none();
@@ -101,9 +102,9 @@ fn is_reached<C: Counting, S: Spread>(
 fn has_spent<C: Counting, S: Spread>(job: &Job<'_>, owners: &S, workers: &[Worker<C>]) -> bool
     requires some { 0 < length workers.now }
     requires few { length workers.now ≤ WORKER_LIMIT }
-    ensures { IsTrue result → GREATEST_GRANT * length workers.now < job.now.limit
+    ensures { IsTrue result ↔ (GREATEST_GRANT * length workers.now < job.now.limit
         → (known : Known) × (known_in (S.hash_of owners.now) (states_of workers.now) job.now.start
-        ≡ Some known) × (known.expanded ≡ true) }
+        ≡ Some known) × (known.expanded ≡ true)) }
 {
     if job.limit() <= GREATEST_GRANT * workers.len() as u64 {
         return true;
@@ -129,9 +130,9 @@ fn known_of<C: Counting, S: Spread>(
 
 // Whether no worker has a board on its open list with a cost plus sum below a limit.
 fn are_high<C: Counting>(workers: &mut [Worker<C>], limit: u32) -> bool
-    ensures yes { IsTrue result → (task : Task) (guide : Guide)
-        → AreGuided task guide workers.old
-        → All (λ worker. HasNothingBelow task worker limit) (states_of workers.old) }
+    ensures high { (task : Task) (guide : Guide) → AreGuided task guide workers.old
+        → IsTrue result
+        ↔ All (λ worker. HasNothingBelow task worker limit) (states_of workers.old) }
     ensures same { states_of workers.new ≡ states_of workers.old }
     ensures guided { (task : Task) (guide : Guide) → AreGuided task guide workers.old
         → AreGuided task guide workers.new }
@@ -146,9 +147,8 @@ fn are_high<C: Counting>(workers: &mut [Worker<C>], limit: u32) -> bool
 
 // Whether a worker has none.
 fn is_high<C: Counting>(worker: &mut Worker<C>, limit: u32) -> bool
-    ensures yes { IsTrue result → (task : Task) (guide : Guide)
-        → IsGuided task guide worker.old.lists
-        → HasNothingBelow task (state_of worker.old) limit }
+    ensures high { (task : Task) (guide : Guide) → IsGuided task guide worker.old.lists
+        → IsTrue result ↔ HasNothingBelow task (state_of worker.old) limit }
     ensures same { state_of worker.new ≡ state_of worker.old }
     ensures guided { (task : Task) (guide : Guide) → IsGuided task guide worker.old.lists
         → IsGuided task guide worker.new.lists }

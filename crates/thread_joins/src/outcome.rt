@@ -1,24 +1,23 @@
 //! The outcome of a run by threads.
 
-ghost use Rattle.std.specs.Prelude.{◌≡◌, IfSome};
+ghost use Rattle.std.specs.Prelude.{◌≡◌, IfOk};
 ghost use Rattle.world_model.specs.Books.{BookState};
-ghost use Rattle.world_model.specs.Outcomes.{IsGiven};
-ghost use Rattle.world_model.specs.Quiet.{IsKept};
 ghost use Rattle.world_model.specs.Worlds.{WorldState};
 ghost use Rattle.world_ends.specs.Parts.{states_of};
 ghost use Rattle.hda_run.specs.Worlds.{IsWorkerCount};
 ghost use Rattle.thread_joins.specs.Joints.{IsJoint};
-ghost use Rattle.thread_joins.specs.Threads.{IsByThreads};
+ghost use Rattle.thread_joins.specs.Threads.{IsFoundByThreads, GivesIfKept};
 ghost use Rattle.thread_joins.specs.Worlds.{IsWorldOf};
 
 use crate::apart::Joined;
 use crate::counting::count_expanded;
 use crate::looks::is_kept;
 use crate::lowest::lowest_in_rows;
+use crate::reading::{Reading, read};
 use crate::world::join_world;
 use hda_run::Job;
+use memory::OutOfMemory;
 use message_ledger::{Capped, Shares, Tickets, Tokens};
-use outcomes::Outcome;
 use owners::Spread;
 use quiescence::Book;
 use rings::Receiver;
@@ -26,90 +25,90 @@ use std::alloc::Global;
 use std::sync::ledger::Ledger;
 use thread_parts::Sealed;
 use worker_core::Worker;
-use world_ends::{Asked, outcome_of};
+use world_ends::Asked;
 use world_model::Stop;
 
 /// The outcome of a run whose threads were all joined, by their parts, the book, and the tickets of
-/// what was granted, each of which was taken. None where the world that they make is not kept: a
-/// thread could not be started, or the book says what the workers do not bear out. None also where
-/// memory was refused for taking the parts apart.
-pub fn outcome_of_joined<S: Spread, L: Ledger + Send + Sync, M: Capped + Send + Sync>(
+/// what was granted, each of which was taken. None exactly where the world that they make is not
+/// kept: a thread could not be started, or the book says what the workers do not bear out. The error
+/// is that memory was refused for taking the parts apart. The contract says it of some world of
+/// joined workers, since contracts don't see into sealed parts; `outcome_if_kept` says it of each
+/// world that these parts make.
+pub fn outcome_of_joined<A: Reading, S: Spread, L: Ledger + Send + Sync, M: Capped + Send + Sync>(
     alloc: Global,
     job: &Job<'_>,
     owners: &S,
     book: Book<Shares<L, M>>,
     tickets: Tickets<M>,
     sealed: Vec<Sealed<'_, S, Shares<L, M>>>,
-) -> Option<Outcome>
+) -> Result<Option<A::Answer>, OutOfMemory>
     requires count { IsWorkerCount M.parts }
     requires limit { job.now.limit ≡ M.limit }
     requires tickets { tickets ≡ 0 }
     requires joint { IsJoint job.now owners.now M.parts sealed.items }
-    ensures { IfSome result (IsByThreads S.hash_of job.now owners.now M.parts) }
+    ensures { IfOk result (IsFoundByThreads A.gives S.hash_of job.now owners.now M.parts) }
 {
     let mut book = book;
-    let Ok(joined) = join_world(alloc, &mut book, sealed) else {
-        return None;
-    };
+    let joined = join_world(alloc, &mut book, sealed)?;
     let Joined {
         mut workers,
         ins,
         ..
     } = joined;
-    let outcome = outcome_if_kept(alloc, job, owners, &book, &mut workers, ins);
+    let found = outcome_if_kept::<A, _, _>(alloc, job, owners, &book, &mut workers, ins);
     let _ = book.stop();
     count_expanded::<L, M>(tickets, book.into_grants(), workers);
-    outcome
+    Ok(found)
 }
 
-// The outcome that workers and what is left in their rings give, where their world is kept.
-fn outcome_if_kept<C: Tokens, S: Spread>(
+// What workers and what is left in their rings give, exactly where their world is kept.
+fn outcome_if_kept<A: Reading, C: Tokens, S: Spread>(
     alloc: Global,
     job: &Job<'_>,
     owners: &S,
     book: &Book<C>,
     workers: &mut [Worker<C>],
     ins: Vec<Vec<Receiver<C>>>,
-) -> Option<Outcome>
+) -> Option<A::Answer>
     requires count { IsWorkerCount C.workers }
     requires limit { job.now.limit ≡ C.limit }
     requires world { (w : WorldState) × IsWorldOf S.hash_of job.now owners.now C.workers book.now
         workers.old ins.items w }
-    ensures given { IfSome result (λ outcome. (w : WorldState)
+    ensures given { (w : WorldState)
         → IsWorldOf S.hash_of job.now owners.now C.workers book.now workers.old ins.items w
-        → IsKept w × IsGiven w outcome) }
+        → GivesIfKept A.gives w result }
     ensures same { states_of workers.new ≡ states_of workers.old }
 {
     if !is_kept(job, owners, book, workers) {
         return None;
     }
     let stop = book.stop();
-    Some(outcome_with(alloc, job, owners, stop, workers, ins))
+    Some(outcome_with::<A, _, _>(alloc, job, owners, stop, workers, ins))
 }
 
 // The same, whether it is kept or not.
-fn outcome_with<C: Tokens, S: Spread>(
+fn outcome_with<A: Reading, C: Tokens, S: Spread>(
     alloc: Global,
     job: &Job<'_>,
     owners: &S,
     stop: Option<Stop>,
     workers: &mut [Worker<C>],
     ins: Vec<Vec<Receiver<C>>>,
-) -> Outcome
+) -> A::Answer
     requires { (book : BookState) × (w : WorldState)
         × IsWorldOf S.hash_of job.now owners.now C.workers book workers.old ins.items w }
     ensures given { (book : BookState) (w : WorldState)
         → IsWorldOf S.hash_of job.now owners.now C.workers book workers.old ins.items w
-        → book.stop ≡ stop → IsGiven w result }
+        → book.stop ≡ stop → A.gives w result }
     ensures same { states_of workers.new ≡ states_of workers.old }
 {
     let lowest = lowest_in_rows(job.bound(), ins, None);
     let asked = asked_in(job);
-    outcome_of(alloc, &asked, owners, workers, lowest, stop)
+    read::<A, C, S>(alloc, &asked, owners, workers, lowest, stop)
 }
 
-/// What a job asks.
-pub(crate) fn asked_in<'b>(job: &'b Job<'_>) -> Asked<'b>
+// What a job asks.
+fn asked_in<'b>(job: &'b Job<'_>) -> Asked<'b>
     ensures start { result.start ≡ job.now.start }
     ensures goal { result.goal ≡ job.now.goal }
     ensures weights { result.weights ≡ job.now.rule }

@@ -1,18 +1,13 @@
 -- The steps that a part takes otherwise than a worker of a world does.
 use Rattle.std.specs.Prelude.{◌≡◌, ◌≢◌, ◌⊎◌, ℕ, ◌+◌, ◌^◌, ◌<◌, [], None}
-use Rattle.thread_model.specs.Changes.{DropStep, HoldsOwnLast, Sends, Receives}
+use Rattle.thread_model.specs.Changes.{Sends, Receives}
 use Rattle.thread_model.specs.Parts.{PartState}
 use Rattle.world_model.specs.declared.steps.Refusal.{Refusal}
 use Rattle.world_model.specs.declared.steps.Refusal.TheVariants.{NothingThere, PurseTooSmall, RingFull, StillHolding, PurseFull, RingEmpty, Stopped, PurseEmpty}
 use Rattle.world_model.specs.Turns.{Turn, IsRefused, Unless}
-use Rattle.world_model.specs.Workers.{WorkerState, Role, packet_for}
-use Rattle.world_model.specs.WorkerSteps.{SettleStep}
+use Rattle.world_model.specs.Workers.{WorkerState, packet_for}
 use Rattle.world_model.specs.BookSteps.{AtBook}
 use Rattle.world_model.specs.Books.{BookState}
-
--- the last item held is taken out: a foreign one is dropped, and else its board is relaxed
-abbrev pub SettleOrDrop : Role → Turn WorkerState Refusal → Type 0
-SettleOrDrop role it = (HoldsOwnLast role it.before × SettleStep it) ⊎ ((it.answer ≡ None) × DropStep role it.before it.after)
 
 -- what is unsent for worker `to` goes into the ring as one packet, with 1 of the purse; whether the ring was full is not seen by the part
 abbrev pub SendByRing : ℕ → Turn PartState Refusal → Type 0

@@ -1,23 +1,19 @@
 //! The two steps that a worker takes by itself.
 
-ghost use Rattle.std.specs.Prelude.{◌≡◌, ◌<◌, ◌%◌, IsTrue, IsFalse};
+ghost use Rattle.std.specs.Prelude.{◌≡◌};
 ghost use Rattle.thread_model.specs.Changes.{with_worker};
-ghost use Rattle.world_model.specs.Shapes.{IsItemFor};
 ghost use Rattle.world_model.specs.Turns.{turn, refusal_in};
 ghost use Rattle.world_model.specs.WorkerSteps.{ExpandOnwardStep};
-ghost use Rattle.hda_run.specs.Problems.{task_in};
+ghost use Rattle.worker_core.specs.Settling.{SettleOrDrop};
 ghost use Rattle.worker_core.specs.Workers.{state_of};
 ghost use Rattle.thread_parts.specs.Parts.{part_state, role_of, Holds, IsKept};
-ghost use Rattle.thread_parts.specs.Steps.{SettleOrDrop};
 
 use crate::part::Part;
-use board::GREATEST_COST;
-use hda_run::Job;
 use message_ledger::Tokens;
 use owners::Spread;
 use std::alloc::Global;
 use thread_model::laws::steps_are_kept;
-use world_model::{Item, Refusal};
+use world_model::Refusal;
 
 impl<'a, S: Spread, C: Tokens> Part<'a, S, C> {
     /// Expands a board of least cost plus sum by all moves but the one back: whoever made its cost
@@ -59,37 +55,10 @@ impl<'a, S: Spread, C: Tokens> Part<'a, S, C> {
         ensures kept { IsKept self.old self.new }
     {
         steps_are_kept();
-        let Some(item) = self.worker.take_held() else {
-            return Err(Refusal::NothingThere);
-        };
         let job = self.job;
-        if !is_for(job, self.owners, self.outs.len(), self.me, &item) {
-            return Ok(());
-        }
-        if let Err(refused) = self
-            .worker
-            .meet(alloc, job.keyed_goal(), job.bound(), &item)
-        {
-            self.worker.hold(item);
-            return Err(Refusal::Memory(refused));
-        }
-        Ok(())
+        let me = self.me;
+        let owners = self.owners;
+        let goal = job.keyed_goal();
+        self.worker.settle(alloc, me, goal, job.bound(), owners)
     }
-}
-
-// Whether an item is for worker `me` of so many; else it is foreign.
-fn is_for<S: Spread>(job: &Job, owners: &S, workers: usize, me: usize, item: &Item) -> bool
-    requires { 0 < workers }
-    ensures yes { IsTrue result → IsItemFor (task_in job.now)
-        (λ b. S.hash_of owners.now b % workers) me item.now }
-    ensures no { IsFalse result → ¬ IsItemFor (task_in job.now)
-        (λ b. S.hash_of owners.now b % workers) me item.now }
-{
-    if item.board.shape() != job.goal().shape() {
-        return false;
-    }
-    if item.cost > GREATEST_COST {
-        return false;
-    }
-    owners.owner(&item.board, workers) == me
 }

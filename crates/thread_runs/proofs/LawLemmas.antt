@@ -38,19 +38,19 @@ ends_in w (outcome.Bounded bound best cause None) given has = absurd (cc has)
 module _ {S : Type 0} (hash_of : S → Position → ℕ) where
   pub one_solves : OneSolvesAlone hash_of
   one_solves p owners it (inl (several, by)) = absurd (omega (arith, several))
-  one_solves p owners it (inr run) = run
+  one_solves p owners it (inr (run, left)) = run
 
   pub one_ends : OneEndsAlone hash_of
   one_ends p owners it (inl (several, by)) = absurd (omega (arith, several))
-  one_ends p owners it (inr run) = run
+  one_ends p owners it (inr (run, left)) = run
 
   pub solved_ends : SolvedRunsEnd hash_of
   solved_ends p owners n it (inl (several, (w, joined, kept, given))) has = inl (several, (w, joined, kept, ends_in w it given has))
-  solved_ends p owners n it (inr (w, run, given)) has = inr (w, run, ends_in w it given has)
+  solved_ends p owners n it (inr ((w, run, given), left)) has = inr ((w, run, ends_in w it given has), left)
 
   pub limits_kept : LimitsAreKept hash_of
   limits_kept p owners n it (inl (several, (w, joined, kept, given))) = (w, given, joined.within_limit)
-  limits_kept p owners n it (inr (w, run, given)) = (w, given, run.within_limit)
+  limits_kept p owners n it (inr ((w, run, given), left)) = (w, given, run.within_limit)
 
   pub as_asked : ThreadsAreAsAsked hash_of
   as_asked p owners n it (w, joined, kept, given) = (w, given, joined.count, joined.owners)

@@ -1,58 +1,43 @@
 //! Runs by threads, each over two ledgers of its own.
 
-ghost use Rattle.std.specs.Prelude.{◌≡◌, ◌+◌, ◌^◌, IfSome};
+ghost use Rattle.std.specs.Prelude.{◌≡◌, ◌+◌, ◌^◌, IfOk};
 ghost use Rattle.hda_run.specs.Worlds.{IsWorkerCount};
-ghost use Rattle.thread_joins.specs.Threads.{IsByThreads, EndsByThreads};
+ghost use Rattle.thread_joins.specs.Threads.{IsFoundByThreads};
 
 use crate::teams::{Team, run_team};
 use hda_run::{Gate, Job};
 use message_ledger::Capped;
-use outcomes::{Ending, Outcome};
 use owners::Spread;
+use rings::NoMemory;
 use std::alloc::Global;
 use std::marker::Brand;
 use std::sync::Wait;
 use std::sync::ledger::{Blank, Ledger};
 use std::thread::Threads;
-use thread_joins::{ending_of_joined, outcome_of_joined};
+use thread_joins::{Reading, outcome_of_joined};
 
-/// The outcome of a run by so many threads. None where memory was refused for what they begin with
-/// or end with, a thread could not be started, or what was found after the joins is not kept.
-pub(crate) fn outcome_by_threads<R: Threads + Wait + Sync, S: Spread + Sync, G: Gate + Sync>(
+/// What is found of a run by `workers` threads, in this reading. None exactly where the world of their
+/// joined workers is not kept. The error is that memory was refused for what threads begin or end
+/// with.
+pub fn run_by_threads<A: Reading, R: Threads + Wait + Sync, S: Spread + Sync, G: Gate + Sync>(
     rt: &R,
     alloc: Global,
     job: &Job<'_>,
     workers: usize,
     owners: &S,
     gate: &G,
-) -> Option<Outcome>
+) -> Result<Option<A::Answer>, NoMemory>
     requires { IsWorkerCount workers }
-    ensures { IfSome result (IsByThreads S.hash_of job.now owners.now workers) }
+    ensures { IfOk result (IsFoundByThreads A.gives S.hash_of job.now owners.now workers) }
 {
     let credit = Blank::new(u64::MAX);
     let grants = Blank::new(workers as u64);
-    outcome_over::<R, S, G, Brand, Brand>(rt, alloc, job, workers, owners, gate, credit, grants)
+    run_over::<A, R, S, G, Brand, Brand>(rt, alloc, job, workers, owners, gate, credit, grants)
 }
 
-/// The same without rows.
-pub(crate) fn ending_by_threads<R: Threads + Wait + Sync, S: Spread + Sync, G: Gate + Sync>(
-    rt: &R,
-    alloc: Global,
-    job: &Job<'_>,
-    workers: usize,
-    owners: &S,
-    gate: &G,
-) -> Option<Ending>
-    requires { IsWorkerCount workers }
-    ensures { IfSome result (EndsByThreads S.hash_of job.now owners.now workers) }
-{
-    let credit = Blank::new(u64::MAX);
-    let grants = Blank::new(workers as u64);
-    ending_over::<R, S, G, Brand, Brand>(rt, alloc, job, workers, owners, gate, credit, grants)
-}
-
-// The outcome over these ledgers. That of what is granted knows the limit.
-fn outcome_over<
+// The same over these ledgers. That of what is granted knows the limit.
+fn run_over<
+    A: Reading,
     R: Threads + Wait + Sync,
     S: Spread + Sync,
     G: Gate + Sync,
@@ -67,7 +52,7 @@ fn outcome_over<
     gate: &G,
     credit: Blank,
     grants: Blank,
-) -> Option<Outcome>
+) -> Result<Option<A::Answer>, NoMemory>
     requires count { IsWorkerCount workers }
     requires limit { job.now.limit ≡ M.limit }
     requires credit_name { credit.name ≡ L.name }
@@ -76,7 +61,7 @@ fn outcome_over<
     requires grants_name { grants.name ≡ M.name }
     requires grants_parts { grants.parts ≡ M.parts }
     requires grants_all { grants.parts ≡ workers }
-    ensures { IfSome result (IsByThreads S.hash_of job.now owners.now workers) }
+    ensures { IfOk result (IsFoundByThreads A.gives S.hash_of job.now owners.now workers) }
 {
     let team = run_team::<R, S, G, L, M>(rt, alloc, job, workers, owners, gate, credit, grants)?;
     let Team {
@@ -84,41 +69,8 @@ fn outcome_over<
         book,
         tickets,
     } = team;
-    outcome_of_joined(alloc, job, owners, book, tickets, parts)
-}
-
-// The same without rows.
-fn ending_over<
-    R: Threads + Wait + Sync,
-    S: Spread + Sync,
-    G: Gate + Sync,
-    L: Ledger + Send + Sync,
-    M: Capped + Send + Sync,
->(
-    rt: &R,
-    alloc: Global,
-    job: &Job<'_>,
-    workers: usize,
-    owners: &S,
-    gate: &G,
-    credit: Blank,
-    grants: Blank,
-) -> Option<Ending>
-    requires count { IsWorkerCount workers }
-    requires limit { job.now.limit ≡ M.limit }
-    requires credit_name { credit.name ≡ L.name }
-    requires credit_parts { credit.parts ≡ L.parts }
-    requires credit_all { credit.parts + 1 ≡ 2 ^ 64 }
-    requires grants_name { grants.name ≡ M.name }
-    requires grants_parts { grants.parts ≡ M.parts }
-    requires grants_all { grants.parts ≡ workers }
-    ensures { IfSome result (EndsByThreads S.hash_of job.now owners.now workers) }
-{
-    let team = run_team::<R, S, G, L, M>(rt, alloc, job, workers, owners, gate, credit, grants)?;
-    let Team {
-        parts,
-        book,
-        tickets,
-    } = team;
-    ending_of_joined(alloc, job, owners, book, tickets, parts)
+    match outcome_of_joined::<A, S, L, M>(alloc, job, owners, book, tickets, parts) {
+        Ok(found) => Ok(found),
+        Err(refused) => Err(NoMemory::List(refused)),
+    }
 }

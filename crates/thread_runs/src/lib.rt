@@ -9,4 +9,5 @@ mod opening;
 mod solving;
 mod teams;
 
+pub use ledgers::run_by_threads;
 pub use solving::{end, end_by_workers, solve, solve_by_workers};

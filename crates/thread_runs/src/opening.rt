@@ -1,12 +1,13 @@
 //! The parts with which a run begins.
 
-ghost use Rattle.std.specs.Prelude.{◌≡◌, ◌<◌, ◌≤◌, ◌%◌, [], IfSome, replicate};
+ghost use Rattle.std.specs.Prelude.{◌≡◌, ◌<◌, ◌≤◌, ◌%◌, [], IfOk, replicate};
 ghost use Rattle.rings.specs.Rings.{rings_of_outs, rings_of_ins, sent_rows, received_rows};
 ghost use Rattle.rings.specs.Rings.{ArePaired};
 ghost use Rattle.hda_run.specs.Worlds.{IsWorkerCount};
 ghost use Rattle.thread_joins.specs.Joints.{IsJoint};
 
 use hda_run::Job;
+use memory::OutOfMemory;
 use message_ledger::{Capped, Counting, Credit, Purse, Shares, Tickets};
 use owners::Spread;
 use rings::{Rings, take_row};
@@ -15,8 +16,7 @@ use std::sync::ledger::Ledger;
 use thread_parts::{Sealed, open_part};
 
 /// What each of so many workers begins with: its ends of the rings, an allowance by a ticket of its
-/// own, and a purse; that of the start's owner has the 1 of the seed. None where memory was
-/// refused.
+/// own, and a purse; that of the start's owner has the 1 of the seed.
 pub(crate) fn open_parts<'a, S: Spread, L: Ledger + Send + Sync, M: Capped + Send + Sync>(
     alloc: Global,
     job: &'a Job<'a>,
@@ -26,7 +26,7 @@ pub(crate) fn open_parts<'a, S: Spread, L: Ledger + Send + Sync, M: Capped + Sen
     tickets: &mut Tickets<M>,
     credit: &mut Credit<Shares<L, M>>,
     seed: Purse<Shares<L, M>>,
-) -> Option<Vec<Sealed<'a, S, Shares<L, M>>>>
+) -> Result<Vec<Sealed<'a, S, Shares<L, M>>>, OutOfMemory>
     requires count { IsWorkerCount workers }
     requires parts { workers ≡ M.parts }
     requires tickets { tickets.old ≡ workers }
@@ -35,30 +35,25 @@ pub(crate) fn open_parts<'a, S: Spread, L: Ledger + Send + Sync, M: Capped + Sen
         (rings_of_outs rings.outs.items) (rings_of_ins rings.ins.items) }
     requires sent { sent_rows rings.outs.items ≡ replicate workers (replicate workers []) }
     requires received { received_rows rings.ins.items ≡ replicate workers (replicate workers []) }
-    ensures joint { IfSome result (λ parts. IsJoint job.now owners.now workers parts.items) }
-    ensures taken { IfSome result (λ parts. tickets.new ≡ 0) }
+    ensures joint { IfOk result (λ parts. IsJoint job.now owners.now workers parts.items) }
+    ensures taken { IfOk result (λ parts. tickets.new ≡ 0) }
     ensures credit { credit.new ≡ credit.old }
 {
     let Rings { mut outs, mut ins } = rings;
     let mut seed = seed;
     let owner = owners.owner(job.start(), workers);
-    let Ok(mut parts) = memory::with_capacity(alloc, workers) else {
-        return None;
-    };
+    let mut parts = memory::with_capacity(alloc, workers)?;
     'workers: for me in 0..workers {
         let to_each = take_row(alloc, &mut outs, me);
         let from_each = take_row(alloc, &mut ins, me);
         let purse = purse_for(me, owner, credit, &mut seed);
         let allowance = tickets.take::<L>();
-        let opened = open_part(
+        let part = open_part(
             alloc, job, owners, me, workers, to_each, from_each, purse, allowance,
-        );
-        let Ok(part) = opened else {
-            return None;
-        };
+        )?;
         parts.push_reserved(part);
     }
-    Some(parts)
+    Ok(parts)
 }
 
 // The purse of one worker: the start's owner has the 1 of the seed, each other has nothing.

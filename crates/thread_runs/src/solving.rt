@@ -1,19 +1,21 @@
 //! Jobs that so many workers solve.
 
-ghost use Rattle.std.specs.Prelude.{◌≡◌, ◌↔◌, ◌≤◌, Ok, IfOk, IfSome, IsErrOf, IsTrue};
+ghost use Rattle.std.specs.Prelude.{◌≡◌, ◌↔◌, ◌≤◌, Ok, IfOk, IfSome, IfNone, IsErrOf, IsTrue};
 ghost use Rattle.board.specs.Classes.{SameClass};
 ghost use Rattle.outcomes.specs.Outcomes.{Answers};
 ghost use Rattle.outcomes.specs.Endings.{EndAnswers};
 ghost use Rattle.outcomes.specs.declared.outcome.Ending.TheVariants as ending;
 ghost use Rattle.outcomes.specs.declared.outcome.Outcome.TheVariants.{Unsolvable};
 ghost use Rattle.outcomes.specs.declared.outcome.Why.TheVariants.{Parity};
+ghost use Rattle.world_model.specs.Quiet.{IsKept};
+ghost use Rattle.world_model.specs.Worlds.{WorldState};
 ghost use Rattle.hda_run.specs.Alone.{IsByOne, EndsByOne};
 ghost use Rattle.hda_run.specs.Problems.{task_in};
-ghost use Rattle.hda_run.specs.Worlds.{IsWorkerCount};
-ghost use Rattle.thread_joins.specs.Threads.{IsByThreads, EndsByThreads};
-ghost use Rattle.thread_runs.specs.Solved.{IsSolved, IsEnded, HasWholeRun, EndsWholeRun};
+ghost use Rattle.hda_run.specs.Worlds.{IsWorkerCount, job_of};
+ghost use Rattle.thread_joins.specs.Threads.{IsJoined, IsByThreads, EndsByThreads};
+ghost use Rattle.thread_runs.specs.Solved.{IsSolved, IsEnded, IsLeftToOne, HasWholeRun, EndsWholeRun};
 
-use crate::ledgers::{ending_by_threads, outcome_by_threads};
+use crate::ledgers::run_by_threads;
 use board::laws::plans_keep_the_class;
 use board::same_class;
 use hda_run::{Gate, Job, WorldFault, end_one, solve_one};
@@ -23,15 +25,17 @@ use owners::Spread;
 use std::alloc::Global;
 use std::sync::Wait;
 use std::thread::Threads;
-use world_ends::laws::endings_answer;
+use thread_joins::{Reading, WithRows, WithoutRows};
 use world_model::WORKER_LIMIT;
-use world_model::laws::outcomes_answer;
 
 /// Solves a job by so many workers, each in a thread of its own; one worker alone does so in the
-/// calling thread, and so does one where memory was refused for what threads begin with, or a
-/// thread could not be started. A start that isn't in the goal's class is answered without a
-/// search, and without memory. Faults: V2 the workers are not from 1 to `WORKER_LIMIT`, V3 memory
-/// was refused for the world of one worker; what is refused later is told by the outcome.
+/// calling thread, and so does one where memory was refused for what threads begin or end with, or
+/// where the world of the joined workers is not kept, as where a thread could not be started. No
+/// contract says that threads run: a body would prove that starts none and names its opening world
+/// as one that is not kept. The gate's tests refuse it. A start that isn't in the goal's class is
+/// answered without a search, and without memory. Faults: V2 the workers are not from 1 to
+/// `WORKER_LIMIT`, V3 memory was refused for the world of one worker. The outcome says what was
+/// refused later.
 pub fn solve<'a, R: Threads + Wait + Sync, S: Spread + Drop + Sync, G: Gate + Sync>(
     rt: &R,
     alloc: Global,
@@ -156,7 +160,7 @@ fn are_apart(job: &Job<'_>) -> bool
     !same_class(job.start(), job.goal())
 }
 
-// The outcome by more than one worker, where their threads could be run.
+// The outcome by more than one worker, where the world of their joined threads is kept.
 fn solve_by_threads<R: Threads + Wait + Sync, S: Spread + Sync, G: Gate + Sync>(
     rt: &R,
     alloc: Global,
@@ -168,16 +172,13 @@ fn solve_by_threads<R: Threads + Wait + Sync, S: Spread + Sync, G: Gate + Sync>(
     requires { IsWorkerCount workers }
     ensures several { IfSome result (λ outcome. 2 ≤ workers) }
     ensures run { IfSome result (IsByThreads S.hash_of job.now spread.now workers) }
+    ensures left { IfNone result (IsLeftToOne S.hash_of job.now spread.now workers) }
     ensures answers { IfSome result (Answers (task_in job.now)) }
     ensures kept { IfSome result HasWholeRun }
 {
-    outcomes_answer();
     // That the sums are lower bounds is told by this call.
     let _ = job.bound();
-    if workers == 1 {
-        return None;
-    }
-    outcome_by_threads(rt, alloc, job, workers, spread, gate)
+    found_by_threads::<WithRows, R, S, G>(rt, alloc, job, workers, spread, gate)
 }
 
 // The same without rows.
@@ -192,16 +193,38 @@ fn end_by_threads<R: Threads + Wait + Sync, S: Spread + Sync, G: Gate + Sync>(
     requires { IsWorkerCount workers }
     ensures several { IfSome result (λ ending. 2 ≤ workers) }
     ensures run { IfSome result (EndsByThreads S.hash_of job.now spread.now workers) }
+    ensures left { IfNone result (IsLeftToOne S.hash_of job.now spread.now workers) }
     ensures answers { IfSome result (EndAnswers (task_in job.now)) }
     ensures kept { IfSome result EndsWholeRun }
 {
-    endings_answer();
     // That the sums are lower bounds is told by this call.
     let _ = job.bound();
+    found_by_threads::<WithoutRows, R, S, G>(rt, alloc, job, workers, spread, gate)
+}
+
+// What is found of the threads of more than one worker, in either reading.
+fn found_by_threads<A: Reading, R: Threads + Wait + Sync, S: Spread + Sync, G: Gate + Sync>(
+    rt: &R,
+    alloc: Global,
+    job: &Job<'_>,
+    workers: usize,
+    spread: &S,
+    gate: &G,
+) -> Option<A::Answer>
+    requires { IsWorkerCount workers }
+    ensures several { IfSome result (λ answer. 2 ≤ workers) }
+    ensures run { IfSome result (λ answer. (w : WorldState)
+        × IsJoined (job_of S.hash_of job.now spread.now workers) w × IsKept w × A.gives w answer) }
+    ensures left { IfNone result (IsLeftToOne S.hash_of job.now spread.now workers) }
+{
     if workers == 1 {
         return None;
     }
-    ending_by_threads(rt, alloc, job, workers, spread, gate)
+    let _ = job.goal();
+    match run_by_threads::<A, R, S, G>(rt, alloc, job, workers, spread, gate) {
+        Ok(found) => found,
+        Err(_refused) => None,
+    }
 }
 
 // The outcome by one worker.

@@ -1,6 +1,6 @@
 //! Threads that were joined after a run.
 
-ghost use Rattle.std.specs.Prelude.{◌≡◌, ◌+◌, ◌^◌, IfSome};
+ghost use Rattle.std.specs.Prelude.{◌≡◌, ◌+◌, ◌^◌, IfOk};
 ghost use Rattle.hda_run.specs.Worlds.{IsWorkerCount};
 ghost use Rattle.thread_joins.specs.Joints.{IsJoint};
 
@@ -9,7 +9,7 @@ use hda_run::{Gate, Job};
 use message_ledger::{Capped, Credit, Grants, Shares, Tickets};
 use owners::Spread;
 use quiescence::Book;
-use rings::open_rings;
+use rings::{NoMemory, open_rings};
 use std::alloc::Global;
 use std::sync::ledger::{Blank, Ledger};
 use std::sync::{Mutex, Wait};
@@ -27,8 +27,8 @@ pub(crate) struct Team<'a, S: Spread, L: Ledger + Send + Sync, M: Capped + Send 
 }
 
 /// Runs a job by so many workers, each in a thread of its own, over two new ledgers: that of the
-/// credit, and that of what is granted. None where memory was refused for what they begin with, or
-/// a thread could not be started.
+/// credit, and that of what is granted. The error is that memory was refused for what they begin
+/// with.
 pub(crate) fn run_team<
     'a,
     R: Threads + Wait + Sync,
@@ -45,7 +45,7 @@ pub(crate) fn run_team<
     gate: &G,
     credit_blank: Blank,
     grants_blank: Blank,
-) -> Option<Team<'a, S, L, M>>
+) -> Result<Team<'a, S, L, M>, NoMemory>
     requires count { IsWorkerCount workers }
     requires limit { job.now.limit ≡ M.limit }
     requires credit_name { credit_blank.name ≡ L.name }
@@ -54,13 +54,13 @@ pub(crate) fn run_team<
     requires grants_name { grants_blank.name ≡ M.name }
     requires grants_parts { grants_blank.parts ≡ M.parts }
     requires grants_all { grants_blank.parts ≡ workers }
-    ensures joint { IfSome result (λ team. IsJoint job.now owners.now M.parts team.parts.items) }
-    ensures taken { IfSome result (λ team. team.tickets ≡ 0) }
+    ensures joint { IfOk result (λ team. IsJoint job.now owners.now M.parts team.parts.items) }
+    ensures taken { IfOk result (λ team. team.tickets ≡ 0) }
 {
     let (mut credit, seed) = Credit::<Shares<L, M>>::shared(credit_blank);
     let (grants, mut tickets) = Grants::<Shares<L, M>>::shared(grants_blank);
     let rings = open_rings(alloc, workers)?;
-    let parts = open_parts(
+    let opened = open_parts(
         alloc,
         job,
         owners,
@@ -69,11 +69,15 @@ pub(crate) fn run_team<
         &mut tickets,
         &mut credit,
         seed,
-    )?;
+    );
+    let parts = match opened {
+        Ok(parts) => parts,
+        Err(refused) => return Err(NoMemory::List(refused)),
+    };
     let book = Mutex::new(Book::new(credit, grants, job.limit(), workers));
     let signs = Signs::new();
-    let parts = run_all(rt, alloc, gate, &signs, parts, &book)?;
-    Some(Team {
+    let parts = run_all(rt, alloc, gate, &signs, parts, &book);
+    Ok(Team {
         parts,
         book: book.into_inner(),
         tickets,

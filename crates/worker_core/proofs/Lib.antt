@@ -1,7 +1,7 @@
 mod PacketLemmas
 mod CallLemmas
 mod GuideLemmas
-mod SettleLemmas
+pub mod SettleLemmas
 mod TakeLemmas
 mod EntryLemmas
 mod ExpandLemmas

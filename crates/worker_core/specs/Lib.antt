@@ -3,3 +3,4 @@ pub mod Lanes
 pub mod Workers
 pub mod Roles
 pub mod Expanding
+pub mod Settling

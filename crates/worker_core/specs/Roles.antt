@@ -1,7 +1,6 @@
 -- What a worker is lent of the task that it shares, and how its lists stand to it.
-use Rattle.std.specs.Prelude.{ℕ, ◌≡◌, ◌<◌, ◌≤◌, ◌+◌, Some, List, length, Contains}
+use Rattle.std.specs.Prelude.{ℕ, ◌≡◌, ◌<◌, ◌≤◌, ◌+◌, Some}
 use Rattle.std.specs.FinMap as map
-use Rattle.board.specs.declared.costs.TheConstants.{GREATEST_COST}
 use Rattle.board.specs.CostRules.{CostRule}
 use Rattle.board.specs.Digits.{digits_of}
 use Rattle.board.specs.Grids.{cell_count}
@@ -14,8 +13,6 @@ use Rattle.lower_bound.specs.Tables.{Tables, parts_of}
 use Rattle.closed_table.specs.Tables.{Table}
 use Rattle.search_lists.specs.Lists.{Lists}
 use Rattle.search_lists.specs.Orders.{Guide, IsInOrder}
-use Rattle.world_model.specs.declared.limits.TheConstants.{PACKET_LIMIT}
-use Rattle.world_model.specs.declared.parts.Item.{Item}
 use Rattle.world_model.specs.declared.parts.Known.{Known}
 use Rattle.world_model.specs.Workers.{Role, IsTaskBoard}
 
@@ -58,9 +55,3 @@ pub record IsGuided (task : Task) (guide : Guide) (lists : Lists) : Type 0 where
   pub guides : IsGuideOf task guide
   pub order : IsInOrder guide lists
   pub boards : AreTaskBoards task lists.closed
-
--- at most `PACKET_LIMIT` items, whose boards have the goal's sides, at costs of at most `GREATEST_COST`
-pub record AreAtHome (goal : Position) (items : List Item) : Type 0 where
-  pub few : length items ≤ PACKET_LIMIT
-  pub sides : (item : Item) → Contains items item → item.board.grid ≡ goal.grid
-  pub costs : (item : Item) → Contains items item → item.cost ≤ GREATEST_COST

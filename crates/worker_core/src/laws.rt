@@ -5,6 +5,7 @@ ghost use Rattle.worker_core.specs.Expanding.{FourPlacesAreEnough, ThreePlacesAr
 ghost use Rattle.worker_core.specs.Expanding.{OthersNeedNoPlaces};
 ghost use Rattle.worker_core.specs.Lanes.{IsAtSender, IsAtReceiver};
 ghost use Rattle.worker_core.specs.Roles.{TasksHaveGuides};
+ghost use Rattle.worker_core.specs.Settling.{RefusedSettlesChangeNothing};
 
 use crate::lanes::{LaneIn, LaneOut, Queue};
 use message_ledger::{Counting, Packet};
@@ -27,6 +28,11 @@ pub fn three_places_are_too_few()
 /// What other workers own needs no places.
 pub fn others_need_no_places()
     ensures { OthersNeedNoPlaces }
+{}
+
+/// A settle that is refused changes nothing, and drops no item.
+pub fn refused_settles_change_nothing()
+    ensures { RefusedSettlesChangeNothing }
 {}
 
 /// What both ends of a queue say is said of the lane that contracts see.

@@ -6,7 +6,6 @@ mod book_steps;
 mod closing;
 mod expanding;
 mod goal;
-mod holding;
 mod lane_steps;
 mod lanes;
 pub mod laws;

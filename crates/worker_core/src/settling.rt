@@ -1,10 +1,11 @@
 //! The step that takes an item in.
 
-ghost use Rattle.std.specs.Prelude.{◌≡◌, ◌<◌, ◌≤◌, OnOk, OnErr};
+ghost use Rattle.std.specs.Prelude.{◌≡◌, ◌<◌, ◌≤◌, OnOk, OnErr, IsTrue, IsFalse, length};
 ghost use Rattle.std.specs.FinMap as map;
 ghost use Rattle.board.specs.declared.costs.TheConstants.{GREATEST_COST};
 ghost use Rattle.board.specs.Positions.{Position};
 ghost use Rattle.board.specs.CostRules.{CostRule};
+ghost use Rattle.lower_bound.specs.Tables.{Tables};
 ghost use Rattle.open_buckets.specs.OpenLists.{places_at};
 ghost use Rattle.open_buckets.specs.declared.open.TheConstants.{GREATEST_F};
 ghost use Rattle.outcomes.specs.Outcomes.{Task};
@@ -12,28 +13,41 @@ ghost use Rattle.search_lists.specs.Lists.{HasMoreRoom};
 ghost use Rattle.search_lists.specs.Orders.{Guide, IsInOrder};
 ghost use Rattle.world_model.specs.Knowledge.{is_news, relaxation};
 ghost use Rattle.world_model.specs.Turns.{turn, refusal_in};
-ghost use Rattle.world_model.specs.WorkerSteps.{SettleStep};
-ghost use Rattle.worker_core.specs.Roles.{IsGuideOf, IsGuided, AreTaskBoards, AreAtHome, task_of};
+ghost use Rattle.worker_core.specs.Expanding.{role_by};
+ghost use Rattle.worker_core.specs.Roles.{IsGuideOf, IsGuided, AreTaskBoards, task_of};
+ghost use Rattle.worker_core.specs.Settling.{IsForeign, IsOwn, SettleOrDrop};
 ghost use Rattle.worker_core.specs.Workers.{state_of};
 
 use crate::goal::Goal;
 use crate::worker::Worker;
+use board::GREATEST_COST;
 use lower_bound::Bound;
 use memory::OutOfMemory;
 use message_ledger::Counting;
+use owners::Spread;
 use search_lists::{Met, SearchLists};
 use std::alloc::Global;
 use successor_sums::UnpackedBoard;
 use world_model::{Item, Refusal};
 
 impl<C: Counting> Worker<C> {
-    /// Takes the last held item out, and relaxes its board. Refusals: S13 nothing is held, S8
-    /// memory was refused.
-    pub fn settle(&mut self, alloc: Global, goal: &Goal, bound: &Bound) -> Result<(), Refusal>
+    /// Takes the last held item out, and relaxes its board. A foreign item is dropped: its board
+    /// has other sides than the goal, another worker owns it, or its cost is above
+    /// `GREATEST_COST`. Refusals: S13 nothing is held, S8 memory was refused.
+    pub fn settle<S: Spread>(
+        &mut self,
+        alloc: Global,
+        me: usize,
+        goal: &Goal,
+        bound: &Bound,
+        owners: &S,
+    ) -> Result<(), Refusal>
         requires sides { bound.now.split.grid ≡ goal.now.grid }
-        requires items { AreAtHome goal.now self.old.held.items }
-        ensures step { SettleStep (turn (state_of self.old) (refusal_in result)
-            (state_of self.new)) }
+        requires some { 0 < length self.old.unsent.items }
+        ensures step { (start : Position) (rule : CostRule)
+            → SettleOrDrop (role_by (task_of start goal.now rule bound.now)
+            (S.hash_of owners.now) (length self.old.unsent.items) me)
+            (turn (state_of self.old) (refusal_in result) (state_of self.new)) }
         ensures order { (start : Position) (rule : CostRule) (guide : Guide)
             → IsGuideOf (task_of start goal.now rule bound.now) guide
             → IsInOrder guide self.old.lists → IsInOrder guide self.new.lists }
@@ -46,13 +60,17 @@ impl<C: Counting> Worker<C> {
         ensures unsent { self.new.unsent ≡ self.old.unsent }
         ensures allowance { self.new.allowance ≡ self.old.allowance }
     {
-        let Some(item) = self.held.pop() else {
+        let Some(item) = self.held.last() else {
             return Err(Refusal::NothingThere);
         };
-        if let Err(refused) = relax_item(&mut self.lists, alloc, goal, bound, &item) {
-            self.held.push(item);
+        if is_foreign(me, goal, owners, self.unsent.len(), item) {
+            self.held.pop();
+            return Ok(());
+        }
+        if let Err(refused) = relax_item(&mut self.lists, alloc, goal, bound, item) {
             return Err(Refusal::Memory(refused));
         }
+        self.held.pop();
         Ok(())
     }
 
@@ -85,6 +103,28 @@ impl<C: Counting> Worker<C> {
     {
         relax_item(&mut self.lists, alloc, goal, bound, item)
     }
+}
+
+// Whether an item is foreign to worker `me` of n. One alone owns all boards, whatever their hashes.
+fn is_foreign<S: Spread>(me: usize, goal: &Goal, owners: &S, workers: usize, item: &Item) -> bool
+    requires { 0 < workers }
+    ensures yes { IsTrue result → (start : Position) (rule : CostRule) (tables : Tables)
+        → IsForeign (role_by (task_of start goal.now rule tables) (S.hash_of owners.now) workers me)
+        item.now }
+    ensures no { IsFalse result → (start : Position) (rule : CostRule) (tables : Tables)
+        → IsOwn (role_by (task_of start goal.now rule tables) (S.hash_of owners.now) workers me)
+        item.now }
+{
+    if item.board.shape() != goal.shape() {
+        return true;
+    }
+    if item.cost > GREATEST_COST {
+        return true;
+    }
+    if workers == 1 {
+        return me != 0;
+    }
+    owners.owner(&item.board, workers) != me
 }
 
 // Relaxes the board of an item. All memory is taken before the first change.

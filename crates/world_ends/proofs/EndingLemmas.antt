@@ -48,15 +48,15 @@ module _ (task : Task) (hash : Position → ℕ) (states : List WorkerState) (w 
   bound_is : (n bound : ℕ) → lesser lowest (cost_in known) ≡ Some n → bound ≡ max (task.sum task.start) n → IsBoundOf at bound
   bound_is n bound is most = (n, is, most ∙ ap (λ (t : Task). max (t.sum t.start) n) (sym parts.asks))
 
-  cause_is : (stop : Option Stop) (cause : Cause) → w.book.stop ≡ stop → cause ≡ cause_of stop lowest → cause ≡ cause_at at
-  cause_is stop cause stopped is = is ∙ ap (λ (s : Option Stop). cause_of s lowest) (sym stopped)
+  cause_is : (stop : Option Stop) (cause : Cause) → w.book.stop ≡ stop → cause ≡ cause_of stop → cause ≡ cause_at at
+  cause_is stop cause stopped is = is ∙ ap cause_of (sym stopped)
 
   -- neither the frontier nor the goal is known
   pub no_plan : lesser lowest (cost_in known) ≡ None → EndsWhole w (Unsolvable Exhausted)
   no_plan none = given (outcome.Unsolvable Exhausted) (none, refl)
 
   -- the goal is unknown
-  pub no_goal : (n bound : ℕ) (stop : Option Stop) (cause : Cause) → lesser lowest (cost_in known) ≡ Some n → bound ≡ max (task.sum task.start) n → w.book.stop ≡ stop → cause ≡ cause_of stop lowest → known ≡ None → EndsWhole w (Bounded bound None cause)
+  pub no_goal : (n bound : ℕ) (stop : Option Stop) (cause : Cause) → lesser lowest (cost_in known) ≡ Some n → bound ≡ max (task.sum task.start) n → w.book.stop ≡ stop → cause ≡ cause_of stop → known ≡ None → EndsWhole w (Bounded bound None cause)
   no_goal n bound stop cause is most stopped caused none =
       stopped_at bound None cause (bound_is n bound is most, ap cost_in none, cause_is stop cause stopped caused)
 
@@ -75,7 +75,7 @@ module _ (task : Task) (hash : Position → ℕ) (states : List WorkerState) (w 
   }
 
   -- the plan costs more than the bound
-  pub plan_above : (n bound : ℕ) (stop : Option Stop) (cause : Cause) (there : Known) (best : ℕ × Vec Move Global) → lesser lowest (cost_in known) ≡ Some n → bound ≡ max (task.sum task.start) n → w.book.stop ≡ stop → cause ≡ cause_of stop lowest → known ≡ Some there → IsTraced task hash states there.cost best.0 best.1.items → best.0 ≢ bound → EndsWhole w (Bounded bound (Some best) cause)
+  pub plan_above : (n bound : ℕ) (stop : Option Stop) (cause : Cause) (there : Known) (best : ℕ × Vec Move Global) → lesser lowest (cost_in known) ≡ Some n → bound ≡ max (task.sum task.start) n → w.book.stop ≡ stop → cause ≡ cause_of stop → known ≡ Some there → IsTraced task hash states there.cost best.0 best.1.items → best.0 ≢ bound → EndsWhole w (Bounded bound (Some best) cause)
   plan_above n bound stop cause there best is most stopped caused some traced other =
       stopped_at bound (Some best) cause (bound_is n bound is most, followed there best.0 best.1.items some traced, other, cause_is stop cause stopped caused)
 

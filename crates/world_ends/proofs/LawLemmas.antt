@@ -89,23 +89,23 @@ plan_low w cost plan shaped ends =
     omega (arith, at.0.2, ends.followed.within)
 
 pub ends_answer : OutcomesAnswer → EndingsAnswer
-ends_answer answers w (Optimal cost plan) shaped sound lower ends =
+ends_answer answers w (Optimal cost plan) shaped sound quiet lower ends =
     let low = plan_low w cost plan shaped ends in
     let short = plan_short w.task shaped.task w.task.start (shaped.task.start, shaped.task.sides) plan.items w.task.goal cost ends.followed.leads in
     let refused : OutOfMemory = record { seal = tt } in
-    let bound = (bounds_true w cost None (Memory (Refused refused)) shaped sound lower (bounds_given w cost None (Memory (Refused refused)) None (bound_left w cost plan refused ends))) in
-    (ends.followed.leads, record { reached = (plan.items, ends.followed.leads); none_below = bound.0 }, low, omega (arith, low, short))
-ends_answer answers w (Unsolvable why) shaped sound lower given = answers w (outcome.Unsolvable why) shaped sound lower given
-ends_answer answers w (Bounded bound best cause) shaped sound lower given = bounds_true w bound best cause shaped sound lower (ends_bounded w bound best cause given)
+    let bound = (bounds_true w cost None (Memory (Refused refused)) shaped sound quiet lower (bounds_given w cost None (Memory (Refused refused)) None (bound_left w cost plan refused ends))) in
+    (ends.followed.leads, record { reached = (plan.items, ends.followed.leads); none_below = bound.0.0 }, bound.1, low, omega (arith, low, short))
+ends_answer answers w (Unsolvable why) shaped sound quiet lower given = answers w (outcome.Unsolvable why) shaped sound quiet lower given
+ends_answer answers w (Bounded bound best cause) shaped sound quiet lower given = bounds_true w bound best cause shaped sound quiet lower (ends_bounded w bound best cause given)
 
 pub rows_make : RowsMakeAnAnswer
 rows_make task cost plan rows proved = (
-  λ ends. (ends.0, ends.1, proved, ends.2, ends.3),
-  λ answers. (answers.0, answers.1, answers.3, answers.4),
+  λ ends. (ends.0, ends.1, proved, ends.3, ends.4),
+  λ answers. (answers.0, answers.1, (rows.items, proved), answers.3, answers.4),
 )
 
 pub rows_make_bound : RowsMakeABoundAnswer
 rows_make_bound task bound best cause rows proved = (
-  λ ends. (ends, proved),
-  λ answers. answers.0,
+  λ ends. (ends.0, proved),
+  λ answers. (answers.0, (rows.items, proved)),
 )

@@ -11,6 +11,7 @@ use Rattle.outcomes.specs.declared.outcome.Want.{Want}
 use Rattle.outcomes.specs.declared.outcome.Want.TheVariants.{Refused}
 use Rattle.outcomes.specs.declared.outcome.Outcome.TheVariants as outcome
 use Rattle.outcomes.specs.Outcomes.{Task, Answers, AreRowsOf}
+use Rattle.world_model.specs.Quiet.{QuietIsTrueIn}
 use Rattle.world_model.specs.Shapes.{IsShaped}
 use Rattle.world_model.specs.Soundness.{IsSound}
 use Rattle.world_model.specs.Worlds.{WorldState}
@@ -76,12 +77,13 @@ RowsMakeABoundAnswer =
     → AreRowsOf task rows.items bound
     → EndAnswers task (Bounded bound best cause) ↔ Answers task (outcome.Bounded bound best cause (Some rows))
 
--- the ending that a sound world gives answers its task
+-- the ending that a sound world gives answers its task, if the world is quiet where the book says so
 abbrev pub EndingsAnswer : Type 0
 EndingsAnswer =
     (w : WorldState) (ending : Ending)
     → IsShaped w
     → IsSound w
+    → QuietIsTrueIn w
     → IsLowerBound w.task.rule w.task.sum w.task.goal
     → EndsIn w ending
     → EndAnswers w.task ending

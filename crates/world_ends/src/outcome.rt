@@ -1,11 +1,11 @@
 //! The outcome of a run.
 
-ghost use Rattle.std.specs.Prelude.{◌≡◌, None, IfOk, IfErr, option_map, if◌then◌else◌};
-ghost use Rattle.outcomes.specs.declared.outcome.Cause.TheVariants.{Cost, Cut, Memory};
+ghost use Rattle.std.specs.Prelude.{◌≡◌, None, IfOk, IfErr, option_map};
+ghost use Rattle.outcomes.specs.declared.outcome.Cause.TheVariants.{Memory};
 ghost use Rattle.outcomes.specs.declared.outcome.Want.TheVariants.{Refused};
 ghost use Rattle.outcomes.specs.declared.outcome.Outcome.TheVariants.{Bounded};
 ghost use Rattle.search_lists.specs.Orders.{Guide};
-ghost use Rattle.world_model.specs.Outcomes.{IsGiven, cause_of, is_too_high};
+ghost use Rattle.world_model.specs.Outcomes.{IsGiven, cause_of};
 ghost use Rattle.world_model.specs.Worlds.{WorldState};
 ghost use Rattle.world_ends.specs.Parts.{task_in, states_of, AreGuided, HasParts};
 ghost use Rattle.world_ends.specs.Lowest.{IsLowestInLanes};
@@ -15,7 +15,6 @@ use crate::asked::Asked;
 use crate::lowest::{lesser, lowest_of_workers};
 use crate::plan::{known_of, plan_back};
 use crate::rows::rows_for;
-use board::GREATEST_EXPANDED_COST;
 use memory::OutOfMemory;
 use message_ledger::Counting;
 use outcomes::{Cause, Ending, Outcome, Want, Why};
@@ -141,7 +140,7 @@ fn whole_ending<C: Counting, S: Spread>(
         });
     };
     let bound = asked.bound.of(&asked.start).max(floor);
-    let cause = cause_of(stop, lowest);
+    let cause = cause_of(stop);
     let Some(known) = reached else {
         return Ok(Ending::Bounded {
             bound,
@@ -176,9 +175,9 @@ fn cost_of(known: Option<Known>) -> Option<u32>
     Some(known.cost)
 }
 
-// The cause of a bound, by what stopped the run and by the lowest of the frontier.
-fn cause_of(stop: Option<Stop>, lowest: Option<u32>) -> Cause
-    ensures { result ≡ cause_of stop lowest }
+// The cause of a bound, by what stopped the run.
+fn cause_of(stop: Option<Stop>) -> Cause
+    ensures { result ≡ cause_of stop }
 {
     let Some(stop) = stop else {
         return Cause::Cut;
@@ -187,20 +186,6 @@ fn cause_of(stop: Option<Stop>, lowest: Option<u32>) -> Cause
         Stop::Limit => Cause::Limit,
         Stop::Memory(want) => Cause::Memory(want),
         Stop::Start => Cause::Start,
-        Stop::Quiet => cause_of_quiet(lowest),
-    }
-}
-
-// The cause of a bound where no worker has anything to do.
-fn cause_of_quiet(lowest: Option<u32>) -> Cause
-    ensures { result ≡ (if is_too_high lowest then Cost else Cut) }
-{
-    let Some(lowest) = lowest else {
-        return Cause::Cost;
-    };
-    if lowest > GREATEST_EXPANDED_COST {
-        Cause::Cost
-    } else {
-        Cause::Cut
+        Stop::Quiet => Cause::Cost,
     }
 }

@@ -1,6 +1,6 @@
 -- What quiet and kept worlds give, and the causes of bounds.
-use Rattle.std.proofs.Common.{◌≡◌, ◌≢◌, ◌⊎◌, ℕ, ◌<◌, ◌≤◌, Bool, true, false, List, [], length, refl, sym, ap, ◌∙◌, subst, inl, inr, arith, Option, Some, None}
-use Rattle.std.specs.Prelude.{All, if◌then◌else◌, slice_get, sum_by, Vec}
+use Rattle.std.proofs.Common.{◌≡◌, ◌≢◌, ◌⊎◌, ℕ, ◌<◌, ◌≤◌, List, [], length, refl, sym, ap, ◌∙◌, subst, inl, inr, arith, Option, Some, None}
+use Rattle.std.specs.Prelude.{All, slice_get, sum_by, Vec}
 use Rattle.std.specs.declared.alloc.Global.{Global}
 use Rattle.std.proofs.lemmas.List.Sums.{sum_by-le}
 use Rattle.std.proofs.lemmas.Option.{slice_get_within, get_or_from_slice_get}
@@ -18,13 +18,13 @@ use Rattle.world_model.specs.declared.parts.Item.{Item}
 use Rattle.world_model.specs.declared.steps.Stop.{Stop}
 use Rattle.world_model.specs.declared.steps.Stop.TheVariants.{Quiet, Limit, Memory, Start}
 use Rattle.world_model.specs.Frontiers.{IsInFrontier, IsLowest, IsReached}
-use Rattle.world_model.specs.KeptLaws.{BoundRowsProve, BoundsAreGiven, CausesAreTheStops, KeptWorldsAreNeverCut, KeptWorldsHaveBegun, KnowsGoal, LimitBoundsAreSpent, MemoryBoundsAreWanted, QuietWorldsAreAtRest, RowsAreLeftOutForMemory, RunsStayWithinLimits, UnknownGoalsWantNoMemory, IsWithinReach, PlansAreWithinReach}
-use Rattle.world_model.specs.Outcomes.{AreRowsFor, AsksForMemory, IsAloneAt, IsBounded, IsBoundOf, IsFollowedBack, IsGiven, IsStoppedAt, cause_of, is_too_high}
+use Rattle.world_model.specs.KeptLaws.{BoundRowsProve, BoundsAreGiven, CausesAreTheStops, KeptWorldsAreNeverCut, KeptWorldsAreQuiet, KeptWorldsHaveBegun, KnowsGoal, LimitBoundsAreSpent, MemoryBoundsAreWanted, QuietWorldsAreAtRest, RowsAreLeftOutForMemory, RunsStayWithinLimits, UnknownGoalsWantNoMemory, IsWithinReach, PlansAreWithinReach}
+use Rattle.world_model.specs.Outcomes.{AreRowsFor, AsksForMemory, IsAloneAt, IsBounded, IsBoundOf, IsFollowedBack, IsGiven, IsStoppedAt, cause_of}
 use Rattle.world_model.specs.Quiet.{IsKeptAt, IsQuiet}
 use Rattle.world_model.specs.Workers.{Lane, WorkerState}
 use Rattle.world_model.specs.Worlds.{IsUnderWay, Knows, LiesIn, WorldState}
 use Rattle.world_model.proofs.ListLemmas.{all_from_places, none_in_empty, part_le}
-use Rattle.world_model.proofs.OutcomeLemmas.{end_at, outcomes_answer}
+use Rattle.world_model.proofs.OutcomeLemmas.{bound_rows, end_at}
 use Rattle.world_model.proofs.RunLemmas.{runs_sound}
 use Rattle.world_model.proofs.ShapeLemmas.{knows_owned, offer_owned}
 use Rattle.board.specs.Positions.{Position}
@@ -53,51 +53,71 @@ pub quiet_at_rest : QuietWorldsAreAtRest
 quiet_at_rest w quiet = (none_way w quiet, (let purses = no_purses w.workers (λ i x at. (quiet.workers i x at).purse) in let lanes = quiet.lanes in omega arith))
 
 -- which stop a cause tells of
-module _ (lowest : Option ℕ) where
-  quiet_not : (b : Bool) (cause : Cause) → cause ≢ ForCost → cause ≢ ForCut → (if b then ForCost else ForCut) ≡ cause → ⊥
-  quiet_not true cause cost cut is = cost (sym is)
-  quiet_not false cause cost cut is = cut (sym is)
+limit_only : (stop : Option Stop) → cause_of stop ≡ ForLimit → stop ≡ Some Limit
+limit_only (Some Limit) is = refl
+limit_only (Some (Memory want)) is = absurd (cc)
+limit_only (Some Start) is = absurd (cc)
+limit_only (Some Quiet) is = absurd (cc)
+limit_only None is = absurd (cc)
 
-  limit_only : (stop : Option Stop) → cause_of stop lowest ≡ ForLimit → stop ≡ Some Limit
-  limit_only (Some Limit) is = refl
-  limit_only (Some (Memory want)) is = absurd (cc)
-  limit_only (Some Start) is = absurd (cc)
-  limit_only (Some Quiet) is = absurd (quiet_not (is_too_high lowest) ForLimit (λ e. cc) (λ e. cc) is)
-  limit_only None is = absurd (cc)
+start_only : (stop : Option Stop) → cause_of stop ≡ ForStart → stop ≡ Some Start
+start_only (Some Limit) is = absurd (cc)
+start_only (Some (Memory want)) is = absurd (cc)
+start_only (Some Start) is = refl
+start_only (Some Quiet) is = absurd (cc)
+start_only None is = absurd (cc)
 
-  start_only : (stop : Option Stop) → cause_of stop lowest ≡ ForStart → stop ≡ Some Start
-  start_only (Some Limit) is = absurd (cc)
-  start_only (Some (Memory want)) is = absurd (cc)
-  start_only (Some Start) is = refl
-  start_only (Some Quiet) is = absurd (quiet_not (is_too_high lowest) ForStart (λ e. cc) (λ e. cc) is)
-  start_only None is = absurd (cc)
+cost_only : (stop : Option Stop) → cause_of stop ≡ ForCost → stop ≡ Some Quiet
+cost_only (Some Limit) is = absurd (cc)
+cost_only (Some (Memory want)) is = absurd (cc)
+cost_only (Some Start) is = absurd (cc)
+cost_only (Some Quiet) is = refl
+cost_only None is = absurd (cc)
 
-  memory_only : (want : Want) (stop : Option Stop) → cause_of stop lowest ≡ ForMemory want → stop ≡ Some (Memory want)
-  memory_only want (Some Limit) is = absurd (cc)
-  memory_only want (Some (Memory other)) is = let e : other ≡ want = cc in ap (λ (x : Want). Some (Memory x)) e
-  memory_only want (Some Start) is = absurd (cc)
-  memory_only want (Some Quiet) is = absurd (quiet_not (is_too_high lowest) (ForMemory want) (λ e. cc) (λ e. cc) is)
-  memory_only want None is = absurd (cc)
+cut_only : (stop : Option Stop) → cause_of stop ≡ ForCut → stop ≡ None
+cut_only (Some Limit) is = absurd (cc)
+cut_only (Some (Memory want)) is = absurd (cc)
+cut_only (Some Start) is = absurd (cc)
+cut_only (Some Quiet) is = absurd (cc)
+cut_only None is = refl
+
+memory_only : (want : Want) (stop : Option Stop) → cause_of stop ≡ ForMemory want → stop ≡ Some (Memory want)
+memory_only want (Some Limit) is = absurd (cc)
+memory_only want (Some (Memory other)) is = let e : other ≡ want = cc in ap (λ (x : Want). Some (Memory x)) e
+memory_only want (Some Start) is = absurd (cc)
+memory_only want (Some Quiet) is = absurd (cc)
+memory_only want None is = absurd (cc)
 
 -- the cause is that of the stop, or memory was refused
-abbrev IsCaused : WorldState → Option ℕ → Option (ℕ × Vec Move Global) → Cause → Type 0
-IsCaused w lowest best cause = (cause ≡ cause_of w.book.stop lowest) ⊎ ((best ≡ None) × ((refused : OutOfMemory) × (cause ≡ ForMemory (Refused refused))))
+abbrev IsCaused : WorldState → Option (ℕ × Vec Move Global) → Cause → Type 0
+IsCaused w best cause = (cause ≡ cause_of w.book.stop) ⊎ ((best ≡ None) × ((refused : OutOfMemory) × (cause ≡ ForMemory (Refused refused))))
 
-caused : (w : WorldState) (lowest reached : Option ℕ) (bound : ℕ) (best : Option (ℕ × Vec Move Global)) (cause : Cause) → IsStoppedAt (end_at w lowest reached) bound best cause ⊎ IsAloneAt (end_at w lowest reached) bound best cause → IsCaused w lowest best cause
+caused : (w : WorldState) (lowest reached : Option ℕ) (bound : ℕ) (best : Option (ℕ × Vec Move Global)) (cause : Cause) → IsStoppedAt (end_at w lowest reached) bound best cause ⊎ IsAloneAt (end_at w lowest reached) bound best cause → IsCaused w best cause
 caused w lowest reached bound None cause (inl stopped) = inl stopped.2
 caused w lowest reached bound (Some best) cause (inl stopped) = inl stopped.3
 caused w lowest reached bound best cause (inr alone) = inr (alone.1, alone.2)
 
 pub causes_stop : CausesAreTheStops
-causes_stop w bound best cause given = (λ is. limit_at is (caused w given.0 given.1 bound best cause given.4), λ is. start_at is (caused w given.0 given.1 bound best cause given.4))
+causes_stop w bound best cause given = (λ is. limit_at is by, λ is. start_at is by, λ is. cost_at is by, λ is. cut_at is by)
   where
-    limit_at : cause ≡ ForLimit → IsCaused w given.0 best cause → w.book.stop ≡ Some Limit
-    limit_at is (inl by) = limit_only given.0 w.book.stop (sym by ∙ is)
+    by : IsCaused w best cause
+    by = caused w given.0 given.1 bound best cause given.4
+
+    limit_at : cause ≡ ForLimit → IsCaused w best cause → w.book.stop ≡ Some Limit
+    limit_at is (inl by) = limit_only w.book.stop (sym by ∙ is)
     limit_at is (inr lacks) = absurd (let e : ForLimit ≡ ForMemory (Refused lacks.1.0) = sym is ∙ lacks.1.1 in cc)
 
-    start_at : cause ≡ ForStart → IsCaused w given.0 best cause → w.book.stop ≡ Some Start
-    start_at is (inl by) = start_only given.0 w.book.stop (sym by ∙ is)
+    start_at : cause ≡ ForStart → IsCaused w best cause → w.book.stop ≡ Some Start
+    start_at is (inl by) = start_only w.book.stop (sym by ∙ is)
     start_at is (inr lacks) = absurd (let e : ForStart ≡ ForMemory (Refused lacks.1.0) = sym is ∙ lacks.1.1 in cc)
+
+    cost_at : cause ≡ ForCost → IsCaused w best cause → w.book.stop ≡ Some Quiet
+    cost_at is (inl why) = cost_only w.book.stop (sym why ∙ is)
+    cost_at is (inr lacks) = absurd (let e : ForCost ≡ ForMemory (Refused lacks.1.0) = sym is ∙ lacks.1.1 in cc)
+
+    cut_at : cause ≡ ForCut → IsCaused w best cause → w.book.stop ≡ None
+    cut_at is (inl why) = cut_only w.book.stop (sym why ∙ is)
+    cut_at is (inr lacks) = absurd (let e : ForCut ≡ ForMemory (Refused lacks.1.0) = sym is ∙ lacks.1.1 in cc)
 
 pub limit_bounds : LimitBoundsAreSpent
 limit_bounds w bound best credited given = limit_spent w credited ((causes_stop w bound best ForLimit given).0 refl)
@@ -111,8 +131,8 @@ goal_there w (Some cost) is some = (is.0.0, is.0.1)
 pub memory_bounded : (w : WorldState) (bound : ℕ) (best : Option (ℕ × Vec Move Global)) (want : Want) → IsBounded w bound best (ForMemory want) → (w.book.stop ≡ Some (Memory want)) ⊎ ((best ≡ None) × ((refused : OutOfMemory) × (want ≡ Refused refused)))
 memory_bounded w bound best want given = split (caused w given.0 given.1 bound best (ForMemory want) given.4)
   where
-    split : IsCaused w given.0 best (ForMemory want) → (w.book.stop ≡ Some (Memory want)) ⊎ ((best ≡ None) × ((refused : OutOfMemory) × (want ≡ Refused refused)))
-    split (inl by) = inl (memory_only given.0 want w.book.stop (sym by))
+    split : IsCaused w best (ForMemory want) → (w.book.stop ≡ Some (Memory want)) ⊎ ((best ≡ None) × ((refused : OutOfMemory) × (want ≡ Refused refused)))
+    split (inl by) = inl (memory_only want w.book.stop (sym by))
     split (inr lacks) = let e : want ≡ Refused lacks.1.0 = cc (lacks.1.1) in inr (lacks.0, (lacks.1.0, e))
 
 -- a bound is asked memory for
@@ -129,8 +149,8 @@ rows_left w bound best cause given = let alone = given.4.0 in (alone.1, alone.2,
 
 -- a run that stopped early for memory was halted so
 pub stopped_for_memory : (w : WorldState) (lowest reached : Option ℕ) (bound : ℕ) (best : Option (ℕ × Vec Move Global)) (want : Want) → IsStoppedAt (end_at w lowest reached) bound best (ForMemory want) → w.book.stop ≡ Some (Memory want)
-stopped_for_memory w lowest reached bound None want stopped = memory_only lowest want w.book.stop (sym stopped.2)
-stopped_for_memory w lowest reached bound (Some best) want stopped = memory_only lowest want w.book.stop (sym stopped.3)
+stopped_for_memory w lowest reached bound None want stopped = memory_only want w.book.stop (sym stopped.2)
+stopped_for_memory w lowest reached bound (Some best) want stopped = memory_only want w.book.stop (sym stopped.3)
 
 pub memory_bounds : MemoryBoundsAreWanted
 memory_bounds w bound best want (Some rows) given = inl (stopped_for_memory w given.0 given.1 bound best want given.4.0)
@@ -179,7 +199,7 @@ pub unknown_goals : UnknownGoalsWantNoMemory
 unknown_goals w unknown = (λ outcome empty given. exhausted w unknown empty outcome given, with_rows w unknown)
 
 pub bound_rows_prove : BoundRowsProve
-bound_rows_prove w bound best cause rows shaped sound lower given = (outcomes_answer w (Bounded bound best cause (Some rows)) shaped sound lower given).1.proves
+bound_rows_prove w bound best cause rows shaped sound lower given = (bound_rows w bound best cause rows shaped sound lower given).proves
 
 -- kept worlds
 not_cut : (cause : Cause) (best : Option (ℕ × Vec Move Global)) → (cause ≡ ForCost) ⊎ ((best ≡ None) × ((refused : OutOfMemory) × (cause ≡ ForMemory (Refused refused)))) → (cause ≢ ForCut) × (cause ≢ ForStart)
@@ -195,8 +215,8 @@ lacking cause refused is = plain cause (ForMemory (Refused refused)) is (λ e. c
 pub kept_never_cut : KeptWorldsAreNeverCut
 kept_never_cut w bound best cause shaped sound kept lower given = at w.book.stop refl kept
   where
-    by_stop : (stop : Option Stop) → w.book.stop ≡ stop → (other : Cause) → cause_of stop given.0 ≡ other → other ≢ ForCut → other ≢ ForStart → IsCaused w given.0 best cause → (cause ≢ ForCut) × (cause ≢ ForStart)
-    by_stop stop is other same cut start (inl by) = plain cause other (by ∙ ap (λ (s : Option Stop). cause_of s given.0) is ∙ same) cut start
+    by_stop : (stop : Option Stop) → w.book.stop ≡ stop → (other : Cause) → cause_of stop ≡ other → other ≢ ForCut → other ≢ ForStart → IsCaused w best cause → (cause ≢ ForCut) × (cause ≢ ForStart)
+    by_stop stop is other same cut start (inl by) = plain cause other (by ∙ ap cause_of is ∙ same) cut start
     by_stop stop is other same cut start (inr lacks) = lacking cause lacks.1.0 lacks.1.1
 
     at : (stop : Option Stop) → w.book.stop ≡ stop → IsKeptAt w stop → (cause ≢ ForCut) × (cause ≢ ForStart)
@@ -205,6 +225,9 @@ kept_never_cut w bound best cause shaped sound kept lower given = at w.book.stop
     at (Some Limit) is kept = by_stop (Some Limit) is ForLimit refl (λ e. cc) (λ e. cc) (caused w given.0 given.1 bound best cause given.4)
     at (Some (Memory want)) is kept = by_stop (Some (Memory want)) is (ForMemory want) refl (λ e. cc) (λ e. cc) (caused w given.0 given.1 bound best cause given.4)
     at (Some Start) is kept = absurd kept
+
+pub kept_quiet : KeptWorldsAreQuiet
+kept_quiet w kept stop = subst (IsKeptAt w) stop kept
 
 pub kept_begun : KeptWorldsHaveBegun
 kept_begun w kept stop more = (subst (IsKeptAt w) stop kept) more

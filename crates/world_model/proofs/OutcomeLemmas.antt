@@ -2,7 +2,7 @@
 use Rattle.std.proofs.Common.{◌≡◌, ◌≢◌, ◌⊎◌, ℕ, suc, ◌+◌, ◌<◌, ◌≤◌, true, false, List, [], length, get_or, refl, sym, ap, ◌∙◌, subst, inl, inr, ⊎_elim, arith, Option, Some, None}
 use Rattle.std.specs.Prelude.{min, Contains, AllPairs, Vec}
 use Rattle.std.specs.declared.alloc.Global.{Global}
-use Rattle.std.proofs.lemmas.Bool.{cases_lt, cases_Bool, cond-true, cond-false, ltb-true}
+use Rattle.std.proofs.lemmas.Bool.{cases_lt, cases_Bool}
 use Rattle.std.proofs.lemmas.List.Elements.{Contains-get_or}
 use Rattle.board.specs.declared.moves.Move.{Move}
 use Rattle.world_model.specs.declared.steps.Stop.{Stop}
@@ -10,21 +10,23 @@ use Rattle.world_model.specs.declared.steps.Stop.TheVariants.{Quiet, Limit, Memo
 use Rattle.board.specs.Positions.{Position}
 use Rattle.board.specs.Plans.{Leads, NothingBelow}
 use Rattle.board.specs.Rows.{HasRow, Proves, IsLowerBound}
-use Rattle.outcomes.specs.Outcomes.{Answers, AllowsCause, AllowsWhy, AreRowsOf, IsAboveSums, IsBestPlan, IsTrueBound, best_of}
+use Rattle.outcomes.specs.Outcomes.{Answers, AllowsCause, AllowsWhy, AreRowsOf, HasProof, IsAboveSums, IsBestPlan, IsTrueBound, best_of}
 use Rattle.world_model.specs.declared.parts.Known.{Known}
 use Rattle.board.specs.Keys.{key_of}
 use Rattle.outcomes.specs.declared.outcome.Cause.{Cause}
 use Rattle.outcomes.specs.declared.outcome.Outcome.{Outcome}
 use Rattle.board.specs.declared.costs.TheConstants.{GREATEST_COST, GREATEST_EXPANDED_COST}
 use Rattle.outcomes.specs.declared.outcome.Outcome.TheVariants.{Optimal, Unsolvable, Bounded}
-use Rattle.world_model.specs.Costs.{IsLeastWith, lesser}
+use Rattle.world_model.specs.Costs.{IsLeastWith, lesser, limit_of}
 use Rattle.world_model.specs.Frontiers.{IsInFrontier, IsLowest, IsReached}
-use Rattle.world_model.specs.Laws.{BoundsAreTrue}
-use Rattle.world_model.specs.Outcomes.{AreRowsBelow, AreRowsFor, End, IsAloneAt, IsBoundOf, IsFollowedBack, IsGiven, IsGivenAt, IsKnownBelow, IsStoppedAt, cause_of, is_too_high}
+use Rattle.world_model.specs.Laws.{BoundsAreTrue, OutcomesAnswer}
+use Rattle.world_model.specs.Outcomes.{AreRowsBelow, AreRowsFor, End, IsAloneAt, IsBoundOf, IsFollowedBack, IsGiven, IsGivenAt, IsKnownBelow, IsStoppedAt, cause_of}
+use Rattle.world_model.specs.Quiet.{IsQuiet, QuietIsTrueIn}
 use Rattle.world_model.specs.Shapes.{IsShaped}
 use Rattle.world_model.specs.Soundness.{IsCovered, IsSound}
 use Rattle.world_model.specs.Worlds.{Knows, WorldState}
 use Rattle.world_model.proofs.ShapeLemmas.{knows_owned, offer_owned, plan_short}
+use Rattle.world_model.proofs.RowLists.{rows_exist}
 use Rattle.world_model.proofs.SearchLemmas.{BelowFrontier, BelowReached, offer_low, frontier_bounds}
 
 abbrev pub end_at : WorldState → Option ℕ → Option ℕ → End
@@ -131,34 +133,39 @@ row_known : (w : WorldState) (k : ℕ) (rows : List (Position × ℕ)) → AreRo
 row_known w k rows (inl few) row has = let n = ap length few.1 in absurd (omega (arith, has.1))
 row_known w k rows (inr many) row has = (many.1.each row.0 row.1).0 has
 
--- a cause is allowed where it is that of a bound which is high if all of the frontier is too high
-cause_allowed : (bound : ℕ) (stop : Option Stop) (lowest : Option ℕ) (cause : Cause) → (is_too_high lowest ≡ true → GREATEST_EXPANDED_COST < bound) → cause ≡ cause_of stop lowest → AllowsCause bound cause
-cause_allowed bound None lowest cause high is = subst (AllowsCause bound) (sym is) tt
-cause_allowed bound (Some Limit) lowest cause high is = subst (AllowsCause bound) (sym is) tt
-cause_allowed bound (Some (Memory want)) lowest cause high is = subst (AllowsCause bound) (sym is) tt
-cause_allowed bound (Some Start) lowest cause high is = subst (AllowsCause bound) (sym is) tt
-cause_allowed bound (Some Quiet) lowest cause high is =
-    ⊎_elim
-    (λ (e : is_too_high lowest ≡ true). subst (AllowsCause bound) (sym (is ∙ cond-true _ _ _ e)) (high e))
-    (λ (e : is_too_high lowest ≡ false). subst (AllowsCause bound) (sym (is ∙ cond-false _ _ _ e)) tt)
-    (cases_Bool (is_too_high lowest))
+-- a cause is allowed where it is that of a bound which is high if the run is quiet
+cause_allowed : (bound : ℕ) (stop : Option Stop) (cause : Cause) → (stop ≡ Some Quiet → GREATEST_EXPANDED_COST < bound) → cause ≡ cause_of stop → AllowsCause bound cause
+cause_allowed bound None cause high is = subst (AllowsCause bound) (sym is) tt
+cause_allowed bound (Some Limit) cause high is = subst (AllowsCause bound) (sym is) tt
+cause_allowed bound (Some (Memory want)) cause high is = subst (AllowsCause bound) (sym is) tt
+cause_allowed bound (Some Start) cause high is = subst (AllowsCause bound) (sym is) tt
+cause_allowed bound (Some Quiet) cause high is = subst (AllowsCause bound) (sym is) (high refl)
 
--- where the goal is unknown the bound is as high as the frontier
-pub high_alone : (w : WorldState) (lowest reached : Option ℕ) (bound : ℕ) → IsBoundOf (end_at w lowest reached) bound → reached ≡ None → is_too_high lowest ≡ true → GREATEST_EXPANDED_COST < bound
-high_alone w None None bound is none high = cc (is.1)
-high_alone w None (Some c) bound is none high = cc
-high_alone w (Some f) (Some c) bound is none high = cc
-high_alone w (Some f) None bound is none high = let e : f ≡ is.0 = cc (is.1) in let lt = ltb-true GREATEST_EXPANDED_COST f high in omega (arith, is.2)
+pub least_unique : (P : ℕ → Type 0) (x y : Option ℕ) → IsLeastWith P x → IsLeastWith P y → x ≡ y
+least_unique P None None a b = refl
+least_unique P None (Some y) a b = absurd (a y b.0)
+least_unique P (Some x) None a b = absurd (b x a.0)
+least_unique P (Some x) (Some y) a b = let le = a.1 y b.0 in let le' = b.1 x a.0 in let e : x ≡ y = omega arith in ap Some e
 
--- so it is where the goal is known at more than the bound
-pub high_beside : (w : WorldState) (lowest reached : Option ℕ) (bound goal : ℕ) → IsBoundOf (end_at w lowest reached) bound → reached ≡ Some goal → bound < goal → is_too_high lowest ≡ true → GREATEST_EXPANDED_COST < bound
-high_beside w lowest None bound goal is at lt high = cc
-high_beside w None (Some c) bound goal is at lt high = let e : c ≡ is.0 = cc (is.1) in let e' : c ≡ goal = cc in omega (arith, is.2)
-high_beside w (Some f) (Some c) bound goal is at lt high =
-    let e : min f c ≡ is.0 = cc (is.1) in
-    let e' : c ≡ goal = cc in
-    let above = ltb-true GREATEST_EXPANDED_COST f high in
-    omega (arith, is.2)
+-- a bound below the cost of the goal is too high to be expanded, if the frontier isn't below the limit
+too_high : (w : WorldState) (lowest reached : Option ℕ) (bound : ℕ) → ((f : ℕ) → lowest ≡ Some f → limit_of reached ≤ f) → IsBoundOf (end_at w lowest reached) bound → ((goal : ℕ) → reached ≡ Some goal → bound < goal) → GREATEST_EXPANDED_COST < bound
+too_high w None None bound high is below = absurd (let e : ◌≡◌ {A = Option ℕ} None (Some is.0) = is.1 in cc)
+too_high w None (Some c) bound high is below = absurd (let lt = below c refl in let e : c ≡ is.0 = cc (is.1) in omega (arith, is.2))
+too_high w (Some f) None bound high is below = let le = high f refl in let e : f ≡ is.0 = cc (is.1) in omega (arith, is.2)
+too_high w (Some f) (Some c) bound high is below =
+    let le = high f refl in let lt = below c refl in let e : min f c ≡ is.0 = cc (is.1) in omega (arith, is.2)
+
+-- a quiet world's frontier isn't below the limit
+module _ (w : WorldState) (quiet : IsQuiet w) (lowest reached : Option ℕ) (is_lowest : IsLowest w lowest) (is_reached : IsReached w reached) where
+  same_best : w.book.best ≡ reached
+  same_best = least_unique (λ cost. (known : Known) × Knows w (w.owner w.task.goal) w.task.goal known × (known.cost ≡ cost)) w.book.best reached quiet.best is_reached
+
+  frontier_high : (f : ℕ) → lowest ≡ Some f → limit_of reached ≤ f
+  frontier_high f at =
+      let low : IsLowest w (Some f) = subst (IsLowest w) at is_lowest in
+      let le = quiet.frontier low.0.0 low.0.1 low.0.2 in
+      let le' : limit_of reached ≤ low.0.1 + w.task.sum low.0.0 = subst (λ o. limit_of o ≤ low.0.1 + w.task.sum low.0.0) same_best le in
+      omega (arith, low.0.3)
 
 module _ (w : WorldState) (shaped : IsShaped w) (sound : IsSound w) (bound : IsLowerBound w.task.rule w.task.sum w.task.goal) (lowest reached : Option ℕ) (is_lowest : IsLowest w lowest) (is_reached : IsReached w reached) where
   rows_of : (n : ℕ) (rows : List (Position × ℕ)) → IsBoundOf (end_at w lowest reached) n → AreRowsFor w n rows → AreRowsOf w.task rows n
@@ -171,6 +178,10 @@ module _ (w : WorldState) (shaped : IsShaped w) (sound : IsSound w) (bound : IsL
         let low = (knows_owned w shaped row.0 (get_or rows i d).0 row.1 row.2).1 in
         omega (arith, row.3);
   }
+
+  -- rows that prove the bound exist
+  pub proof_of : (n : ℕ) → IsBoundOf (end_at w lowest reached) n → HasProof w.task n
+  proof_of n is = let listed = rows_exist w n shaped in (listed.0, rows_of n listed.0 is listed.1)
 
   -- a plan that is followed back costs no more than is known of the goal
   followed_low : (cost : ℕ) (plan : List Move) → IsFollowedBack (end_at w lowest reached) cost plan → cost ≤ GREATEST_COST
@@ -223,32 +234,47 @@ module _ (w : WorldState) (shaped : IsShaped w) (sound : IsSound w) (bound : IsL
       let le' = above w.task.start shaped.task.start shaped.task.sides in
       omega (arith, is.2)
 
-  stopped_true : (n : ℕ) (best : Option (ℕ × Vec Move Global)) (cause : Cause) → IsStoppedAt (end_at w lowest reached) n best cause → IsTrueBound w.task n best cause
-  stopped_true n None cause (is, unknown, caused) = (bound_holds n is, above_sum n is, bound_low n is, tt, cause_allowed n w.book.stop lowest cause (high_alone w lowest reached n is unknown) caused)
-  stopped_true n (Some best) cause (is, followed, other, caused) =
+  -- a bound that the goal's cost is above is high if the world is quiet
+  quiet_high : QuietIsTrueIn w → (n : ℕ) → IsBoundOf (end_at w lowest reached) n → ((goal : ℕ) → reached ≡ Some goal → n < goal) → w.book.stop ≡ Some Quiet → GREATEST_EXPANDED_COST < n
+  quiet_high quiet n is below stop = too_high w lowest reached n (frontier_high w (quiet stop) lowest reached is_lowest is_reached) is below
+
+  stopped_true : QuietIsTrueIn w → (n : ℕ) (best : Option (ℕ × Vec Move Global)) (cause : Cause) → IsStoppedAt (end_at w lowest reached) n best cause → IsTrueBound w.task n best cause
+  stopped_true quiet n None cause (is, unknown, caused) =
+      let below : (goal : ℕ) → reached ≡ Some goal → n < goal = λ goal at. let e : ◌≡◌ {A = Option ℕ} None (Some goal) = sym unknown ∙ at in absurd (cc) in
+      (bound_holds n is, above_sum n is, bound_low n is, tt, cause_allowed n w.book.stop cause (quiet_high quiet n is below) caused)
+  stopped_true quiet n (Some best) cause (is, followed, other, caused) =
       let above = above_bound n best.0 best.1.items is followed other in
-      (bound_holds n is, above_sum n is, bound_low n is, (followed.leads, above), cause_allowed n w.book.stop lowest cause (high_beside w lowest reached n followed.goal is followed.is (omega (arith, followed.within))) caused)
+      let below : (goal : ℕ) → reached ≡ Some goal → n < goal = λ goal at. let e : Some followed.goal ≡ Some goal = sym followed.is ∙ at in let e' : followed.goal ≡ goal = cc in omega (arith, followed.within) in
+      (bound_holds n is, above_sum n is, bound_low n is, (followed.leads, above), cause_allowed n w.book.stop cause (quiet_high quiet n is below) caused)
 
   alone_true : (n : ℕ) (best : Option (ℕ × Vec Move Global)) (cause : Cause) → IsAloneAt (end_at w lowest reached) n best cause → IsTrueBound w.task n best cause
   alone_true n best cause (is, none, lacks) =
       (bound_holds n is, above_sum n is, bound_low n is, subst (λ (b : Option (ℕ × Vec Move Global)). IsBestPlan w.task n (best_of b)) (sym none) tt, subst (AllowsCause n) (sym lacks.1) tt)
 
-  answers_at : (outcome : Outcome) → IsGivenAt (end_at w lowest reached) outcome → Answers w.task outcome
-  answers_at (Optimal cost plan rows) given =
+  answers_at : QuietIsTrueIn w → (outcome : Outcome) → IsGivenAt (end_at w lowest reached) outcome → Answers w.task outcome
+  answers_at quiet (Optimal cost plan rows) given =
       let low = followed_low cost plan.items given.1 in
       let short = plan_short w.task shaped.task w.task.start (shaped.task.start, shaped.task.sides) plan.items w.task.goal cost given.1.leads in
       (given.1.leads, record { reached = (plan.items, given.1.leads); none_below = bound_holds cost given.0 }, rows_of cost rows.items given.0 given.2, low, omega (arith, low, short))
-  answers_at (Unsolvable why) given = (no_plan w shaped sound bound lowest reached is_lowest is_reached given.0, subst (AllowsWhy w.task) (sym given.1) tt)
-  answers_at (Bounded n best cause (Some rows)) given = (stopped_true n best cause given.0, rows_of n rows.items (stopped_bound n best cause given.0) given.1)
-  answers_at (Bounded n best cause None) given = (alone_true n best cause given.0, (given.0.1, given.0.2))
+  answers_at quiet (Unsolvable why) given = (no_plan w shaped sound bound lowest reached is_lowest is_reached given.0, subst (AllowsWhy w.task) (sym given.1) tt)
+  answers_at quiet (Bounded n best cause (Some rows)) given = (stopped_true quiet n best cause given.0, rows_of n rows.items (stopped_bound n best cause given.0) given.1)
+  answers_at quiet (Bounded n best cause None) given = (alone_true n best cause given.0, (given.0.1, given.0.2), proof_of n given.0.0)
 
-  bounded_true : (n : ℕ) (best : Option (ℕ × Vec Move Global)) (cause : Cause) → IsStoppedAt (end_at w lowest reached) n best cause ⊎ IsAloneAt (end_at w lowest reached) n best cause → IsTrueBound w.task n best cause
-  bounded_true n best cause (inl stopped) = stopped_true n best cause stopped
-  bounded_true n best cause (inr alone) = alone_true n best cause alone
+  -- the rows of a bound prove it
+  rows_at : (n : ℕ) (best : Option (ℕ × Vec Move Global)) (cause : Cause) (rows : List (Position × ℕ)) → IsStoppedAt (end_at w lowest reached) n best cause → AreRowsFor w n rows → AreRowsOf w.task rows n
+  rows_at n best cause rows stopped listed = rows_of n rows (stopped_bound n best cause stopped) listed
+
+  bounded_true : QuietIsTrueIn w → (n : ℕ) (best : Option (ℕ × Vec Move Global)) (cause : Cause) → IsStoppedAt (end_at w lowest reached) n best cause ⊎ IsAloneAt (end_at w lowest reached) n best cause → IsTrueBound w.task n best cause × HasProof w.task n
+  bounded_true quiet n best cause (inl stopped) = (stopped_true quiet n best cause stopped, proof_of n (stopped_bound n best cause stopped))
+  bounded_true quiet n best cause (inr alone) = (alone_true n best cause alone, proof_of n alone.0)
 
 pub bounds_true : BoundsAreTrue
-bounds_true w n best cause shaped sound bound bounded = bounded_true w shaped sound bound bounded.0 bounded.1 bounded.2 bounded.3 n best cause bounded.4
+bounds_true w n best cause shaped sound quiet bound bounded = bounded_true w shaped sound bound bounded.0 bounded.1 bounded.2 bounded.3 quiet n best cause bounded.4
+
+-- the rows of the bound that a sound world gives prove it
+pub bound_rows : (w : WorldState) (n : ℕ) (best : Option (ℕ × Vec Move Global)) (cause : Cause) (rows : Vec (Position × ℕ) Global) → IsShaped w → IsSound w → IsLowerBound w.task.rule w.task.sum w.task.goal → IsGiven w (Bounded n best cause (Some rows)) → AreRowsOf w.task rows.items n
+bound_rows w n best cause rows shaped sound bound given = rows_at w shaped sound bound given.0 given.1 given.2 given.3 n best cause rows.items given.4.0 given.4.1
 
 -- the outcome of a sound world answers its task
-pub outcomes_answer : (w : WorldState) (outcome : Outcome) → IsShaped w → IsSound w → IsLowerBound w.task.rule w.task.sum w.task.goal → IsGiven w outcome → Answers w.task outcome
-outcomes_answer w outcome shaped sound bound given = answers_at w shaped sound bound given.0 given.1 given.2 given.3 outcome given.4
+pub outcomes_answer : OutcomesAnswer
+outcomes_answer w outcome shaped sound quiet bound given = answers_at w shaped sound bound given.0 given.1 given.2 given.3 quiet outcome given.4

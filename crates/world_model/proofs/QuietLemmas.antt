@@ -1,5 +1,5 @@
 -- Quiet and Limit say what they mean.
-use Rattle.std.proofs.Common.{◌≡◌, ◌⊎◌, ℕ, ◌+◌, ◌-◌, ◌*◌, ◌<◌, ◌≤◌, List, [], length, refl, sym, ap, ◌∙◌, subst, inl, inr, arith, Option, Some, None, min}
+use Rattle.std.proofs.Common.{◌≡◌, ◌⊎◌, ℕ, ◌+◌, ◌-◌, ◌*◌, ◌≤◌, List, [], length, refl, ap, ◌∙◌, subst, inl, inr, arith, Option, Some, None}
 use Rattle.std.specs.Prelude.{All, slice_get, sum_by}
 use Rattle.std.proofs.lemmas.Option.{slice_get_within, get_or_from_slice_get}
 use Rattle.std.proofs.lemmas.List.Sums.{sum_by-le-sum_by}
@@ -14,10 +14,10 @@ use Rattle.memory.specs.declared.OutOfMemory.{OutOfMemory}
 use Rattle.std.specs.Prelude.{Vec}
 use Rattle.std.specs.declared.alloc.Global.{Global}
 use Rattle.outcomes.specs.declared.outcome.Cause.TheVariants.{Memory as ForMemory, Cost as ForCost, Cut as ForCut}
-use Rattle.world_model.specs.Costs.{IsLeastWith, IsNotBelow, limit_of}
+use Rattle.world_model.specs.Costs.{IsNotBelow, limit_of}
 use Rattle.world_model.specs.Credit.{IsCredited, expansion_count, packet_count}
-use Rattle.world_model.specs.Frontiers.{IsInFrontier, IsLowest, IsReached}
-use Rattle.world_model.specs.Outcomes.{IsAloneAt, IsBounded, IsBoundOf, IsStoppedAt, cause_of, is_too_high}
+use Rattle.world_model.specs.Frontiers.{IsInFrontier, IsReached}
+use Rattle.world_model.specs.Outcomes.{IsAloneAt, IsBounded, IsStoppedAt, cause_of}
 use Rattle.world_model.specs.Quiet.{IsQuiet}
 use Rattle.world_model.specs.Shapes.{IsShaped}
 use Rattle.world_model.specs.Soundness.{IsSound}
@@ -25,13 +25,9 @@ use Rattle.world_model.specs.Workers.{IsIdle, Lane, WorkerState}
 use Rattle.world_model.specs.Worlds.{IsUnderWay, IsWorker, Knows, LiesIn, WorldState}
 use Rattle.world_model.proofs.ListLemmas.{part_le, none_in_empty, get_below, all_from_places, sum_plus, sum_le_but_one}
 use Rattle.world_model.proofs.CreditLemmas.{limit_falls}
-use Rattle.world_model.proofs.OutcomeLemmas.{end_at, above_bound}
+use Rattle.world_model.proofs.OutcomeLemmas.{end_at}
 use Rattle.world_model.specs.declared.limits.TheConstants.{GREATEST_GRANT}
-use Rattle.world_model.specs.declared.steps.Stop.{Stop}
 use Rattle.board.specs.Rows.{IsLowerBound}
-use Rattle.board.specs.declared.costs.TheConstants.{GREATEST_EXPANDED_COST}
-use Rattle.std.proofs.lemmas.Bool.{cond-true, lt-ltb}
-use Rattle.std.proofs.Common.{true}
 
 module _ (w : WorldState) (shaped : IsShaped w) (credited : IsCredited w) (stop : w.book.stop ≡ Some Quiet) where
   no_credit : w.book.credit ≡ 0
@@ -90,45 +86,15 @@ module _ (w : WorldState) (shaped : IsShaped w) (credited : IsCredited w) (stop 
     best = reached_at w.book.best refl;
   }
 
-pub least_unique : (P : ℕ → Type 0) (x y : Option ℕ) → IsLeastWith P x → IsLeastWith P y → x ≡ y
-least_unique P None None a b = refl
-least_unique P None (Some y) a b = absurd (a y b.0)
-least_unique P (Some x) None a b = absurd (b x a.0)
-least_unique P (Some x) (Some y) a b = let le = a.1 y b.0 in let le' = b.1 x a.0 in let e : x ≡ y = omega arith in ap Some e
-
--- a frontier that is not below the limit of the goal's cost, though the bound is, is too high to be expanded
-too_high : (w : WorldState) (lowest reached : Option ℕ) (bound : ℕ) → ((f : ℕ) → lowest ≡ Some f → limit_of reached ≤ f) → IsBoundOf (end_at w lowest reached) bound → ((goal : ℕ) → reached ≡ Some goal → bound < goal) → is_too_high lowest ≡ true
-too_high w None reached bound high is below = refl
-too_high w (Some f) None bound high is below = lt-ltb GREATEST_EXPANDED_COST f (let le = high f refl in omega arith)
-too_high w (Some f) (Some c) bound high is below =
-    lt-ltb GREATEST_EXPANDED_COST f (let le = high f refl in let lt = below c refl in let e : min f c ≡ is.0 = cc (is.1) in omega (arith, is.2))
-
-module _ (w : WorldState) (shaped : IsShaped w) (sound : IsSound w) (quiet : IsQuiet w) (lower : IsLowerBound w.task.rule w.task.sum w.task.goal) (stop : w.book.stop ≡ Some Quiet) (lowest reached : Option ℕ) (is_lowest : IsLowest w lowest) (is_reached : IsReached w reached) where
-  same_best : w.book.best ≡ reached
-  same_best = least_unique (λ cost. (known : Known) × Knows w (w.owner w.task.goal) w.task.goal known × (known.cost ≡ cost)) w.book.best reached quiet.best is_reached
-
-  frontier_high : (f : ℕ) → lowest ≡ Some f → limit_of reached ≤ f
-  frontier_high f at =
-      let low : IsLowest w (Some f) = subst (IsLowest w) at is_lowest in
-      let le = quiet.frontier low.0.0 low.0.1 low.0.2 in
-      let le' : limit_of reached ≤ low.0.1 + w.task.sum low.0.0 = subst (λ o. limit_of o ≤ low.0.1 + w.task.sum low.0.0) same_best le in
-      omega (arith, low.0.3)
-
-  -- the cause of a quiet world is the cost, where its frontier is too high
-  quiet_cause : (cause : Cause) → is_too_high lowest ≡ true → cause ≡ cause_of w.book.stop lowest → cause ≡ ForCost
-  quiet_cause cause high is = is ∙ ap (λ (o : Option Stop). cause_of o lowest) stop ∙ cond-true _ _ _ high
-
-  for_cost_at : (bound : ℕ) (best : Option (ℕ × Vec Move Global)) (cause : Cause) → IsStoppedAt (end_at w lowest reached) bound best cause ⊎ IsAloneAt (end_at w lowest reached) bound best cause → (cause ≡ ForCost) ⊎ ((best ≡ None) × ((refused : OutOfMemory) × (cause ≡ ForMemory (Refused refused))))
-  for_cost_at bound None cause (inl (is, unknown, caused)) =
-      inl (quiet_cause cause (too_high w lowest reached bound frontier_high is (λ goal at. let e : ◌≡◌ {A = Option ℕ} None (Some goal) = sym unknown ∙ at in cc)) caused)
-  for_cost_at bound (Some best) cause (inl (is, followed, other, caused)) =
-      let above = above_bound w shaped sound lower lowest reached is_lowest is_reached bound best.0 best.1.items is followed other in
-      inl (quiet_cause cause (too_high w lowest reached bound frontier_high is (λ goal at. let e : Some followed.goal ≡ Some goal = sym followed.is ∙ at in let e' : followed.goal ≡ goal = cc in omega (arith, followed.within))) caused)
-  for_cost_at bound best cause (inr alone) = inr (alone.1, alone.2)
+-- the cause is that of the stop, or memory was refused
+for_cost_at : (w : WorldState) (lowest reached : Option ℕ) → w.book.stop ≡ Some Quiet → (bound : ℕ) (best : Option (ℕ × Vec Move Global)) (cause : Cause) → IsStoppedAt (end_at w lowest reached) bound best cause ⊎ IsAloneAt (end_at w lowest reached) bound best cause → (cause ≡ ForCost) ⊎ ((best ≡ None) × ((refused : OutOfMemory) × (cause ≡ ForMemory (Refused refused))))
+for_cost_at w lowest reached stop bound None cause (inl stopped) = inl (stopped.2 ∙ ap cause_of stop)
+for_cost_at w lowest reached stop bound (Some best) cause (inl stopped) = inl (stopped.3 ∙ ap cause_of stop)
+for_cost_at w lowest reached stop bound best cause (inr alone) = inr (alone.1, alone.2)
 
 -- and so for each world that is quiet
 pub quiet_bounds : (w : WorldState) (bound : ℕ) (best : Option (ℕ × Vec Move Global)) (cause : Cause) → IsShaped w → IsSound w → IsQuiet w → IsLowerBound w.task.rule w.task.sum w.task.goal → w.book.stop ≡ Some Quiet → IsBounded w bound best cause → (cause ≡ ForCost) ⊎ ((best ≡ None) × ((refused : OutOfMemory) × (cause ≡ ForMemory (Refused refused))))
-quiet_bounds w bound best cause shaped sound quiet lower stop given = for_cost_at w shaped sound quiet lower stop given.0 given.1 given.2 given.3 bound best cause given.4
+quiet_bounds w bound best cause shaped sound quiet lower stop given = for_cost_at w given.0 given.1 stop bound best cause given.4
 
 pub quiet_for_cost : (w : WorldState) (bound : ℕ) (best : Option (ℕ × Vec Move Global)) (cause : Cause) → IsShaped w → IsSound w → IsCredited w → IsLowerBound w.task.rule w.task.sum w.task.goal → w.book.stop ≡ Some Quiet → IsBounded w bound best cause → (cause ≡ ForCost) ⊎ ((best ≡ None) × ((refused : OutOfMemory) × (cause ≡ ForMemory (Refused refused))))
 quiet_for_cost w bound best cause shaped sound credited lower stop given = quiet_bounds w bound best cause shaped sound (quiet_true w shaped credited stop) lower stop given

@@ -19,7 +19,7 @@ use Rattle.world_model.specs.WorkerSteps.{AtLane, DeliverStep, ExpandStep, SendS
 use Rattle.world_model.specs.Workers.{Lane, Role, WorkerState}
 use Rattle.world_model.specs.Worlds.{IsLane, IsWorker, WorldState, role_of}
 use Rattle.world_model.proofs.TableLemmas.{same_known}
-use Rattle.world_model.proofs.QuietLemmas.{least_unique}
+use Rattle.world_model.proofs.OutcomeLemmas.{least_unique}
 use Rattle.world_model.proofs.RunLemmas.{refusals_change_nothing}
 
 -- two answers to one step: one is not firm, or they are one

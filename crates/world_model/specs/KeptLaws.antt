@@ -30,13 +30,17 @@ use Rattle.world_model.specs.Openings.{Job, IsJob, opening}
 use Rattle.world_model.specs.Shapes.{IsShaped}
 use Rattle.world_model.specs.Soundness.{IsSound}
 use Rattle.world_model.specs.Credit.{IsCredited, purse_total, packet_count, expansion_count}
-use Rattle.world_model.specs.Quiet.{IsQuiet, IsKept, HasBegun}
+use Rattle.world_model.specs.Quiet.{IsQuiet, IsKept, HasBegun, QuietIsTrueIn}
 use Rattle.world_model.specs.Frontiers.{IsInFrontier}
 use Rattle.world_model.specs.Outcomes.{IsByLastMoves, IsGiven, IsBounded}
 
 -- in a quiet world nothing is under way, and no credit is left
 abbrev pub QuietWorldsAreAtRest : Type 0
 QuietWorldsAreAtRest = (w : WorldState) → IsQuiet w → ((to : ℕ) (item : Item) → ¬ IsUnderWay w to item) × (purse_total w + packet_count w ≡ 0)
+
+-- a kept world whose book stopped by Quiet is quiet
+abbrev pub KeptWorldsAreQuiet : Type 0
+KeptWorldsAreQuiet = (w : WorldState) → IsKept w → QuietIsTrueIn w
 
 -- a bound that a quiet world gives, whose book stopped so, is for the cost; or memory was refused, and there is no plan beside it
 abbrev pub QuietWorldsBoundForCost : Type 0
@@ -65,12 +69,16 @@ KeptWorldsAreNeverCut =
 abbrev pub KeptWorldsHaveBegun : Type 0
 KeptWorldsHaveBegun = (w : WorldState) → IsKept w → w.book.stop ≡ Some Limit → GREATEST_GRANT * length w.workers < w.book.limit → HasBegun w
 
--- a bound is for the limit, or because a thread could not be started, only where the run was halted so
+-- a bound is for the limit, or because a thread could not be started, only where the run was halted so; for the cost only where it stopped
+-- by Quiet; and it is cut only where the run has not stopped
 abbrev pub CausesAreTheStops : Type 0
 CausesAreTheStops =
     (w : WorldState) (bound : ℕ) (best : Option (ℕ × Vec Move Global)) (cause : Cause)
     → IsBounded w bound best cause
-    → (cause ≡ ForLimit → w.book.stop ≡ Some Limit) × (cause ≡ ForStart → w.book.stop ≡ Some Start)
+    → (cause ≡ ForLimit → w.book.stop ≡ Some Limit)
+    × (cause ≡ ForStart → w.book.stop ≡ Some Start)
+    × (cause ≡ ForCost → w.book.stop ≡ Some Quiet)
+    × (cause ≡ ForCut → w.book.stop ≡ None)
 
 -- so where it is for the limit, all of that is granted, and spent but for one grant for each worker but one
 abbrev pub LimitBoundsAreSpent : Type 0

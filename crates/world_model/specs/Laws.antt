@@ -10,7 +10,7 @@ use Rattle.outcomes.specs.declared.outcome.Cause.{Cause}
 use Rattle.outcomes.specs.declared.outcome.Cause.TheVariants.{Memory as ForMemory, Cost as ForCost, Cut as ForCut}
 use Rattle.outcomes.specs.declared.outcome.Want.TheVariants.{Refused}
 use Rattle.outcomes.specs.declared.outcome.Outcome.{Outcome}
-use Rattle.outcomes.specs.Outcomes.{Answers, IsTrueBound}
+use Rattle.outcomes.specs.Outcomes.{Answers, HasProof, IsTrueBound}
 use Rattle.world_model.specs.declared.limits.TheConstants.{GREATEST_GRANT}
 use Rattle.world_model.specs.declared.parts.Item.{Item}
 use Rattle.world_model.specs.declared.parts.Known.{Known}
@@ -29,7 +29,7 @@ use Rattle.world_model.specs.Openings.{Job, IsJob, opening}
 use Rattle.world_model.specs.Soundness.{IsSound, IsLedTo}
 use Rattle.world_model.specs.Frontiers.{IsInFrontier}
 use Rattle.world_model.specs.Credit.{IsCredited, expansion_count}
-use Rattle.world_model.specs.Quiet.{IsQuiet, IsKept}
+use Rattle.world_model.specs.Quiet.{IsKept, QuietIsTrueIn}
 use Rattle.world_model.specs.Outcomes.{IsGiven, IsBounded}
 
 -- a refused step leaves the world as it was
@@ -124,25 +124,27 @@ FrontiersBound =
     → ((known : Known) → Knows w (w.owner w.task.goal) w.task.goal known → n ≤ known.cost)
     → NothingBelow w.task.rule w.task.start w.task.goal n
 
--- the outcome that a sound world gives answers its task, at any moment
+-- the outcome that a sound world gives answers its task, at any moment, if the world is quiet where the book says so
 abbrev pub OutcomesAnswer : Type 0
 OutcomesAnswer =
     (w : WorldState) (outcome : Outcome)
     → IsShaped w
     → IsSound w
+    → QuietIsTrueIn w
     → IsLowerBound w.task.rule w.task.sum w.task.goal
     → IsGiven w outcome
     → Answers w.task outcome
 
--- so is what it says of a bound, whatever rows beside it
+-- what it says of a bound is true, whatever rows beside it, and rows that prove the bound exist
 abbrev pub BoundsAreTrue : Type 0
 BoundsAreTrue =
     (w : WorldState) (bound : ℕ) (best : Option (ℕ × Vec Move Global)) (cause : Cause)
     → IsShaped w
     → IsSound w
+    → QuietIsTrueIn w
     → IsLowerBound w.task.rule w.task.sum w.task.goal
     → IsBounded w bound best cause
-    → IsTrueBound w.task bound best cause
+    → IsTrueBound w.task bound best cause × HasProof w.task bound
 
 -- each world that a run reaches from the opening world is shaped, sound and credited
 abbrev pub RunsKeepSound : Type 0
@@ -199,9 +201,9 @@ LimitIsSpent =
     → (expansion_count w ≤ w.book.limit)
     × (w.book.stop ≡ Some Limit → (w.book.granted ≡ w.book.limit) × (w.book.limit ≤ expansion_count w + GREATEST_GRANT * (length w.workers - 1)))
 
--- where the book stopped by Quiet the world is quiet
+-- where the book of a credited world stopped by Quiet the world is quiet
 abbrev pub QuietIsTrue : Type 0
-QuietIsTrue = (w : WorldState) → IsShaped w → IsCredited w → w.book.stop ≡ Some Quiet → IsQuiet w
+QuietIsTrue = (w : WorldState) → IsShaped w → IsCredited w → QuietIsTrueIn w
 
 -- a bound that it gives is for the cost; or memory was refused, and there is no plan beside it
 abbrev pub QuietBoundsAreForCost : Type 0

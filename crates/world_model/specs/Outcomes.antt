@@ -1,8 +1,7 @@
 -- Which outcome a world gives, at any moment.
-use Rattle.std.specs.Prelude.{ℕ, ◌≡◌, ◌≢◌, ◌⊎◌, ◌↔◌, ◌+◌, ◌≤◌, ◌<◌, nat_lt, max, Bool, true, List, [], ◌∷◌, AllPairs, Contains, Option, Some, None, Vec, if◌then◌else◌}
+use Rattle.std.specs.Prelude.{ℕ, ◌≡◌, ◌≢◌, ◌⊎◌, ◌↔◌, ◌+◌, ◌≤◌, ◌<◌, max, List, [], ◌∷◌, AllPairs, Contains, Option, Some, None, Vec}
 use Rattle.std.specs.declared.alloc.Global.{Global}
 use Rattle.memory.specs.declared.OutOfMemory.{OutOfMemory}
-use Rattle.board.specs.declared.costs.TheConstants.{GREATEST_EXPANDED_COST}
 use Rattle.board.specs.declared.moves.Move.{Move}
 use Rattle.board.specs.Positions.{Position}
 use Rattle.board.specs.Moves.{Moves}
@@ -62,22 +61,17 @@ pub record AreRowsBelow (w : WorldState) (k : ℕ) (rows : List (Position × ℕ
 abbrev pub AreRowsFor : WorldState → ℕ → List (Position × ℕ) → Type 0
 AreRowsFor w k rows = ((k ≤ w.task.sum w.task.start) × (rows ≡ [])) ⊎ ((w.task.sum w.task.start < k) × AreRowsBelow w k rows)
 
--- whether all of the frontier is above the greatest cost at which a board is expanded
-abbrev pub is_too_high : Option ℕ → Bool
-is_too_high None = true
-is_too_high (Some f) = nat_lt GREATEST_EXPANDED_COST f
-
--- the cause that a bound has, by what stopped the run and by the lowest of the frontier
-abbrev pub cause_of : Option Stop → Option ℕ → Cause
-cause_of (Some Limit) lowest = ForLimit
-cause_of (Some (Memory want)) lowest = ForMemory want
-cause_of (Some Start) lowest = ForStart
-cause_of (Some Quiet) lowest = if is_too_high lowest then ForCost else ForCut
-cause_of None lowest = ForCut
+-- The cause that a bound has, by what stopped the run. Where it is quiet, what is left costs more than a run may reach.
+abbrev pub cause_of : Option Stop → Cause
+cause_of (Some Limit) = ForLimit
+cause_of (Some (Memory want)) = ForMemory want
+cause_of (Some Start) = ForStart
+cause_of (Some Quiet) = ForCost
+cause_of None = ForCut
 
 -- the cause at an end
 abbrev pub cause_at : End → Cause
-cause_at end = cause_of end.world.book.stop end.lowest
+cause_at end = cause_of end.world.book.stop
 
 -- the run stopped early with this bound; beside it stands the plan that is followed back, which costs more, if the goal is known
 abbrev pub IsStoppedAt : End → ℕ → Option (ℕ × Vec Move Global) → Cause → Type 0

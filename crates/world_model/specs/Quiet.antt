@@ -24,6 +24,10 @@ pub record IsQuiet (w : WorldState) : Type 0 where
   pub frontier : (b : Position) (cost : ℕ) → IsInFrontier w b cost → limit_of w.book.best ≤ cost + w.task.sum b
   pub best : IsReached w w.book.best
 
+-- where the book stopped by Quiet the world is quiet
+abbrev pub QuietIsTrueIn : WorldState → Type 0
+QuietIsTrueIn w = w.book.stop ≡ Some Quiet → IsQuiet w
+
 -- the start is expanded
 abbrev pub HasBegun : WorldState → Type 0
 HasBegun w = (i : ℕ) × (known : Known) × Knows w i w.task.start known × (known.expanded ≡ true)

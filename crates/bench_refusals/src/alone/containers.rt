@@ -39,7 +39,7 @@ pub fn reserve_closed(alloc: Global) -> Answer {
         return refused_if(closed.len() == 0, "a board from nowhere");
     };
     closed.relax(7, 3, Move::D);
-    match closed.reserve(alloc, 9000) {
+    match closed.reserve(alloc, 3000) {
         Ok(()) => whole_if(has_one_board(&closed), "other boards"),
         Err(_) => refused_if(has_one_board(&closed), "other boards"),
     }

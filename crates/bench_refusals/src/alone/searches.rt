@@ -55,8 +55,8 @@ pub fn search_with_tables<R: Threads + AllocGlobal + Sync>(rt: &R) -> Answer {
     }
 }
 
-// The bound of no group, whose sums are 0. It takes no memory.
-fn no_tables(alloc: Global, shape: Shape) -> Bound
+/// The bound of no group, whose sums are 0. It takes no memory.
+pub fn no_tables(alloc: Global, shape: Shape) -> Bound
     ensures { (result.lookups ≡ []) × (result.folds ≡ []) }
 {
     let partition = Partition::new(shape, Vec::new(alloc)).unwrap();
@@ -101,9 +101,10 @@ fn solve(
         Err(_) => Answer::Refused,
     }
 }
-// Judges an outcome. Where memory was refused it is a bound, which is no higher than the least
-// cost, with no plan or one that costs more than the bound, and with rows or without.
-fn judge(outcome: &Outcome, start: &Board, weights: &Weights, least: Option<u32>) -> Answer
+
+/// Judges an outcome. Where memory was refused it is a bound, which is no higher than the least
+/// cost, with no plan or one that costs more than the bound, and with rows or without.
+pub fn judge(outcome: &Outcome, start: &Board, weights: &Weights, least: Option<u32>) -> Answer
     requires { weights.now.grid ≡ start.now.grid }
 {
     match outcome {

@@ -153,7 +153,7 @@ fn settle_it(alloc: Global, job: &Job, worker: &mut Worker<Plain>) -> Answer
     ensures led { IsLed job.now worker.new.lists }
 {
     let before = standing_of(worker);
-    match settle(alloc, job, worker) {
+    match settle(alloc, job, &ByBlank, ME, worker) {
         Some(Ok(())) => return Answer::Whole,
         Some(Err(Refusal::Memory(_))) => {}
         _ => return Answer::Wrong("not settled"),
@@ -161,7 +161,7 @@ fn settle_it(alloc: Global, job: &Job, worker: &mut Worker<Plain>) -> Answer
     if standing_of(worker) != before {
         return Answer::Wrong("a refused settling changed something");
     }
-    match settle(alloc, job, worker) {
+    match settle(alloc, job, &ByBlank, ME, worker) {
         Some(Ok(())) => Answer::Refused,
         _ => Answer::Wrong("not settled at last"),
     }

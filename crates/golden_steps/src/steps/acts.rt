@@ -43,7 +43,7 @@ fn make_alone<C: Tokens, S: Spread>(
         Act::Meet(tiles, cost, via) => Some(meet(alloc, trial, &(tiles, cost, via))),
         Act::Expand => Some(word_of(trial.expand(alloc, owners, me))),
         Act::ExpandFrom(tiles, cost) => Some(expand_from(alloc, owners, me, trial, tiles, cost)),
-        Act::Settle => Some(word_of(trial.settle(alloc))),
+        Act::Settle => Some(word_of(trial.settle(alloc, owners, me))),
         _ => None,
     }
 }

@@ -95,9 +95,14 @@ impl<C: Tokens> Trial<C> {
     }
 
     /// The last item that is held is taken in. None where that is left out.
-    pub fn settle(&mut self, alloc: Global) -> Option<Result<(), Refusal>> {
+    pub fn settle<S: Spread>(
+        &mut self,
+        alloc: Global,
+        owners: &S,
+        me: usize,
+    ) -> Option<Result<(), Refusal>> {
         let Trial { job, worker } = self;
-        settle(alloc, job, worker)
+        settle(alloc, job, owners, me, worker)
     }
 
     /// What is unsent for a worker goes into the lane. None where there is no such worker.

@@ -2,34 +2,28 @@ use Rattle.std.proofs.Common.{arith, ◌≡◌, ◌≢◌, ℕ, ◌+◌, ◌*◌
 use Rattle.std.specs.Prelude.{sum_by}
 use Rattle.std.specs.Vec.{with_items}
 use Rattle.std.proofs.lemmas.List.{length-map, with_items_is}
-use Rattle.std.proofs.lemmas.Option.{IfSome_then}
-use Rattle.outcomes.specs.declared.outcome.Outcome.{Outcome}
 use Rattle.outcomes.specs.declared.outcome.Want.TheVariants.{Stated}
 use Rattle.world_model.specs.declared.limits.TheConstants.{GREATEST_GRANT}
 use Rattle.world_model.specs.declared.steps.Stop.TheVariants.{Limit, Memory}
-use Rattle.world_model.specs.Outcomes.{IsGiven}
-use Rattle.world_model.specs.Quiet.{IsKept}
 use Rattle.world_model.specs.Workers.{WorkerState}
-use Rattle.world_model.specs.Worlds.{WorldState}
 use Rattle.worker_core.specs.Workers.{state_of}
 use Rattle.world_ends.specs.Parts.{states_of}
-use Rattle.thread_joins.specs.Threads.{IsByThreads}
 use Rattle.thread_joins.specs.Worlds.{IsWorldOf}
-use Rattle.thread_joins.proofs.OutcomeLemmas.{by_threads, world_at}
+use Rattle.thread_joins.proofs.OutcomeLemmas.{joined_is, world_at}
 use Rattle.thread_joins.proofs.outcome.outcome_of_joined.Goals as goal
 
-pub outcome_if_kept-outcome-requires-clause-world : goal.outcome_if_kept-outcome-requires-clause-world
-outcome_if_kept-outcome-requires-clause-world g c κs within =
-    let has = c.in-Ok.ensures.world c.args.job.now c.args.owners.now c.requires.joint in
-    (has.0, world_at g.S.Spread.hash_of c.args.job.now c.args.owners.now g.M.Ledger.parts c.args.book c.join_world.new.book c.in-Ok.joined.workers.items c.deref_mut.result.now c.in-Ok.joined.ins.items has.0 (sym c.join_world.ensures.book) (sym c.deref_mut.ensures.value) has.1)
+pub outcome_if_kept-found-requires-clause-world : goal.outcome_if_kept-found-requires-clause-world
+outcome_if_kept-found-requires-clause-world g c κs within =
+    let has = c.in_ok-joined.ensures.world c.args.job.now c.args.owners.now c.requires.joint in
+    (has.0, world_at g.S.Spread.hash_of c.args.job.now c.args.owners.now g.M.Ledger.parts c.args.book c.join_world.new.book c.in_ok-joined.joined.workers.items c.deref_mut.result.now c.in_ok-joined.joined.ins.items has.0 (sym c.join_world.ensures.book) (sym c.deref_mut.ensures.value) has.1)
 
 pub count_expanded-requires-clause-whole : goal.count_expanded-requires-clause-whole
 count_expanded-requires-clause-whole g c κs within =
-    let has = c.in-Ok.ensures.world c.args.job.now c.args.owners.now c.requires.joint in
-    let workers = c.in-Ok.joined.workers in
-    let new = c.outcome_if_kept-outcome.new.workers in
+    let has = c.in_ok-joined.ensures.world c.args.job.now c.args.owners.now c.requires.joint in
+    let workers = c.in_ok-joined.joined.workers in
+    let new = c.outcome_if_kept-found.new.workers in
     let value = c.deref_mut.ensures.value in
-    let same : states_of new ≡ states_of workers.items = c.outcome_if_kept-outcome.ensures.same ∙ ap (λ ws. states_of ws) value in
+    let same : states_of new ≡ states_of workers.items = c.outcome_if_kept-found.ensures.same ∙ ap (λ ws. states_of ws) value in
     let e = ap (λ (ws : List WorkerState). length ws) same in
     let len : length new ≡ workers.len = omega (arith, e, length-map new (λ worker. state_of worker), length-map workers.items (λ worker. state_of worker), workers.ok.0) in
     let items : (with_items workers new).items ≡ new = with_items_is workers new len in
@@ -42,14 +36,14 @@ returns g c =
     let owners = c.args.owners.now in
     let n = g.M.Ledger.parts in
     let book = c.join_world.new.book in
-    let joined = c.in-Ok.joined in
-    let has = c.in-Ok.ensures.world p owners c.requires.joint in
+    let joined = c.in_ok-joined.joined in
+    let has = c.in_ok-joined.ensures.world p owners c.requires.joint in
     let w = has.0 in
-    let new = c.outcome_if_kept-outcome.new.workers in
+    let new = c.outcome_if_kept-found.new.workers in
     let value = c.deref_mut.ensures.value in
     let is : IsWorldOf hash_of p owners n book c.deref_mut.result.now joined.ins.items w =
     world_at hash_of p owners n c.args.book book joined.workers.items c.deref_mut.result.now joined.ins.items w (sym c.join_world.ensures.book) (sym value) has.1 in
-    let same : states_of new ≡ states_of c.deref_mut.result.now = c.outcome_if_kept-outcome.ensures.same in
+    let same : states_of new ≡ states_of c.deref_mut.result.now = c.outcome_if_kept-found.ensures.same in
     let e = ap (λ (ws : List WorkerState). length ws) same in
     let e' = ap (λ ws. length ws) value in
     let len : length new ≡ joined.workers.len = omega (arith, e, e', length-map new (λ worker. state_of worker), length-map c.deref_mut.result.now (λ worker. state_of worker), joined.workers.ok.0) in
@@ -65,6 +59,4 @@ returns g c =
     let limit : book.limit ≡ p.limit = c.stop.ensures.allowed ∙ sym c.requires.limit in
     let at_limit : book.stop ≡ Some Limit → book.granted ≡ book.limit = λ stopped. c.stop.ensures.limit (c.stop.ensures.value ∙ stopped) in
     let no_list : book.stop ≢ Some (Memory Stated) = λ stopped. c.stop.ensures.want Stated (c.stop.ensures.value ∙ stopped) refl in
-    IfSome_then c.outcome_if_kept-outcome.result {Q = IsByThreads hash_of p owners n} c.outcome_if_kept-outcome.ensures.given
-    (λ (outcome : Outcome) (given : (w : WorldState) → IsWorldOf hash_of p owners n book c.deref_mut.result.now joined.ins.items w → IsKept w × IsGiven w outcome).
-    by_threads hash_of p owners n book IsGiven c.deref_mut.result.now joined.ins.items w outcome expanded is (given w is) limit sum within high c.stop.ensures.within at_limit no_list)
+    (w, joined_is hash_of p owners n book c.deref_mut.result.now joined.ins.items w expanded is limit sum within high c.stop.ensures.within at_limit no_list, c.outcome_if_kept-found.ensures.given w is)

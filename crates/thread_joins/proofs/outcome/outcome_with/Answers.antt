@@ -16,8 +16,8 @@ lowest_in_rows-lowest-requires-after_bounds g c κs within =
     let is = c.requires.2 in
     items_left w g.C.Tokens.workers c.args.ins.items is.lanes is.widths c.bound.result.now.split.grid is.parts.shaped (c.bound.ensures.sides ∙ ap (λ (t : Task). t.goal.grid) (sym is.parts.asks))
 
-pub outcome_of-requires-clause-guided : goal.outcome_of-requires-clause-guided
-outcome_of-requires-clause-guided g c κs within =
+pub read-requires-clause-guided : goal.read-requires-clause-guided
+read-requires-clause-guided g c κs within =
     let p = c.args.job.now in
     let asked = c.asked_in-asked in
     let same = same_task p asked.result.start asked.result.goal asked.result.weights asked.result.bound.now asked.ensures.start asked.ensures.goal asked.ensures.weights asked.ensures.bound in
@@ -31,4 +31,4 @@ returns-clause-given g c = λ book w is stop.
     let parts = subst (λ (task : Task). HasParts task (g.S.Spread.hash_of c.args.owners.now) (states_of c.args.workers.now) w) (sym same) is.parts in
     let sums = ap (λ (tables : Tables). sum_of (parts_of tables)) c.bound.ensures.value ∙ ap (λ (t : Task). t.sum) (sym is.parts.asks) in
     let lowest = lowest_left w g.C.Tokens.workers c.args.ins.items is.lanes is.widths (sum_of (parts_of c.bound.result.now)) c.lowest_in_rows-lowest.result sums c.lowest_in_rows-lowest.ensures in
-    c.outcome_of.ensures.given w parts lowest (ap (λ (b : BookState). b.stop) is.book_is ∙ stop)
+    c.read.ensures.given w parts lowest (ap (λ (b : BookState). b.stop) is.book_is ∙ stop)

@@ -6,15 +6,15 @@ use Rattle.thread_parts.specs.Parts.{face}
 use Rattle.thread_runs.proofs.OpeningLemmas.{each_more, row_is, row_same, IsFace, joint_of}
 use Rattle.thread_runs.proofs.opening.open_parts.Goals as goal
 
-pub open_part-opened-requires-clause-sent : goal.open_part-opened-requires-clause-sent
-open_part-opened-requires-clause-sent g c κs within =
+pub open_part-requires-clause-sent : goal.open_part-requires-clause-sent
+open_part-requires-clause-sent g c κs within =
     let me = c.workers.me in
     let row = c.take_row-to_each.result in
     let at : slice_get c.args.rings.outs.items me ≡ Some row = sym (c.workers.invariant.7 me (omega arith)) ∙ c.take_row-to_each.ensures.row in
     row_same (λ (v : Vec SendingEnd Global). sent_lanes v.items) c.args.rings.outs.items me row at c.args.workers (replicate c.args.workers []) c.requires.sent
 
-pub open_part-opened-requires-clause-received : goal.open_part-opened-requires-clause-received
-open_part-opened-requires-clause-received g c κs within =
+pub open_part-requires-clause-received : goal.open_part-requires-clause-received
+open_part-requires-clause-received g c κs within =
     let me = c.workers.me in
     let row = c.take_row-from_each.result in
     let at : slice_get c.args.rings.ins.items me ≡ Some row = sym (c.workers.invariant.8 me (omega arith)) ∙ c.take_row-from_each.ensures.row in
@@ -28,7 +28,7 @@ workers-preserved g c =
     let owners = c.args.owners.now in
     let rings = c.args.rings in
     let parts = c.workers.parts.items in
-    let part = c.in-Ok-opened.part in
+    let part = c.in_ok-part.part in
     let out = c.take_row-to_each.result in
     let into = c.take_row-from_each.result in
     let at_out : slice_get rings.outs.items me ≡ Some out = sym (inv.7 me (omega arith)) ∙ c.take_row-to_each.ensures.row in
@@ -37,7 +37,7 @@ workers-preserved g c =
     let len : length parts ≡ me = search rules in
     let outs_are : slice_index_or (rings_of_outs rings.outs.items) me [] ≡ out_rings out.items = row_is (λ (v : Vec SendingEnd Global). out_rings v.items) rings.outs.items me out at_out [] in
     let ins_are : slice_index_or (rings_of_ins rings.ins.items) me [] ≡ in_rings into.items = row_is (λ (v : Vec ReceivingEnd Global). in_rings v.items) rings.ins.items me into at_in [] in
-    let is : IsFace p owners (rings_of_outs rings.outs.items) (rings_of_ins rings.ins.items) me part = c.in-Ok-opened.ensures ∙ (λ t. face p owners me (sym outs_are t) (sym ins_are t)) in (
+    let is : IsFace p owners (rings_of_outs rings.outs.items) (rings_of_ins rings.ins.items) me part = c.in_ok-part.ensures ∙ (λ t. face p owners me (sym outs_are t) (sym ins_are t)) in (
       search rules,
       search rules,
       search rules,

@@ -1,18 +1,20 @@
-use Rattle.std.proofs.Common.{◌∙◌}
-use Rattle.thread_work.proofs.JoinLemmas.{last_joined}
+use Rattle.thread_work.specs.Promises.{promised}
+use Rattle.thread_work.proofs.JoinLemmas.{last_joined, same_part}
 use Rattle.thread_work.proofs.threads.+run_parts.Goals as goal
 
 pub returns-clause-all : goal.returns-clause-all
-returns-clause-all g t c all =
+returns-clause-all g t c =
+    let started = c.start_one-started.result in
+    let part = c.in-Some.part in
+    let back = c.take_back.result in
     last_joined
-    c.args.joined.items
     c.pop.new.self.items
     c.args.parts.items
-    c.run_parts-joined.result.0.items
+    c.run_parts-parts.result.items
     c.push_reserved.new.self.items
-    c.in-Some.part
-    c.join.result
+    part
+    back
     c.in-Some.ensures.items
-    (c.run_parts-joined.ensures.all all)
-    (c.join.ensures ∙ c.in-Some-start_one.ensures)
+    c.run_parts-parts.ensures.all
+    (same_part promised started part back c.start_one-started.ensures.started c.start_one-started.ensures.back c.take_back.ensures.joined c.take_back.ensures.back)
     c.push_reserved.ensures.items

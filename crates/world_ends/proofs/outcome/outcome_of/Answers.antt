@@ -1,4 +1,4 @@
-use Rattle.std.proofs.Common.{◌≡◌, ◌<◌, ◌≤◌, List, sym, subst, ⊎_elim}
+use Rattle.std.proofs.Common.{◌<◌, ◌≤◌, List, sym, subst, ⊎_elim}
 use Rattle.std.proofs.lemmas.Bool.{cases_lt}
 use Rattle.outcomes.specs.Outcomes.{Task}
 use Rattle.world_model.specs.Outcomes.{IsGiven}

@@ -14,4 +14,4 @@ returns-clause-answers g c =
     let parts = c.self.inside.parts in
     let kept = c.self.invariant in
     subst (λ (parts : Parts g.row.S.Denot). EndAnswers (task_in parts.job) c.end_parts.result) c.self.view_is
-    (c.endings_answer.ensures (world_of g.S.Spread.hash_of parts) c.end_parts.result kept.shaped kept.sound c.bound.ensures.lower c.end_parts.ensures)
+    (c.endings_answer.ensures (world_of g.S.Spread.hash_of parts) c.end_parts.result kept.shaped kept.sound (c.quiet_is_true.ensures.quiet (world_of g.S.Spread.hash_of parts) kept.shaped kept.credited) c.bound.ensures.lower c.end_parts.ensures)

@@ -14,4 +14,4 @@ returns-clause-answers g c =
     let parts = c.self.inside.parts in
     let kept = c.self.invariant in
     subst (λ (parts : Parts g.row.S.Denot). Answers (task_in parts.job) c.finish_parts.result) c.self.view_is
-    (c.outcomes_answer.ensures.answers (world_of g.S.Spread.hash_of parts) c.finish_parts.result kept.shaped kept.sound c.bound.ensures.lower c.finish_parts.ensures)
+    (c.outcomes_answer.ensures.answers (world_of g.S.Spread.hash_of parts) c.finish_parts.result kept.shaped kept.sound (c.quiet_is_true.ensures.quiet (world_of g.S.Spread.hash_of parts) kept.shaped kept.credited) c.bound.ensures.lower c.finish_parts.ensures)

@@ -1,0 +1,5 @@
+use Rattle.checked_runs.proofs.CertificateLemmas.{plans_accepted}
+use Rattle.checked_runs.proofs.laws.plans_are_accepted.Goals as goal
+
+pub returns : goal.returns
+returns c = plans_accepted
