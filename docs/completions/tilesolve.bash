@@ -1,9 +1,9 @@
-# Completions of tilesolve for bash: source this file, or put it into the folder of completions.
+# Completions of tilesolve for bash: source this file, or put it into bash-completion's folder.
 
 _tilesolve() {
     local word=${COMP_WORDS[COMP_CWORD]} before=${COMP_WORDS[COMP_CWORD - 1]} words=
     local options='--rows --cols --cost --goal --groups --fold --workers --spread --limit'
-    # Where COMP_WORDBREAKS has an equals sign, an option and its value are three words.
+    # If COMP_WORDBREAKS contains an equals sign, an option and its value are three words.
     if [[ $word == = ]]; then
         word=
     elif [[ $before == = ]]; then
