@@ -8,7 +8,7 @@ import sys
 import tempfile
 import time
 
-from programs import NEEDED, NO_PROGRAM, OUT, PROGRAM, VERSION, end_in_order, fail, is_current, keep, kit, locked, note_choice, sources, version
+from programs import NEEDED, NO_PROGRAM, OUT, PROGRAM, end_in_order, fail, is_buildable, is_current, keep, kit, locked, note_choice, sources, version
 from quick_build import CannotBuild, build
 
 WHAT_IS_BUILT = f"""{PROGRAM}: building the program without repeating its proofs, which takes about a minute. It checks each step as it runs.
@@ -17,7 +17,7 @@ WHAT_IS_BUILT = f"""{PROGRAM}: building the program without repeating its proofs
 
 def build_quick():
     """Builds the quick program. Where sources change meanwhile, it is built again."""
-    if version() != VERSION:
+    if not is_buildable():
         fail(f"{NEEDED}; found is {version() or 'no toolchain'}")
     print(WHAT_IS_BUILT, file=sys.stderr, flush=True)
     made_of = None

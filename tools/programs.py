@@ -8,6 +8,7 @@ import contextlib
 import fcntl
 import hashlib
 import os
+import re
 import shutil
 import signal
 import sys
@@ -17,9 +18,9 @@ from quick_build import ROOT, below, crates_listed
 
 PROGRAM = "tilesolve"
 OUT = f"{ROOT}/out"
-# The toolchain that the quick build is written for, as `rt version` prints it.
-VERSION = "rattle-kit-13f logic dac8208d650f15bf"
-NEEDED = f"x86-64 Linux, python3 and the Rattle toolchain {VERSION.split()[0]}, with its command rt in PATH, are needed"
+# The toolchains that the quick build is written for, as `rt version` prints them: any release of this kit with this logic.
+KIT, LOGIC = "rattle-kit-13", "logic dac8208d650f15bf"
+NEEDED = f"x86-64 Linux, python3 and the Rattle toolchain {KIT} ({LOGIC}), with its command rt in PATH, are needed"
 # What of a crate a program is made of, and what besides.
 PARTS = {"quick": ("src",), "proved": ("src", "specs", "proofs")}
 BESIDES = {"quick": "tools/quick_build.py", "proved": "HANDLES"}
@@ -47,6 +48,11 @@ def version():
             return file.read().strip()
     except OSError:
         return ""
+
+
+def is_buildable():
+    """Whether the quick build is written for the toolchain."""
+    return re.fullmatch(rf"{KIT}[a-z]* {LOGIC}", version()) is not None
 
 
 def checksum_of(path):

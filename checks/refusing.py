@@ -1,0 +1,57 @@
+"""What checks/refusals and checks/thread-refusals share: bench_refusals, built as the first call of ./tilesolve builds that
+program, which proves nothing, and runs of it in which an allocation is refused.
+
+rt try --fail-alloc takes most of a second for a run, and can't run threads. Here a small library takes the place of the C
+library's allocations (checks/refused_allocations.c). PROGRAM names a bench_refusals that is built already.
+"""
+import os
+import re
+import struct
+import subprocess
+import sys
+
+ROOT = os.path.dirname(os.path.dirname(os.path.realpath(__file__)))
+PROGRAM = "bench_refusals"
+# A run that takes so many seconds is not going to end.
+SECONDS = 60
+sys.path.insert(0, f"{ROOT}/tools")
+from programs import NEEDED, kit  # noqa: E402
+from quick_build import CannotBuild, build  # noqa: E402
+
+
+def calls(part):
+    """Returns the names of a part's calls, by which its lines begin in the program's stored output."""
+    with open(f"{ROOT}/crates/{PROGRAM}/stdout", encoding="utf-8") as stored:
+        parts = dict(re.findall(r"^== (.*)\n((?:(?!== ).*\n)*)", stored.read(), re.M))
+    return [line.split()[0] for line in parts[part].splitlines()]
+
+
+def build_in(room):
+    """Builds the program, and the library that refuses allocations."""
+    if "PROGRAM" in os.environ:
+        os.symlink(os.path.realpath(os.environ["PROGRAM"]), f"{room}/{PROGRAM}")
+    elif not kit():
+        sys.exit(f"checks/refusing.py: {NEEDED}")
+    else:
+        try:
+            build(PROGRAM, f"{room}/{PROGRAM}", kit(), room=room)
+        except CannotBuild as why:
+            sys.exit(f"checks/refusing.py: {why}")
+    command = ["cc", "-O2", "-Wall", "-shared", "-fPIC", "-o", f"{room}/refused.so", f"{ROOT}/checks/refused_allocations.c"]
+    subprocess.run(command, check=True)
+
+
+def run(room, part, name, refused, each_after=False):
+    """Makes a call with an allocation refused, or none where the number is 0. Returns what it printed behind its name, or
+    its fault, and how many allocations there were."""
+    with open(f"{room}/counted", "wb") as file:
+        file.write(bytes(8))
+    rules = {"LD_PRELOAD": f"{room}/refused.so", "COUNTED": f"{room}/counted", "REFUSED": str(refused), "EACH_AFTER": str(int(each_after))}
+    words = [f"{room}/{PROGRAM}", part, name]
+    try:
+        ran = subprocess.run(words, env={**os.environ, **rules}, stdin=subprocess.DEVNULL, capture_output=True, text=True, errors="replace", timeout=SECONDS)
+        came = ran.stdout.removeprefix(f"{name} ").strip() if ran.returncode == 0 else f"status {ran.returncode}: {ran.stdout}{ran.stderr}"
+    except subprocess.TimeoutExpired:
+        came = f"no end after {SECONDS} seconds"
+    with open(f"{room}/counted", "rb") as file:
+        return came, struct.unpack("N", file.read())[0]
