@@ -131,8 +131,7 @@ module _ (b : Buckets) (cost rank : ℕ) (old now : Vec ℕ Global) (inside : co
 
 pub lowered_none : (rank cost : ℕ) (s : Search) → slice_index s.values.items rank ≤ cost → IsLowered rank cost s s
 lowered_none rank cost s low = record {
-  group = refl;
-  weights = refl;
+  graph = refl;
   same_length = refl;
   falls = λ k. omega arith;
   low = low;
@@ -144,10 +143,9 @@ lowered_none rank cost s low = record {
   work = λ at. omega arith;
 }
 
-pub lowered_put : (rank cost : ℕ) (s s' : Search) (b : Buckets) → s'.group ≡ s.group → s'.weights ≡ s.weights → s'.values.items ≡ set s.values.items rank cost → rank < length s.values.items → cost < slice_index s.values.items rank → IsGrown s.buckets.items b → (length s.buckets.items ≤ NO_VALUE → length b ≤ NO_VALUE) → IsPut cost rank b s'.buckets.items → IsLowered rank cost s s'
-lowered_put rank cost s s' b group weights is inside less grown few is_put = record {
-  group = group;
-  weights = weights;
+pub lowered_put : (rank cost : ℕ) (s s' : Search) (b : Buckets) → s'.graph ≡ s.graph → s'.values.items ≡ set s.values.items rank cost → rank < length s.values.items → cost < slice_index s.values.items rank → IsGrown s.buckets.items b → (length s.buckets.items ≤ NO_VALUE → length b ≤ NO_VALUE) → IsPut cost rank b s'.buckets.items → IsLowered rank cost s s'
+lowered_put rank cost s s' b graph is inside less grown few is_put = record {
+  graph = graph;
   same_length = ap length is ∙ length-set s.values.items rank cost;
   falls = λ k. ⊎_elim (λ (e : k ≡ rank). let f = at_rank k e in let g : get_or s.values.items k 0 ≡ get_or s.values.items rank 0 = ap (λ j. get_or s.values.items j 0) e in omega arith)
       (λ (ne : k ≢ rank). let f = elsewhere k ne in omega arith) (cases_eq k rank);

@@ -6,5 +6,13 @@ pub mod Folds
 pub mod Marks
 pub mod SmallValues
 pub mod Buckets
+pub mod Orders
+pub mod Sets
+pub mod Regions
+pub mod Labels
+pub mod Numberings
+pub mod Edges
+pub mod Graphs
+pub mod Rows
 pub mod Searches
 pub mod Laws

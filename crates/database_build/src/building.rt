@@ -3,7 +3,9 @@
 ghost use Rattle.std.specs.Prelude.{◌≡◌, IfOk};
 ghost use Rattle.database_build.specs.Tables.{HoldsValues};
 
-use crate::search::Search;
+use crate::orders::factorial;
+use crate::rows::rank_values;
+use crate::search::find_values;
 use crate::table::Table;
 use board::{Board, Weights};
 use memory::OutOfMemory;
@@ -23,7 +25,8 @@ pub fn build(
     ensures group { IfOk result (λ t. t.selection ≡ group.now) }
     ensures values { IfOk result (λ t. HoldsValues t weights.now goal.now) }
 {
-    let search = Search::new(alloc, group, weights)?;
-    let values = search.run(goal)?;
+    let found = find_values(alloc, group, goal, weights)?;
+    let orders = factorial(group.tiles().len());
+    let values = rank_values(alloc, group, &found.regions, orders, &found.values)?;
     Ok(Table::of_group(group, values))
 }

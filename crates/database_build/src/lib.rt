@@ -7,11 +7,16 @@
 
 mod buckets;
 mod building;
+mod edges;
 mod faults;
 mod folding;
 pub mod laws;
+mod orders;
 mod potential;
+mod regions;
+mod rows;
 mod search;
+mod sets;
 mod table;
 
 pub use building::build;

@@ -135,9 +135,10 @@ fn with_bit(mask: u32, cell: u8) -> u32
     mask | (1u32 << cell)
 }
 
-// Writes the list of different cells that has a rank, from its end: each cell taken out before
-// those that are written moves them up past itself.
-pub(crate) fn list_cells(cells: usize, rank: usize, list: &mut [u8])
+/// Writes the list of different cells that has a rank among all lists of its length, in
+/// lexicographic order. It is made from its end: each cell that is put before those that are
+/// written moves them up past itself.
+pub fn list_cells(cells: usize, rank: usize, list: &mut [u8])
     requires few { cells ≤ 25 }
     requires fits { length list.old ≤ cells }
     requires below { rank < ways cells (length list.old) }

@@ -14,6 +14,7 @@ mod sparse;
 mod view;
 mod worked;
 
+pub use cells::list_cells;
 pub use faults::{GroupFault, PartitionFault};
 pub use group::{Group, MAX_SIZE};
 pub use partition::{Partition, is_apart};

@@ -1,14 +1,55 @@
-use Rattle.std.proofs.Common.{sym, subst, refl}
-use Rattle.pattern_index.specs.Views.{IsView}
-use Rattle.pattern_index.specs.Selections.{Selection}
-use Rattle.database_build.proofs.ReachLemmas.{spreading_more}
+use Rattle.std.proofs.Common.{◌≡◌, ◌∙◌, ◌+◌, ◌-◌, subst, arith}
+use Rattle.std.proofs.lemmas.List.{get_or_default}
+use Rattle.std.specs.Prelude.{◌%◌, Some, slice_get}
+use Rattle.database_build.proofs.ReachLemmas.{at_from, edge_read, edge_ends, spreading_more, visited_all}
 use Rattle.database_build.proofs.search.Search.visit.Goals as goal
 
-pub moves-init : goal.moves-init
-moves-init c = record { spread = refl; group = refl; fits = c.requires.fits }
+pub index-requires-in-edges : goal.index-requires-in-edges
+index-requires-in-edges c =
+    let g = c.args.self.now.graph in
+    let sound = c.requires.fits.sound in
+    let at = at_from g c.args.node c.size.result c.index-2.result.now c.index-3.result.now sound c.requires.inside (c.size.ensures ∙ sound.orders.size) c.index-2.ensures c.index-3.ensures in
+    let within = edge_read g c.edges.self.graph c.args.node c.index-2.result.now c.index-3.result.now c.edges.at c.edges.invariant.graph at c.edges-test.true in
+    let ok = c.edges.self.graph.edges.edges.ok in
+    omega arith
 
-pub reach-requires-clause-view : goal.reach-requires-clause-view
-reach-requires-clause-view c = subst (λ (g : Selection). IsView g.grid g.tiles c.unrank-view.result) (sym c.moves.invariant.group) c.unrank-view.ensures.view
+pub pass-requires-clause-from : goal.pass-requires-clause-from
+pass-requires-clause-from c =
+    let g = c.args.self.now.graph in
+    let sound = c.requires.fits.sound in
+    let at = at_from g c.args.node c.size.result c.index-2.result.now c.index-3.result.now sound c.requires.inside (c.size.ensures ∙ sound.orders.size) c.index-2.ensures c.index-3.ensures in
+    (edge_ends g c.edges.self.graph c.args.node c.size-2.result c.index-2.result.now c.index-3.result.now c.edges.at c.index-in-edges.result.now c.edges.invariant.graph at (c.size-2.ensures ∙ sound.orders.size) c.edges.auto.at c.edges-test.true c.index-in-edges.ensures).0
 
-pub moves-preserved : goal.moves-preserved
-moves-preserved c = spreading_more c.unrank-view.result c.args.cost c.moves.direction-index c.args.self.now c.moves.self c.reach.new.self c.moves-test.true c.moves.invariant c.in_ok-reach.ensures
+pub pass-requires-clause-to : goal.pass-requires-clause-to
+pass-requires-clause-to c =
+    let g = c.args.self.now.graph in
+    let sound = c.requires.fits.sound in
+    let at = at_from g c.args.node c.size.result c.index-2.result.now c.index-3.result.now sound c.requires.inside (c.size.ensures ∙ sound.orders.size) c.index-2.ensures c.index-3.ensures in
+    (edge_ends g c.edges.self.graph c.args.node c.size-2.result c.index-2.result.now c.index-3.result.now c.edges.at c.index-in-edges.result.now c.edges.invariant.graph at (c.size-2.ensures ∙ sound.orders.size) c.edges.auto.at c.edges-test.true c.index-in-edges.ensures).1
+
+pub pass-requires-clause-inside : goal.pass-requires-clause-inside
+pass-requires-clause-inside c =
+    let g = c.args.self.now.graph in
+    let sound = c.requires.fits.sound in
+    let at = at_from g c.args.node c.size.result c.index-2.result.now c.index-3.result.now sound c.requires.inside (c.size.ensures ∙ sound.orders.size) c.index-2.ensures c.index-3.ensures in
+    (edge_ends g c.edges.self.graph c.args.node c.size-2.result c.index-2.result.now c.index-3.result.now c.edges.at c.index-in-edges.result.now c.edges.invariant.graph at (c.size-2.ensures ∙ sound.orders.size) c.edges.auto.at c.edges-test.true c.index-in-edges.ensures).2
+
+pub edges-preserved : goal.edges-preserved
+edges-preserved c =
+    let g = c.args.self.now.graph in
+    let sound = c.requires.fits.sound in
+    let first = c.index-2.result.now in
+    let at = at_from g c.args.node c.size.result first c.index-3.result.now sound c.requires.inside (c.size.ensures ∙ sound.orders.size) c.index-2.ensures c.index-3.ensures in
+    let ends = edge_ends g c.edges.self.graph c.args.node c.size-2.result first c.index-3.result.now c.edges.at c.index-in-edges.result.now c.edges.invariant.graph at (c.size-2.ensures ∙ sound.orders.size) c.edges.auto.at c.edges-test.true c.index-in-edges.ensures in
+    spreading_more (c.args.node % c.size-2.result) c.args.cost first (c.edges.at - first) (c.edges.at + 1 - first) c.index-in-edges.result.now c.args.self.now c.edges.self c.pass.new.self c.edges.invariant
+    (let low = c.edges.auto.at in omega arith)
+    (subst (λ i. slice_get c.edges.self.graph.edges.edges.items i ≡ Some c.index-in-edges.result.now) (let low = c.edges.auto.at in omega arith) ends.3)
+    c.in_ok-pass.ensures
+
+pub returns : goal.returns
+returns c =
+    let g = c.args.self.now.graph in
+    let sound = c.requires.fits.sound in
+    let at = at_from g c.args.node c.size.result c.index-2.result.now c.index-3.result.now sound c.requires.inside (c.size.ensures ∙ sound.orders.size) c.index-2.ensures c.index-3.ensures in
+    let value = c.index.ensures ∙ get_or_default c.args.self.now.values.items c.args.node c.index.result.now 0 (omega (arith, c.requires.fits.one_each)) in
+    visited_all c.args.node c.args.cost c.size-2.result c.index-2.result.now c.index-3.result.now c.edges.at c.args.self.now c.edges.self at (c.size-2.ensures ∙ sound.orders.size) c.edges.auto.at-end c.edges-test.false c.edges.auto.at (omega arith) c.edges.invariant

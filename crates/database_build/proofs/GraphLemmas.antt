@@ -1,0 +1,266 @@
+-- The graph of nodes and edges is that of views and view moves.
+use Rattle.std.proofs.Common.{◌≡◌, ◌≢◌, ◌⊎◌, ℕ, zero, suc, ◌+◌, ◌*◌, ◌/◌, ◌%◌, ◌<◌, ◌≤◌, eqb, List, [], ◌∷◌, ◌++◌, length, get_or, refl, sym, ap, ◌∙◌, subst, inl, inr, ⊎_elim, arith}
+use Rattle.std.specs.Prelude.{slice_index, Contains}
+use Rattle.std.proofs.lemmas.Bool.{cond-true, cond-false, eq-eqb, ne_eqb}
+use Rattle.std.proofs.lemmas.List.Elements.{recursion_from_All, All-from_recursion, All-from_get_or, All-cons, All-tail}
+use Rattle.std.proofs.lemmas.Nat.{mul-add-lt, same_from_place, div-add-mod', mod_below, div_below, div-mul-add, mod-mul-add}
+use Rattle.std.proofs.lemmas.Option.{slice_get-get_or}
+use Rattle.std.proofs.Math.Nat.{mul-le-mul_right}
+use Rattle.board.specs.declared.moves.Move.{Move}
+use Rattle.board.specs.Grids.{Grid, cell_count}
+use Rattle.board.specs.Neighbours.{opposite}
+use Rattle.board.specs.CostRules.{CostRule, weight_of}
+use Rattle.board.proofs.MoveLemmas.{cell_below}
+use Rattle.pattern_index.specs.Laws.{factorial}
+use Rattle.pattern_index.specs.Selections.{Selection, IsSelection, abstraction_of}
+use Rattle.pattern_index.specs.Views.{Sight, IsView, Abstraction, ViewMoves, ViewLeads, weight_on}
+use Rattle.pattern_index.proofs.RankLemmas.{Differ, Other, differ_in, pairs_from_differ}
+use Rattle.pattern_index.proofs.ViewMoveLemmas.{moved_view, moved_back}
+use Rattle.database_build.specs.Orders.{below, order_of, tile_of, moved_order}
+use Rattle.database_build.specs.Sets.{set_place, set_at, replaced}
+use Rattle.database_build.specs.Regions.{IsPlaced, IsFree, Wanders, region_in, HasRegions, IsRegions, IsCrossing, IsEdgeOf, HasEdge, AreEdges}
+use Rattle.database_build.specs.Graphs.{node_in, node_count, AreWeightsOf, IsPast, IsGraph}
+use Rattle.database_build.specs.declared.regions.Home.{Home}
+use Rattle.database_build.specs.declared.regions.Regions.{Regions}
+use Rattle.database_build.specs.declared.edges.Edge.{Edge}
+use Rattle.database_build.specs.declared.edges.Edges.{Edges}
+use Rattle.database_build.proofs.OrderLemmas.{in_or_out, order_below, one_placement, moved_is, tile_is, placed}
+use Rattle.database_build.proofs.SetLemmas.{same_place, set_is}
+
+-- ---- lists of cells
+
+factorial_some : (n : ℕ) → 0 < factorial n
+factorial_some zero = omega arith
+factorial_some (suc n) = let h = factorial_some n in let m : 1 * factorial n ≤ suc n * factorial n = mul-le-mul_right (factorial n) (omega arith) in omega arith
+
+-- a cell that is not in a list differs from all in it
+other_from_free : (x : ℕ) (xs : List ℕ) → ¬ Contains xs x → Other x xs
+other_from_free x xs free = recursion_from_All (λ y. x ≢ y) xs (All-from_get_or (λ y. x ≢ y) xs x (λ k k_in same. free (k, k_in, sym same)))
+
+-- nothing is replaced where the cell is not there
+replaced_other : (from to : ℕ) (xs : List ℕ) → Other from xs → replaced from to xs ≡ xs
+replaced_other from to [] other = refl
+replaced_other from to (x ∷ xs) other = λ i. cond-false (eqb x from) to x (ne_eqb x from (λ e. other.0 (sym e))) i ∷ replaced_other from to xs other.1 i
+
+-- no tile stands there, so none is moved
+weight_other : (rule : CostRule) (tiles cells : List ℕ) (x : ℕ) → Other x cells → weight_on rule tiles cells x ≡ 0
+weight_other rule [] cells x other = refl
+weight_other rule (tile ∷ tiles) [] x other = refl
+weight_other rule (tile ∷ tiles) (y ∷ cells) x other = cond-false (eqb y x) _ _ (ne_eqb y x (λ e. other.0 (sym e))) ∙ weight_other rule tiles cells x other.1
+
+-- the weight of the tile whose cell it is
+weight_there : (rule : CostRule) (tiles cells : List ℕ) (place : ℕ) → length cells ≡ length tiles → Differ cells → place < length cells → weight_on rule tiles cells (get_or cells place 0) ≡ weight_of rule (get_or tiles place 0)
+weight_there rule tiles [] place long differ low = absurd (omega arith)
+weight_there rule [] (x ∷ cells) place long differ low = absurd (omega arith)
+weight_there rule (tile ∷ tiles) (x ∷ cells) zero long differ low = cond-true (eqb x x) _ _ (eq-eqb x x refl)
+weight_there rule (tile ∷ tiles) (x ∷ cells) (suc place) long differ low =
+    let low' : place < length cells = omega arith in
+    let ne : x ≢ get_or cells place 0 = All-from_recursion (λ y. x ≢ y) cells differ.0 place 0 low' in
+    cond-false (eqb x (get_or cells place 0)) _ _ (ne_eqb x (get_or cells place 0) ne) ∙ weight_there rule tiles cells place (omega arith) differ.1 low'
+
+-- plans one after the other
+leads_then : (a : Abstraction) (v : Sight) (plan more : List Move) (w x : Sight) (j k : ℕ) → ViewLeads a v plan w j → ViewLeads a w more x k → ViewLeads a v (plan ++ more) x (j + k)
+leads_then a v [] more w x j k first second =
+    let cost : k ≡ j + k = omega (arith, first.1) in
+    subst (λ (n : ℕ). ViewLeads a v more x n) cost (subst (λ (y : Sight). ViewLeads a y more x k) first.0 second)
+leads_then a v (m ∷ plan) more w x j k first second =
+    let rest = leads_then a first.0 plan more w x first.2 k first.4 second in
+    (first.0, first.1, first.2 + k, first.3, rest, omega (arith, first.5))
+
+module _ (r : Regions) (es : Edges) (rule : CostRule) (tiles weights : List ℕ) (counted : length tiles ≡ r.count) where
+  -- the puzzle as the group sees it
+  abbrev pub space : Abstraction
+  space = record { grid = r.shape; rule = rule; tiles = tiles }
+
+  -- the cells of a view are placed, and its blank is free
+  pub view_placed : (v : Sight) → IsView r.shape tiles v → IsPlaced r.shape r.count v.cells
+  view_placed v view = record {
+    listing = record { in_range = All-tail (λ cell. cell < cell_count r.shape) v.blank v.cells view.in_range; different = λ i j d lt j_in. view.different (suc i) (suc j) d (omega arith) (omega arith) };
+    one_each = view.one_each ∙ counted;
+  }
+
+  pub view_free : (v : Sight) → IsView r.shape tiles v → IsFree r.shape v.cells v.blank
+  view_free v view = record {
+    inside = view.in_range 0 0 (omega arith);
+    free = λ has. view.different 0 (suc has.0) v.blank (omega arith) (omega (arith, has.1)) (sym has.2);
+  }
+
+  -- and each blank that is free is one of a view
+  pub view_from : (cells : List ℕ) (blank : ℕ) → IsPlaced r.shape r.count cells → IsFree r.shape cells blank → IsView r.shape tiles (record { blank = blank; cells = cells })
+  view_from cells blank is_placed free = record {
+    one_each = is_placed.one_each ∙ sym counted;
+    in_range = All-cons (λ cell. cell < cell_count r.shape) blank cells free.inside is_placed.listing.in_range;
+    different = pairs_from_differ (blank ∷ cells) (other_from_free blank cells free.free, differ_in (cell_count r.shape) cells is_placed.listing);
+  }
+
+  -- the order of a view's cells is below the number of orders
+  pub view_order : (v : Sight) → IsView r.shape tiles v → order_of v.cells < factorial r.count
+  view_order v view = subst (λ (k : ℕ). order_of v.cells < factorial k) (view_placed v view).one_each (order_below v.cells)
+
+  -- the region and the order are read off a view's node
+  pub node_region : (v : Sight) → IsView r.shape tiles v → node_in r v / factorial r.count ≡ region_in r v.cells v.blank
+  node_region v view = div-mul-add (region_in r v.cells v.blank) (factorial r.count) (order_of v.cells) (view_order v view)
+
+  pub node_order : (v : Sight) → IsView r.shape tiles v → node_in r v % factorial r.count ≡ order_of v.cells
+  node_order v view = mod-mul-add (region_in r v.cells v.blank) (factorial r.count) (order_of v.cells) (view_order v view)
+
+  -- the blank's way past none of the tiles is a view plan that costs nothing
+  wander_leads : (cells : List ℕ) (from : ℕ) (moves : List Move) (to : ℕ) → Wanders r.shape cells from moves to → ViewLeads space (record { blank = from; cells = cells }) moves (record { blank = to; cells = cells }) 0
+  wander_leads cells from [] to wanders = ((λ i. record { blank = wanders i; cells = cells }), refl)
+  wander_leads cells from (m ∷ moves) to wanders =
+      let next = wanders.0 in
+      let other = other_from_free next cells wanders.2 in
+      let step : ViewMoves space (record { blank = from; cells = cells }) m (record { blank = next; cells = cells }) 0 =
+      record { towards = wanders.1; exchanged = sym (replaced_other next from cells other); cost = sym (weight_other rule tiles cells next other) } in
+      (record { blank = next; cells = cells }, 0, 0, step, wander_leads cells next moves to wanders.3, omega arith)
+
+  module _ (regions : HasRegions r) where
+    pub graph_inside : (v : Sight) → IsView r.shape tiles v → node_in r v < node_count r
+    graph_inside v view =
+        let m = mul-add-lt (region_in r v.cells v.blank) (factorial r.count) (order_of v.cells) (length r.homes.items) (regions.inside v.cells v.blank (view_placed v view) (view_free v view)) (view_order v view) in
+        omega arith
+
+    pub graph_seen : (node : ℕ) → node < node_count r → (v : Sight) × IsView r.shape tiles v × (node_in r v ≡ node)
+    graph_seen node low =
+        let n = cell_count r.shape in
+        let f = factorial r.count in
+        let some : 0 < f = factorial_some r.count in
+        let region = node / f in
+        let order = node % f in
+        let region_low : region < length r.homes.items = div_below node f (length r.homes.items) some low in
+        let order_low : order < f = mod_below node f some in
+        let none : Home = record { set = 0; cell = 0 } in
+        let home : Home = get_or r.homes.items region none in
+        let is = regions.homes region home (slice_get-get_or r.homes.items region none region_low) in
+        let cells : List ℕ = set_at n r.count home.set in
+        let set = set_is n r.count home.set is.0 in
+        let made = placed n cells order set.0 (subst (λ (k : ℕ). order < factorial k) (sym set.1) order_low) in
+        let xs : List ℕ = made.0 in
+        let xs_placed : IsPlaced r.shape r.count xs = record { listing = made.1; one_each = made.3 ∙ set.1 } in
+        let xs_free : IsFree r.shape xs home.cell = record { inside = is.1.inside; free = λ has. is.1.free ((made.2 home.cell).0 has) } in
+        let place : set_place xs ≡ set_place cells = same_place n xs cells made.1 set.0 made.2 in
+        let there : region_in r xs home.cell ≡ region = ap (λ (p : ℕ). slice_index r.numbers.items (p * n + home.cell)) place ∙ is.2 in
+        (record { blank = home.cell; cells = xs }, view_from xs home.cell xs_placed xs_free, (λ i. there i * f + made.4 i) ∙ div-add-mod' node f)
+
+    pub graph_joined : (v w : Sight) → IsView r.shape tiles v → IsView r.shape tiles w → node_in r v ≡ node_in r w → (plan : List Move) × ViewLeads space v plan w 0
+    graph_joined v w view other same =
+        let parts = same_from_place (region_in r v.cells v.blank) (order_of v.cells) (region_in r w.cells w.blank) (order_of w.cells) (factorial r.count) (view_order v view) (view_order w other) same in
+        let vp = view_placed v view in
+        let wp = view_placed w other in
+        let joint = regions.joined v.cells w.cells v.blank w.blank vp wp (view_free v view) (view_free w other) parts.0 in
+        let cells : v.cells ≡ w.cells = one_placement (cell_count r.shape) v.cells w.cells vp.listing wp.listing joint.0 parts.1 in
+        let leads = wander_leads v.cells v.blank joint.1.0 w.blank joint.1.1 in
+        (joint.1.0, subst (λ (xs : List ℕ). ViewLeads space v joint.1.0 (record { blank = w.blank; cells = xs }) 0) cells leads)
+
+    -- each view of a node comes to where one of them is moved
+    comes_back : (w x v : Sight) (m : Move) (c : ℕ) → IsView r.shape tiles w → IsView r.shape tiles x → node_in r w ≡ node_in r x → ViewMoves space x m v c → (plan : List Move) × ViewLeads space w plan v c
+    comes_back w x v m c w_view x_view same moves =
+        let joint = graph_joined w x w_view x_view same in
+        let last : ViewLeads space x (m ∷ []) v c = (v, c, 0, moves, (refl, refl), omega arith) in
+        let whole = leads_then space w joint.0 (m ∷ []) x v 0 c joint.1 last in
+        let cost : 0 + c ≡ c = omega arith in
+        (joint.0 ++ m ∷ [], subst (λ (k : ℕ). ViewLeads space w (joint.0 ++ m ∷ []) v k) cost whole)
+
+    module _ (edges : AreEdges r es) (costs : AreWeightsOf rule tiles weights) where
+      -- what the edge of a tile says of the view after the tile has moved
+      edge_past : (v : Sight) (from : ℕ) (e : Edge) → IsView r.shape tiles v → Contains v.cells from → IsEdgeOf r v.cells from v.blank e
+          → (node_in r (record { blank = from; cells = replaced from v.blank v.cells }) ≡ e.region * factorial r.count + moved_order r.count (node_in r v % factorial r.count) e.from e.to)
+          × (weight_on rule tiles v.cells from ≡ slice_index weights (tile_of r.count (node_in r v % factorial r.count) e.from))
+      edge_past v from e view has is =
+          let n = cell_count r.shape in
+          let f = factorial r.count in
+          let vp = view_placed v view in
+          let vf = view_free v view in
+          let order = node_order v view in
+          let count = vp.one_each in
+          let after = moved_is n from v.blank v.cells vp.listing has vf.inside vf.free in
+          let at = tile_is n from v.cells vp.listing has in
+          let place : ℕ = tile_of (length v.cells) (order_of v.cells) (below from v.cells) in
+          let same_place' : place ≡ tile_of r.count (node_in r v % f) e.from = λ i. tile_of (count i) (sym order i) (sym is.before i) in
+          let moved : order_of (replaced from v.blank v.cells) ≡ moved_order r.count (node_in r v % f) e.from e.to = after ∙ (λ i. moved_order (count i) (sym order i) (sym is.before i) (sym is.after i)) in
+          let there = weight_there rule tiles v.cells place view.one_each (differ_in n v.cells vp.listing) at.0 in
+          let low : place < length tiles = omega (arith, at.0, view.one_each) in (
+            (λ i. sym is.other i * f + moved i),
+            ap (weight_on rule tiles v.cells) (sym at.1) ∙ there ∙ sym (costs place low) ∙ ap (slice_index weights) same_place',
+          )
+
+      pub graph_complete : (v : Sight) (m : Move) (v' : Sight) (c : ℕ) → IsView r.shape tiles v → ViewMoves space v m v' c
+          → ((node_in r v' ≡ node_in r v) × (c ≡ 0)) ⊎ ((e : Edge) × IsPast r es weights (node_in r v) e (node_in r v') c)
+      graph_complete v m v' c view moves =
+          let f = factorial r.count in
+          let vp = view_placed v view in
+          let vf = view_free v view in
+          ⊎_elim
+          (λ (has : Contains v.cells v'.blank).
+          let cross : IsCrossing r.shape v.cells m v'.blank v.blank = record { blank = vf; tile = has; towards = moves.towards } in
+          let edge = edges.complete v.cells m v'.blank v.blank vp cross in
+          let past = edge_past v v'.blank edge.0 view has edge.2 in
+          let seen : node_in r v' ≡ node_in r (record { blank = v'.blank; cells = replaced v'.blank v.blank v.cells }) = ap (λ (xs : List ℕ). region_in r xs v'.blank * f + order_of xs) moves.exchanged in
+          inr (
+            edge.0,
+            record {
+              edge = subst (λ (region : ℕ). HasEdge es region edge.0) (sym (node_region v view)) edge.1;
+              other = seen ∙ past.0;
+              cost = moves.cost ∙ past.1;
+            },
+          ))
+          (λ (out : ¬ Contains v.cells v'.blank).
+          let other = other_from_free v'.blank v.cells out in
+          let cells : v'.cells ≡ v.cells = moves.exchanged ∙ replaced_other v'.blank v.blank v.cells other in
+          let free : IsFree r.shape v.cells v'.blank = record { inside = cell_below r.shape m v.blank v'.blank moves.towards; free = out } in
+          let near = regions.near v.cells m v.blank v'.blank vp vf free moves.towards in
+          inl (
+            ap (λ (xs : List ℕ). region_in r xs v'.blank * f + order_of xs) cells ∙ ap (λ (region : ℕ). region * f + order_of v.cells) near,
+            moves.cost ∙ weight_other rule tiles v.cells v'.blank other,
+          ))
+          (in_or_out v'.blank v.cells)
+
+      -- where an edge begins, the blank of some view is a neighbour of its tile
+      edge_view : (node : ℕ) (e : Edge) → node < node_count r → HasEdge es (node / factorial r.count) e
+          → (v : Sight) × (m : Move) × (from : ℕ) × IsView r.shape tiles v × (node_in r v ≡ node) × IsCrossing r.shape v.cells m from v.blank × IsEdgeOf r v.cells from v.blank e
+      edge_view node e low has =
+          let f = factorial r.count in
+          let region_low : node / f < length r.homes.items = div_below node f (length r.homes.items) (factorial_some r.count) low in
+          let first = graph_seen node low in
+          let cells : List ℕ = first.0.cells in
+          let is_placed = view_placed first.0 first.1 in
+          let here : region_in r cells first.0.blank ≡ node / f = sym (node_region first.0 first.1) ∙ ap (λ (k : ℕ). k / f) first.2 in
+          let edge = edges.sound (node / f) e cells first.0.blank region_low has is_placed (view_free first.0 first.1) here in
+          let v : Sight = record { blank = edge.2; cells = cells } in
+          let same : node_in r v ≡ node = ap (λ (region : ℕ). region * f + order_of cells) (edge.4 ∙ sym here) ∙ first.2 in
+          (v, edge.0, edge.1, view_from cells edge.2 is_placed edge.3.blank, same, edge.3, edge.5)
+
+      -- and the view after the tile has moved is one of the other node, from which a move leads back
+      edge_back : (v : Sight) (m : Move) (from node : ℕ) (e : Edge) (other c : ℕ) → IsView r.shape tiles v → node_in r v ≡ node → IsCrossing r.shape v.cells m from v.blank → IsEdgeOf r v.cells from v.blank e → IsPast r es weights node e other c
+          → (x : Sight) × IsView r.shape tiles x × (node_in r x ≡ other) × ViewMoves space x (opposite m) v c
+      edge_back v m from node e other c view same cross edge past =
+          let x : Sight = record { blank = from; cells = replaced from v.blank v.cells } in
+          let gone = edge_past v from e view cross.tile edge in
+          let order : node_in r v % factorial r.count ≡ node % factorial r.count = ap (λ (k : ℕ). k % factorial r.count) same in
+          let reached : node_in r x ≡ other = gone.0 ∙ ap (λ (k : ℕ). e.region * factorial r.count + moved_order r.count k e.from e.to) order ∙ sym past.other in
+          let cost : c ≡ weight_on rule tiles v.cells from = past.cost ∙ sym (gone.1 ∙ ap (λ (k : ℕ). slice_index weights (tile_of r.count k e.from)) order) in
+          let moves : ViewMoves space v m x c = record { towards = cross.towards; exchanged = refl; cost = cost } in
+          (x, moved_view space v m x c view moves, reached, moved_back space v m x c view moves)
+
+      pub graph_sound : (node : ℕ) (e : Edge) (other c : ℕ) → node < node_count r → IsPast r es weights node e other c
+          → (other < node_count r) × ((w : Sight) → IsView r.shape tiles w → node_in r w ≡ other → (v : Sight) × IsView r.shape tiles v × (node_in r v ≡ node) × ((plan : List Move) × ViewLeads space w plan v c))
+      graph_sound node e other c low past =
+          let from = edge_view node e low past.edge in
+          let back = edge_back from.0 from.1 from.2 node e other c from.3 from.4 from.5 from.6 past in (
+            subst (λ (k : ℕ). k < node_count r) back.2 (graph_inside back.0 back.1),
+            (λ w view at. (from.0, from.3, from.4, comes_back w back.0 from.0 (opposite from.1) c view back.1 (at ∙ sym back.2) back.3)),
+          )
+
+      graph_is : IsGraph space r es weights
+      graph_is = record {
+        inside = graph_inside;
+        seen = graph_seen;
+        joined = graph_joined;
+        complete = graph_complete;
+        sound = graph_sound;
+      }
+
+-- the graph of a group's regions and edges is that of its views
+pub graph_of : (g : Selection) (rule : CostRule) (r : Regions) (es : Edges) (weights : List ℕ) → IsSelection g → IsRegions g.grid (length g.tiles) r → AreEdges r es → AreWeightsOf rule g.tiles weights → IsGraph (abstraction_of g rule) r es weights
+graph_of g rule r es weights selection is edges costs =
+    subst (λ (grid : Grid). IsGraph (record { grid = grid; rule = rule; tiles = g.tiles }) r es weights) is.shape (graph_is r es rule g.tiles weights (sym is.tiles) is.regions edges costs)

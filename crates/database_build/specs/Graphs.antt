@@ -1,0 +1,55 @@
+-- The nodes of the search: the views that show a group's tiles on the same cells, with the blank in one region.
+use Rattle.std.specs.Prelude.{ℕ, suc, ◌≡◌, ◌⊎◌, ◌+◌, ◌-◌, ◌*◌, ◌/◌, ◌%◌, ◌<◌, ◌≤◌, List, length, map, slice_index}
+use Rattle.board.specs.declared.moves.Move.{Move}
+use Rattle.board.specs.CostRules.{CostRule, weight_of}
+use Rattle.pattern_index.specs.Laws.{factorial}
+use Rattle.pattern_index.specs.Views.{Sight, IsView, Abstraction, ViewMoves, ViewLeads}
+use Rattle.database_build.specs.Orders.{order_of, positions_at, tile_of, exchanged, moved_order}
+use Rattle.database_build.specs.Regions.{region_in, HasEdge}
+use Rattle.database_build.specs.declared.orders.Orders.{Orders}
+use Rattle.database_build.specs.declared.edges.Edge.{Edge}
+use Rattle.database_build.specs.declared.edges.Edges.{Edges}
+use Rattle.database_build.specs.declared.regions.Regions.{Regions}
+
+-- what is kept for each order of so many tiles: the tile at each position, and the order after two are exchanged
+pub record IsOrders (count : ℕ) (o : Orders) : Type 0 where
+  pub number : o.count ≡ count
+  pub some : 0 < count
+  pub short : count ≤ 9
+  pub size : o.size ≡ factorial count
+  pub tiles_length : length o.tiles.items ≡ factorial count * count
+  pub tiles : (order position : ℕ) → order < factorial count → position < count → slice_index o.tiles.items (order * count + position) ≡ tile_of count order position
+  pub passes_length : length o.passes.items ≡ factorial count * (count - 1)
+  pub passes : (order position : ℕ) → order < factorial count → suc position < count → slice_index o.passes.items (order * (count - 1) + position) ≡ order_of (map (exchanged position) (positions_at count order))
+
+-- the node of a view
+abbrev pub node_in : Regions → Sight → ℕ
+node_in r v = region_in r v.cells v.blank * factorial r.count + order_of v.cells
+
+-- how many nodes there are
+abbrev pub node_count : Regions → ℕ
+node_count r = length r.homes.items * factorial r.count
+
+-- what it costs to move each tile of a group, by the tile's place among them
+abbrev pub AreWeightsOf : CostRule → List ℕ → List ℕ → Type 0
+AreWeightsOf rule tiles weights = (place : ℕ) → place < length tiles → slice_index weights place ≡ weight_of rule (slice_index tiles place)
+
+-- an edge leads from the node to another: the order changes as the tile's position does, at the tile's weight
+pub record IsPast (r : Regions) (es : Edges) (weights : List ℕ) (node : ℕ) (e : Edge) (to c : ℕ) : Type 0 where
+  pub edge : HasEdge es (node / factorial r.count) e
+  pub other : to ≡ e.region * factorial r.count + moved_order r.count (node % factorial r.count) e.from e.to
+  pub cost : c ≡ slice_index weights (tile_of r.count (node % factorial r.count) e.from)
+
+-- the graph of nodes and edges is that of views and view moves, with the moves that cost nothing drawn together
+pub record IsGraph (a : Abstraction) (r : Regions) (es : Edges) (weights : List ℕ) : Type 0 where
+  pub inside : (v : Sight) → IsView a.grid a.tiles v → node_in r v < node_count r
+  -- each node has a view
+  pub seen : (node : ℕ) → node < node_count r → (v : Sight) × IsView a.grid a.tiles v × (node_in r v ≡ node)
+  -- views of one node are joined by moves that cost nothing
+  pub joined : (v w : Sight) → IsView a.grid a.tiles v → IsView a.grid a.tiles w → node_in r v ≡ node_in r w → (plan : List Move) × ViewLeads a v plan w 0
+  -- a view move stays in its node at no cost, or there is an edge for it
+  pub complete : (v : Sight) (m : Move) (v' : Sight) (c : ℕ) → IsView a.grid a.tiles v → ViewMoves a v m v' c
+      → ((node_in r v' ≡ node_in r v) × (c ≡ 0)) ⊎ ((e : Edge) × IsPast r es weights (node_in r v) e (node_in r v') c)
+  -- each edge is one of a view move, by which each view of the other node comes to the first one
+  pub sound : (node : ℕ) (e : Edge) (other c : ℕ) → node < node_count r → IsPast r es weights node e other c
+      → (other < node_count r) × ((w : Sight) → IsView a.grid a.tiles w → node_in r w ≡ other → (v : Sight) × IsView a.grid a.tiles v × (node_in r v ≡ node) × ((plan : List Move) × ViewLeads a w plan v c))

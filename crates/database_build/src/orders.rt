@@ -1,0 +1,210 @@
+//! Orders: how tiles stand on a set of cells, whatever the cells are.
+
+ghost use Rattle.std.specs.Prelude.{ℕ, suc, ◌≡◌, ◌+◌, ◌-◌, ◌*◌, ◌<◌, ◌≤◌, ◌==◌, ◌++◌, length, map, All, IfOk, OnOk};
+ghost use Rattle.std.specs.List.{position_or_len, range_with_len};
+ghost use Rattle.pattern_index.specs.Laws.{factorial};
+ghost use Rattle.pattern_index.specs.Ranks.{spread};
+ghost use Rattle.database_build.specs.Orders.{below, order_of, positions_at, tile_of, exchanged, moved_order};
+ghost use Rattle.database_build.specs.Graphs.{IsOrders};
+
+use memory::{OutOfMemory, push};
+use std::alloc::Global;
+
+// The numbers from 1 to this one multiplied.
+pub(crate) fn factorial(count: usize) -> usize
+    requires { count ≤ 9 }
+    ensures value { result ≡ factorial count }
+    ensures low { 1 ≤ result }
+    ensures high { result ≤ 362_880 }
+{
+    let mut product = 1;
+    'factors: for factor in 0..count {
+        product *= factor + 1;
+    }
+    product
+}
+
+// How many of the cells are below one.
+pub(crate) fn count_below(cells: &[u8], cell: u8) -> usize
+    ensures value { result ≡ below cell cells.now }
+    ensures high { result ≤ length cells.now }
+{
+    let mut count = 0;
+    'cells: for other in cells {
+        if *other < cell {
+            count += 1;
+        }
+    }
+    count
+}
+
+// The order of the cells on which tiles stand.
+pub(crate) fn order_of(cells: &[u8]) -> usize
+    requires { length cells.now ≤ 9 }
+    ensures value { result ≡ order_of cells.now }
+    ensures below { result < factorial (length cells.now) }
+{
+    let mut order = 0;
+    let mut unit = 1;
+    'tiles: for tile in 0..cells.len() {
+        order += count_below(&cells[..tile], cells[tile]) * unit;
+        unit *= tile + 1;
+    }
+    order
+}
+
+// Writes for each tile how many tiles stand on smaller cells, by their order.
+fn write_positions(order: usize, positions: &mut [u8])
+    requires few { length positions.old ≤ 9 }
+    requires below { order < factorial (length positions.old) }
+    ensures { positions.new ≡ positions_at (length positions.old) order }
+{
+    let mut rest = order;
+    'tiles: for tile in 0..positions.len() {
+        let digit = (rest % (tile + 1)) as u8;
+        rest /= tile + 1;
+        spread_positions(&mut positions[..tile], digit);
+        positions[tile] = digit;
+    }
+}
+
+// Moves the positions from one on up by one.
+fn spread_positions(positions: &mut [u8], digit: u8)
+    requires { All (λ position. position < 255) positions.old }
+    ensures { positions.new ≡ map (spread digit) positions.old }
+{
+    'tiles: for position in positions.iter_mut() {
+        if digit <= *position {
+            *position += 1;
+        }
+    }
+}
+
+// What is kept for each order of so many tiles.
+#[derive(Drop)]
+pub(crate) struct Orders {
+    count: usize,
+    size: usize,
+    // The tile at each position, by order.
+    tiles: Vec<u8>,
+    // The order after the tiles at a position and at the next one are exchanged, by order.
+    passes: Vec<u32>,
+}
+
+impl Orders {
+    pub(crate) fn new(alloc: Global, count: usize) -> Result<Self, OutOfMemory>
+        requires some { 0 < count }
+        requires short { count ≤ 9 }
+        ensures { IfOk result (IsOrders count) }
+    {
+        let mut orders = Orders {
+            count,
+            size: factorial(count),
+            tiles: Vec::new(alloc),
+            passes: Vec::new(alloc),
+        };
+        'orders: for order in 0..orders.size {
+            orders.add_order(order)?;
+        }
+        Ok(orders)
+    }
+
+    // Adds what is kept for one order more.
+    fn add_order(&mut self, order: usize) -> Result<(), OutOfMemory>
+        requires some { 0 < self.old.count }
+        requires short { self.old.count ≤ 9 }
+        requires order { order < factorial self.old.count }
+        ensures count { self.new.count ≡ self.old.count }
+        ensures size { self.new.size ≡ self.old.size }
+        ensures tiles { OnOk result (self.new.tiles.items
+            ≡ self.old.tiles.items
+            ++ map (tile_of self.old.count order) (range_with_len 0 self.old.count)) }
+        ensures passes { OnOk result (self.new.passes.items
+            ≡ self.old.passes.items
+            ++ map (λ position. order_of (map (exchanged position) (positions_at self.old.count order))) (range_with_len 0 (self.old.count - 1))) }
+    {
+        let mut positions = [0; 9];
+        write_positions(order, &mut positions[..self.count]);
+        'positions: for position in 0..self.count {
+            let tile = tile_at(&positions[..self.count], position as u8);
+            push(&mut self.tiles, tile as u8)?;
+        }
+        'passes: for position in 0..self.count - 1 {
+            let mut passed = positions;
+            exchange(&mut passed[..self.count], position as u8);
+            let other = order_of(&passed[..self.count]);
+            push(&mut self.passes, other as u32)?;
+        }
+        Ok(())
+    }
+
+    // How many orders there are.
+    pub(crate) fn size(&self) -> usize
+        ensures { result ≡ self.now.size }
+    {
+        self.size
+    }
+
+    // The tile at a position.
+    pub(crate) fn tile(&self, order: usize, position: usize) -> usize
+        requires orders { IsOrders self.now.count self.now }
+        requires order { order < factorial self.now.count }
+        requires position { position < self.now.count }
+        ensures value { result ≡ tile_of self.now.count order position }
+        ensures below { result < self.now.count }
+    {
+        self.tiles[order * self.count + position] as usize
+    }
+
+    // The order after the tile at a position has come to another.
+    pub(crate) fn moved(&self, order: usize, from: usize, to: usize) -> usize
+        requires orders { IsOrders self.now.count self.now }
+        requires order { order < factorial self.now.count }
+        requires from { from < self.now.count }
+        requires to { to < self.now.count }
+        ensures value { result ≡ moved_order self.now.count order from to }
+        ensures below { result < factorial self.now.count }
+    {
+        let mut order = order;
+        let mut at = from;
+        'up: while at < to {
+            order = self.passes[order * (self.count - 1) + at] as usize;
+            at += 1;
+        }
+        'down: while to < at {
+            at -= 1;
+            order = self.passes[order * (self.count - 1) + at] as usize;
+        }
+        order
+    }
+}
+
+// The place of the tile at a position.
+fn tile_at(positions: &[u8], position: u8) -> usize
+    requires { 0 < length positions.now }
+    ensures within { result ≤ length positions.now }
+    ensures value { result ≡ position_or_len (λ other. other == position) positions.now }
+{
+    let mut tile = 0;
+    'tiles: while tile < positions.len() {
+        if positions[tile] == position {
+            return tile;
+        }
+        tile += 1;
+    }
+    tile
+}
+
+// Exchanges the tiles at a position and at the next one.
+fn exchange(positions: &mut [u8], position: u8)
+    requires { position < 255 }
+    ensures { positions.new ≡ map (exchanged position) positions.old }
+{
+    'tiles: for other in positions.iter_mut() {
+        if *other == position {
+            *other = position + 1;
+        } else if *other == position + 1 {
+            *other = position;
+        }
+    }
+}

@@ -1,0 +1,241 @@
+//! Regions: the cells that the blank reaches past tiles of no group, while the tiles of a group stay where they
+//! are.
+
+ghost use Rattle.std.specs.Prelude.{ℕ, suc, ◌≡◌, ◌<◌, ◌≤◌, ◌+◌, ◌-◌, ◌*◌, ◌^◌, ◌↔◌, false, length, IfOk, IsTrue, Contains};
+ghost use Rattle.board.specs.Grids.{cell_count};
+ghost use Rattle.pattern_index.specs.Ranks.{ways, IsListing};
+ghost use Rattle.pattern_index.specs.declared.group.TheConstants.{MAX_SIZE};
+ghost use Rattle.database_build.specs.Regions.{IsRegions, IsPlaced, IsFree, region_in};
+ghost use Rattle.database_build.specs.Sets.{choose, set_at, IsChoices};
+ghost use Rattle.database_build.specs.Numberings.{AreNumbered, AreNumberedTo};
+ghost use Rattle.database_build.specs.Labels.{AreLabels, AreSettled, IsLowering, IsSettled, IsSettledTowards};
+
+use crate::sets::Choices;
+use board::{Move, Shape};
+use memory::{OutOfMemory, push};
+use std::alloc::Global;
+
+// What stands in place of the region of a cell on which a tile stands.
+const NO_REGION: u32 = 4_294_967_295;
+
+// Where a region is first met: the place of its set, and its lowest cell.
+#[derive(Clone, Copy)]
+pub(crate) struct Home {
+    pub(crate) set: u32,
+    pub(crate) cell: u8,
+}
+
+// The regions of all sets of as many cells.
+#[derive(Drop)]
+pub(crate) struct Regions {
+    pub(crate) shape: Shape,
+    pub(crate) count: usize,
+    pub(crate) choices: Choices,
+    // The region of each cell, by set.
+    pub(crate) numbers: Vec<u32>,
+    pub(crate) homes: Vec<Home>,
+}
+
+impl Regions {
+    // The regions of all sets of so many of a shape's cells.
+    pub(crate) fn new(alloc: Global, shape: Shape, count: usize) -> Result<Self, OutOfMemory>
+        requires some { 0 < count }
+        requires short { count ≤ 9 }
+        requires room { suc count ≤ cell_count shape }
+        requires small { ways (cell_count shape) (suc count) ≤ MAX_SIZE }
+        ensures { IfOk result (IsRegions shape count) }
+    {
+        let choices = Choices::new();
+        let mut numbers = Vec::new(alloc);
+        let mut homes = Vec::new(alloc);
+        let sets = choices.count(shape.cells(), count);
+        'sets: for set in 0..sets {
+            add_set(&choices, shape, count, set, &mut numbers, &mut homes)?;
+        }
+        Ok(Regions {
+            shape,
+            count,
+            choices,
+            numbers,
+            homes,
+        })
+    }
+
+    // The region of the blank's cell while tiles stand on these cells.
+    pub(crate) fn region(&self, cells: &[u8], blank: u8) -> usize
+        requires regions { IsRegions self.now.shape self.now.count self.now }
+        requires placed { IsPlaced self.now.shape self.now.count cells.now }
+        requires free { IsFree self.now.shape cells.now blank }
+        ensures { result ≡ region_in self.now cells.now blank }
+    {
+        let set = self.choices.place(cells);
+        self.numbers[set * self.shape.cells() + blank as usize] as usize
+    }
+}
+
+// Numbers the cells of a set, after those of the sets below it.
+fn add_set(
+    choices: &Choices,
+    shape: Shape,
+    count: usize,
+    set: usize,
+    numbers: &mut Vec<u32>,
+    homes: &mut Vec<Home>,
+) -> Result<(), OutOfMemory>
+    requires choices { IsChoices choices.now }
+    requires short { count ≤ 9 }
+    requires below { set < choose (cell_count shape) count }
+    requires fits { set < 2 ^ 32 }
+    requires small { set * (cell_count shape - count) ≤ MAX_SIZE }
+    requires numbered { AreNumbered shape count numbers.old.items homes.old.items set }
+    ensures { IfOk result (λ _. AreNumbered shape count numbers.new.items homes.new.items (set + 1)) }
+{
+    let mut cells = [0; 9];
+    let placed = &mut cells[..count];
+    choices.write_set(shape.cells(), set, placed);
+    add_row(shape, set, placed, numbers, homes)
+}
+
+// Numbers the cells of a set on which tiles stand.
+fn add_row(
+    shape: Shape,
+    set: usize,
+    cells: &[u8],
+    numbers: &mut Vec<u32>,
+    homes: &mut Vec<Home>,
+) -> Result<(), OutOfMemory>
+    requires listing { IsListing (cell_count shape) cells.now }
+    requires cells { cells.now ≡ set_at (cell_count shape) (length cells.now) set }
+    requires fits { set < 2 ^ 32 }
+    requires small { set * (cell_count shape - length cells.now) ≤ MAX_SIZE }
+    requires numbered { AreNumbered shape (length cells.now) numbers.old.items homes.old.items set }
+    ensures { IfOk result (λ _. AreNumbered shape (length cells.now) numbers.new.items homes.new.items (set + 1)) }
+{
+    let labels = label_cells(shape, cells);
+    'cells: for cell in 0..shape.cells() {
+        add_cell(shape, set, cell, cells, &labels, numbers, homes)?;
+    }
+    Ok(())
+}
+
+// Numbers a cell: a free one as the cell that is its label, or anew where that is itself.
+fn add_cell(
+    shape: Shape,
+    set: usize,
+    cell: usize,
+    cells: &[u8],
+    labels: &[u8; 25],
+    numbers: &mut Vec<u32>,
+    homes: &mut Vec<Home>,
+) -> Result<(), OutOfMemory>
+    requires inside { cell < cell_count shape }
+    requires listing { IsListing (cell_count shape) cells.now }
+    requires cells { cells.now ≡ set_at (cell_count shape) (length cells.now) set }
+    requires settled { AreSettled shape cells.now labels.now }
+    requires fits { set < 2 ^ 32 }
+    requires small { set * (cell_count shape - length cells.now) ≤ MAX_SIZE }
+    requires numbered { AreNumberedTo shape (length cells.now) cells.now labels.now numbers.old.items homes.old.items set cell }
+    ensures { IfOk result (λ _. AreNumberedTo shape (length cells.now) cells.now labels.now numbers.new.items homes.new.items set (cell + 1)) }
+{
+    let count = shape.cells();
+    if stands_on(cells, cell) {
+        return push(numbers, NO_REGION);
+    }
+    let label = labels[cell] as usize;
+    if label < cell {
+        let number = numbers[set * count + label];
+        return push(numbers, number);
+    }
+    let region = homes.len() as u32;
+    let home = Home {
+        set: set as u32,
+        cell: cell as u8,
+    };
+    push(homes, home)?;
+    push(numbers, region)
+}
+
+// For each free cell the lowest that the blank reaches from it.
+fn label_cells(shape: Shape, cells: &[u8]) -> [u8; 25]
+    ensures { AreSettled shape cells.now result }
+{
+    let mut labels = [0; 25];
+    'labels: for cell in 0..shape.cells() {
+        labels[cell] = cell as u8;
+    }
+    let mut is_changed = true;
+    'rounds: while is_changed {
+        is_changed = lower_labels(shape, cells, &mut labels);
+    }
+    labels
+}
+
+// Lowers the label of each cell to those of its neighbours. Whether one was changed.
+fn lower_labels(shape: Shape, cells: &[u8], labels: &mut [u8; 25]) -> bool
+    requires { AreLabels shape cells.now labels.old }
+    ensures labels { AreLabels shape cells.now labels.new }
+    ensures lowering { IsLowering labels.old labels.new result }
+    ensures settled { result ≡ false → (cell : ℕ) → cell < cell_count shape → IsSettled shape cells.now labels.new cell }
+{
+    let mut is_changed = false;
+    'cells: for cell in 0..shape.cells() {
+        let is_lowered = lower_label(shape, cells, labels, cell);
+        is_changed = is_changed | is_lowered;
+    }
+    is_changed
+}
+
+// Lowers the label of a cell to those of its neighbours. Whether it was changed.
+fn lower_label(shape: Shape, cells: &[u8], labels: &mut [u8; 25], cell: usize) -> bool
+    requires inside { cell < cell_count shape }
+    requires labels { AreLabels shape cells.now labels.old }
+    ensures labels { AreLabels shape cells.now labels.new }
+    ensures lowering { IsLowering labels.old labels.new result }
+    ensures settled { result ≡ false → IsSettled shape cells.now labels.new cell }
+{
+    if stands_on(cells, cell) {
+        return false;
+    }
+    let up = lower_towards(shape, cells, labels, cell, Move::U);
+    let left = lower_towards(shape, cells, labels, cell, Move::L);
+    let right = lower_towards(shape, cells, labels, cell, Move::R);
+    let down = lower_towards(shape, cells, labels, cell, Move::D);
+    up | left | right | down
+}
+
+// Lowers the label of a free cell to that of a neighbour. Whether it was changed.
+fn lower_towards(
+    shape: Shape,
+    cells: &[u8],
+    labels: &mut [u8; 25],
+    cell: usize,
+    direction: Move,
+) -> bool
+    requires free { IsFree shape cells.now cell }
+    requires labels { AreLabels shape cells.now labels.old }
+    ensures labels { AreLabels shape cells.now labels.new }
+    ensures lowering { IsLowering labels.old labels.new result }
+    ensures settled { result ≡ false → IsSettledTowards shape cells.now labels.new direction cell }
+{
+    let _ = shape.cells();
+    let Some(next) = shape.neighbour(cell, direction) else {
+        return false;
+    };
+    if stands_on(cells, next) {
+        return false;
+    }
+    let label = labels[next];
+    if label < labels[cell] {
+        labels[cell] = label;
+        return true;
+    }
+    false
+}
+
+// Whether a tile stands on the cell.
+fn stands_on(cells: &[u8], cell: usize) -> bool
+    requires { cell < 2 ^ 8 }
+    ensures { IsTrue result ↔ Contains cells.now cell }
+{
+    cells.contains(&(cell as u8))
+}

@@ -1,0 +1,149 @@
+//! Values of views, by rank.
+
+ghost use Rattle.std.specs.Prelude.{suc, [], ◌≡◌, ◌-◌, ◌<◌, ◌≤◌, ◌++◌, ◌∷◌};
+ghost use Rattle.std.specs.Prelude.{length, take, slice_index, IfOk, OnOk, Contains};
+ghost use Rattle.board.specs.Grids.{cell_count};
+ghost use Rattle.pattern_index.specs.Laws.{factorial};
+ghost use Rattle.pattern_index.specs.Ranks.{ways, IsListing};
+ghost use Rattle.pattern_index.specs.declared.group.TheConstants.{MAX_SIZE};
+ghost use Rattle.pattern_index.specs.Views.{Sight, IsView};
+ghost use Rattle.pattern_index.specs.Selections.{size_of, rank_in};
+ghost use Rattle.database_build.specs.Marks.{AreMarksOf};
+ghost use Rattle.database_build.specs.Sets.{set_place};
+ghost use Rattle.database_build.specs.Regions.{IsRegions};
+ghost use Rattle.database_build.specs.Graphs.{node_in, node_count};
+ghost use Rattle.database_build.specs.Rows.{AreLarger, IsRow, node_value};
+
+use crate::orders::{factorial, order_of};
+use crate::regions::Regions;
+use memory::{OutOfMemory, push, with_capacity};
+use pattern_index::{Group, list_cells};
+use std::alloc::Global;
+
+// The values of a group's views by rank, where the values of their nodes are given.
+pub(crate) fn rank_values(
+    alloc: Global,
+    group: &Group,
+    regions: &Regions,
+    orders: usize,
+    nodes: &[u16],
+) -> Result<Vec<u16>, OutOfMemory>
+    requires regions { IsRegions group.now.grid (length group.now.tiles) regions.now }
+    requires orders { orders ≡ factorial (length group.now.tiles) }
+    requires nodes { length nodes.now ≡ node_count regions.now }
+    ensures size { IfOk result (λ values. length values.items ≡ size_of group.now) }
+    ensures values { IfOk result (λ values. (v : Sight) → IsView group.now.grid group.now.tiles v
+        → slice_index values.items (rank_in group.now.grid v)
+        ≡ slice_index nodes.now (node_in regions.now v)) }
+{
+    let larger = find_larger(alloc, regions)?;
+    let mut values = with_capacity(alloc, group.size())?;
+    let cells = regions.shape.cells();
+    let count = regions.count;
+    let mut list = [0; 9];
+    'rows: for row in 0..group.folded_size() {
+        list_cells(cells, row, &mut list[..count]);
+        let blank = list[0];
+        add_row(
+            regions,
+            &larger,
+            orders,
+            nodes,
+            blank,
+            &list[1..count],
+            &mut values,
+        )?;
+    }
+    Ok(values)
+}
+
+// Puts the values of a row at the end. All its views have the blank and all tiles but the last on these cells.
+fn add_row(
+    regions: &Regions,
+    larger: &[u32],
+    orders: usize,
+    nodes: &[u16],
+    blank: u8,
+    others: &[u8],
+    values: &mut Vec<u16>,
+) -> Result<(), OutOfMemory>
+    requires regions { IsRegions regions.now.shape regions.now.count regions.now }
+    requires small { ways (cell_count regions.now.shape) (suc regions.now.count) ≤ MAX_SIZE }
+    requires larger { AreLarger regions.now larger.now }
+    requires orders { orders ≡ factorial regions.now.count }
+    requires nodes { length nodes.now ≡ node_count regions.now }
+    requires listing { IsListing (cell_count regions.now.shape) (blank ∷ others.now) }
+    requires count { suc (length others.now) ≡ regions.now.count }
+    ensures { OnOk result (IsRow (blank ∷ others.now)
+        (λ z. node_value regions.now nodes.now (blank ∷ (others.now ++ z ∷ [])))
+        values.old.items (cell_count regions.now.shape) values.new.items) }
+{
+    let count = regions.shape.cells();
+    let unit = factorial(others.len());
+    let set = regions.choices.place(others);
+    let marks = mark_cells(others);
+    let mut order = order_of(others);
+    'cells: for cell in 0..count {
+        if marks[cell] {
+            order += unit;
+            continue;
+        }
+        if cell as u8 == blank {
+            continue;
+        }
+        let whole = larger[set * count + cell] as usize;
+        let region = regions.numbers[whole * count + blank as usize] as usize;
+        push(values, nodes[region * orders + order])?;
+    }
+    Ok(())
+}
+
+// Marks the cells of a list.
+fn mark_cells(cells: &[u8]) -> [bool; 25]
+    requires { IsListing 25 cells.now }
+    ensures size { length result ≡ 25 }
+    ensures marks { AreMarksOf cells.now result }
+{
+    let mut marks = [false; 25];
+    'cells: for cell in cells {
+        marks[*cell as usize] = true;
+    }
+    marks
+}
+
+// For each set of one cell less, and each cell that it doesn't have, the place of the set with that cell.
+fn find_larger(alloc: Global, regions: &Regions) -> Result<Vec<u32>, OutOfMemory>
+    requires { IsRegions regions.now.shape regions.now.count regions.now }
+    ensures { IfOk result (λ larger. AreLarger regions.now larger.items) }
+{
+    let mut larger = Vec::new(alloc);
+    let count = regions.shape.cells();
+    let last = regions.count - 1;
+    let sets = regions.choices.count(count, last);
+    let mut cells = [0; 9];
+    'sets: for set in 0..sets {
+        regions.choices.write_set(count, set, &mut cells[..last]);
+        'cells: for cell in 0..count {
+            let place = place_with(regions, &cells, cell as u8);
+            push(&mut larger, place)?;
+        }
+    }
+    Ok(larger)
+}
+
+// The place of a set with one cell more, or 0 where it has that cell.
+fn place_with(regions: &Regions, cells: &[u8; 9], cell: u8) -> u32
+    requires regions { IsRegions regions.now.shape regions.now.count regions.now }
+    requires listing { IsListing (cell_count regions.now.shape) (take (regions.now.count - 1) cells.now) }
+    requires cell { cell < cell_count regions.now.shape }
+    ensures { ¬ Contains (take (regions.now.count - 1) cells.now) cell
+        → result ≡ set_place (take (regions.now.count - 1) cells.now ++ cell ∷ []) }
+{
+    let last = regions.count - 1;
+    if cells[..last].contains(&cell) {
+        return 0;
+    }
+    let mut all = *cells;
+    all[last] = cell;
+    regions.choices.place(&all[..last + 1]) as u32
+}
