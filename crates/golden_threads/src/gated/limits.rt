@@ -10,10 +10,14 @@ use test_worlds::{Answer, Counter, Division, Team, answer_with_rows, bound_of};
 
 const LIMIT: u64 = 4000;
 
+// One grant may use it up. No contract says that a board is expanded under such a limit.
+const SMALL_LIMIT: u64 = 200;
+
 // So many expansions are granted to a worker at most that it may leave.
 const LEFT_BY_EACH: u64 = 256;
 
-/// Prints whether the limit bounds the runs of one worker, and of four, by both spreads.
+/// Prints whether a limit bounds the runs of one worker, and of four, by both spreads; and whether
+/// two workers expand a board under a limit that one grant uses up.
 pub fn print_runs<R: Threads + Wait + Print + AllocGlobal + Sync>(rt: &R) -> io::Result<()> {
     println!(rt; "# {START:?} at unit cost, limit {LIMIT}")?;
     for division in Division::ALL {
@@ -24,6 +28,7 @@ pub fn print_runs<R: Threads + Wait + Print + AllocGlobal + Sync>(rt: &R) -> io:
                 division,
             },
             LIMIT,
+            LIMIT,
         )?;
         print_run(
             rt,
@@ -31,26 +36,41 @@ pub fn print_runs<R: Threads + Wait + Print + AllocGlobal + Sync>(rt: &R) -> io:
                 workers: 4,
                 division,
             },
+            LIMIT,
             LIMIT - 4 * LEFT_BY_EACH,
+        )?;
+    }
+    rt.println("")?;
+    println!(rt; "# The same board, limit {SMALL_LIMIT}")?;
+    for division in Division::ALL {
+        print_run(
+            rt,
+            Team {
+                workers: 2,
+                division,
+            },
+            SMALL_LIMIT,
+            1,
         )?;
     }
     rt.println("")
 }
 
-// Prints whether a run is bounded by the limit, after so many expansions at least.
+// Prints whether a run is bounded by a limit, after so many expansions at least.
 fn print_run<R: Threads + Wait + Print + AllocGlobal + Sync>(
     rt: &R,
     team: Team,
+    limit: u64,
     fewest: u64,
 ) -> io::Result<()> {
-    let Some((answer, expanded)) = run(rt, rt.alloc(), team) else {
+    let Some((answer, expanded)) = run(rt, rt.alloc(), team, limit) else {
         return Err(ErrorKind::OutOfMemory.into());
     };
     let Team { workers, division } = team;
     let word = division.word();
     print!(rt; "workers {workers}, by the {word}: ")?;
-    if is_bound(answer) && fewest <= expanded && expanded <= LIMIT {
-        return println!(rt; "a bound of 1 at least, {fewest} to {LIMIT} boards expanded");
+    if is_bound(answer) && fewest <= expanded && expanded <= limit {
+        return println!(rt; "a bound of 1 at least, {fewest} to {limit} boards expanded");
     }
     println!(rt; "{answer:?}, {expanded} boards expanded")
 }
@@ -65,8 +85,13 @@ fn is_bound(answer: Answer) -> bool {
 
 // What is answered without tables, and how many boards were expanded for it; or None where memory
 // was refused.
-fn run<R: Threads + Wait + Sync>(rt: &R, alloc: Global, team: Team) -> Option<(Answer, u64)> {
-    let problem = problem(LIMIT)?;
+fn run<R: Threads + Wait + Sync>(
+    rt: &R,
+    alloc: Global,
+    team: Team,
+    limit: u64,
+) -> Option<(Answer, u64)> {
+    let problem = problem(limit)?;
     let bound = bound_of(alloc, &problem.goal, &problem.weights, &[])?;
     let counter = Counter::new();
     let answer = answer_with_rows(rt, alloc, &problem, &bound, team, &counter);
