@@ -56,7 +56,7 @@ pub fn print_runs<R: Threads + Wait + Print + AllocGlobal + Sync>(rt: &R) -> io:
     rt.println("")
 }
 
-// Prints whether a run is bounded by a limit, after so many expansions at least.
+// Prints whether a run is bounded by a limit, and expands no fewer boards than it has to.
 fn print_run<R: Threads + Wait + Print + AllocGlobal + Sync>(
     rt: &R,
     team: Team,
