@@ -159,7 +159,7 @@ fn main() -> ExitCode {
     }
     let table_of = |numbers| {
         let group = Group::new(shape, numbers);
-        let values = build(&group, &weights);
+        let values = build(&group, &usual_goal(), &weights);
         Table { group, values }
     };
     let tables: Vec<Table> = tiles.chunks(size).map(table_of).collect();

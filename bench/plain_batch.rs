@@ -61,7 +61,7 @@ impl Table {
     fn new(shape: Shape, numbers: &[u8], weights: &[u8; 25]) -> Self {
         Table {
             tiles: numbers.to_vec(),
-            values: build(&Group::new(shape, numbers), weights),
+            values: build(&Group::new(shape, numbers), &usual_goal(), weights),
         }
     }
 

@@ -81,7 +81,7 @@ impl Guide {
                 guide.group_of[*tile as usize] = guide.tables.len() as u8;
             }
             let group = Group::new(shape, tiles);
-            guide.tables.push(fold(&group, &build(&group, &[1; 25])));
+            guide.tables.push(fold(&group, &build(&group, &usual_goal(), &[1; 25])));
         }
         for cell in 0..cells {
             let reached = [Move::U, Move::L, Move::R, Move::D]

@@ -9,10 +9,12 @@ struct View {
 }
 
 impl Group {
-    /// The view of the board that has the blank on cell 0, and tile t on cell t.
-    fn goal_view(&self) -> View {
-        let mut places = [0; 10];
-        places[1..=self.count as usize].copy_from_slice(self.tiles());
+    /// The view of a goal, by the cell of each number.
+    fn goal_view(&self, cells: &[u8; 25]) -> View {
+        let mut places = [cells[0]; 10];
+        for (place, tile) in places[1..].iter_mut().zip(self.tiles()) {
+            *place = cells[*tile as usize];
+        }
         View {
             count: self.count + 1,
             places,
@@ -85,11 +87,16 @@ fn lower(values: &mut [u16], buckets: &mut Vec<Vec<u32>>, rank: usize, cost: usi
     values[rank] = cost as u16;
 }
 
-/// The values of a group, for the goal of its shape.
-fn build(group: &Group, weights: &[u8; 25]) -> Vec<u16> {
+/// The cell of each number on the goal that has the blank on cell 0, and tile t on cell t.
+fn usual_goal() -> [u8; 25] {
+    std::array::from_fn(|number| number as u8)
+}
+
+/// The values of a group, for a goal by the cell of each number.
+fn build(group: &Group, goal: &[u8; 25], weights: &[u8; 25]) -> Vec<u16> {
     let mut values = vec![NO_VALUE; group.size];
     let mut buckets = Vec::new();
-    lower(&mut values, &mut buckets, group.rank(&group.goal_view()), 0);
+    lower(&mut values, &mut buckets, group.rank(&group.goal_view(goal)), 0);
     let mut cost = 0;
     while cost < buckets.len() {
         while let Some(rank) = buckets[cost].pop() {

@@ -27,7 +27,7 @@ mod words;
 
 use board::Shape;
 use containers::search;
-use database_build::Table;
+use database_build::{Folded, Table};
 use lower_bound::Bound;
 use pattern_index::Group;
 use ranks::sum_of_ranks;
@@ -35,7 +35,7 @@ use std::io::{self, ErrorKind, Print};
 use std::process::ExitCode;
 use steps::walk_from_goal;
 use sums::{drawn_keys, expand_all};
-use tables::{summary_of, table_of};
+use tables::{Task, fold_of, summary_of, table_of};
 use words::{Asked, Part, SMALL, read_part, read_words};
 
 fn print_steps(rt: &impl Print, shape: Shape, steps: u32) -> io::Result<()> {
@@ -52,20 +52,38 @@ fn print_ranks(rt: &impl Print, group: &Group, ranks: u32) -> io::Result<()> {
     println!(rt; "size {size} ranks {ranks} sum {sum}")
 }
 
+// Prints what the values of a table come to.
+fn print_values(rt: &impl Print, values: &[u16]) -> io::Result<()> {
+    let summary = summary_of(values);
+    let views = summary.views;
+    let highest = summary.highest;
+    let sum = summary.sum;
+    let check = summary.check;
+    println!(rt; "views {views} highest {highest} sum {sum} check {check}")
+}
+
 // All tables are kept to the end, as a search would keep them.
-fn print_tables(rt: &(impl Print + AllocGlobal), groups: &[Group]) -> io::Result<()> {
+fn print_tables(rt: &(impl Print + AllocGlobal), groups: &[Group], task: Task) -> io::Result<()> {
     let mut tables: Vec<Table> = Vec::new(rt.alloc());
     for group in groups {
-        let Ok(table) = table_of(rt.alloc(), group) else {
+        let Some(table) = table_of(rt.alloc(), group, task) else {
             return Err(ErrorKind::OutOfMemory.into());
         };
-        let summary = summary_of(table.values());
-        let views = summary.views;
-        let highest = summary.highest;
-        let sum = summary.sum;
-        let check = summary.check;
-        println!(rt; "views {views} highest {highest} sum {sum} check {check}")?;
+        print_values(rt, table.values())?;
         tables.push(table)?;
+    }
+    Ok(())
+}
+
+// So are folded ones.
+fn print_folds(rt: &(impl Print + AllocGlobal), groups: &[Group], task: Task) -> io::Result<()> {
+    let mut folds: Vec<Folded> = Vec::new(rt.alloc());
+    for group in groups {
+        let Some(fold) = fold_of(rt.alloc(), group, task) else {
+            return Err(ErrorKind::OutOfMemory.into());
+        };
+        print_values(rt, fold.values())?;
+        folds.push(fold)?;
     }
     Ok(())
 }
@@ -98,7 +116,8 @@ fn print_part(rt: &(impl Print + AllocGlobal), part: &Part) -> io::Result<()> {
     match part {
         Part::Steps(shape, steps) => print_steps(rt, *shape, *steps),
         Part::Ranks(group, ranks) => print_ranks(rt, group, *ranks),
-        Part::Tables(groups) => print_tables(rt, groups),
+        Part::Tables(groups, task) => print_tables(rt, groups, *task),
+        Part::Folds(groups, task) => print_folds(rt, groups, *task),
         Part::Sums(bound, boards, rounds) => print_sums(rt, bound, *boards, *rounds),
         Part::Containers(count) => print_search(rt, *count),
     }
@@ -123,7 +142,8 @@ fn main(rt: HostRuntime) -> ExitCode {
         None => {
             let _ = rt.eprintln(
                 "usage: bench_kernels [step [SIDE STEPS] | rank [SIDE TILES RANKS] \
-                 | table [ROWS COLS COUNT..] | sums [SIDE BOARDS ROUNDS COUNT..] \
+                 | table [ROWS COLS COUNT..] | weighed [WEIGHTS GOAL ROWS COLS COUNT..] \
+                 | folded [WEIGHTS GOAL ROWS COLS COUNT..] | sums [SIDE BOARDS ROUNDS COUNT..] \
                  | containers [COUNT]]",
             );
             return ExitCode::from(2);

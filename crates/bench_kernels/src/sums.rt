@@ -59,8 +59,8 @@ pub fn drawn_keys(alloc: Global, shape: Shape, boards: u32) -> Option<Vec<u128>>
     Some(keys)
 }
 
-// The first numbers in an order that a state makes, and the state after it (Fisher, Yates).
-fn shuffled(count: usize, start: u64) -> ([u8; 25], u64)
+/// The first numbers in an order that a state makes, and the state after it (Fisher, Yates).
+pub fn shuffled(count: usize, start: u64) -> ([u8; 25], u64)
     requires { count ≤ 25 }
     ensures { length result.0 ≡ 25 }
 {

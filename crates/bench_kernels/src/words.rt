@@ -3,6 +3,7 @@
 ghost use Rattle.std.specs.Prelude.{◌≡◌, All, IfSome};
 
 use crate::sums::drawn_bound;
+use crate::tables::Task;
 use board::Shape;
 use lower_bound::Bound;
 use pattern_index::Group;
@@ -16,10 +17,12 @@ const TILES: [u8; 24] = [
 ];
 
 /// The parts, in the order in which they are printed, each with the numbers of its small run.
-pub const SMALL: [(&str, &[usize]); 5] = [
+pub const SMALL: [(&str, &[usize]); 7] = [
     ("step", &[3, 1000]),
     ("rank", &[4, 5, 1000]),
     ("table", &[2, 3, 2, 3]),
+    ("weighed", &[7, 1, 2, 3, 2, 3]),
+    ("folded", &[1, 7, 2, 3, 2, 3]),
     ("sums", &[3, 100, 2, 3, 4]),
     ("containers", &[1000]),
 ];
@@ -31,8 +34,10 @@ pub enum Part {
     Steps(Shape, u32),
     /// Ranks of views of a group.
     Ranks(Group, u32),
-    /// The tables of these groups.
-    Tables(Vec<Group>),
+    /// The tables of these groups for a task.
+    Tables(Vec<Group>, Task),
+    /// Their folded tables.
+    Folds(Vec<Group>, Task),
     /// A count of boards, and how often each is expanded, with the sums of a bound.
     Sums(Bound, u32, u32),
     /// A search until this many boards are known.
@@ -87,7 +92,17 @@ pub fn read_part(alloc: Global, name: &str, numbers: &[usize]) -> Option<Part> {
         }
         ("table", [rows, cols, counts @ ..]) => {
             let shape = shape_of(*rows, *cols)?;
-            Some(Part::Tables(read_groups(alloc, shape, counts)?))
+            Some(Part::Tables(read_groups(alloc, shape, counts)?, Task::plain()))
+        }
+        ("weighed", [weights, goal, rows, cols, counts @ ..]) => {
+            let shape = shape_of(*rows, *cols)?;
+            let task = task_of(*weights, *goal);
+            Some(Part::Tables(read_groups(alloc, shape, counts)?, task))
+        }
+        ("folded", [weights, goal, rows, cols, counts @ ..]) => {
+            let shape = shape_of(*rows, *cols)?;
+            let task = task_of(*weights, *goal);
+            Some(Part::Folds(read_groups(alloc, shape, counts)?, task))
         }
         ("sums", [side, boards, rounds, counts @ ..]) => {
             let shape = shape_of(*side, *side)?;
@@ -98,6 +113,14 @@ pub fn read_part(alloc: Global, name: &str, numbers: &[usize]) -> Option<Part> {
         }
         ("containers", [count]) => Some(Part::Containers(*count)),
         _ => None,
+    }
+}
+
+// The task of these numbers.
+fn task_of(weights: usize, goal: usize) -> Task {
+    Task {
+        weights: weights as u64,
+        goal: goal as u64,
     }
 }
 

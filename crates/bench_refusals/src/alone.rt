@@ -13,7 +13,7 @@ use crate::requests::is_refused;
 use answer::Answer;
 use certificates::{read_announcement, read_certificate};
 use containers::{reserve_closed, reserve_open};
-use databases::{build_folds, build_table, copy_partition, fold_bound, fold_setup, fold_table};
+use databases::{build_folds, build_tables, copy_partition, fold_bound, fold_setup, fold_table};
 use runs::{
     check_certificate, check_groups, run_one_line, run_two_lines, write_certificate, write_groups,
 };
@@ -62,7 +62,7 @@ fn call<R: Threads + Wait + AllocGlobal + Sync>(rt: &R, name: &str) -> Option<An
     let alloc = rt.alloc();
     match name {
         "partition" => Some(copy_partition(alloc)),
-        "table" => Some(build_table(alloc)),
+        "table" => Some(build_tables(alloc)),
         "fold" => Some(fold_table(alloc)),
         "fold-bound" => Some(fold_bound(alloc)),
         "fold-setup" => Some(fold_setup(rt)),

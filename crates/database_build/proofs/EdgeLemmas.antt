@@ -1,8 +1,8 @@
 -- Edges of a region: those of its set's cells in rising order are those of every list of these cells.
-use Rattle.std.proofs.Common.{◌≡◌, ◌≢◌, ◌⊎◌, ℕ, zero, suc, ◌+◌, ◌-◌, ◌*◌, ◌^◌, ◌<◌, ◌≤◌, false, cond, eqb, List, [], ◌∷◌, ◌++◌, map, length, set, take, get_or, refl, sym, ap, ◌∙◌, subst, inl, inr, ⊎_elim, arith, Some}
+use Rattle.std.proofs.Common.{◌≡◌, ◌≢◌, ◌⊎◌, ℕ, zero, suc, ◌+◌, ◌-◌, ◌*◌, ◌^◌, ◌<◌, ◌≤◌, cond, eqb, List, [], ◌∷◌, ◌++◌, map, length, set, take, get_or, refl, sym, ap, ◌∙◌, subst, inl, inr, ⊎_elim, arith, Some}
 use Rattle.std.specs.Prelude.{slice_get, slice_index, Contains}
 use Rattle.std.proofs.lemmas.Nat.{mul-le, mul-add-lt}
-use Rattle.std.proofs.lemmas.Bool.{cases_lt, eqb-false}
+use Rattle.std.proofs.lemmas.Bool.{cases_lt}
 use Rattle.std.proofs.lemmas.Bool.Decides.{nat_tests}
 use Rattle.std.proofs.lemmas.List.{length-append, length_push, append_assoc, get_or_push, get_or_append_left, get_or_default, get_or_read, get_or-take, take_at}
 use Rattle.std.proofs.lemmas.List.Elements.{All-from_recursion, Contains-get_or, Contains-append_left, Contains-push, Contains-push_cases}
@@ -493,10 +493,6 @@ module _ (r : Regions) (regions : IsRegions r.shape r.count r) (set region : ℕ
   -- it comes there
   pub step_here : (value : ℕ) (e : Edge) → value ≡ get_or r.numbers.items (set * n + to) value → value ≡ region → ¬ Contains (take r.count all) to → IsEdgeOf r (take r.count all) (get_or all tile 0) to e → IsStepEdge r (take r.count all) region (get_or all tile 0) m e
   step_here value e is here free edge = record { to = to; step = record { towards = lies; blank = step_free free; here = sym (step_read value is) ∙ here }; edge = edge }
-
--- a test of each cell has found none
-pub not_there : (xs : List ℕ) (x : ℕ) → ((k d : ℕ) → 0 ≤ k → k < length xs → eqb (get_or xs k d) x ≡ false) → ¬ Contains xs x
-not_there xs x none has = eqb-false (get_or xs has.0 x) x (none has.0 x (omega arith) has.1) has.2
 
 module _ (r : Regions) (regions : IsRegions r.shape r.count r) (region : ℕ) (home : Home) (at : slice_get r.homes.items region ≡ Some home) where
   -- the set that is written into the first cells is the region's

@@ -42,7 +42,7 @@ plus_one : (k : ℕ) → k + 1 ≡ suc k
 plus_one k = omega arith
 
 -- the blank's cell is none of the others
-blank_out : (n blank : ℕ) (others : List ℕ) → IsListing n (blank ∷ others) → ¬ Contains others blank
+pub blank_out : (n blank : ℕ) (others : List ℕ) → IsListing n (blank ∷ others) → ¬ Contains others blank
 blank_out n blank others is has = is.different 0 (suc has.0) blank (omega arith) (let lt = has.1 in omega (arith, lt)) (sym has.2)
 
 module _ (r : Regions) (nodes : List ℕ) (blank : ℕ) (others : List ℕ) (listing : IsListing (cell_count r.shape) (blank ∷ others)) where
@@ -231,7 +231,7 @@ module _ (g : Selection) (r : Regions) (nodes : List ℕ) (regions : IsRegions g
     room_in = let room = regions.room in omega (arith, room)
 
     module _ (list : List ℕ) (is : list ≡ list_at cells (length (take r.count array)) row) where
-      list_is : list ≡ list_at (cell_count g.grid) (length g.tiles) row
+      pub list_is : list ≡ list_at (cell_count g.grid) (length g.tiles) row
       list_is = is ∙ (λ i. list_at ((counted ∙ one_count) i) ((taken ∙ regions.tiles) i) row)
 
       parts_are : get_or (list ++ drop r.count array) 0 0 ∷ take (r.count - 1) (drop 1 (list ++ drop r.count array)) ≡ list_at (cell_count g.grid) (length g.tiles) row
@@ -239,7 +239,7 @@ module _ (g : Selection) (r : Regions) (nodes : List ℕ) (regions : IsRegions g
           let long : length list ≡ r.count = ap length list_is ∙ length-list_at (cell_count g.grid) (length g.tiles) row room_in ∙ sym regions.tiles in
           array_parts r.count list (drop r.count array) (let some = regions.some in let e = regions.tiles in omega (arith, some, e)) long ∙ list_is
 
-      list_listing : IsListing (cell_count g.grid) (list_at (cell_count g.grid) (length g.tiles) row)
+      pub list_listing : IsListing (cell_count g.grid) (list_at (cell_count g.grid) (length g.tiles) row)
       list_listing = listing_from (cell_count g.grid) (list_at (cell_count g.grid) (length g.tiles) row) (list_at_below (cell_count g.grid) (length g.tiles) row room_in row_in) (list_at_differ (cell_count g.grid) (length g.tiles) row)
 
       parts_in : IsListing (cell_count g.grid) (get_or (list ++ drop r.count array) 0 0 ∷ take (r.count - 1) (drop 1 (list ++ drop r.count array)))

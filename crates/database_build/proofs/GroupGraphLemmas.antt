@@ -1,8 +1,8 @@
 -- Why the regions, edges and orders of a group make a graph that a search can go over.
-use Rattle.std.proofs.Common.{◌≡◌, ℕ, suc, ◌+◌, ◌*◌, ◌/◌, ◌%◌, ◌<◌, ◌≤◌, eqb, cond, List, [], ◌++◌, length, map, take, refl, sym, ap, ◌∙◌, subst, arith}
+use Rattle.std.proofs.Common.{◌≡◌, ℕ, suc, ◌+◌, ◌*◌, ◌/◌, ◌%◌, ◌<◌, ◌≤◌, eqb, cond, List, [], ◌++◌, length, map, replicate, take, refl, sym, ap, ◌∙◌, subst, arith}
 use Rattle.std.specs.Prelude.{slice_index, Contains, All}
 use Rattle.std.proofs.lemmas.Bool.{cond-true, eq-eqb}
-use Rattle.std.proofs.lemmas.List.{length-map, take-append-le, take_all}
+use Rattle.std.proofs.lemmas.List.{length-map, length-take-le, get_or-take, get_or-replicate, take-append-le, take_all}
 use Rattle.std.proofs.lemmas.List.Elements.{recursion_from_All}
 use Rattle.std.proofs.lemmas.Nat.{mul-add-lt}
 use Rattle.std.proofs.Math.Nat.{mul_comm}
@@ -24,7 +24,7 @@ use Rattle.database_build.specs.Graphs.{IsOrders, node_in, node_count, AreWeight
 use Rattle.database_build.specs.Searches.{IsGraphOf, IsSoundGraph, target, cost_by}
 use Rattle.database_build.specs.declared.edges.Edge.{Edge}
 use Rattle.database_build.specs.declared.regions.Regions.{Regions}
-use Rattle.database_build.specs.declared.search.Graph.{Graph}
+use Rattle.database_build.specs.declared.graph.Graph.{Graph}
 use Rattle.database_build.proofs.OrderLemmas.{below_within, in_map, replaced_listing}
 use Rattle.database_build.proofs.GraphLemmas.{graph_of, view_placed, view_free, view_order, node_region}
 use Rattle.database_build.proofs.ReachLemmas.{parted}
@@ -118,3 +118,10 @@ free_at grid xs ys x y same is free = subst (λ (z : ℕ). IsFree grid xs z) (sy
 pub node_by : (r : Regions) (v : Sight) (cells : List ℕ) (blank region size order : ℕ) → cells ≡ v.cells → blank ≡ v.blank → region ≡ region_in r cells blank → size ≡ factorial r.count → order ≡ order_of cells → region * size + order ≡ node_in r v
 node_by r v cells blank region size order same is region_is size_is order_is =
     (λ i. region_is i * size_is i + order_is i) ∙ (λ i. region_in r (same i) (is i) * factorial r.count + order_of (same i))
+
+-- ---- tiles that cost the same
+
+pub same_each : (xs : List ℕ) (count weight : ℕ) → count ≤ length xs → take count xs ≡ replicate (length (take count xs)) weight → (place : ℕ) → place < count → slice_index xs place ≡ weight
+same_each xs count weight long same place less =
+    sym (get_or-take count xs place 0 less) ∙ ap (λ (ys : List ℕ). slice_index ys place) same
+    ∙ get_or-replicate (length (take count xs)) place weight 0 (let all = length-take-le count xs long in omega arith)

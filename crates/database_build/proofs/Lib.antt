@@ -12,7 +12,12 @@ pub mod GraphLemmas
 pub mod RowLemmas
 pub mod LargerLemmas
 pub mod FillLemmas
+pub mod NodeSetLemmas
 pub mod ReachLemmas
+pub mod LayerStepLemmas
+pub mod LayerLemmas
 pub mod GroupGraphLemmas
 pub mod PotentialLemmas
+pub mod LeastLemmas
+pub mod SparseLemmas
 pub mod FoldLemmas

@@ -133,7 +133,7 @@ order_none : order_of [] ≡ 0
 unfolding order_of order_after
 order_none = refl
 
--- the orders of so many tiles are below their factorial
+-- the orders of `count` tiles are below the factorial
 pub order_below : (xs : List ℕ) → order_of xs < factorial (length xs)
 order_below xs = from_end (λ ys. order_of ys < factorial (length ys)) (let e = order_none in omega (arith, e)) (λ ys z low. more ys z low) xs
   where

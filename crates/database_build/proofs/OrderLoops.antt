@@ -97,7 +97,7 @@ exchanged_down position other same = grind (arith, nat_tests)
 pub exchanged_same : (position other : ℕ) → other ≢ position → other ≢ position + 1 → other ≡ exchanged position other
 exchanged_same position other one two = grind (arith, nat_tests)
 
--- the positions of so many tiles are written, and what is left of the order
+-- the positions of the first tiles are written, and what is left of the order
 pub record IsWritten (order : ℕ) (positions : List ℕ) (tile rest : ℕ) : Type 0 where
   pub rest_is : rest ≡ order / factorial tile
   pub list_is : take tile positions ≡ positions_at tile (order % factorial tile)

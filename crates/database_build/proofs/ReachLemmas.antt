@@ -17,9 +17,9 @@ use Rattle.database_build.specs.Values.{IsValue}
 use Rattle.database_build.specs.Buckets.{Buckets, Waits, waiting_count, IsGrown, IsTaken}
 use Rattle.database_build.specs.Regions.{HasEdge}
 use Rattle.database_build.specs.Graphs.{node_in, node_count, IsPast, IsGraph}
-use Rattle.database_build.specs.Searches.{IsGraphOf, IsFit, IsFresh, IsLowered, IsPassed, IsSpread, IsSpreadFrom, IsVisited, IsSoundGraph, target, cost_by}
+use Rattle.database_build.specs.Searches.{IsGraphOf, IsFit, IsFresh, IsLowered, IsPassed, IsSpread, IsSpreadFrom, IsVisited, IsSoundGraph, IsSought, AreFound, target, cost_by}
 use Rattle.database_build.specs.declared.edges.Edge.{Edge}
-use Rattle.database_build.specs.declared.search.Graph.{Graph}
+use Rattle.database_build.specs.declared.graph.Graph.{Graph}
 use Rattle.database_build.specs.declared.search.Search.{Search}
 use Rattle.database_build.specs.declared.table.TheConstants.{NO_VALUE}
 use Rattle.database_build.proofs.BucketLemmas.{some_is, none_some, none_waits}
@@ -63,6 +63,17 @@ leads_then a v w x (m ∷ first) rest j k n leads after is =
 -- each view of the node has a plan at this cost
 abbrev pub IsReached : Quest → ℕ → ℕ → Type 0
 IsReached q k n = (v : Sight) → IsIn q v → node q v ≡ k → (plan : List Move) × Leads q v plan n
+
+-- where a node is reached, so is each node to which an edge leads from there
+pub reached_past : (q : Quest) → HasGraph q → (cost here : ℕ) (e : Edge) (to c : ℕ) → here < count_of q → IsReached q here cost → Passes q here e to c → (to < count_of q) × IsReached q to (cost + c)
+reached_past q graph cost here e to c here_in reached past =
+    let sound = graph.sound here e to c here_in past in (
+      sound.0,
+      (λ w is_view same.
+          let back = sound.1 w is_view same in
+          let way = reached back.0 back.1 back.2 in
+          (back.3.0 ++ way.0, leads_then q.space w back.0 q.goal back.3.0 way.0 c cost (cost + c) back.3.1 way.1 (omega arith))),
+    )
 
 -- no edge from the node leads to a value that is greater by more than its cost
 abbrev pub IsClosed : Quest → List ℕ → ℕ → Type 0
@@ -146,13 +157,7 @@ module _ (q : Quest) (graph : HasGraph q) (cost here : ℕ) (here_in : here < co
       let c : ℕ = cost_by q.graph order e in
       let lowered : IsLowered to (cost + c) s s' = subst (λ (g : Graph). IsLowered (target g order e) (cost + cost_by g order e) s s') fits passed in
       let past : Passes q here e to c = record { edge = has; other = refl; cost = refl } in
-      let sound = graph.sound here e to c here_in past in
-      let there : IsReached q to (cost + c) =
-      λ w is_view same.
-      let back = sound.1 w is_view same in
-      let way = reached back.0 back.1 back.2 in
-      (back.3.0 ++ way.0, leads_then q.space w back.0 q.goal back.3.0 way.0 c cost (cost + c) back.3.1 way.1 (omega arith))
-      in (
+      let there = reached_past q graph cost here e to c here_in reached past in (
         record {
           same_length = lowered.same_length;
           falls = lowered.falls;
@@ -160,10 +165,10 @@ module _ (q : Quest) (graph : HasGraph q) (cost here : ℕ) (here_in : here < co
               ⊎_elim (λ same. inl same)
               (λ (new : (k ≡ to) × (slice_index s'.values.items k ≡ cost + c) × Waits s'.buckets.items (cost + c) to).
               inr (subst (λ n. IsReached q k n × (cost ≤ n) × Waits s'.buckets.items n k) (sym new.1)
-              (subst (λ r. IsReached q r (cost + c) × (cost ≤ cost + c) × Waits s'.buckets.items (cost + c) r) (sym new.0) (there, omega arith, new.2))))
+              (subst (λ r. IsReached q r (cost + c) × (cost ≤ cost + c) × Waits s'.buckets.items (cost + c) r) (sym new.0) (there.1, omega arith, new.2))))
               (lowered.cases k);
           waits = lowered.waits;
-          only = λ at k w. ⊎_elim (λ old. inl old) (λ (new : k ≡ to). inr (subst (λ r. r < count_of q) (sym new) sound.0)) (lowered.only at k w);
+          only = λ at k w. ⊎_elim (λ old. inl old) (λ (new : k ≡ to). inr (subst (λ r. r < count_of q) (sym new) there.0)) (lowered.only at k w);
           few = lowered.few;
           wide = lowered.wide;
           work = lowered.work cost;
@@ -487,7 +492,7 @@ module _ (q : Quest) (graph : HasGraph q) (cost : ℕ) (values : List ℕ) (b : 
       (λ (high : NO_VALUE ≤ slice_index values (node q leads.0)). omega (arith, leads.5))
       (cases_lt (slice_index values (node q leads.0)) NO_VALUE)
 
-  values_are : (v : Sight) → IsIn q v → IsValue q.space q.goal v (slice_index values (node q v))
+  pub values_are : (v : Sight) → IsIn q v → IsValue q.space q.goal v (slice_index values (node q v))
   values_are v view = record {
     capped = now.capped (node q v);
     reached = λ low. now.reached (node q v) (graph.inside v view) low v view refl;
@@ -529,3 +534,30 @@ module _ (selection : Selection) (rule : CostRule) (goal : Position) where
 
   pub seeking_done : (cost : ℕ) (s : Search) → IsSeeking selection rule goal cost s → length s.buckets.items ≤ cost → (v : Sight) → IsView selection.grid selection.tiles v → IsValue (abstraction_of selection rule) (view_of selection.tiles goal) v (slice_index s.values.items (node_in s.graph.regions v))
   seeking_done cost s now over v view = values_are (quest_of selection rule goal s.graph) now.made.graph cost s.values.items s.buckets.items now.under_way over v view
+
+-- so it is for all groups and goals that are sought
+abbrev pub AreSeeking : Graph → ℕ → ℕ → Search → Type 0
+AreSeeking g start cost s = (selection : Selection) (rule : CostRule) (goal : Position) → IsSought selection rule goal g start → IsSeeking selection rule goal cost s
+
+-- some group and goal
+abbrev pub SomeSought : Graph → ℕ → Type 0
+SomeSought g start = (selection : Selection) × (rule : CostRule) × (goal : Position) × IsSought selection rule goal g start
+
+-- what is sought, out of the pair that says that there is something
+pub seeking_some : (g : Graph) (start cost : ℕ) (s : Search) → AreSeeking g start cost s → (some : SomeSought g start) → IsSeeking some.0 some.1 some.2 cost s
+seeking_some g start cost s are some = are some.0 some.1 some.2 some.3
+
+pub are_seeking_first : (g : Graph) (s s' : Search) (start : ℕ) → IsSoundGraph g → IsFresh g s → IsLowered start 0 s s' → AreSeeking g start 0 s'
+are_seeking_first g s s' start sound fresh lowered selection rule goal sought =
+    seeking_first selection rule goal g s s' start sought.made sound sought.view sought.node fresh lowered
+
+-- what a search has found at its end
+pub seeking_found : (g : Graph) (start cost : ℕ) (s : Search) → AreSeeking g start cost s → length s.buckets.items ≤ cost → (selection : Selection) (rule : CostRule) (goal : Position) → IsSought selection rule goal g start
+    → AreFound selection rule goal (record { regions = s.graph.regions; values = s.values })
+seeking_found g start cost s are over selection rule goal sought =
+    let is = are selection rule goal sought in
+    record {
+      regions = is.made.regions;
+      size = is.under_way.size;
+      values = seeking_done selection rule goal cost s is over;
+    }

@@ -144,7 +144,7 @@ unfolding choose
 choose-none zero some = absurd (omega arith)
 choose-none (suc count) some = refl
 
--- The set's cells from `left` on are written. Those before are of the set of so many of the cells below `cell` at the place that
+-- The set's cells from `left` on are written. Those before are of the set of that count of the cells below `cell` at the place that
 -- is left.
 pub record IsWritten (all : List ℕ) (cells total cell left rest : ℕ) (written : List ℕ) : Type 0 where
   pub size : length written ≡ total
@@ -273,7 +273,7 @@ push_differs : (n : ℕ) (xs : List ℕ) → Below n xs → Differ xs → Differ
 push_differs n [] within differ = (tt, tt)
 push_differs n (x ∷ xs) within differ = (push_other x n xs (let low : x < n = within.0 in omega arith) differ.0, push_differs n xs within.1 differ.1)
 
--- the list is a set of so many of so many cells, in rising order, and has a place
+-- the list is a set of `count` of `cells` cells, in rising order, and has a place
 pub record HasPlace (n count place : ℕ) (xs : List ℕ) : Type 0 where
   pub within : Below n xs
   pub differ : Differ xs

@@ -2,7 +2,9 @@
 use Rattle.std.specs.Prelude.{ℕ, ◌≡◌, ◌≤◌, List, length, slice_index}
 use Rattle.pattern_index.specs.Views.{Sight, IsView}
 use Rattle.pattern_index.specs.Selections.{Selection, place_in, folded_size_of}
-use Rattle.database_build.specs.Tables.{Lookup, value_in}
+use Rattle.board.specs.Positions.{Position}
+use Rattle.board.specs.CostRules.{CostRule}
+use Rattle.database_build.specs.Tables.{Lookup, HoldsValues, value_in}
 
 -- A group, and an entry for each way in which its tiles can stand, by place.
 pub record Fold : Type 0 where
@@ -23,3 +25,7 @@ pub record IsFoldOf (table : Lookup) (fold : Fold) : Type 0 where
   pub selection : fold.selection ≡ table.selection
   pub size : length fold.least ≡ folded_size_of table.selection
   pub least : (v : Sight) → IsView table.selection.grid table.selection.tiles v → IsFoldedValue table v (folded_in fold v)
+
+-- folded from a table with the value of each view for the goal by these costs
+abbrev pub IsTrueFold : CostRule → Position → Fold → Type 0
+IsTrueFold rule goal fold = (table : Lookup) × IsFoldOf table fold × HoldsValues table rule goal

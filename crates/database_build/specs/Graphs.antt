@@ -11,7 +11,7 @@ use Rattle.database_build.specs.declared.edges.Edge.{Edge}
 use Rattle.database_build.specs.declared.edges.Edges.{Edges}
 use Rattle.database_build.specs.declared.regions.Regions.{Regions}
 
--- what is kept for each order of so many tiles: the tile at each position, and the order after two are exchanged
+-- what is kept for each order of `count` tiles: the tile at each position, and the order after two are exchanged
 pub record IsOrders (count : ℕ) (o : Orders) : Type 0 where
   pub number : o.count ≡ count
   pub some : 0 < count

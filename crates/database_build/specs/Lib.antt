@@ -15,4 +15,6 @@ pub mod Edges
 pub mod Graphs
 pub mod Rows
 pub mod Searches
+pub mod NodeSets
+pub mod Layers
 pub mod Laws

@@ -12,7 +12,7 @@ use Rattle.database_build.specs.declared.regions.Regions.{Regions}
 use Rattle.database_build.specs.declared.edges.Edge.{Edge}
 use Rattle.database_build.specs.declared.edges.Edges.{Edges}
 
--- so many different cells of the grid
+-- `count` different cells of the grid
 pub record IsPlaced (grid : Grid) (count : ℕ) (cells : List ℕ) : Type 0 where
   pub listing : IsListing (cell_count grid) cells
   pub one_each : length cells ≡ count
@@ -45,7 +45,7 @@ pub record HasRegions (r : Regions) : Type 0 where
       × (region_in r (set_at (cell_count r.shape) r.count home.set) home.cell ≡ region)
   pub few : length r.homes.items * factorial r.count ≤ ways (cell_count r.shape) (suc r.count)
 
--- the regions of all sets of so many cells of a grid
+-- the regions of all sets of `count` cells of a grid
 pub record IsRegions (grid : Grid) (count : ℕ) (r : Regions) : Type 0 where
   pub shape : r.shape ≡ grid
   pub sides : IsShape grid

@@ -1,9 +1,10 @@
 -- Rows of values by rank: a row has the views that differ in the cell of the last tile alone.
-use Rattle.std.specs.Prelude.{ℕ, ◌≡◌, ◌+◌, ◌-◌, ◌*◌, ◌<◌, List, [], ◌∷◌, ◌++◌, length, slice_index, Contains}
+use Rattle.std.specs.Prelude.{ℕ, ◌≡◌, ◌+◌, ◌-◌, ◌*◌, ◌<◌, ◌≤◌, List, [], ◌∷◌, ◌++◌, length, slice_index, Contains}
 use Rattle.board.specs.Grids.{cell_count}
 use Rattle.pattern_index.specs.Ranks.{IsListing}
 use Rattle.database_build.specs.Orders.{below}
 use Rattle.database_build.specs.Sets.{choose, set_place}
+use Rattle.database_build.specs.Regions.{IsFree}
 use Rattle.database_build.specs.Graphs.{node_in}
 use Rattle.database_build.specs.declared.regions.Regions.{Regions}
 
@@ -23,3 +24,8 @@ pub record IsRow (xs : List ℕ) (value : ℕ → ℕ) (old : List ℕ) (cell : 
   pub size : length new ≡ length old + (cell - below cell xs)
   pub kept : (i : ℕ) → i < length old → slice_index new i ≡ slice_index old i
   pub values : (z : ℕ) → z < cell → ¬ Contains xs z → slice_index new (length old + (z - below z xs)) ≡ value z
+
+-- n is the least value of the nodes of views with tiles on these cells, wherever the blank is
+pub record IsLeastNode (r : Regions) (nodes cells : List ℕ) (n : ℕ) : Type 0 where
+  pub reached : (blank : ℕ) × IsFree r.shape cells blank × (node_value r nodes (blank ∷ cells) ≡ n)
+  pub none_below : (blank : ℕ) → IsFree r.shape cells blank → n ≤ node_value r nodes (blank ∷ cells)

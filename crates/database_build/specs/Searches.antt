@@ -1,16 +1,20 @@
 -- How a search lowers the values of nodes, along edges.
 use Rattle.std.specs.Prelude.{ℕ, zero, suc, ◌≡◌, ◌≢◌, ◌⊎◌, ◌+◌, ◌-◌, ◌*◌, ◌/◌, ◌%◌, ◌<◌, ◌≤◌, [], length, replicate, Some, slice_get, slice_index, sum}
+use Rattle.board.specs.Positions.{Position}
 use Rattle.board.specs.CostRules.{CostRule}
+use Rattle.pattern_index.specs.Views.{Sight, IsView, view_of}
 use Rattle.pattern_index.specs.Laws.{factorial}
 use Rattle.pattern_index.specs.Selections.{Selection, abstraction_of}
 use Rattle.pattern_index.specs.declared.group.TheConstants.{MAX_SIZE}
 use Rattle.database_build.specs.Buckets.{Waits, waiting_count}
 use Rattle.database_build.specs.Orders.{tile_of, moved_order}
 use Rattle.database_build.specs.Regions.{IsRegions, HasEdge}
-use Rattle.database_build.specs.Graphs.{IsOrders, IsGraph, node_count}
+use Rattle.database_build.specs.Graphs.{IsOrders, IsGraph, node_in, node_count}
+use Rattle.database_build.specs.Values.{IsValue}
 use Rattle.database_build.specs.declared.edges.Edge.{Edge}
-use Rattle.database_build.specs.declared.search.Graph.{Graph}
+use Rattle.database_build.specs.declared.graph.Graph.{Graph}
 use Rattle.database_build.specs.declared.search.Search.{Search}
+use Rattle.database_build.specs.declared.finding.Found.{Found}
 use Rattle.database_build.specs.declared.table.TheConstants.{NO_VALUE}
 
 -- the regions are those of the group, and the graph is that of its views
@@ -66,7 +70,7 @@ pub record IsLowered (node cost : ℕ) (s s' : Search) : Type 0 where
 abbrev pub IsPassed : ℕ → ℕ → Edge → Search → Search → Type 0
 IsPassed order cost e s s' = IsLowered (target s.graph order e) (cost + cost_by s.graph order e) s s'
 
--- the nodes to which so many edges lead, from one on, are lowered, one after another
+-- the nodes to which `count` edges lead, from the first on, are lowered one after another
 abbrev pub IsSpread : ℕ → ℕ → ℕ → ℕ → Search → Search → Type 0
 IsSpread order cost first zero s s' = s' ≡ s
 IsSpread order cost first (suc count) s s' =
@@ -82,3 +86,15 @@ abbrev pub IsVisited : ℕ → ℕ → Search → Search → Type 0
 IsVisited node cost s s' =
     ((slice_index s.values.items node ≢ cost) × (s' ≡ s))
     ⊎ ((slice_index s.values.items node ≡ cost) × IsSpreadFrom (node / factorial s.graph.regions.count) (node % factorial s.graph.regions.count) cost s s')
+
+-- the graph is that of a group, and the search begins at the goal's node
+pub record IsSought (selection : Selection) (rule : CostRule) (goal : Position) (g : Graph) (start : ℕ) : Type 0 where
+  pub made : IsGraphOf selection rule g
+  pub view : IsView selection.grid selection.tiles (view_of selection.tiles goal)
+  pub node : start ≡ node_in g.regions (view_of selection.tiles goal)
+
+-- each view of the group has its node's value
+pub record AreFound (selection : Selection) (rule : CostRule) (goal : Position) (found : Found) : Type 0 where
+  pub regions : IsRegions selection.grid (length selection.tiles) found.regions
+  pub size : length found.values.items ≡ node_count found.regions
+  pub values : (v : Sight) → IsView selection.grid selection.tiles v → IsValue (abstraction_of selection rule) (view_of selection.tiles goal) v (slice_index found.values.items (node_in found.regions v))

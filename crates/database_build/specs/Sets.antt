@@ -3,17 +3,17 @@ use Rattle.std.specs.Prelude.{ℕ, zero, suc, ◌+◌, ◌-◌, ◌<◌, ◌==�
 use Rattle.database_build.specs.Orders.{below}
 use Rattle.database_build.specs.declared.sets.Choices.{Choices}
 
--- in how many ways so many of so many cells can be chosen
+-- in how many ways `count` of `cells` cells can be chosen
 unfoldable pub choose : ℕ → ℕ → ℕ
 choose cells zero = 1
 choose zero (suc count) = 0
 choose (suc cells) (suc count) = choose cells count + choose cells (suc count)
 
--- the place of a set: its cell with so many below it counts in how many ways one more can be chosen of the cells below that cell
+-- the place of a set: a cell that has i of the set below it counts in how many ways i + 1 of the cells below it can be chosen
 unfoldable pub set_place : List ℕ → ℕ
 set_place cells = sum (map (λ cell. choose cell (suc (below cell cells))) cells)
 
--- the set of so many of so many cells that has this place, in rising order
+-- the set of `count` of `cells` cells that has this place, in rising order
 unfoldable pub set_at : ℕ → ℕ → ℕ → List ℕ
 set_at cells zero place = []
 set_at zero (suc count) place = []

@@ -2,10 +2,12 @@
 
 ghost use Rattle.std.specs.Prelude.{◌≡◌, IfOk};
 ghost use Rattle.database_build.specs.Tables.{HoldsValues};
+ghost use Rattle.database_build.specs.Folds.{IsTrueFold};
 
+use crate::finding::find_values;
+use crate::folding::Folded;
 use crate::orders::factorial;
-use crate::rows::rank_values;
-use crate::search::find_values;
+use crate::rows::{rank_least, rank_values};
 use crate::table::Table;
 use board::{Board, Weights};
 use memory::OutOfMemory;
@@ -29,4 +31,22 @@ pub fn build(
     let orders = factorial(group.tiles().len());
     let values = rank_values(alloc, group, &found.regions, orders, &found.values)?;
     Ok(Table::of_group(group, values))
+}
+
+/// That table, folded (`fold`), without the whole one: the values of nodes are folded at once.
+pub fn build_folded(
+    alloc: Global,
+    group: &Group,
+    goal: &Board,
+    weights: &Weights,
+) -> Result<Folded, OutOfMemory>
+    requires grid { goal.now.grid ≡ group.now.grid }
+    requires weights { weights.now.grid ≡ group.now.grid }
+    ensures group { IfOk result (λ fold. fold.selection ≡ group.now) }
+    ensures values { IfOk result (IsTrueFold weights.now goal.now) }
+{
+    let found = find_values(alloc, group, goal, weights)?;
+    let orders = factorial(group.tiles().len());
+    let least = rank_least(alloc, group, &found.regions, orders, &found.values)?;
+    Folded::of_group(alloc, group, least)
 }

@@ -10,7 +10,7 @@ ghost use Rattle.database_build.specs.Regions.{IsRegions, IsPlaced, IsFree, IsEd
 ghost use Rattle.database_build.specs.Edges.{IsRising, IsStep, IsStepEdge, HasFound, AreAdded};
 
 use crate::orders::count_below;
-use crate::regions::Regions;
+use crate::regions::{Regions, stands_on};
 use board::Move;
 use memory::{OutOfMemory, push};
 use std::alloc::Global;
@@ -118,7 +118,7 @@ fn find_edge(
     if regions.numbers[set * regions.shape.cells() + to] as usize != region {
         return None;
     }
-    if cells[..regions.count].contains(&(to as u8)) {
+    if stands_on(&cells[..regions.count], to) {
         return None;
     }
     Some(edge_to(regions, cells, tile, to))

@@ -1,20 +1,19 @@
 //! Folded tables: those without the blank.
 
-ghost use Rattle.std.specs.Prelude.{ℕ, ◌≡◌, ◌<◌, ◌↔◌, length, replicate, slice_index_or, false, min, slice_index, ◌⊎◌, ◌≤◌};
-ghost use Rattle.std.specs.Prelude.{IfOk, IfSome, IfNone, IsTrue, Contains, slice_get};
+ghost use Rattle.std.specs.Prelude.{ℕ, ◌≡◌, ◌<◌, ◌↔◌, length, replicate, slice_index_or, false, ◌⊎◌, ◌≤◌};
+ghost use Rattle.std.specs.Prelude.{IfOk, IfSome, IfNone, IsTrue, All, Contains, slice_get};
 ghost use Rattle.pattern_index.specs.Views.{IsView};
 ghost use Rattle.pattern_index.specs.Selections.{IsSelection, folded_size_of};
 ghost use Rattle.database_build.specs.Folds.{IsFoldOf, folded_in};
 ghost use Rattle.database_build.specs.Marks.{AreMarksOf};
 ghost use Rattle.board.specs.Grids.{cell_count};
-ghost use Rattle.pattern_index.specs.Selections.{place_in};
-ghost use Rattle.pattern_index.specs.Sparse.{sparse_in, sparse_size_of, stride_of};
+ghost use Rattle.pattern_index.specs.Sparse.{sparse_of, sparse_in, sparse_size_of, stride_of};
 ghost use Rattle.pattern_index.specs.Views.{Sight};
 ghost use Rattle.database_build.specs.SmallValues.{AreBytesOf, HasBytes, HasNoView, AreStridesOf, most_bytes};
 
 use crate::table::{NO_VALUE, Table};
 use memory::{OutOfMemory, filled};
-use pattern_index::{Group, View};
+use pattern_index::{Group, View, list_cells};
 use std::alloc::Global;
 use std::marker::Model;
 
@@ -56,6 +55,28 @@ impl Model for Folded {
 }
 
 impl Folded {
+    // The folded table of these values, by the places of the group's tiles.
+    pub(crate) fn of_group(
+        alloc: Global,
+        group: &Group,
+        least: Vec<u16>,
+    ) -> Result<Self, OutOfMemory>
+        requires { length least.items ≡ folded_size_of group.now }
+        ensures { IfOk result
+            (λ fold. fold ≡ record { selection = group.now; least = least.items }) }
+    {
+        let bytes = make_bytes(alloc, group, &least)?;
+        let marks = mark_tiles(group);
+        let strides = find_strides(group);
+        Ok(Folded {
+            group: *group,
+            least,
+            bytes,
+            marks,
+            strides,
+        })
+    }
+
     /// Its group.
     pub fn group(&self) -> &Group
         ensures value { result.now ≡ self.now.selection }
@@ -144,16 +165,7 @@ pub fn fold(alloc: Global, table: Table) -> Result<Folded, OutOfMemory>
     let group = *table.group();
     let mut least = filled(alloc, NO_VALUE, group.folded_size())?;
     lower_all(&table, &mut least);
-    let bytes = make_bytes(alloc, &group, &least)?;
-    let marks = mark_tiles(&group);
-    let strides = find_strides(&group);
-    Ok(Folded {
-        group,
-        least,
-        bytes,
-        marks,
-        strides,
-    })
+    Folded::of_group(alloc, &group, least)
 }
 
 // The bytes of a group with these values, where they are not too many.
@@ -171,34 +183,39 @@ fn make_bytes(alloc: Global, group: &Group, least: &[u16]) -> Result<Vec<u8>, Ou
     Ok(bytes)
 }
 
-// Writes the byte of each sparse place.
+// Writes the byte of each view at its sparse place, where all were 255 before.
 fn fill_bytes(group: &Group, least: &[u16], bytes: &mut [u8])
     requires size { length least.now ≡ folded_size_of group.now }
-    requires all { length bytes.old ≡ sparse_size_of group.now }
+    requires all { bytes.old ≡ replicate (sparse_size_of group.now) 255 }
     ensures views { AreBytesOf (record { selection = group.now; least = least.now }) bytes.new }
     ensures others { (sparse : ℕ) (byte : ℕ) → HasNoView group.now sparse
         → slice_get bytes.new sparse ≡ Some byte → byte ≡ 255 }
     ensures all { length bytes.new ≡ sparse_size_of group.now }
 {
-    'bytes: for sparse in 0..bytes.len() {
-        bytes[sparse] = byte_at(group, least, sparse);
+    let cells = group.shape().cells();
+    let count = group.tiles().len();
+    let mut list = [0; 9];
+    'places: for place in 0..group.folded_size() {
+        list_cells(cells, place, &mut list[..count]);
+        let sparse = sparse_place(cells, &list[..count]);
+        bytes[sparse] = least[place].min(255) as u8;
     }
 }
 
-// The value of the views with a sparse place as a byte: 255 where it is more, or where there is no
-// such view.
-fn byte_at(group: &Group, least: &[u16], sparse: usize) -> u8
-    requires size { length least.now ≡ folded_size_of group.now }
-    requires below { sparse < sparse_size_of group.now }
-    ensures view { (v : Sight) → IsView group.now.grid group.now.tiles v
-        → sparse_in group.now.grid v ≡ sparse
-        → result ≡ min (slice_index least.now (place_in group.now.grid v)) 255 }
-    ensures none { HasNoView group.now sparse → result ≡ 255 }
+// The number that has these cells, each below a count, as its digits, the first as the lowest.
+fn sparse_place(count: usize, cells: &[u8]) -> usize
+    requires few { count ≤ 25 }
+    requires short { length cells.now ≤ 9 }
+    requires below { All (λ cell. cell < count) cells.now }
+    ensures { result ≡ sparse_of count cells.now }
 {
-    match group.place_of_sparse(sparse) {
-        Some(place) => least[place].min(255) as u8,
-        None => u8::MAX,
+    let mut sparse = 0;
+    let mut place = cells.len();
+    'cells: while place > 0 {
+        place -= 1;
+        sparse = sparse * count + cells[place] as usize;
     }
+    sparse
 }
 
 // The strides of the numbers in a group's sparse places.

@@ -80,7 +80,7 @@ fn spread_positions(positions: &mut [u8], digit: u8)
     }
 }
 
-// What is kept for each order of so many tiles.
+// What is kept for each order of some count of tiles.
 #[derive(Drop)]
 pub(crate) struct Orders {
     count: usize,
@@ -121,7 +121,8 @@ impl Orders {
             ++ map (tile_of self.old.count order) (range_with_len 0 self.old.count)) }
         ensures passes { OnOk result (self.new.passes.items
             ≡ self.old.passes.items
-            ++ map (λ position. order_of (map (exchanged position) (positions_at self.old.count order))) (range_with_len 0 (self.old.count - 1))) }
+            ++ map (λ position. order_of (map (exchanged position) (positions_at self.old.count order)))
+            (range_with_len 0 (self.old.count - 1))) }
     {
         let mut positions = [0; 9];
         write_positions(order, &mut positions[..self.count]);

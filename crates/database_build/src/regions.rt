@@ -1,7 +1,8 @@
 //! Regions: the cells that the blank reaches past tiles of no group, while the tiles of a group stay where they
 //! are.
 
-ghost use Rattle.std.specs.Prelude.{ℕ, suc, ◌≡◌, ◌<◌, ◌≤◌, ◌+◌, ◌-◌, ◌*◌, ◌^◌, ◌↔◌, false, length, IfOk, IsTrue, Contains};
+ghost use Rattle.std.specs.Prelude.{ℕ, suc, ◌≡◌, ◌<◌, ◌≤◌, ◌+◌, ◌-◌, ◌*◌, ◌^◌, ◌↔◌};
+ghost use Rattle.std.specs.Prelude.{false, length, IfOk, IsTrue, Contains};
 ghost use Rattle.board.specs.Grids.{cell_count};
 ghost use Rattle.pattern_index.specs.Ranks.{ways, IsListing};
 ghost use Rattle.pattern_index.specs.declared.group.TheConstants.{MAX_SIZE};
@@ -15,7 +16,7 @@ use board::{Move, Shape};
 use memory::{OutOfMemory, push};
 use std::alloc::Global;
 
-// What stands in place of the region of a cell on which a tile stands.
+// The region of a cell on which a tile stands.
 const NO_REGION: u32 = 4_294_967_295;
 
 // Where a region is first met: the place of its set, and its lowest cell.
@@ -37,7 +38,7 @@ pub(crate) struct Regions {
 }
 
 impl Regions {
-    // The regions of all sets of so many of a shape's cells.
+    // The regions of all sets of this count of a shape's cells.
     pub(crate) fn new(alloc: Global, shape: Shape, count: usize) -> Result<Self, OutOfMemory>
         requires some { 0 < count }
         requires short { count ≤ 9 }
@@ -134,8 +135,10 @@ fn add_cell(
     requires settled { AreSettled shape cells.now labels.now }
     requires fits { set < 2 ^ 32 }
     requires small { set * (cell_count shape - length cells.now) ≤ MAX_SIZE }
-    requires numbered { AreNumberedTo shape (length cells.now) cells.now labels.now numbers.old.items homes.old.items set cell }
-    ensures { IfOk result (λ _. AreNumberedTo shape (length cells.now) cells.now labels.now numbers.new.items homes.new.items set (cell + 1)) }
+    requires numbered { AreNumberedTo shape (length cells.now) cells.now labels.now numbers.old.items
+        homes.old.items set cell }
+    ensures { IfOk result (λ _. AreNumberedTo shape (length cells.now) cells.now labels.now numbers.new.items
+        homes.new.items set (cell + 1)) }
 {
     let count = shape.cells();
     if stands_on(cells, cell) {
@@ -175,7 +178,8 @@ fn lower_labels(shape: Shape, cells: &[u8], labels: &mut [u8; 25]) -> bool
     requires { AreLabels shape cells.now labels.old }
     ensures labels { AreLabels shape cells.now labels.new }
     ensures lowering { IsLowering labels.old labels.new result }
-    ensures settled { result ≡ false → (cell : ℕ) → cell < cell_count shape → IsSettled shape cells.now labels.new cell }
+    ensures settled { result ≡ false → (cell : ℕ) → cell < cell_count shape
+        → IsSettled shape cells.now labels.new cell }
 {
     let mut is_changed = false;
     'cells: for cell in 0..shape.cells() {
@@ -233,9 +237,14 @@ fn lower_towards(
 }
 
 // Whether a tile stands on the cell.
-fn stands_on(cells: &[u8], cell: usize) -> bool
+pub(crate) fn stands_on(cells: &[u8], cell: usize) -> bool
     requires { cell < 2 ^ 8 }
     ensures { IsTrue result ↔ Contains cells.now cell }
 {
-    cells.contains(&(cell as u8))
+    'cells: for other in cells {
+        if *other as usize == cell {
+            return true;
+        }
+    }
+    false
 }

@@ -7,15 +7,16 @@ ghost use Rattle.pattern_index.specs.Laws.{factorial};
 ghost use Rattle.pattern_index.specs.Ranks.{ways, IsListing};
 ghost use Rattle.pattern_index.specs.declared.group.TheConstants.{MAX_SIZE};
 ghost use Rattle.pattern_index.specs.Views.{Sight, IsView};
-ghost use Rattle.pattern_index.specs.Selections.{size_of, rank_in};
+ghost use Rattle.pattern_index.specs.Selections.{size_of, rank_in, folded_size_of, place_in};
 ghost use Rattle.database_build.specs.Marks.{AreMarksOf};
 ghost use Rattle.database_build.specs.Sets.{set_place};
-ghost use Rattle.database_build.specs.Regions.{IsRegions};
+ghost use Rattle.database_build.specs.Regions.{IsRegions, IsPlaced};
 ghost use Rattle.database_build.specs.Graphs.{node_in, node_count};
-ghost use Rattle.database_build.specs.Rows.{AreLarger, IsRow, node_value};
+ghost use Rattle.database_build.specs.Rows.{AreLarger, IsLeastNode, IsRow, node_value};
 
 use crate::orders::{factorial, order_of};
-use crate::regions::Regions;
+use crate::regions::{Regions, stands_on};
+use crate::table::NO_VALUE;
 use memory::{OutOfMemory, push, with_capacity};
 use pattern_index::{Group, list_cells};
 use std::alloc::Global;
@@ -98,6 +99,57 @@ fn add_row(
     Ok(())
 }
 
+// The least values of a group's views, by the places of its tiles, where the values of their nodes are given.
+pub(crate) fn rank_least(
+    alloc: Global,
+    group: &Group,
+    regions: &Regions,
+    orders: usize,
+    nodes: &[u16],
+) -> Result<Vec<u16>, OutOfMemory>
+    requires regions { IsRegions group.now.grid (length group.now.tiles) regions.now }
+    requires orders { orders ≡ factorial (length group.now.tiles) }
+    requires nodes { length nodes.now ≡ node_count regions.now }
+    ensures size { IfOk result (λ values. length values.items ≡ folded_size_of group.now) }
+    ensures values { IfOk result (λ values. (v : Sight) → IsView group.now.grid group.now.tiles v
+        → IsLeastNode regions.now nodes.now v.cells
+        (slice_index values.items (place_in group.now.grid v))) }
+{
+    let mut values = with_capacity(alloc, group.folded_size())?;
+    let cells = regions.shape.cells();
+    let count = regions.count;
+    let mut list = [0; 9];
+    'places: for place in 0..group.folded_size() {
+        list_cells(cells, place, &mut list[..count]);
+        let least = least_value(regions, orders, nodes, &list[..count]);
+        push(&mut values, least)?;
+    }
+    Ok(values)
+}
+
+// The least value of the views with tiles on these cells, wherever the blank is.
+fn least_value(regions: &Regions, orders: usize, nodes: &[u16], cells: &[u8]) -> u16
+    requires regions { IsRegions regions.now.shape regions.now.count regions.now }
+    requires orders { orders ≡ factorial regions.now.count }
+    requires nodes { length nodes.now ≡ node_count regions.now }
+    requires placed { IsPlaced regions.now.shape regions.now.count cells.now }
+    ensures { IsLeastNode regions.now nodes.now cells.now result }
+{
+    let count = regions.shape.cells();
+    let set = regions.choices.place(cells);
+    let order = order_of(cells);
+    let marks = mark_cells(cells);
+    let mut least = NO_VALUE;
+    'blanks: for blank in 0..count {
+        if marks[blank] {
+            continue;
+        }
+        let region = regions.numbers[set * count + blank] as usize;
+        least = least.min(nodes[region * orders + order]);
+    }
+    least
+}
+
 // Marks the cells of a list.
 fn mark_cells(cells: &[u8]) -> [bool; 25]
     requires { IsListing 25 cells.now }
@@ -140,7 +192,7 @@ fn place_with(regions: &Regions, cells: &[u8; 9], cell: u8) -> u32
         → result ≡ set_place (take (regions.now.count - 1) cells.now ++ cell ∷ []) }
 {
     let last = regions.count - 1;
-    if cells[..last].contains(&cell) {
+    if stands_on(&cells[..last], cell as usize) {
         return 0;
     }
     let mut all = *cells;

@@ -28,7 +28,7 @@ impl Choices {
         Choices { table }
     }
 
-    // In how many ways so many of so many cells can be chosen.
+    // How many sets of `count` cells there are among the first `cells` ones.
     pub(crate) fn count(&self, cells: usize, count: usize) -> usize
         requires choices { IsChoices self.now }
         requires cells { cells ≤ 25 }

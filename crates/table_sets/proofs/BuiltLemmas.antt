@@ -12,12 +12,12 @@ use Rattle.pattern_index.specs.Selections.{Selection, IsSelection}
 use Rattle.pattern_index.specs.Splits.{Split, IsSplit}
 use Rattle.database_build.specs.Values.{IsPotential}
 use Rattle.database_build.specs.Tables.{Lookup, HoldsValues, value_in}
-use Rattle.database_build.specs.Folds.{Fold}
+use Rattle.database_build.specs.Folds.{Fold, IsTrueFold}
 use Rattle.database_build.proofs.PotentialLemmas.{values_potential}
 use Rattle.lower_bound.specs.Folded.{AreFoldsOf, AreFoldedPotentials, IsFoldedPotential}
 use Rattle.lower_bound.specs.Tables.{Tables, AreTablesOf, ArePotentials}
 use Rattle.lower_bound.proofs.WholeLemmas.{of_each, of_tables}
-use Rattle.table_sets.specs.Built.{AreBuilt, AreBuiltFolded, AreTrueTables, AreTrueFolds, IsTrueFold, IsTrueTable, IsTrueFoldOf, AreEach, IsEachAt}
+use Rattle.table_sets.specs.Built.{AreBuilt, AreBuiltFolded, AreTrueTables, AreTrueFolds, IsTrueTable, IsTrueFoldOf, AreEach, IsEachAt}
 
 -- one more, of one group more
 each_more : {X : Type 0} (Is : Selection → X → Type 0) (groups : List Selection) (xs : List X) (g : Selection) (x : X) → AreEach Is groups xs → Is g x → AreEach Is (groups ++ g ∷ []) (xs ++ x ∷ [])

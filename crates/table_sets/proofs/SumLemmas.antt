@@ -13,7 +13,7 @@ use Rattle.pattern_index.specs.Splits.{Split, IsSplit}
 use Rattle.pattern_index.proofs.ViewMoveLemmas.{board_view}
 use Rattle.database_build.specs.Values.{IsValue}
 use Rattle.database_build.specs.Tables.{Lookup, HoldsValues, value_in}
-use Rattle.database_build.specs.Folds.{Fold, IsFoldOf, folded_in}
+use Rattle.database_build.specs.Folds.{Fold, IsFoldOf, IsTrueFold, folded_in}
 use Rattle.database_build.specs.Laws.{ValuesAreDetermined}
 use Rattle.lower_bound.specs.Bounds.{Part, sum_of}
 use Rattle.lower_bound.specs.Folded.{value_for}
@@ -21,7 +21,7 @@ use Rattle.lower_bound.specs.Tables.{Tables, AreWhole, parts_of}
 use Rattle.lower_bound.proofs.TableLemmas.{whole_parts, all_folded_parts}
 use Rattle.lower_bound.proofs.WholeLemmas.{tables_sum}
 use Rattle.lower_bound.proofs.FoldedLemmas.{folds_sum}
-use Rattle.table_sets.specs.Built.{AreBuilt, AreBuiltFolded, IsTrueFold}
+use Rattle.table_sets.specs.Built.{AreBuilt, AreBuiltFolded}
 
 -- two lists of tables of the same groups, of which the first say no more
 sums_no_more :

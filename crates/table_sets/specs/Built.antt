@@ -5,7 +5,7 @@ use Rattle.board.specs.CostRules.{CostRule}
 use Rattle.pattern_index.specs.Selections.{Selection}
 use Rattle.pattern_index.specs.Splits.{Split}
 use Rattle.database_build.specs.Tables.{Lookup, HoldsValues}
-use Rattle.database_build.specs.Folds.{Fold, IsFoldOf}
+use Rattle.database_build.specs.Folds.{Fold, IsTrueFold}
 use Rattle.lower_bound.specs.Folded.{AreFoldsOf}
 use Rattle.lower_bound.specs.Tables.{Tables, AreTablesOf, AreWhole}
 
@@ -19,10 +19,6 @@ pub record AreBuilt (split : Split) (rule : CostRule) (goal : Position) (tables 
   pub groups : tables.split ≡ split
   pub each : AreTrueTables split.groups rule goal tables.lookups
   pub whole : AreWhole tables
-
--- folded from a table with the value of each view for the goal by these costs
-abbrev pub IsTrueFold : CostRule → Position → Fold → Type 0
-IsTrueFold rule goal fold = (table : Lookup) × IsFoldOf table fold × HoldsValues table rule goal
 
 -- a folded table for each group, in the order of the groups, each folded from such a table
 pub record AreTrueFolds (groups : List Selection) (rule : CostRule) (goal : Position) (folds : List Fold) : Type 0 where

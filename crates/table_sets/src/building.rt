@@ -53,8 +53,8 @@ pub fn build_bound(
 /// with the value of each of the group's views. So its sums are admissible, though they are not
 /// consistent.
 ///
-/// Each table is given back as soon as it was folded. So besides the folded ones there is at most
-/// one table for each thread at a time, with what its search needs.
+/// No whole table is made. Besides the folded ones there is what the search of a group needs, for
+/// each thread.
 pub fn build_folded_bound(
     rt: &(impl Threads + Sync),
     alloc: Global,

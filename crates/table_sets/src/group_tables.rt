@@ -6,7 +6,7 @@ ghost use Rattle.board.specs.CostRules.{CostRule};
 ghost use Rattle.pattern_index.specs.Selections.{Selection};
 
 use board::{Board, Weights};
-use database_build::{Folded, Table, build, fold};
+use database_build::{Folded, Table, build, build_folded};
 use memory::OutOfMemory;
 use pattern_index::Group;
 use std::alloc::Global;
@@ -47,14 +47,12 @@ impl GroupTable for Folded {
 
     ghost is_true = { λ rule goal group fold. IsTrueFoldOf rule goal group fold };
 
-    // The whole table is given back here, as soon as it was folded.
     fn build_for(
         alloc: Global,
         group: &Group,
         goal: &Board,
         weights: &Weights,
     ) -> Result<Folded, OutOfMemory> {
-        let table = build(alloc, group, goal, weights)?;
-        fold(alloc, table)
+        build_folded(alloc, group, goal, weights)
     }
 }

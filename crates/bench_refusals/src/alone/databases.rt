@@ -5,7 +5,7 @@ ghost use Rattle.std.specs.Prelude.{◌≡◌, IfSome};
 use super::answer::{Answer, whole_if};
 use batch_runs::Setup;
 use board::{Board, Shape, Weights};
-use database_build::{Table, build, fold};
+use database_build::{NO_VALUE, Table, build, fold};
 use lower_bound::{Bound, TableList};
 use memory::{copy_of, push};
 use pattern_index::{Group, Partition};
@@ -13,17 +13,30 @@ use std::alloc::Global;
 use std::thread::Threads;
 use table_sets::{build_bound, build_folded_bound};
 
-/// Builds the table of tile 3 of 2 by 2 at face cost.
-pub fn build_table(alloc: Global) -> Answer {
+// The values of tiles 1 and 2 of 2 by 2 at face cost, by rank.
+const TILES_ONE_AND_TWO: [u16; 24] = [
+    0, NO_VALUE, NO_VALUE, 4, 5, NO_VALUE, 1, NO_VALUE, NO_VALUE, 4, 3, NO_VALUE, NO_VALUE, 3, 2,
+    NO_VALUE, NO_VALUE, 5, NO_VALUE, 1, 2, NO_VALUE, NO_VALUE, 6,
+];
+
+/// Builds two tables of 2 by 2 at face cost: that of tile 3, and that of tiles 1 and 2, whose
+/// weights differ.
+pub fn build_tables(alloc: Global) -> Answer {
+    let of_one = [3, 3, 0, 6, 3, 0, 6, 3, 0, 6, 3, 3];
+    match build_table(alloc, &[3], of_one.as_slice()) {
+        Answer::Whole => build_table(alloc, &[1, 2], TILES_ONE_AND_TWO.as_slice()),
+        other => other,
+    }
+}
+
+// Builds the table of these tiles of 2 by 2 at face cost, which has these values.
+fn build_table(alloc: Global, tiles: &[u8], values: &[u16]) -> Answer {
     let shape = Shape::new(2, 2).unwrap();
-    let Ok(group) = Group::new(shape, &[3]) else {
+    let Ok(group) = Group::new(shape, tiles) else {
         return Answer::Wrong("no group");
     };
     match build(alloc, &group, &Board::goal(shape), &Weights::face(shape)) {
-        Ok(table) => whole_if(
-            table.values() == [3, 3, 0, 6, 3, 0, 6, 3, 0, 6, 3, 3].as_slice(),
-            "other values",
-        ),
+        Ok(table) => whole_if(table.values() == values, "other values"),
         Err(_) => Answer::Refused,
     }
 }

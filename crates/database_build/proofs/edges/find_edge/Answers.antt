@@ -1,6 +1,6 @@
-use Rattle.std.proofs.Common.{◌+◌, ◌*◌, ◌<◌, length, take, slice_index, refl, arith}
-use Rattle.board.proofs.MoveLemmas.{cell_below}
-use Rattle.database_build.proofs.EdgeLemmas.{step_row, step_elsewhere, step_free, step_rising, step_here, not_there}
+use Rattle.std.proofs.Common.{◌+◌, ◌*◌, ◌<◌, length, refl, sym, ◌∙◌, arith}
+use Rattle.std.proofs.lemmas.Bool.{false≢true}
+use Rattle.database_build.proofs.EdgeLemmas.{step_row, step_elsewhere, step_free, step_rising, step_here}
 use Rattle.database_build.proofs.edges.find_edge.Goals as goal
 
 -- the place in the table of regions
@@ -19,18 +19,11 @@ index-requires c = omega (arith, inside c, c.args.regions.now.numbers.ok.0)
 pub returns-then-index-region : goal.returns-then-index-region
 returns-then-index-region c = step_elsewhere c.args.regions.now c.requires.regions c.args.set c.args.region c.args.cells.now c.requires.cells c.args.tile c.requires.tile c.args.direction c.in-Some.to c.cells.result ((c.in-Some.ensures.towards c.in-Some.to).0 refl) c.cells.ensures.value c.index.result.now c.index.ensures c.if-index-region.true
 
-pub overflow_cast-to : goal.overflow_cast-to
-overflow_cast-to c =
-    let low = cell_below c.args.regions.now.shape c.args.direction (slice_index c.args.cells.now c.args.tile) c.in-Some.to ((c.in-Some.ensures.towards c.in-Some.to).0 refl) in
-    let value = c.cells.ensures.value in
-    let high = c.cells.ensures.high in
-    omega arith
-
 pub edge_to-requires-clause-rising : goal.edge_to-requires-clause-rising
 edge_to-requires-clause-rising c = step_rising c.args.regions.now c.requires.regions c.args.set c.args.region c.args.cells.now c.requires.cells c.args.tile c.requires.tile c.args.direction c.in-Some.to c.cells.result ((c.in-Some.ensures.towards c.in-Some.to).0 refl) c.cells.ensures.value
 
 pub edge_to-requires-clause-free : goal.edge_to-requires-clause-free
-edge_to-requires-clause-free c = step_free c.args.regions.now c.requires.regions c.args.set c.args.region c.args.cells.now c.requires.cells c.args.tile c.requires.tile c.args.direction c.in-Some.to c.cells.result ((c.in-Some.ensures.towards c.in-Some.to).0 refl) c.cells.ensures.value (not_there (take c.args.regions.now.count c.args.cells.now) c.in-Some.to c.if-contains.ensures.cases)
+edge_to-requires-clause-free c = step_free c.args.regions.now c.requires.regions c.args.set c.args.region c.args.cells.now c.requires.cells c.args.tile c.requires.tile c.args.direction c.in-Some.to c.cells.result ((c.in-Some.ensures.towards c.in-Some.to).0 refl) c.cells.ensures.value (λ on. false≢true (sym c.if-stands_on.false ∙ c.stands_on.ensures.1 on))
 
 pub returns : goal.returns
-returns c = step_here c.args.regions.now c.requires.regions c.args.set c.args.region c.args.cells.now c.requires.cells c.args.tile c.requires.tile c.args.direction c.in-Some.to c.cells.result ((c.in-Some.ensures.towards c.in-Some.to).0 refl) c.cells.ensures.value c.index.result.now c.edge_to.result c.index.ensures c.if-index-region.false (not_there (take c.args.regions.now.count c.args.cells.now) c.in-Some.to c.if-contains.ensures.cases) c.edge_to.ensures
+returns c = step_here c.args.regions.now c.requires.regions c.args.set c.args.region c.args.cells.now c.requires.cells c.args.tile c.requires.tile c.args.direction c.in-Some.to c.cells.result ((c.in-Some.ensures.towards c.in-Some.to).0 refl) c.cells.ensures.value c.index.result.now c.edge_to.result c.index.ensures c.if-index-region.false (λ on. false≢true (sym c.if-stands_on.false ∙ c.stands_on.ensures.1 on)) c.edge_to.ensures

@@ -2,17 +2,17 @@ use Rattle.std.proofs.Common.{◌+◌, ◌-◌, ◌*◌, ◌<◌, length}
 use Rattle.std.specs.Prelude.{sum}
 use Rattle.database_build.specs.Buckets.{waiting_count}
 use Rattle.database_build.specs.declared.table.TheConstants.{NO_VALUE}
-use Rattle.database_build.proofs.ReachLemmas.{IsSeeking}
-use Rattle.database_build.proofs.search.find_values.Given as goal
+use Rattle.database_build.proofs.ReachLemmas.{AreSeeking}
+use Rattle.database_build.proofs.search.find_by_buckets.Given as goal
 
 abbrev pub invariant-nodes : goal.invariant-nodes
-invariant-nodes l = IsSeeking l.group l.weights l.goal l.cost l.search × (l.cost < length l.search.buckets.items)
+invariant-nodes l = AreSeeking l.fn.graph l.start l.cost l.search × (l.cost < length l.search.buckets.items)
 
 abbrev pub decreases-nodes : goal.decreases-nodes
 decreases-nodes l = 2 * sum l.search.values.items + waiting_count l.search.buckets.items l.cost
 
 abbrev pub invariant-costs : goal.invariant-costs
-invariant-costs l = IsSeeking l.group l.weights l.goal l.cost l.search
+invariant-costs l = AreSeeking l.fn.graph l.start l.cost l.search
 
 abbrev pub decreases-costs : goal.decreases-costs
 decreases-costs l = NO_VALUE - l.cost

@@ -1,7 +1,7 @@
 use Rattle.std.proofs.Common.{[], ◌∷◌, ◌++◌, get_or, sym, ◌∙◌, arith}
 use Rattle.std.specs.Prelude.{slice_index}
 use Rattle.std.proofs.lemmas.List.{take_more_set, map_more}
-use Rattle.database_build.proofs.search.pick_cells.Goals as goal
+use Rattle.database_build.proofs.graph.pick_cells.Goals as goal
 
 pub tiles-preserved : goal.tiles-preserved
 tiles-preserved c =

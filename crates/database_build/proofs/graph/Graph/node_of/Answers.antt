@@ -3,7 +3,7 @@ use Rattle.board.proofs.NeighbourLemmas.{cells_above}
 use Rattle.pattern_index.specs.Views.{view_of}
 use Rattle.database_build.specs.Regions.{IsPlaced}
 use Rattle.database_build.proofs.GroupGraphLemmas.{board_seen, cells_picked, view_seen, free_at, node_by}
-use Rattle.database_build.proofs.search.Graph.node_of.Goals as goal
+use Rattle.database_build.proofs.graph.Graph.node_of.Goals as goal
 
 pub region-region-requires-clause-placed : goal.region-region-requires-clause-placed
 region-region-requires-clause-placed c =

@@ -3,7 +3,7 @@ use Rattle.board.specs.Grids.{Grid}
 use Rattle.database_build.specs.Regions.{IsRegions}
 use Rattle.database_build.specs.Graphs.{IsOrders}
 use Rattle.database_build.proofs.GroupGraphLemmas.{graph_made, sound_made}
-use Rattle.database_build.proofs.search.Graph.new.Goals as goal
+use Rattle.database_build.proofs.graph.Graph.new.Goals as goal
 
 pub returns-clause-graph : goal.returns-clause-graph
 returns-clause-graph c =

@@ -1,0 +1,374 @@
+-- One layer of a search: the nodes of a layer get their values, and edges lead to those of the next one.
+use Rattle.std.proofs.Common.{◌≡◌, ◌≢◌, ◌⊎◌, ℕ, zero, suc, ◌+◌, ◌*◌, ◌/◌, ◌%◌, ◌^◌, ◌<◌, ◌≤◌, Bool, false, ◌||◌, ◌↔◌, List, length, get_or, replicate, map, min, refl, sym, ap, ◌∙◌, subst, inl, inr, ⊎_elim, arith, Some}
+use Rattle.std.specs.Prelude.{slice_get, slice_index, bit_and}
+use Rattle.std.specs.Int.{bit_at, bit_not, w64}
+use Rattle.std.proofs.lemmas.Bool.{cases_eq, or_parts}
+use Rattle.std.proofs.lemmas.List.{get_or_read, length-map, length-replicate}
+use Rattle.std.proofs.lemmas.Nat.{mul-add-lt, div-mul-add, div_below, mod_below}
+use Rattle.std.proofs.lemmas.Nat.Bits.{bit_at_and, bit_at_not, bit_at-lt, bit_at-zero}
+use Rattle.std.proofs.lemmas.Option.{same_Some, slice_get_read}
+use Rattle.std.proofs.Math.Nat.{mul-le-mul_right, le-mul_of_pos_right, lt_of_mul-lt-mul_right}
+use Rattle.pattern_index.specs.Laws.{factorial}
+use Rattle.database_build.specs.Orders.{positions_at, moved_position, moved_order}
+use Rattle.database_build.specs.Regions.{HasEdge}
+use Rattle.database_build.specs.Graphs.{node_count}
+use Rattle.database_build.specs.Searches.{IsSoundGraph}
+use Rattle.database_build.specs.NodeSets.{Has, IsIn, IsNodeSet, IsUnion}
+use Rattle.database_build.specs.Layers.{AreBelow, IsWritten, IsMovedFrom, IsLed, IsSetOf, AreLayers, IsAtStart, IsFresh, IsLedFresh, IsWordPassed, IsRegionPassed, IsLayerPassed}
+use Rattle.database_build.specs.declared.edges.Edge.{Edge}
+use Rattle.database_build.specs.declared.graph.Graph.{Graph}
+use Rattle.database_build.specs.declared.layers.Layers.{Layers}
+use Rattle.database_build.specs.declared.node_sets.NodeSet.{NodeSet}
+use Rattle.database_build.specs.declared.table.TheConstants.{NO_VALUE}
+use Rattle.database_build.proofs.OrderLemmas.{order_below}
+use Rattle.database_build.proofs.OrderLoops.{length-positions_at}
+use Rattle.database_build.proofs.MovedLemmas.{moved_start, moved_end}
+use Rattle.database_build.proofs.NodeSetLemmas.{same_added, both_added, none_added}
+
+-- ---- sets of nodes
+
+-- there is room for each order
+pub set_wide : (regions orders : ℕ) (s : NodeSet) → IsNodeSet regions orders s → orders ≤ 64 * s.width
+set_wide regions orders s set = let width = set.width in omega arith
+
+-- so each order is in one of the words
+pub place_within : (regions orders : ℕ) (s : NodeSet) (order : ℕ) → IsNodeSet regions orders s → order < orders → order / 64 < s.width
+place_within regions orders s order set low = let width = set.width in omega arith
+
+-- a word of a region is one of the set's
+pub word_within : (regions orders : ℕ) (s : NodeSet) (region place : ℕ) → IsNodeSet regions orders s → region < regions → place < s.width → region * s.width + place < length s.words.items
+word_within regions orders s region place set region_in place_in =
+    let size = set.size in
+    let inside : region * s.width + place < s.width * regions = mul-add-lt region s.width place regions region_in place_in in
+    let turned : s.width * regions ≡ regions * s.width = omega arith in
+    omega arith
+
+-- so are all of a region
+pub words_within : (regions orders : ℕ) (s : NodeSet) (region : ℕ) → IsNodeSet regions orders s → region < regions → suc region * s.width ≤ length s.words.items
+words_within regions orders s region set region_in =
+    let size = set.size in
+    let le : suc region * s.width ≤ regions * s.width = mul-le-mul_right s.width region_in in
+    omega arith
+
+-- a set of nodes to which nodes are added is one
+pub union_set : (regions orders : ℕ) (Added : ℕ → ℕ → Type 0) (s t : NodeSet) → ((region order : ℕ) → Added region order → order < orders) → IsNodeSet regions orders s → IsUnion Added s t → IsNodeSet regions orders t
+union_set regions orders Added s t below set union = record {
+  some = set.some;
+  width = union.width ∙ set.width;
+  size = union.size ∙ set.size ∙ ap (λ w. regions * w) (sym union.width);
+  within = λ region order region_in low h.
+      let low' : order < 64 * s.width = let width = union.width in omega arith in
+      ⊎_elim (λ old. set.within region order region_in low' old) (λ added. below region order added) ((union.members region order low').0 h);
+}
+
+-- ---- the start
+
+-- a node's region and order
+pub node_parts : (orders regions node : ℕ) → 0 < orders → node < regions * orders → (node / orders < regions) × (node % orders < orders)
+node_parts orders regions node some low = (div_below node orders regions some low, mod_below node orders some)
+
+-- the set is of a graph's nodes
+pub set_of : (g : Graph) (regions orders : ℕ) (s : NodeSet) → regions ≡ length g.regions.homes.items → orders ≡ factorial g.regions.count → IsNodeSet regions orders s → IsSetOf g s
+set_of g regions orders s all each set = subst (λ n. IsNodeSet n (factorial g.regions.count) s) all (subst (λ n. IsNodeSet regions n s) each set)
+
+-- no node has a value, and the start alone is in the layer
+pub at_start : (g : Graph) (start regions orders : ℕ) (none : NodeSet) (l : Layers) → IsSoundGraph g → start < node_count g.regions → regions ≡ length g.regions.homes.items → orders ≡ factorial g.regions.count
+    → l.graph ≡ g → l.values.items ≡ replicate (regions * orders) NO_VALUE
+    → IsNodeSet regions orders l.seen → ((region order : ℕ) → ¬ Has l.seen region order)
+    → IsNodeSet regions orders none → ((region order : ℕ) → ¬ Has none region order) → IsUnion (λ region order. (region ≡ start / orders) × (order ≡ start % orders)) none l.now
+    → IsNodeSet regions orders l.next → ((region order : ℕ) → ¬ Has l.next region order) → IsAtStart g start l
+at_start g start regions orders none l sound inside all each graph values seen seen_none set set_none union next next_none =
+    let f : ℕ = factorial g.regions.count in
+    let set' : IsSetOf g none = set_of g regions orders none all each set in
+    let union' : IsUnion (λ region order. (region ≡ start / f) × (order ≡ start % f)) none l.now = subst (λ n. IsUnion (λ region order. (region ≡ start / n) × (order ≡ start % n)) none l.now) each union in
+    let parts = node_parts f (length g.regions.homes.items) start set'.some inside in
+    let now : IsSetOf g l.now = union_set (length g.regions.homes.items) f (λ region order. (region ≡ start / f) × (order ≡ start % f)) none l.now (λ region order added. subst (λ n. n < f) (sym added.1) parts.1) set' union' in
+    let wide = set_wide (length g.regions.homes.items) f none set' in
+    let filled : l.values.items ≡ replicate (node_count g.regions) NO_VALUE = values ∙ (λ i. replicate (all i * each i) NO_VALUE) in
+    record {
+      graph = graph;
+      layers = record {
+        sound = subst (λ (x : Graph). IsSoundGraph x) (sym graph) sound;
+        one_each = subst (λ (x : Graph). length l.values.items ≡ node_count x.regions) (sym graph) (ap length filled ∙ length-replicate {A = ℕ} (node_count g.regions) NO_VALUE);
+        seen = subst (λ (x : Graph). IsSetOf x l.seen) (sym graph) (set_of g regions orders l.seen all each seen);
+        now = subst (λ (x : Graph). IsSetOf x l.now) (sym graph) now;
+        next = subst (λ (x : Graph). IsSetOf x l.next) (sym graph) (set_of g regions orders l.next all each next);
+      };
+      values = filled;
+      seen = seen_none;
+      now = λ region order low h.
+          let low' : order < 64 * none.width = let width = union'.width in omega arith in
+          ⊎_elim (λ old. absurd (set_none region order old)) (λ added. added) ((union'.members region order low').0 h);
+      here = (union'.members (start / f) (start % f) (omega (arith, parts.1))).1 (inr (refl, refl));
+      next = next_none;
+    }
+
+-- where the start is put
+pub start_place : (g : Graph) (start regions orders : ℕ) (none : NodeSet) → start < node_count g.regions → regions ≡ length g.regions.homes.items → orders ≡ factorial g.regions.count → IsNodeSet regions orders none → start / orders * none.width + start % orders / 64 < length none.words.items
+start_place g start regions orders none inside all each set =
+    let low : start < regions * orders = subst (λ n. start < n) (λ i. sym all i * sym each i) inside in
+    let parts = node_parts orders regions start set.some low in
+    word_within regions orders none (start / orders) (start % orders / 64) set parts.0 (place_within regions orders none (start % orders) set parts.1)
+
+-- ---- the edges of a region
+
+-- an order after a tile is moved
+pub moved_low : (count order from to : ℕ) → moved_order count order from to < factorial count
+moved_low count order from to =
+    let xs : List ℕ = map (moved_position from to) (positions_at count order) in
+    let size : length xs ≡ count = length-map (positions_at count order) (moved_position from to) ∙ length-positions_at count order in
+    subst (λ n. moved_order count order from to < factorial n) size (order_below xs)
+
+-- a tile that comes to where it was
+moved_same : (count order from to : ℕ) → from ≡ to → order < factorial count → from < count → order ≡ moved_order count order from to
+moved_same count order from to same low place = moved_end count order from from to order same (moved_start count order from low place)
+
+-- one of the edges of a region up to some place leads to the node, from one whose bit is set
+abbrev pub IsLedBy : Graph → ℕ → ℕ → ℕ → ℕ → ℕ → ℕ → Type 0
+IsLedBy g region place bits end r order =
+    (e : Edge) × ((at : ℕ) × (slice_index g.edges.starts.items region ≤ at) × (at < end) × (slice_get g.edges.edges.items at ≡ Some e)) × (r ≡ e.region) × IsMovedFrom g.regions.count e place bits order
+
+-- the edges of a region begin and end at these places
+pub record HasEnds (g : Graph) (region first end : ℕ) : Type 0 where
+  pub from : first ≡ slice_index g.edges.starts.items region
+  pub to : end ≡ slice_index g.edges.starts.items (suc region)
+  pub rising : first ≤ end
+  pub within : end ≤ length g.edges.edges.items
+
+-- they are read from the list of starts
+pub ends_at : (g : Graph) (region first end : ℕ) → IsSoundGraph g → region < length g.regions.homes.items → first ≡ get_or g.edges.starts.items region first → end ≡ get_or g.edges.starts.items (region + 1) end → HasEnds g region first end
+ends_at g region first end sound region_in first_read end_read =
+    let size = sound.starts in
+    let from : first ≡ slice_index g.edges.starts.items region = get_or_read g.edges.starts.items region first (omega arith) first_read 0 in
+    let to : end ≡ slice_index g.edges.starts.items (suc region) = get_or_read g.edges.starts.items (region + 1) end (omega arith) end_read 0 ∙ ap (slice_index g.edges.starts.items) (omega arith) in
+    record {
+      from = from;
+      to = to;
+      rising = let rising = sound.rising region region_in in omega arith;
+      within = let within = sound.within region region_in in omega arith;
+    }
+
+-- what is known of an edge of a region
+pub record IsEdgeAt (g : Graph) (region at : ℕ) (e : Edge) : Type 0 where
+  pub read : slice_get g.edges.edges.items at ≡ Some e
+  pub from : e.from < g.regions.count
+  pub to : e.to < g.regions.count
+  pub other : e.region < length g.regions.homes.items
+  pub small : e.region < 2 ^ 64
+
+-- it leads to a node, whatever the order
+pub edge_at : (g : Graph) (region first end at : ℕ) (e : Edge) → IsSoundGraph g → region < length g.regions.homes.items → 0 < factorial g.regions.count → HasEnds g region first end → first ≤ at → at < end → e ≡ get_or g.edges.edges.items at e → IsEdgeAt g region at e
+edge_at g region first end at e sound region_in some has above below read =
+    let f : ℕ = factorial g.regions.count in
+    let homes : ℕ = length g.regions.homes.items in
+    let there : slice_get g.edges.edges.items at ≡ Some e = slice_get_read g.edges.edges.items (length g.edges.edges.items) at e refl (let within = has.within in omega arith) read in
+    let node : region * f + 0 < node_count g.regions = let low : region * f + 0 < f * homes = mul-add-lt region f 0 homes region_in some in let turned : f * homes ≡ homes * f = omega arith in omega arith in
+    let here : HasEdge g.edges region e = (at, let from = has.from in omega arith, let to = has.to in omega arith, there) in
+    let ends = sound.ends (region * f + 0) e node (subst (λ r. HasEdge g.edges r e) (sym (div-mul-add region f 0 some)) here) in
+    record {
+      read = there;
+      from = ends.0;
+      to = ends.1;
+      other = lt_of_mul-lt-mul_right f (let low = ends.2 in omega arith);
+      small = let low = ends.2 in let few = sound.few in let more : e.region ≤ e.region * f = le-mul_of_pos_right e.region some in omega arith;
+    }
+
+-- the nodes to which edges up to some place lead are in the set
+pub record IsLeading (g : Graph) (region place bits at : ℕ) (s t : NodeSet) : Type 0 where
+  pub union : IsUnion (IsLedBy g region place bits at) s t
+  pub next : IsSetOf g t
+
+-- the edge at that place leads to more
+pub leading_more : (g : Graph) (region place bits first end at : ℕ) (e : Edge) (s t u : NodeSet) → HasEnds g region first end → first ≤ at → IsEdgeAt g region at e → IsLeading g region place bits at s t
+    → IsUnion (λ r order. (r ≡ e.region) × IsMovedFrom g.regions.count e place bits order) t u → IsLeading g region place bits (at + 1) s u
+leading_more g region place bits first end at e s t u has above edge before more = record {
+  union = both_added (IsLedBy g region place bits at) Moved (IsLedBy g region place bits (at + 1)) s t u before.union more split
+      (λ r order led. (led.0, (led.1.0, led.1.1, let low = led.1.2 in omega arith, led.1.3), led.2, led.3))
+      (λ r order moved. (e, (at, let from = has.from in omega arith, omega arith, edge.read), moved.0, moved.1));
+  next = union_set (length g.regions.homes.items) (factorial g.regions.count) Moved t u (λ r order (moved : Moved r order). subst (λ n. n < factorial g.regions.count) (sym moved.1.2) (moved_low g.regions.count moved.1.0 e.from e.to)) before.next more;
+}
+  where
+    Moved : ℕ → ℕ → Type 0
+    Moved r order = (r ≡ e.region) × IsMovedFrom g.regions.count e place bits order
+
+    split : (r order : ℕ) → IsLedBy g region place bits (at + 1) r order → IsLedBy g region place bits at r order ⊎ Moved r order
+    split r order led =
+        ⊎_elim
+        (λ (last : led.1.0 ≡ at).
+        let same : led.0 ≡ e = same_Some led.0 e (sym led.1.3 ∙ ap (slice_get g.edges.edges.items) last ∙ edge.read) in
+        inr (subst (λ (x : Edge). (r ≡ x.region) × IsMovedFrom g.regions.count x place bits order) same (led.2, led.3)))
+        (λ (other : led.1.0 ≢ at). inl (led.0, (led.1.0, led.1.1, let low = led.1.2 in omega arith, led.1.3), led.2, led.3))
+        (cases_eq led.1.0 at)
+
+-- where the tile comes to where it was, the orders are the same
+pub all_moved : (g : Graph) (place bits : ℕ) (e : Edge) (t u : NodeSet) → e.from ≡ e.to → e.from < g.regions.count → AreBelow (factorial g.regions.count) place bits → IsUnion (λ r order. (r ≡ e.region) × IsIn place bits order) t u → IsUnion (λ r order. (r ≡ e.region) × IsMovedFrom g.regions.count e place bits order) t u
+all_moved g place bits e t u same from below union =
+    same_added (λ r order. (r ≡ e.region) × IsIn place bits order) (λ r order. (r ≡ e.region) × IsMovedFrom g.regions.count e place bits order) t u union
+    (λ r order. (
+      (λ (here : (r ≡ e.region) × IsIn place bits order). (here.0, (order, here.1, moved_same g.regions.count order e.from e.to same (below order here.1) from))),
+      (λ (moved : (r ≡ e.region) × IsMovedFrom g.regions.count e place bits order).
+          let old : ℕ = moved.1.0 in
+          let is : old ≡ order = moved_same g.regions.count old e.from e.to same (below old moved.1.1) from ∙ sym moved.1.2 in
+          (moved.0, subst (λ n. IsIn place bits n) is moved.1.1)),
+    ))
+
+-- the count of tiles that the orders keep is the graph's
+pub some_moved : (g : Graph) (count place bits : ℕ) (e : Edge) (t u : NodeSet) → count ≡ g.regions.count → IsUnion (λ r order. (r ≡ e.region) × IsMovedFrom count e place bits order) t u → IsUnion (λ r order. (r ≡ e.region) × IsMovedFrom g.regions.count e place bits order) t u
+some_moved g count place bits e t u number union = subst (λ n. IsUnion (λ r order. (r ≡ e.region) × IsMovedFrom n e place bits order) t u) number union
+
+-- where no edge is left, these are the nodes to which one leads
+pub leading_all : (g : Graph) (region place bits first end at : ℕ) (s t : NodeSet) → HasEnds g region first end → at ≡ end → IsLeading g region place bits at s t → IsUnion (IsLed g region place bits) s t
+leading_all g region place bits first end at s t has over led =
+    subst (λ n. IsUnion (IsLedBy g region place bits n) s t) (over ∙ has.to) led.union
+
+-- ---- the fresh nodes of 64 orders
+
+min_one : (a b : ℕ) → a < 2 → b < 2 → min a b ≡ 1 → (a ≡ 1) × (b ≡ 1)
+min_one a b la lb e = (omega arith, omega arith)
+
+one_min : (a b : ℕ) → a ≡ 1 → b ≡ 1 → min a b ≡ 1
+one_min a b ea eb = omega arith
+
+-- the bits of one word that are not those of another
+pub fresh_bit : (now seen bit : ℕ) → seen < 2 ^ 64 → bit < 64 → (bit_at (bit_and now (bit_not w64 seen)) bit ≡ 1) ↔ ((bit_at now bit ≡ 1) × (bit_at seen bit ≢ 1))
+fresh_bit now seen bit fits low =
+    let both = bit_at_and now (bit_not w64 seen) bit in
+    let other = bit_at_not w64 seen bit fits low in
+    let now_low = bit_at-lt now bit in
+    let seen_low = bit_at-lt seen bit in
+    let not_low = bit_at-lt (bit_not w64 seen) bit in (
+      (λ is. let two = min_one (bit_at now bit) (bit_at (bit_not w64 seen) bit) now_low not_low (sym both ∙ is) in (two.0, λ seen_is. absurd (let one = two.1 in omega arith))),
+      (λ two. both ∙ one_min (bit_at now bit) (bit_at (bit_not w64 seen) bit) two.0 (let ne = two.1 in omega arith)),
+    )
+
+-- the bits of fresh nodes
+pub record HasFresh (l : Layers) (region place fresh : ℕ) : Type 0 where
+  pub is : (order : ℕ) → IsIn place fresh order ↔ IsFresh l region place order
+
+pub fresh_are : (l : Layers) (region place now seen : ℕ) → now ≡ slice_index l.now.words.items (region * l.now.width + place) → seen ≡ slice_index l.seen.words.items (region * l.seen.width + place) → seen < 2 ^ 64 → HasFresh l region place (bit_and now (bit_not w64 seen))
+fresh_are l region place now seen now_is seen_is fits = record {
+  is = λ order.
+      let bit = fresh_bit now seen (order % 64) fits (mod_below order 64 (omega arith)) in
+      let now_word : order / 64 ≡ place → bit_at (slice_index l.now.words.items (region * l.now.width + order / 64)) (order % 64) ≡ bit_at now (order % 64) =
+      λ at. ap (λ p. bit_at (slice_index l.now.words.items (region * l.now.width + p)) (order % 64)) at ∙ ap (λ w. bit_at w (order % 64)) (sym now_is) in
+      let seen_word : order / 64 ≡ place → bit_at (slice_index l.seen.words.items (region * l.seen.width + order / 64)) (order % 64) ≡ bit_at seen (order % 64) =
+      λ at. ap (λ p. bit_at (slice_index l.seen.words.items (region * l.seen.width + p)) (order % 64)) at ∙ ap (λ w. bit_at w (order % 64)) (sym seen_is) in (
+        (λ here. record { within = here.0; now = now_word here.0 ∙ (bit.0 here.1).0; not_seen = λ has. (bit.0 here.1).1 (sym (seen_word here.0) ∙ has) }),
+        (λ fresh. (fresh.within, bit.1 (sym (now_word fresh.within) ∙ fresh.now, λ has. fresh.not_seen (seen_word fresh.within ∙ has)))),
+      );
+}
+
+-- fresh nodes are nodes
+pub fresh_low : (l : Layers) (region place order : ℕ) → AreLayers l → region < length l.graph.regions.homes.items → place < l.now.width → IsFresh l region place order → order < factorial l.graph.regions.count
+fresh_low l region place order layers region_in place_in fresh = layers.now.within region order region_in (let within = fresh.within in omega arith) fresh.now
+
+module _ (l : Layers) (region place fresh : ℕ) (layers : AreLayers l) (region_in : region < length l.graph.regions.homes.items) (place_in : place < l.now.width) (has : HasFresh l region place fresh) where
+  abbrev orders : ℕ
+  orders = factorial l.graph.regions.count
+
+  -- all whose bits are set are orders
+  pub fresh_below : AreBelow orders place fresh
+  fresh_below order here = fresh_low l region place order layers region_in place_in ((has.is order).0 here)
+
+  -- the order of a bit of the word
+  in_word : (bit : ℕ) → IsIn 0 fresh bit → IsFresh l region place (64 * place + bit)
+  in_word bit here =
+      let low : bit / 64 ≡ 0 = here.0 in
+      let at : (64 * place + bit) / 64 ≡ place = omega arith in
+      let same : bit % 64 ≡ (64 * place + bit) % 64 = omega arith in
+      (has.is (64 * place + bit)).0 (at, subst (λ n. bit_at fresh n ≡ 1) same here.1)
+
+  -- there is a value for each
+  pub value_within : (first bit : ℕ) → first ≡ region * orders + 64 * place → IsIn 0 fresh bit → first + bit < length l.values.items
+  value_within first bit at here =
+      let low = fresh_low l region place (64 * place + bit) layers region_in place_in (in_word bit here) in
+      let inside : region * orders + (64 * place + bit) < orders * length l.graph.regions.homes.items = mul-add-lt region orders (64 * place + bit) (length l.graph.regions.homes.items) region_in low in
+      let turned : orders * length l.graph.regions.homes.items ≡ length l.graph.regions.homes.items * orders = omega arith in
+      let each = layers.one_each in
+      omega arith
+
+  -- where no bit is set nothing is passed
+  pub word_none : (cost : ℕ) → fresh ≡ 0 → IsWordPassed region place cost l l
+  word_none cost zero_is =
+      let none : (order : ℕ) → ¬ IsFresh l region place order =
+      λ order is. let bit = ((has.is order).1 is).1 in let off = bit_at-zero (order % 64) in let same = ap (λ w. bit_at w (order % 64)) zero_is in absurd (omega (arith, bit, off, same)) in
+      record {
+        graph = refl;
+        now = refl;
+        layers = layers;
+        seen = none_added (λ r order. (r ≡ region) × IsFresh l region place order) l.seen (λ r order added. none order added.1);
+        next = none_added (IsLedFresh l region place) l.next (λ r order led. none led.3.0 led.3.1);
+        written = λ order is. absurd (none order is);
+        kept = λ k others. refl;
+      }
+
+  -- else the values are written and the nodes are put into the sets
+  pub word_passed : (first cost : ℕ) (l' : Layers) → first ≡ region * orders + 64 * place → l'.graph ≡ l.graph → l'.now ≡ l.now → IsWritten first fresh cost l.values.items l'.values.items
+      → IsUnion (λ r order. (r ≡ region) × IsIn place fresh order) l.seen l'.seen → IsUnion (IsLed l.graph region place fresh) l.next l'.next → IsSetOf l.graph l'.next → IsWordPassed region place cost l l'
+  word_passed first cost l' at graph now written seen next next_set = record {
+    graph = graph;
+    now = now;
+    layers = record {
+      sound = subst (λ (x : Graph). IsSoundGraph x) (sym graph) layers.sound;
+      one_each = written.size ∙ layers.one_each ∙ ap (λ (x : Graph). node_count x.regions) (sym graph);
+      seen = subst (λ (x : Graph). IsSetOf x l'.seen) (sym graph) (union_set (length l.graph.regions.homes.items) orders (λ r order. (r ≡ region) × IsIn place fresh order) l.seen l'.seen (λ r order added. fresh_below order added.1) layers.seen seen);
+      now = subst (λ (x : Graph). IsSetOf x l'.now) (sym graph) (subst (λ (x : NodeSet). IsSetOf l.graph x) (sym now) layers.now);
+      next = subst (λ (x : Graph). IsSetOf x l'.next) (sym graph) next_set;
+    };
+    seen = same_added (λ r order. (r ≡ region) × IsIn place fresh order) (λ r order. (r ≡ region) × IsFresh l region place order) l.seen l'.seen seen
+        (λ r order. ((λ added. (added.0, (has.is order).0 added.1)), (λ added. (added.0, (has.is order).1 added.1))));
+    next = same_added (IsLed l.graph region place fresh) (IsLedFresh l region place) l.next l'.next next
+        (λ r order. (
+          (λ led. (led.0, led.1, led.2, (led.3.0, (has.is led.3.0).0 led.3.1, led.3.2))),
+          (λ led. (led.0, led.1, led.2, (led.3.0, (has.is led.3.0).1 led.3.1, led.3.2))),
+        ));
+    written = λ order is.
+        let here = (has.is order).1 is in
+        let place_is : order / 64 ≡ place = here.0 in
+        let low : order % 64 / 64 ≡ 0 = omega arith in
+        let same : order % 64 ≡ order % 64 % 64 = omega arith in
+        let index : first + order % 64 ≡ region * orders + order = omega arith in
+        subst (λ n. slice_index l'.values.items n ≡ cost) index (written.written (order % 64) (low, subst (λ n. bit_at fresh n ≡ 1) same here.1));
+    kept = λ k others. written.kept k (λ bit here same. others (64 * place + bit) (in_word bit here) (omega arith));
+  }
+
+-- ---- one region after another
+
+-- what stays as it was
+pub record IsKept (l l' : Layers) : Type 0 where
+  pub graph : l'.graph ≡ l.graph
+  pub now : l'.now ≡ l.now
+  pub layers : AreLayers l'
+
+pub kept_none : (l : Layers) → AreLayers l → IsKept l l
+kept_none l layers = record { graph = refl; now = refl; layers = layers }
+
+pub region_kept : (region cost place : ℕ) (l l' : Layers) → AreLayers l → IsRegionPassed region cost place l l' → IsKept l l'
+region_kept region cost zero l l' layers is = subst (λ (x : Layers). IsKept l x) (sym is) (kept_none l layers)
+region_kept region cost (suc place) l l' layers passed =
+    let before = region_kept region cost place l passed.0 layers passed.1 in
+    let word = passed.2 in
+    record { graph = word.graph ∙ before.graph; now = word.now ∙ before.now; layers = word.layers }
+
+pub layer_kept : (cost region : ℕ) (l l' : Layers) → AreLayers l → IsLayerPassed cost region l l' → IsKept l l'
+layer_kept cost zero l l' layers is = subst (λ (x : Layers). IsKept l x) (sym is) (kept_none l layers)
+layer_kept cost (suc region) l l' layers passed =
+    let before = layer_kept cost region l passed.0 layers passed.1 in
+    let after = region_kept region cost passed.0.now.width passed.0 l' before.layers passed.2 in
+    record { graph = after.graph ∙ before.graph; now = after.now ∙ before.now; layers = after.layers }
+
+-- one word more
+pub region_more : (region cost place : ℕ) (l m l' : Layers) → IsRegionPassed region cost place l m → IsWordPassed region place cost m l' → IsRegionPassed region cost (place + 1) l l'
+region_more region cost place l m l' before word =
+    let next : suc place ≡ place + 1 = omega arith in
+    subst (λ n. IsRegionPassed region cost n l l') next (m, before, word)
+
+-- one region more
+pub layer_more : (cost region : ℕ) (l m l' : Layers) → IsLayerPassed cost region l m → IsRegionPassed region cost m.now.width m l' → IsLayerPassed cost (region + 1) l l'
+layer_more cost region l m l' before passed =
+    let next : suc region ≡ region + 1 = omega arith in
+    subst (λ n. IsLayerPassed cost n l l') next (m, before, passed)
+
+-- where nothing has changed so far and nothing changes, nothing has changed
+pub same_still : (any passed : Bool) (l m l' : Layers) → (any ≡ false → m ≡ l) → (passed ≡ false → l' ≡ m) → (any || passed) ≡ false → l' ≡ l
+same_still any passed l m l' before after none = let parts = or_parts any passed none in after parts.1 ∙ before parts.0

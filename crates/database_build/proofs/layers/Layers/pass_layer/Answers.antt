@@ -1,0 +1,22 @@
+use Rattle.std.proofs.Common.{◌<◌, length, sym, subst, arith}
+use Rattle.database_build.specs.declared.graph.Graph.{Graph}
+use Rattle.database_build.proofs.LayerStepLemmas.{layer_kept, layer_more, same_still}
+use Rattle.database_build.proofs.layers.Layers.pass_layer.Goals as goal
+
+pub pass_region-is_passed-requires-clause-layers : goal.pass_region-is_passed-requires-clause-layers
+pass_region-is_passed-requires-clause-layers c =
+    let kept = layer_kept c.args.cost c.regions.region c.args.self.now c.regions.self c.requires c.regions.invariant.passed in
+    kept.layers
+
+pub pass_region-is_passed-requires-clause-region : goal.pass_region-is_passed-requires-clause-region
+pass_region-is_passed-requires-clause-region c =
+    let kept = layer_kept c.args.cost c.regions.region c.args.self.now c.regions.self c.requires c.regions.invariant.passed in
+    let ok = c.args.self.now.graph.regions.homes.ok in
+    subst (λ (g : Graph). c.regions.region < length g.regions.homes.items) (sym kept.graph) (omega (arith, c.regions-test.true, c.len-region-end.ensures))
+
+pub regions-preserved : goal.regions-preserved
+regions-preserved c =
+    record {
+      passed = layer_more c.args.cost c.regions.region c.args.self.now c.regions.self c.pass_region-is_passed.new.self c.regions.invariant.passed c.pass_region-is_passed.ensures.passed;
+      same = same_still c.regions.any c.pass_region-is_passed.result c.args.self.now c.regions.self c.pass_region-is_passed.new.self c.regions.invariant.same c.pass_region-is_passed.ensures.same;
+    }

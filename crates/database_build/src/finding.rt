@@ -1,0 +1,54 @@
+//! The values of nodes: by layers where each tile costs the same, else by buckets.
+
+ghost use Rattle.std.specs.Prelude.{ℕ, ◌≡◌, ◌<◌, ◌↔◌, length, replicate, Some, IfOk};
+ghost use Rattle.database_build.specs.Searches.{AreFound};
+
+use crate::graph::Graph;
+use crate::layers::find_by_layers;
+use crate::regions::Regions;
+use crate::search::find_by_buckets;
+use board::{Board, Weights};
+use memory::OutOfMemory;
+use pattern_index::Group;
+use std::alloc::Global;
+
+// The value of each node of a group.
+#[derive(Drop)]
+pub(crate) struct Found {
+    pub(crate) regions: Regions,
+    pub(crate) values: Vec<u16>,
+}
+
+// The values of the nodes of a group's views for a goal.
+pub(crate) fn find_values(
+    alloc: Global,
+    group: &Group,
+    goal: &Board,
+    weights: &Weights,
+) -> Result<Found, OutOfMemory>
+    requires grid { goal.now.grid ≡ group.now.grid }
+    requires weights { weights.now.grid ≡ group.now.grid }
+    ensures { IfOk result (AreFound group.now weights.now goal.now) }
+{
+    let graph = Graph::new(alloc, group, weights)?;
+    let start = graph.node_of(group, goal);
+    let count = group.tiles().len();
+    match same_of(&graph.costs[..count]) {
+        Some(weight) => find_by_layers(alloc, graph, start, weight),
+        None => find_by_buckets(alloc, graph, start),
+    }
+}
+
+// What each of these is, where all are the same.
+fn same_of(costs: &[u8]) -> Option<u8>
+    requires { 0 < length costs.now }
+    ensures { (cost : ℕ) → (result ≡ Some cost) ↔ (costs.now ≡ replicate (length costs.now) cost) }
+{
+    let first = costs[0];
+    'costs: for cost in costs {
+        if *cost != first {
+            return None;
+        }
+    }
+    Some(first)
+}

@@ -1,0 +1,89 @@
+//! The graph that a search goes over: the nodes of a group's views, and the edges between them.
+
+ghost use Rattle.std.specs.Prelude.{ℕ, ◌≡◌, ◌<◌, ◌≤◌, length, slice_index, map, All, IfOk};
+ghost use Rattle.pattern_index.specs.Views.{IsView, view_of};
+ghost use Rattle.database_build.specs.Regions.{IsRegions};
+ghost use Rattle.database_build.specs.Graphs.{node_in, node_count, AreWeightsOf};
+ghost use Rattle.database_build.specs.Searches.{IsGraphOf, IsSoundGraph};
+
+use crate::edges::Edges;
+use crate::orders::{Orders, order_of};
+use crate::regions::Regions;
+use board::{Board, Weights};
+use memory::OutOfMemory;
+use pattern_index::{Group, cells_of};
+use std::alloc::Global;
+
+// The nodes of a group's views and the edges between them, and what it costs to move each tile, by
+// its place among the group's.
+#[derive(Drop)]
+pub(crate) struct Graph {
+    pub(crate) regions: Regions,
+    pub(crate) edges: Edges,
+    pub(crate) orders: Orders,
+    pub(crate) costs: [u8; 9],
+}
+
+impl Graph {
+    pub(crate) fn new(alloc: Global, group: &Group, weights: &Weights) -> Result<Self, OutOfMemory>
+        requires { weights.now.grid ≡ group.now.grid }
+        ensures graph { IfOk result (IsGraphOf group.now weights.now) }
+        ensures sound { IfOk result IsSoundGraph }
+        ensures costs { IfOk result (λ graph. (place : ℕ) → place < length group.now.tiles
+            → 1 ≤ slice_index graph.costs place) }
+    {
+        let count = group.tiles().len();
+        let regions = Regions::new(alloc, group.shape(), count)?;
+        let edges = Edges::new(alloc, &regions)?;
+        let orders = Orders::new(alloc, count)?;
+        Ok(Graph {
+            regions,
+            edges,
+            orders,
+            costs: costs_of(group, weights),
+        })
+    }
+
+    // The node of what a group sees of a board.
+    pub(crate) fn node_of(&self, group: &Group, board: &Board) -> usize
+        requires grid { board.now.grid ≡ group.now.grid }
+        requires regions { IsRegions group.now.grid (length group.now.tiles) self.now.regions }
+        requires sound { IsSoundGraph self.now }
+        ensures value { result ≡ node_in self.now.regions (view_of group.now.tiles board.now) }
+        ensures view { IsView group.now.grid group.now.tiles (view_of group.now.tiles board.now) }
+        ensures below { result < node_count self.now.regions }
+    {
+        let numbers = cells_of(board);
+        let mut cells = [0; 9];
+        let count = group.tiles().len();
+        pick_cells(&numbers, group.tiles(), &mut cells[..count]);
+        let region = self.regions.region(&cells[..count], numbers[0]);
+        region * self.orders.size() + order_of(&cells[..count])
+    }
+}
+
+// What it costs to move each tile of a group, by its place among them.
+fn costs_of(group: &Group, weights: &Weights) -> [u8; 9]
+    requires { weights.now.grid ≡ group.now.grid }
+    ensures length { length result ≡ 9 }
+    ensures costs { AreWeightsOf weights.now group.now.tiles result }
+    ensures some { (place : ℕ) → place < length group.now.tiles → 1 ≤ slice_index result place }
+{
+    let mut costs = [0; 9];
+    let tiles = group.tiles();
+    'tiles: for place in 0..tiles.len() {
+        costs[place] = weights.of(tiles[place]) as u8;
+    }
+    costs
+}
+
+// Writes the cell of each tile.
+fn pick_cells(numbers: &[u8; 25], tiles: &[u8], cells: &mut [u8])
+    requires same { length cells.old ≡ length tiles.now }
+    requires within { All (λ tile. tile < 25) tiles.now }
+    ensures { cells.new ≡ map (slice_index numbers.now) tiles.now }
+{
+    'tiles: for place in 0..tiles.len() {
+        cells[place] = numbers[tiles[place] as usize];
+    }
+}

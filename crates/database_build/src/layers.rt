@@ -1,0 +1,195 @@
+//! The search for the values of nodes where each tile costs the same: layer by layer, since all nodes
+//! that are found in a layer have one value.
+
+ghost use Rattle.std.specs.Prelude.{ℕ, suc, ◌≡◌, ◌+◌, ◌*◌, ◌<◌, ◌≤◌, false, length, replicate, slice_index, IfOk};
+ghost use Rattle.board.specs.Positions.{Position};
+ghost use Rattle.board.specs.CostRules.{CostRule};
+ghost use Rattle.pattern_index.specs.Laws.{factorial};
+ghost use Rattle.pattern_index.specs.Selections.{Selection};
+ghost use Rattle.database_build.specs.Graphs.{IsOrders, node_count};
+ghost use Rattle.database_build.specs.Searches.{IsSoundGraph, IsSought, AreFound};
+ghost use Rattle.database_build.specs.NodeSets.{Has, IsIn, IsNodeSet, IsUnion};
+ghost use Rattle.database_build.specs.Layers.{AreBelow, AreLayers, IsAtStart, IsLed, IsMovedFrom, IsWritten};
+ghost use Rattle.database_build.specs.Layers.{IsWordPassed, IsRegionPassed, IsLayerPassed};
+
+use crate::edges::Edge;
+use crate::finding::Found;
+use crate::graph::Graph;
+use crate::node_sets::NodeSet;
+use crate::orders::Orders;
+use crate::table::NO_VALUE;
+use memory::{OutOfMemory, filled};
+use std::alloc::Global;
+
+// What is found of the values of nodes, the nodes that have one, and those of this layer and of the
+// next one. A node of a layer may have a value already.
+#[derive(Drop)]
+pub(crate) struct Layers {
+    graph: Graph,
+    values: Vec<u16>,
+    seen: NodeSet,
+    now: NodeSet,
+    next: NodeSet,
+}
+
+impl Layers {
+    // No node has a value, and one is in this layer.
+    fn new(alloc: Global, graph: Graph, start: usize) -> Result<Self, OutOfMemory>
+        requires sound { IsSoundGraph graph }
+        requires inside { start < node_count graph.regions }
+        ensures { IfOk result (IsAtStart graph start) }
+    {
+        let regions = graph.regions.homes.len();
+        let orders = graph.orders.size();
+        let values = filled(alloc, NO_VALUE, regions * orders)?;
+        let seen = NodeSet::none(alloc, regions, orders)?;
+        let mut now = NodeSet::none(alloc, regions, orders)?;
+        let next = NodeSet::none(alloc, regions, orders)?;
+        now.insert(start / orders, start % orders);
+        Ok(Layers {
+            graph,
+            values,
+            seen,
+            now,
+            next,
+        })
+    }
+
+    // Writes the value of each node of this layer that has none, and puts the nodes to which edges
+    // lead from there into the next layer. Answers whether there were such nodes.
+    fn pass_layer(&mut self, cost: u16) -> bool
+        requires { AreLayers self.old }
+        ensures passed { IsLayerPassed cost (length self.old.graph.regions.homes.items)
+            self.old self.new }
+        ensures same { result ≡ false → self.new ≡ self.old }
+    {
+        let mut any = false;
+        'regions: for region in 0..self.graph.regions.homes.len() {
+            let is_passed = self.pass_region(region, cost);
+            any = any | is_passed;
+        }
+        any
+    }
+
+    // The same for the nodes of a region.
+    fn pass_region(&mut self, region: usize, cost: u16) -> bool
+        requires layers { AreLayers self.old }
+        requires region { region < length self.old.graph.regions.homes.items }
+        ensures passed { IsRegionPassed region cost self.old.now.width self.old self.new }
+        ensures same { result ≡ false → self.new ≡ self.old }
+    {
+        let mut any = false;
+        'words: for place in 0..self.now.width() {
+            let is_passed = self.pass_word(region, place, cost);
+            any = any | is_passed;
+        }
+        any
+    }
+
+    // The same for 64 orders of a region.
+    fn pass_word(&mut self, region: usize, place: usize, cost: u16) -> bool
+        requires layers { AreLayers self.old }
+        requires region { region < length self.old.graph.regions.homes.items }
+        requires place { place < self.old.now.width }
+        ensures passed { IsWordPassed region place cost self.old self.new }
+        ensures same { result ≡ false → self.new ≡ self.old }
+    {
+        let fresh = self.now.word(region, place) & !self.seen.word(region, place);
+        if fresh == 0 {
+            return false;
+        }
+        let first = region * self.graph.orders.size() + 64 * place;
+        write_values(&mut self.values, first, fresh, cost);
+        self.seen.insert_all(region, place, fresh);
+        insert_next(&self.graph, region, place, fresh, &mut self.next);
+        true
+    }
+}
+
+// Writes a cost at each place whose bit is set, from the first on.
+fn write_values(values: &mut [u16], first: usize, bits: u64, cost: u16)
+    requires { (bit : ℕ) → IsIn 0 bits bit → first + bit < length values.old }
+    ensures { IsWritten first bits cost values.old values.new }
+{
+    let mut left = bits;
+    'bits: while left != 0 {
+        let bit = left.trailing_zeros() as usize;
+        left &= left - 1;
+        values[first + bit] = cost;
+    }
+}
+
+// Inserts the nodes to which edges lead from those of 64 orders of a region whose bits are set.
+fn insert_next(graph: &Graph, region: usize, place: usize, bits: u64, next: &mut NodeSet)
+    requires sound { IsSoundGraph graph.now }
+    requires region { region < length graph.now.regions.homes.items }
+    requires place { place < next.old.width }
+    requires bits { AreBelow (factorial graph.now.regions.count) place bits }
+    requires next { IsNodeSet (length graph.now.regions.homes.items)
+        (factorial graph.now.regions.count) next.old }
+    ensures union { IsUnion (IsLed graph.now region place bits) next.old next.new }
+    ensures next { IsNodeSet (length graph.now.regions.homes.items)
+        (factorial graph.now.regions.count) next.new }
+{
+    let first = graph.edges.starts[region] as usize;
+    let end = graph.edges.starts[region + 1] as usize;
+    'edges: for at in first..end {
+        let edge = graph.edges.edges[at];
+        if edge.from == edge.to {
+            next.insert_all(edge.region as usize, place, bits);
+        } else {
+            insert_moved(&graph.orders, &edge, place, bits, next);
+        }
+    }
+}
+
+// Inserts the nodes to which an edge leads from those of 64 orders whose bits are set.
+fn insert_moved(orders: &Orders, edge: &Edge, place: usize, bits: u64, next: &mut NodeSet)
+    requires orders { IsOrders orders.now.count orders.now }
+    requires from { edge.now.from < orders.now.count }
+    requires to { edge.now.to < orders.now.count }
+    requires bits { AreBelow (factorial orders.now.count) place bits }
+    requires width { factorial orders.now.count ≤ 64 * next.old.width }
+    requires inside { suc edge.now.region * next.old.width ≤ length next.old.words.items }
+    ensures { IsUnion (λ region order. (region ≡ edge.now.region)
+        × IsMovedFrom orders.now.count edge.now place bits order) next.old next.new }
+{
+    let mut left = bits;
+    'bits: while left != 0 {
+        let order = 64 * place + left.trailing_zeros() as usize;
+        left &= left - 1;
+        let moved = orders.moved(order, edge.from as usize, edge.to as usize);
+        next.insert(edge.region as usize, moved);
+    }
+}
+
+// The values of nodes, where it costs the same to move each tile.
+pub(crate) fn find_by_layers(
+    alloc: Global,
+    graph: Graph,
+    start: usize,
+    weight: u8,
+) -> Result<Found, OutOfMemory>
+    requires sound { IsSoundGraph graph }
+    requires inside { start < node_count graph.regions }
+    requires some { 1 ≤ weight }
+    requires same { (place : ℕ) → place < graph.regions.count
+        → slice_index graph.costs place ≡ weight }
+    ensures { (selection : Selection) (rule : CostRule) (goal : Position)
+        → IsSought selection rule goal graph start
+        → IfOk result (AreFound selection rule goal) }
+{
+    let mut layers = Layers::new(alloc, graph, start)?;
+    let mut cost = 0;
+    let mut any = true;
+    'layers: while any && cost < NO_VALUE as usize {
+        any = layers.pass_layer(cost as u16);
+        std::mem::swap(&mut layers.now, &mut layers.next);
+        cost += weight as usize;
+    }
+    let graph = layers.graph;
+    Ok(Found {
+        regions: graph.regions,
+        values: layers.values,
+    })
+}
