@@ -10,7 +10,7 @@ use Rattle.database_build.specs.Tables.{Lookup, value_in}
 use Rattle.database_build.specs.Folds.{Fold}
 use Rattle.lower_bound.specs.Folded.{AreFoldsOf}
 use Rattle.lower_bound.specs.Tables.{Tables, IsTables, AreTablesOf, AreWhole}
-use Rattle.lower_bound.proofs.TableLemmas.{tables_count}
+use Rattle.lower_bound.proofs.WholeLemmas.{tables_count}
 use Rattle.certificate.specs.Certificates.{Statement}
 use Rattle.certificate_check.specs.Refusals.{AreFit, IsFitAt, IsUnfitAt, IsFirstUnfit}
 

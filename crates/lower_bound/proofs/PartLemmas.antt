@@ -1,17 +1,25 @@
--- How values are kept by groups.
-use Rattle.std.proofs.Common.{◌≡◌, ◌≢◌, ◌⊎◌, ⊎_elim, inl, inr, ℕ, zero, suc, ◌+◌, ◌<◌, ◌≤◌, List, [], ◌∷◌, ◌++◌, map, length, take, drop, set, get_or, refl, sym, ap, ◌∙◌, subst, arith}
-use Rattle.std.specs.Prelude.{AllPairs, Contains, slice_index, sum_by}
+-- How values are kept by groups, which folded table has a tile, and which tiles a move leaves where they were.
+use Rattle.std.proofs.Common.{◌≡◌, ◌≢◌, ◌⊎◌, ⊎_elim, inl, inr, ℕ, zero, suc, ◌+◌, ◌<◌, ◌≤◌, List, [], ◌∷◌, ◌++◌, map, length, take, drop, set, get_or, refl, sym, ap, ◌∙◌, subst, arith, cond, eqb}
+use Rattle.std.specs.Prelude.{AllPairs, Contains, slice_index, sum_by, All, slice_index_or}
 use Rattle.std.specs.List.{AllByRecursion}
 use Rattle.std.proofs.lemmas.List.{length-map, get_or-map, get_or_default}
 use Rattle.std.proofs.Math.Nat.{eq-or-lt_of_le}
 use Rattle.std.proofs.lemmas.List.Sums.{sum_by-cons}
-use Rattle.board.specs.Grids.{cell_count}
-use Rattle.board.specs.Positions.{Position, cell_of}
+use Rattle.std.proofs.lemmas.Bool.{cases_order, cond-false, ne_eqb}
+use Rattle.std.proofs.lemmas.List.Elements.{All-from_recursion}
+use Rattle.board.specs.Grids.{cell_count, Grid}
+use Rattle.board.specs.Positions.{Position, cell_of, blank_of}
+use Rattle.board.proofs.TileLemmas.{has_cell}
 use Rattle.pattern_index.specs.Ranks.{rank_of}
-use Rattle.pattern_index.specs.Selections.{IsTile}
+use Rattle.pattern_index.specs.Selections.{IsTile, IsGroup}
 use Rattle.pattern_index.specs.Splits.{ShareNoTile}
+use Rattle.pattern_index.proofs.ViewMoveLemmas.{seen_move}
 use Rattle.database_build.specs.Folds.{Fold}
 use Rattle.lower_bound.specs.Folded.{AreAsBefore, IsBefore, folded_parts, value_by, value_for, values_of}
+use Rattle.lower_bound.specs.ByTile.{IsTableWith}
+use Rattle.lower_bound.specs.Laws.{ATileHasOneTable, MovesMoveOneTile}
+
+-- ---- how values are kept by groups
 
 -- the first i of some numbers, and behind them what is left of others
 abbrev pub mixed : ℕ → List ℕ → List ℕ → List ℕ
@@ -141,3 +149,56 @@ found_before folds tile place next i here within is without same before = subst 
       (λ (low : k < i). before.none past k d low k_in)
       (eq-or-lt_of_le (omega (arith, lt)));
 })
+
+-- ---- why a tile has one folded table
+
+-- where none of the groups has a tile, no table does
+none_there : (folds : List Fold) (tile place : ℕ) → All (λ (fold : Fold). ¬ Contains fold.selection.tiles tile) folds → ((d : Fold) → Contains (slice_index_or folds place d).selection.tiles tile) → ¬ (place < length folds)
+none_there [] tile place without has lt = absurd (omega (arith, lt))
+none_there (x ∷ xs) tile place without has lt = without place x lt (has x)
+
+module _ (folds : List Fold) (tile place : ℕ) (is : IsTableWith folds tile place) where
+  -- a table whose group has the tile stands at the place
+  has_place : AllPairs (λ (f g : Fold). ShareNoTile f.selection.tiles g.selection.tiles) folds → (i : ℕ) (d : Fold) → i < length folds → Contains (slice_index_or folds i d).selection.tiles tile → place ≡ i
+  has_place apart i d i_in has =
+      ⊎_elim
+      (λ (past : place ≡ length folds). absurd (is.none (omega (arith, past)) i d i_in has))
+      (λ (lt : place < length folds).
+      ⊎_elim
+      (λ (same : place ≡ i). same)
+      (λ (differ : (place < i) ⊎ (i < place)).
+      ⊎_elim
+      (λ (low : place < i). absurd (apart place i d low i_in tile (is.some lt d) has))
+      (λ (high : i < place). absurd (apart i place d high lt tile has (is.some lt d)))
+      differ)
+      (cases_order place i))
+      (eq-or-lt_of_le is.few)
+
+  -- and the group of the table at the place has the tile
+  place_has : (i : ℕ) (d : Fold) → i < length folds → place ≡ i → Contains (slice_index_or folds i d).selection.tiles tile
+  place_has i d i_in e = subst (λ (k : ℕ). Contains (slice_index_or folds k d).selection.tiles tile) e (is.some (omega (arith, e, i_in)) d)
+
+  -- where none has it, no table stands at the place
+  none_has : All (λ (fold : Fold). ¬ Contains fold.selection.tiles tile) folds → place ≡ length folds
+  none_has without =
+      ⊎_elim
+      (λ (past : place ≡ length folds). past)
+      (λ (lt : place < length folds). absurd (none_there folds tile place without (is.some lt) lt))
+      (eq-or-lt_of_le is.few)
+
+pub has_one_table : ATileHasOneTable
+has_one_table folds places tile are low =
+    let is = are tile low in
+    ((λ apart i d i_in. (has_place folds tile (slice_index places tile) is apart i d i_in, place_has folds tile (slice_index places tile) is i d i_in)), none_has folds tile (slice_index places tile) is)
+
+-- ---- a move leaves all tiles but one where they were
+
+pub moves_one : MovesMoveOneTile
+moves_one rule b m b' c board moves n some lt ne =
+    let grid : b'.grid ≡ b.grid = ap (λ (x : Position). x.grid) moves.after in
+    let low : n < cell_count b.grid = subst (λ (g : Grid). n < cell_count g) grid lt in
+    let group : IsGroup b.grid (n ∷ []) = record { tiles = All-from_recursion (λ t. IsTile b.grid t) (n ∷ []) ((some, low), tt); different = λ i j d i_lt j_in. absurd (omega arith) } in
+    let step = seen_move rule (n ∷ []) b m b' c board group moves in
+    let e : cell_of b' n ≡ cond (eqb (cell_of b n) (blank_of b')) (blank_of b) (cell_of b n) = ap (λ (xs : List ℕ). get_or xs 0 0) step.1.exchanged in
+    let apart : cell_of b n ≢ blank_of b' = λ same. ne (sym (has_cell b board n low).1 ∙ ap (λ k. get_or b.tiles k 0) same) in
+    sym (e ∙ cond-false (eqb (cell_of b n) (blank_of b')) (blank_of b) (cell_of b n) (ne_eqb (cell_of b n) (blank_of b') apart))

@@ -24,10 +24,8 @@ use Rattle.database_build.specs.Folds.{Fold, folded_in}
 use Rattle.lower_bound.specs.Bounds.{Part, sum_of}
 use Rattle.lower_bound.specs.Folded.{AreAsBefore, IsBefore, value_by, value_for}
 use Rattle.lower_bound.specs.Tables.{Tables, IsTables, AreWhole, parts_of}
-use Rattle.lower_bound.proofs.WholeLemmas.{tables_sum}
-use Rattle.lower_bound.proofs.FoldedLemmas.{folds_sum}
+use Rattle.lower_bound.proofs.WholeLemmas.{tables_sum, folds_sum, each_apart, each_lookup, each_fold, few_folds, table_grids, fold_grids, whole_parts, all_folded_parts}
 use Rattle.lower_bound.proofs.PartLemmas.{value_stays}
-use Rattle.lower_bound.proofs.TableLemmas.{each_apart, each_lookup, each_fold, few_folds, table_grids, fold_grids, whole_parts, all_folded_parts}
 use Rattle.successor_sums.specs.Ranks.{sum_at, sum_by_cells}
 use Rattle.lower_bound.specs.declared.bound.TheConstants.{GREATEST_SUM}
 use Rattle.board.specs.declared.moves.Move.TheVariants.{U, L, R, D}

@@ -18,9 +18,7 @@ use Rattle.database_build.specs.Laws.{ValuesAreDetermined}
 use Rattle.lower_bound.specs.Bounds.{Part, sum_of}
 use Rattle.lower_bound.specs.Folded.{value_for}
 use Rattle.lower_bound.specs.Tables.{Tables, AreWhole, parts_of}
-use Rattle.lower_bound.proofs.TableLemmas.{whole_parts, all_folded_parts}
-use Rattle.lower_bound.proofs.WholeLemmas.{tables_sum}
-use Rattle.lower_bound.proofs.FoldedLemmas.{folds_sum}
+use Rattle.lower_bound.proofs.WholeLemmas.{whole_parts, all_folded_parts, tables_sum, folds_sum}
 use Rattle.table_sets.specs.Built.{AreBuilt, AreBuiltFolded}
 
 -- two lists of tables of the same groups, of which the first say no more

@@ -1,4 +1,4 @@
-use Rattle.lower_bound.proofs.ByTileLemmas.{has_one_table}
+use Rattle.lower_bound.proofs.PartLemmas.{has_one_table}
 use Rattle.lower_bound.proofs.laws.a_tile_has_one_table.Goals as goal
 
 pub returns : goal.returns

@@ -1,4 +1,4 @@
-use Rattle.lower_bound.proofs.MovedLemmas.{moves_one}
+use Rattle.lower_bound.proofs.PartLemmas.{moves_one}
 use Rattle.lower_bound.proofs.laws.moves_move_one_tile.Goals as goal
 
 pub returns : goal.returns
