@@ -18,8 +18,7 @@ use Rattle.lower_bound.specs.Bounds.{Part, sum_of}
 use Rattle.successor_sums.specs.declared.unpacked.Successor.{Successor}
 use Rattle.successor_sums.specs.ByMoves.{FourOf, entries_of, of_move}
 use Rattle.successor_sums.specs.Unpacked.{told_of, is_left_out, but, successors_but}
-use Rattle.successor_sums.proofs.EntryLemmas.{absent_too, found}
-use Rattle.successor_sums.proofs.SumLemmas.{kept_by, of_four_by}
+use Rattle.successor_sums.proofs.SumLemmas.{absent_too, found, kept_by, of_four_by}
 use Rattle.offers.specs.declared.offer.Offer.{Offer}
 use Rattle.offers.specs.Offers.{Offers, item_by, AreOffered, IsOffered}
 

@@ -1,29 +1,114 @@
--- What a move changes: two cells, and the key.
-use Rattle.std.proofs.Common.{◌≡◌, ◌≢◌, ℕ, Some, ◌+◌, ◌-◌, ◌*◌, ◌/◌, ◌%◌, ◌^◌, ◌<◌, ◌≤◌, List, length, get_or, set, refl, sym, ap, ◌∙◌, subst, ⊎_elim, arith}
-use Rattle.std.specs.Prelude.{slice_index}
-use Rattle.std.proofs.lemmas.Bool.{cases_eq}
+-- What a move changes: cells, keys, ranks and sparse places.
+use Rattle.std.proofs.Common.{◌≡◌, ◌≢◌, ℕ, zero, suc, ◌+◌, ◌-◌, ◌*◌, ◌/◌, ◌%◌, ◌^◌, ◌<◌, ◌≤◌, List, [], ◌∷◌, length, get_or, set, refl, sym, ap, ◌∙◌, subst, arith, Some, ⊎_elim, take, map}
+use Rattle.std.specs.Prelude.{swap, slice_index, Contains}
+use Rattle.std.proofs.Math.Nat.{pow-suc, pow-le-pow_right, mod-eq_of_lt, mul-add-div_right, mul-add-mod_self_right}
+use Rattle.std.proofs.lemmas.Nat.{pow-add, pow_pos, mul-le, div-mul-add, mod-mul-add}
+use Rattle.std.proofs.lemmas.List.{length-set, get_or-set_other, get_or-set_same, take_all, get_or_default}
+use Rattle.std.proofs.lemmas.List.Edits.{swap_is}
+use Rattle.std.specs.Int.Digits.{AllBelowBase}
+use Rattle.std.proofs.lemmas.Bool.{cases_eq, cases_lt}
 use Rattle.std.proofs.lemmas.Bool.Decides.{nat_tests}
-use Rattle.std.proofs.Math.Nat.{pow-le-pow_right}
-use Rattle.std.proofs.lemmas.Nat.{mul-le}
-use Rattle.std.proofs.lemmas.List.{length-set, get_or-set_same, get_or-set_other}
 use Rattle.std.proofs.lemmas.List.Elements.{recursion_from_All}
-use Rattle.board.specs.declared.moves.Move.{Move}
-use Rattle.board.specs.Grids.{Grid, IsShape, cell_count}
-use Rattle.board.specs.Neighbours.{LiesTowards, neighbour}
-use Rattle.board.specs.Positions.{Position, IsBoard, cell_of, blank_of}
-use Rattle.board.specs.Keys.{key_of, packed_number, HasKey}
+use Rattle.board.specs.Grids.{Grid, cell_count, IsShape}
+use Rattle.board.specs.Digits.{digits_of}
+use Rattle.board.specs.Positions.{Position, IsBoard, blank_of, cell_of}
+use Rattle.board.specs.Keys.{packed_number, key_of, HasKey}
 use Rattle.board.specs.Moves.{blank_exchange}
+use Rattle.board.proofs.StepLemmas.{blank_stands, tile_above, tile_below}
+use Rattle.board.proofs.KeyLemmas.{digits_of-key, packed_number-lt, key_of-lt, tiles_small, packed_number-more}
+use Rattle.board.specs.declared.moves.Move.{Move}
+use Rattle.board.specs.Neighbours.{LiesTowards, neighbour}
 use Rattle.board.proofs.TileLemmas.{across, cell_is, has_cell}
-use Rattle.board.proofs.KeyLemmas.{key_of-lt, tiles_small}
 use Rattle.board.proofs.NeighbourLemmas.{cells_above, neighbour_lies}
 use Rattle.board.proofs.MoveLemmas.{cell_of-exchange, exchange_board, other_cell, cell_below}
-use Rattle.board.proofs.StepLemmas.{blank_stands, tile_above, tile_below}
+use Rattle.pattern_index.specs.Selections.{Selection, IsSelection}
+use Rattle.pattern_index.specs.Sparse.{sparse_in, stride_of}
+use Rattle.pattern_index.specs.Views.{IsView, view_at}
+use Rattle.pattern_index.proofs.GroupLemmas.{groups_small, cells_high}
+use Rattle.pattern_index.proofs.RankLemmas.{below_in, differ_from_pairs}
+use Rattle.pattern_index.proofs.PlaceLemmas.{place_listing}
+use Rattle.pattern_index.proofs.SparseLemmas.{moved, sparse_small, stride_low, pow_low}
+use Rattle.database_build.specs.Folds.{Fold}
+use Rattle.database_build.specs.Tables.{Lookup}
 use Rattle.lower_bound.specs.Folded.{IsBefore}
-use Rattle.successor_sums.specs.Unpacked.{board_in, AreCellsOf, IsUnpacked}
+use Rattle.successor_sums.specs.Unpacked.{board_in, AreCellsOf, IsUnpacked, cells_after, IsSmall, IsLarge, SomeIsLarge}
 use Rattle.successor_sums.specs.declared.unpacked.UnpackedBoard.TheInside.{Inside}
-use Rattle.successor_sums.proofs.KeyLemmas.{digit_there, key_read, moved_key}
+use Rattle.successor_sums.specs.declared.unpacked.Successor.{Successor}
 
--- ---- the cell of each number after an exchange
+-- ---- the key of a board after a move, by the board's own
+
+-- five bits are a digit
+pub five_bits : (k : ℕ) → 2 ^ (5 * k) ≡ 32 ^ k
+five_bits zero = refl
+five_bits (suc k) =
+    let more : 5 * suc k ≡ 5 * k + 5 = omega arith in
+    ap (λ (e : ℕ). 2 ^ e) more ∙ pow-add 2 (5 * k) 5 ∙ ap (λ (x : ℕ). x * 32) (five_bits k) ∙ sym (pow-suc 32 k)
+
+-- a digit of a key does not pass 128 bits
+pub digit_fits : (tile behind : ℕ) → tile < 32 → behind ≤ 24 → tile * 2 ^ (5 * behind) % 340282366920938463463374607431768211456 ≡ tile * 32 ^ behind
+digit_fits tile behind low few =
+    let power : 32 ^ behind ≤ 32 ^ 24 = pow-le-pow_right {n = 32} (omega arith) {j = 24} few in
+    let most : tile * 32 ^ behind ≤ 31 * 32 ^ 24 = mul-le tile (32 ^ behind) 31 (32 ^ 24) (omega arith) power in
+    ap (λ (x : ℕ). tile * x % 340282366920938463463374607431768211456) (five_bits behind)
+    ∙ mod-eq_of_lt (omega arith)
+
+-- a digit of a packed number is the number that stands there
+pub digit_there : (xs : List ℕ) (i k : ℕ) → i + suc k ≡ length xs → AllBelowBase 32 xs → packed_number xs / 32 ^ k % 32 ≡ get_or xs i 0
+digit_there [] i k e low = absurd (omega arith)
+digit_there (x ∷ xs) zero k e low =
+    let at : k ≡ length xs = omega arith in
+    let rest : packed_number xs < 32 ^ length xs = packed_number-lt xs low.1 in
+    let front : (x * 32 ^ length xs + packed_number xs) / 32 ^ length xs ≡ x = div-mul-add x (32 ^ length xs) (packed_number xs) rest in
+    ap (λ (n : ℕ). (x * 32 ^ length xs + packed_number xs) / 32 ^ n % 32) at ∙ ap (λ (n : ℕ). n % 32) front ∙ mod-eq_of_lt low.0
+digit_there (x ∷ xs) (suc i) k e low =
+    let rest = digit_there xs i k (omega arith) low.1 in
+    let long : length xs ≡ suc i + k = omega arith in
+    let power : 32 ^ length xs ≡ 32 ^ suc i * 32 ^ k = ap (λ (n : ℕ). 32 ^ n) long ∙ pow-add 32 (suc i) k in
+    let some : 0 < 32 ^ k = subst (λ (n : ℕ). 0 < n) (five_bits k) (pow_pos (5 * k)) in
+    let shifted : x * 32 ^ length xs + packed_number xs ≡ x * 32 ^ i * 32 * 32 ^ k + packed_number xs = let p = pow-suc 32 i in rw power (rw p (grind (arith))) in
+    let front : (x * 32 ^ i * 32 * 32 ^ k + packed_number xs) / 32 ^ k ≡ x * 32 ^ i * 32 + packed_number xs / 32 ^ k = mul-add-div_right some (x * 32 ^ i * 32) (packed_number xs) in
+    ap (λ (n : ℕ). n / 32 ^ k % 32) shifted ∙ ap (λ (n : ℕ). n % 32) front ∙ mul-add-mod_self_right (x * 32 ^ i) 32 (packed_number xs / 32 ^ k) ∙ rest
+
+-- the board of a key is its digits
+pub key_read : (grid : Grid) (key : ℕ) (b : Position) → HasKey grid key b → record { grid = grid; tiles = digits_of (cell_count grid) key } ≡ b
+key_read grid key b has =
+    let tiles : digits_of (cell_count grid) key ≡ b.tiles = (λ i. digits_of (cell_count (sym has.sides i)) (sym has.packed i)) ∙ digits_of-key b has.board in
+    λ i. record { grid = sym has.sides i; tiles = tiles i }
+
+-- where one number is written in place of another its digit takes the place of the other's
+set_packed : (xs : List ℕ) (i k v : ℕ) → i + suc k ≡ length xs → packed_number (set xs i v) + get_or xs i 0 * 32 ^ k ≡ packed_number xs + v * 32 ^ k
+set_packed [] i k v e = absurd (omega arith)
+set_packed (x ∷ xs) zero k v e =
+    let at : k ≡ length xs = omega arith in
+    let a : x * 32 ^ k ≡ x * 32 ^ length xs = ap (λ (n : ℕ). x * 32 ^ n) at in
+    let b : v * 32 ^ k ≡ v * 32 ^ length xs = ap (λ (n : ℕ). v * 32 ^ n) at in
+    omega arith
+set_packed (x ∷ xs) (suc i) k v e =
+    let rest = set_packed xs i k v (omega arith) in
+    let first : x * 32 ^ length (set xs i v) ≡ x * 32 ^ length xs = ap (λ (n : ℕ). x * 32 ^ n) (length-set xs i v) in
+    omega arith
+
+-- the digit of the tile that is moved goes to where the blank was
+pub moved_key : (b : Position) (to : ℕ) → IsBoard b → to < cell_count b.grid → to ≢ blank_of b
+    → (get_or b.tiles to 0 * 32 ^ (cell_count b.grid - 1 - to) ≤ key_of b)
+    × (key_of b - get_or b.tiles to 0 * 32 ^ (cell_count b.grid - 1 - to) + get_or b.tiles to 0 * 32 ^ (cell_count b.grid - 1 - blank_of b) ≡ key_of (blank_exchange b to))
+moved_key b to board to_below other =
+    let stands = blank_stands b board in
+    let e = board.one_each in
+    let n : ℕ = cell_count b.grid in
+    let t : ℕ = get_or b.tiles to 0 in
+    let one = set_packed b.tiles (blank_of b) (n - 1 - blank_of b) t (omega (arith, stands.0)) in
+    let none : get_or b.tiles (blank_of b) 0 * 32 ^ (n - 1 - blank_of b) ≡ 0 * 32 ^ (n - 1 - blank_of b) = ap (λ (x : ℕ). x * 32 ^ (n - 1 - blank_of b)) stands.1 in
+    let long : length (set b.tiles (blank_of b) t) ≡ length b.tiles = length-set b.tiles (blank_of b) t in
+    let two = set_packed (set b.tiles (blank_of b) t) to (n - 1 - to) 0 (omega arith) in
+    let held : get_or (set b.tiles (blank_of b) t) to 0 * 32 ^ (n - 1 - to) ≡ t * 32 ^ (n - 1 - to) = ap (λ (x : ℕ). x * 32 ^ (n - 1 - to)) (get_or-set_other b.tiles (blank_of b) to t 0 other) in
+    let low = set_packed b.tiles to (n - 1 - to) 0 (omega arith) in
+    let both : set (set b.tiles (blank_of b) t) to 0 ≡ swap b.tiles (blank_of b) to =
+    ap (set (set b.tiles (blank_of b) t) to) (sym stands.1) ∙ swap_is b.tiles (blank_of b) to 0 (omega (arith, stands.0)) (omega arith) in
+    let key : packed_number (set (set b.tiles (blank_of b) t) to 0) ≡ packed_number (swap b.tiles (blank_of b) to) = ap packed_number both in
+    (omega arith, omega arith)
+
+-- ---- what a move changes: the cell of each number after an exchange
 
 across_first : (i j : ℕ) → across i j i ≡ j
 across_first i j = grind (arith, nat_tests)
@@ -34,8 +119,8 @@ across_second i j ne = grind (arith, nat_tests)
 across_other : (i j k : ℕ) → k ≢ i → k ≢ j → across i j k ≡ k
 across_other i j k ne ne' = grind (arith, nat_tests)
 
-cells_after : (b : Position) (cells : List ℕ) (to : ℕ) → IsBoard b → AreCellsOf b cells → cell_count b.grid ≤ 25 → to < cell_count b.grid → to ≢ blank_of b → AreCellsOf (blank_exchange b to) (set (set cells 0 to) (get_or b.tiles to 0) (blank_of b))
-cells_after b cells to board of few to_below other = record {
+cells_exchanged : (b : Position) (cells : List ℕ) (to : ℕ) → IsBoard b → AreCellsOf b cells → cell_count b.grid ≤ 25 → to < cell_count b.grid → to ≢ blank_of b → AreCellsOf (blank_exchange b to) (set (set cells 0 to) (get_or b.tiles to 0) (blank_of b))
+cells_exchanged b cells to board of few to_below other = record {
   all = length-set (set cells 0 to) t (blank_of b) ∙ length-set cells 0 to ∙ of.all;
   are = at;
 }
@@ -164,7 +249,7 @@ module _ (inside : Inside) (grid : Grid) (m : Move) (to : ℕ) (unpacked : IsUnp
         key_is = (λ i. sym unpacked.key i - get_or b.tiles to 0 * 32 ^ (cell_count b.grid - 1 - to) + get_or b.tiles to 0 * 32 ^ (cell_count b.grid - 1 - blank i)) ∙ key.1;
         key_fits = fits;
         board = after;
-        cells = λ cs of. subst (λ (x : ℕ). AreCellsOf (blank_exchange b to) (set (set cs 0 to) (get_or b.tiles to 0) x)) (sym (of.are 0 (cells_above b.grid unpacked.board.sides))) (cells_after b cs to unpacked.board of few below other);
+        cells = λ cs of. subst (λ (x : ℕ). AreCellsOf (blank_exchange b to) (set (set cs 0 to) (get_or b.tiles to 0) x)) (sym (of.are 0 (cells_above b.grid unpacked.board.sides))) (cells_exchanged b cs to unpacked.board of few below other);
         others = others_stay b to unpacked.board below other;
       }
 
@@ -176,3 +261,109 @@ module _ (inside : Inside) (grid : Grid) (m : Move) (to : ℕ) (unpacked : IsUnp
       let behind : ℕ = cell_count b.grid - 1 - to in
       let digit : packed_number b.tiles / 32 ^ behind % 32 ≡ get_or b.tiles to 0 = digit_there b.tiles to behind (omega arith) (recursion_from_All (λ x. x < 32) b.tiles (tiles_small b unpacked.board)) in
       subst (λ (t : ℕ). IsLedTo inside to t) (sym (read ∙ ap (λ (k : ℕ). k / 32 ^ behind % 32) (sym unpacked.key) ∙ digit)) led_there
+
+-- ---- the cell of each number, read from a key from the last cell on
+
+-- before the first cell is read the whole key is left
+pub whole_key : (grid : Grid) (key n : ℕ) (b : Position) → HasKey grid key b → n ≡ cell_count grid → key ≡ packed_number (take n b.tiles)
+whole_key grid key n b has counted =
+    let sides : cell_count b.grid ≡ cell_count grid = ap cell_count has.sides in
+    let long = has.board.one_each in
+    sym has.packed ∙ ap packed_number (sym (take_all n b.tiles (omega arith)))
+
+-- and no number stands behind
+pub none_behind : (grid : Grid) (key n : ℕ) (b : Position) → HasKey grid key b → n ≡ cell_count grid → (number : ℕ) → number < cell_count b.grid → n ≤ cell_of b number → ⊥
+none_behind grid key n b has counted number low behind =
+    let sides : cell_count b.grid ≡ cell_count grid = ap cell_count has.sides in
+    let long = has.board.one_each in
+    let found = has_cell b has.board number low in
+    omega (arith, found.0)
+
+module _ (grid : Grid) (key cell rest : ℕ) (b : Position) (has : HasKey grid key b) (some : 0 < cell) (within : cell ≤ cell_count grid) (is : rest ≡ packed_number (take cell b.tiles)) where
+  size : cell ≤ length b.tiles
+  size = let long = has.board.one_each in let sides : cell_count b.grid ≡ cell_count grid = ap cell_count has.sides in omega arith
+
+  before : cell - 1 < length b.tiles
+  before = let long = size in omega arith
+
+  more : packed_number (take cell b.tiles) ≡ packed_number (take (cell - 1) b.tiles) * 32 + get_or b.tiles (cell - 1) 0
+  more =
+      let e : cell - 1 + 1 ≡ cell = omega arith in
+      subst (λ (n : ℕ). packed_number (take n b.tiles) ≡ packed_number (take (cell - 1) b.tiles) * 32 + get_or b.tiles (cell - 1) 0) e (packed_number-more b.tiles (cell - 1) before)
+
+  -- the last digit is the number on the cell before, and the others are left
+  pub last_digit : rest % 32 ≡ get_or b.tiles (cell - 1) 0
+  last_digit = ap (λ (n : ℕ). n % 32) (is ∙ more) ∙ mod-mul-add (packed_number (take (cell - 1) b.tiles)) 32 (get_or b.tiles (cell - 1) 0) (tiles_small b has.board (cell - 1) 0 before)
+
+  pub digits_left : rest / 32 ≡ packed_number (take (cell - 1) b.tiles)
+  digits_left = ap (λ (n : ℕ). n / 32) (is ∙ more) ∙ div-mul-add (packed_number (take (cell - 1) b.tiles)) 32 (get_or b.tiles (cell - 1) 0) (tiles_small b has.board (cell - 1) 0 before)
+
+  pub digit_low : rest % 32 < 25
+  digit_low =
+      let digit = last_digit in
+      let low : get_or b.tiles (cell - 1) 0 < cell_count b.grid = has.board.in_range (cell - 1) 0 before in
+      let few = few_cells b.grid has.board.sides in
+      omega arith
+
+  -- the cell of one more number is known
+  pub known_more : (cells : List ℕ) → length cells ≡ 25 → ((number : ℕ) → number < cell_count b.grid → cell ≤ cell_of b number → get_or cells number 0 ≡ cell_of b number) → (number : ℕ) → number < cell_count b.grid → cell - 1 ≤ cell_of b number → get_or (set cells (rest % 32) (cell - 1)) number 0 ≡ cell_of b number
+  known_more cells long known number low behind =
+      let stands : cell_of b (get_or b.tiles (cell - 1) 0) ≡ cell - 1 = cell_is b has.board.different (cell - 1) (get_or b.tiles (cell - 1) 0) before refl in
+      let fits = digit_low in
+      ⊎_elim
+      (λ (same : number ≡ rest % 32).
+      ap (λ (n : ℕ). get_or (set cells (rest % 32) (cell - 1)) n 0) same
+      ∙ get_or-set_same cells (rest % 32) (cell - 1) 0 (omega arith)
+      ∙ sym (ap (cell_of b) (same ∙ last_digit) ∙ stands))
+      (λ (other : number ≢ rest % 32).
+      let found = has_cell b has.board number low in
+      let apart : cell_of b number ≢ cell - 1 = λ at. other (sym found.1 ∙ ap (λ (k : ℕ). get_or b.tiles k 0) at ∙ sym last_digit) in
+      get_or-set_other cells (rest % 32) number (cell - 1) 0 other ∙ known number low (past cell (cell_of b number) behind apart))
+      (cases_eq number (rest % 32))
+    where
+      past : (x y : ℕ) → x - 1 ≤ y → y ≢ x - 1 → x ≤ y
+      past x y le ne = ⊎_elim (λ (h : y < x). absurd (ne (omega arith))) (λ (h : x ≤ y). h) (cases_lt y x)
+
+-- ---- what a move makes of a sparse place
+
+module _ (g : Selection) (selection : IsSelection g) (cells : List ℕ) (r : Successor) (all : length cells ≡ 25) (small : IsSmall r) (view : IsView g.grid g.tiles (view_at g.tiles cells)) where
+  others : (number : ℕ) → 0 < number → number ≢ r.tile → slice_index (cells_after cells r) number ≡ slice_index cells number
+  others number some other =
+      get_or-set_other (set cells 0 r.cell) r.tile number (slice_index cells 0) 0 other
+      ∙ get_or-set_other cells 0 number r.cell 0 (λ e. absurd (omega (arith, e, some)))
+
+  here : slice_index (cells_after cells r) r.tile ≡ slice_index cells 0
+  here = get_or-set_same (set cells 0 r.cell) r.tile (slice_index cells 0) 0 (let long = length-set cells 0 r.cell in omega (arith, long, all, small.1))
+
+  -- what it was and what it is
+  pub next_place : sparse_in g.grid (view_at g.tiles (cells_after cells r)) + slice_index cells r.tile * stride_of (cell_count g.grid) g.tiles r.tile ≡ sparse_in g.grid (view_at g.tiles cells) + slice_index cells 0 * stride_of (cell_count g.grid) g.tiles r.tile
+  next_place =
+      moved (cell_count g.grid) r.tile cells (cells_after cells r) others g.tiles (recursion_from_All (λ t. 0 < t) g.tiles (λ k d k_in. (selection.group.tiles k d k_in).0)) (differ_from_pairs g.tiles selection.group.different)
+      ∙ ap (λ c. sparse_in g.grid (view_at g.tiles cells) + c * stride_of (cell_count g.grid) g.tiles r.tile) here
+
+  pub place_low : sparse_in g.grid (view_at g.tiles cells) ≤ 3814697265625
+  place_low =
+      let few = cells_high g.grid selection.sides in
+      let short = (groups_small g selection).0 in
+      let long = view.one_each in
+      sparse_small (cell_count g.grid) (map (slice_index cells) g.tiles) few (omega (arith, long, short)) (below_in (cell_count g.grid) (map (slice_index cells) g.tiles) (place_listing g.grid g.tiles (view_at g.tiles cells) view))
+
+  pub times_low : (cell : ℕ) → cell < 256 → cell * stride_of (cell_count g.grid) g.tiles r.tile ≤ 972747802734375
+  times_low cell low =
+      let few = cells_high g.grid selection.sides in
+      let short = (groups_small g selection).0 in
+      let room = (groups_small g selection).1 in
+      let top = stride_low (cell_count g.grid) g.tiles r.tile (omega (arith, room)) in
+      let power = pow_low (cell_count g.grid) (length g.tiles) few short in
+      let product : cell * stride_of (cell_count g.grid) g.tiles r.tile ≤ 255 * 3814697265625 = mul-le cell (stride_of (cell_count g.grid) g.tiles r.tile) 255 3814697265625 (omega (arith, low)) (omega (arith, top, power)) in
+      omega (arith, product)
+
+-- one table that has the tile, with a large value, is enough
+pub large : (folds : List Fold) (before after : List ℕ) (tile table : ℕ) (fold : Fold) → table < length folds → fold ≡ get_or folds table fold → ((d : Fold) → Contains (get_or folds table d).selection.tiles tile) → IsLarge before after fold → SomeIsLarge folds before after tile
+large folds before after tile table fold within at has some = (table, within, λ d. (has d, subst (λ (f : Fold). IsLarge before after f) (at ∙ get_or_default folds table fold d within) some))
+
+-- ---- ranks in tables, one after the other
+
+-- the first tables have a value at their rank
+abbrev pub AreFirstRanks : List Lookup → List ℕ → ℕ → Type 0
+AreFirstRanks lookups ranks count = (i : ℕ) (d : Lookup) → i < count → slice_index ranks i < length (get_or lookups i d).values

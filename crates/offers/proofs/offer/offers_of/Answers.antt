@@ -14,9 +14,7 @@ use Rattle.owners.specs.Slides.{IsSlide}
 use Rattle.successor_sums.specs.declared.unpacked.Successor.{Successor}
 use Rattle.successor_sums.specs.ByMoves.{IsBehind, entries_of}
 use Rattle.successor_sums.specs.Unpacked.{told_of}
-use Rattle.successor_sums.proofs.ByMoveLemmas.{put_entry}
-use Rattle.successor_sums.proofs.EntryLemmas.{at_end, at_entries, before_end, behind_those, of_entries}
-use Rattle.successor_sums.proofs.SumLemmas.{kept_by}
+use Rattle.successor_sums.proofs.SumLemmas.{put_entry, at_end, at_entries, before_end, behind_those, of_entries, kept_by}
 use Rattle.offers.specs.declared.offer.Offer.{Offer}
 use Rattle.offers.specs.Offers.{item_by, IsOffered, IsWithin}
 use Rattle.offers.proofs.OfferLemmas.{all_offered, slides_at}

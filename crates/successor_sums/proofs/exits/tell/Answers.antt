@@ -5,8 +5,7 @@ use Rattle.board.specs.declared.moves.Move.{Move}
 use Rattle.board.specs.declared.moves.Move.TheVariants.{U}
 use Rattle.successor_sums.specs.declared.unpacked.Successor.{Successor}
 use Rattle.successor_sums.specs.ByMoves.{IsBehind, entries_of}
-use Rattle.successor_sums.proofs.ByMoveLemmas.{put_entry}
-use Rattle.successor_sums.proofs.EntryLemmas.{at_end, before_end, behind_those, made_by, of_entries}
+use Rattle.successor_sums.proofs.SumLemmas.{put_entry, at_end, before_end, behind_those, made_by, of_entries}
 use Rattle.successor_sums.proofs.exits.tell.Goals as goal
 
 abbrev any : Successor

@@ -1,7 +1,7 @@
 use Rattle.std.proofs.Common.{◌≡◌, length, map, take}
 use Rattle.pattern_index.specs.Views.{view_at}
 use Rattle.pattern_index.specs.Selections.{rank_in}
-use Rattle.successor_sums.proofs.RankLemmas.{AreFirstRanks}
+use Rattle.successor_sums.proofs.MoveLemmas.{AreFirstRanks}
 use Rattle.successor_sums.proofs.ranks.write_ranks.Given as goal
 
 abbrev pub invariant-tables : goal.invariant-tables

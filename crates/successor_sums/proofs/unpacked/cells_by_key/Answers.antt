@@ -1,6 +1,6 @@
 use Rattle.std.proofs.Common.{◌%◌, ◌-◌, refl, ◌∙◌, arith}
 use Rattle.std.proofs.lemmas.List.{length-set}
-use Rattle.successor_sums.proofs.CellLemmas.{whole_key, none_behind, digits_left, digit_low, known_more}
+use Rattle.successor_sums.proofs.MoveLemmas.{whole_key, none_behind, digits_left, digit_low, known_more}
 use Rattle.successor_sums.proofs.unpacked.cells_by_key.Goals as goal
 
 pub cells-init : goal.cells-init

@@ -1,4 +1,4 @@
-use Rattle.successor_sums.proofs.KeyLemmas.{digit_fits}
+use Rattle.successor_sums.proofs.MoveLemmas.{digit_fits}
 use Rattle.successor_sums.proofs.unpacked.digit_at.Goals as goal
 
 pub returns : goal.returns

@@ -1,5 +1,5 @@
 use Rattle.std.proofs.Common.{ℕ, ◌/◌, ◌%◌, ap}
-use Rattle.successor_sums.proofs.KeyLemmas.{five_bits}
+use Rattle.successor_sums.proofs.MoveLemmas.{five_bits}
 use Rattle.successor_sums.proofs.unpacked.digit_of.Goals as goal
 
 pub returns : goal.returns

@@ -9,7 +9,7 @@ use Rattle.lower_bound.specs.Folded.{value_by}
 use Rattle.lower_bound.proofs.PartLemmas.{moved_sum}
 use Rattle.successor_sums.specs.Unpacked.{cells_after}
 use Rattle.successor_sums.proofs.SumLemmas.{same_sums}
-use Rattle.successor_sums.proofs.SparseLemmas.{large}
+use Rattle.successor_sums.proofs.MoveLemmas.{large}
 use Rattle.successor_sums.proofs.unpacked.small_sum.Goals as goal
 
 pub returns-then-table-folds-clause-value : goal.returns-then-table-folds-clause-value

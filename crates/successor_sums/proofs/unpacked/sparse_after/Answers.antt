@@ -1,6 +1,6 @@
 use Rattle.std.proofs.Common.{◌*◌, ap, arith}
 use Rattle.std.specs.Prelude.{slice_index}
-use Rattle.successor_sums.proofs.SparseLemmas.{next_place, place_low, times_low}
+use Rattle.successor_sums.proofs.MoveLemmas.{next_place, place_low, times_low}
 use Rattle.successor_sums.proofs.unpacked.sparse_after.Goals as goal
 
 pub overflow_mul-result : goal.overflow_mul-result

@@ -1,7 +1,6 @@
 use Rattle.std.proofs.Common.{rules, sym}
 use Rattle.board.specs.Keys.{HasKey}
-use Rattle.successor_sums.proofs.KeyLemmas.{key_read}
-use Rattle.successor_sums.proofs.MoveLemmas.{unpacked_as}
+use Rattle.successor_sums.proofs.MoveLemmas.{key_read, unpacked_as}
 use Rattle.successor_sums.proofs.unpacked.UnpackedBoard.new.Goals as goal
 
 pub invariant_of-result : goal.invariant_of-result

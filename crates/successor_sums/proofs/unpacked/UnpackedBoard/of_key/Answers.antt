@@ -1,8 +1,7 @@
 use Rattle.std.proofs.Common.{sym, subst}
 use Rattle.board.specs.Keys.{HasKey}
 use Rattle.board.specs.Positions.{Position}
-use Rattle.successor_sums.proofs.KeyLemmas.{key_read}
-use Rattle.successor_sums.proofs.MoveLemmas.{unpacked_as}
+use Rattle.successor_sums.proofs.MoveLemmas.{key_read, unpacked_as}
 use Rattle.successor_sums.proofs.unpacked.UnpackedBoard.of_key.Goals as goal
 
 pub invariant_of-result : goal.invariant_of-result
