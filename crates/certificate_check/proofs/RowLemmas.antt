@@ -1,20 +1,32 @@
--- The rows of a certificate rise by their keys, so a board has one row at most.
-use Rattle.std.proofs.Common.{◌≡◌, ◌⊎◌, ⊎_elim, ℕ, zero, suc, ◌<◌, ◌≤◌, true, false, leb, eqb, eqb-true, unwrap_or, List, [], ◌∷◌, length, get_or, Option, None, Some, refl, sym, ap, ◌∙◌, subst, arith}
-use Rattle.std.specs.Prelude.{slice_get, ◌↔◌, IsTrue}
+-- Rows of a certificate: they rise by their keys, and prove what they prove with greater sums too.
+use Rattle.std.proofs.Common.{◌≡◌, ◌⊎◌, ⊎_elim, ℕ, zero, suc, ◌<◌, ◌≤◌, true, false, leb, eqb, eqb-true, unwrap_or, List, [], ◌∷◌, length, get_or, Option, None, Some, refl, sym, ap, ◌∙◌, subst, arith, ◌+◌, inl, inr}
+use Rattle.std.specs.Prelude.{slice_get, ◌↔◌, IsTrue, All}
 use Rattle.std.specs.List.{AllByRecursion}
 use Rattle.std.specs.List.Sorted.{IsNonDecreasingBy, IsPartitionPoint}
 use Rattle.std.proofs.lemmas.Bool.{cases_order, true≢false, leb-true}
 use Rattle.std.proofs.lemmas.Bool.Decides.{leb_tells}
 use Rattle.std.proofs.lemmas.Option.{slice_get_within, get_or_from_slice_get, slice_get-get_or}
-use Rattle.std.proofs.lemmas.List.Elements.{recursion_from_All}
+use Rattle.std.proofs.lemmas.List.Elements.{recursion_from_All, All-contains}
+use Rattle.std.proofs.lemmas.List.{get_or_default}
 use Rattle.board.specs.Grids.{Grid, cell_count}
-use Rattle.board.specs.Positions.{Position}
-use Rattle.board.specs.Rows.{HasRow}
+use Rattle.board.specs.Positions.{Position, IsBoard}
+use Rattle.board.specs.Rows.{HasRow, Proves}
 use Rattle.board.specs.Keys.{key_of, Precedes}
 use Rattle.board.proofs.KeyLemmas.{packed_in_order, tiles_small, same_board}
+use Rattle.board.specs.CostRules.{CostRule}
+use Rattle.board.proofs.MoveLemmas.{moved_board}
+use Rattle.pattern_index.specs.Views.{IsView, view_of}
+use Rattle.pattern_index.specs.Selections.{Selection, IsGroup, IsSelection}
+use Rattle.pattern_index.proofs.ViewMoveLemmas.{board_view}
+use Rattle.database_build.specs.Tables.{Lookup, value_in}
+use Rattle.database_build.specs.Folds.{Fold, IsFoldOf, folded_in}
+use Rattle.lower_bound.specs.Folded.{value_for}
 use Rattle.certificate.specs.Certificates.{Statement, IsBoardOf, IsRow, RiseAfter, IsCertificate}
 use Rattle.certificate_check.specs.Refusals.{HasRowAt}
+use Rattle.certificate_check.specs.Lookups.{AreLower, AreNotLower}
 use Rattle.certificate_check.proofs.RefusalLemmas.{contains_at, at_contains}
+
+-- ---- the rows of a certificate rise by their keys, so a board has one row at most
 
 abbrev Rows : Type 0
 Rows = List (Position × ℕ)
@@ -176,3 +188,41 @@ reached_behind c is at key cost behind parted b named has =
     let is_at : there.0 ≡ at = found_by c is b c.rows key at refl (sym named) parted there.0 (has.0, there.1) in
     let within = slice_get_within c.rows there.0 (b, has.0) there.1 in
     omega (arith, is_at, within, behind)
+
+-- ---- where rows of lower keys end, among rows that rise by their keys
+
+-- where a row has a lower key, so have those before it
+pub lower_up_to : (rows : Rows) (key place : ℕ) (e : Position × ℕ) (found : ℕ) → IsNonDecreasingBy row_key rows → place < length rows → found ≡ row_key (get_or rows place e) → found < key → AreLower rows key (place + 1)
+lower_up_to rows key place e found sorted within is low k d less =
+    let here : row_key (get_or rows place e) ≡ row_key (get_or rows place d) = ap row_key (get_or_default rows place e d within) in
+    let below = sorted k place d (omega (arith, less)) within in
+    omega (arith, here, below, low, is)
+
+-- where a row's key is not lower, nor are those behind it
+pub not_lower_from : (rows : Rows) (key place : ℕ) (e : Position × ℕ) (found : ℕ) → IsNonDecreasingBy row_key rows → found ≡ row_key (get_or rows place e) → key ≤ found → AreNotLower rows key place
+not_lower_from rows key place e found sorted is high k d from within =
+    let here : row_key (get_or rows place e) ≡ row_key (get_or rows place d) = ap row_key (get_or_default rows place e d (omega (arith, from, within))) in
+    let above = sorted place k d from within in
+    omega (arith, here, above, high, is)
+
+-- ---- what rows prove with sums they prove with greater ones, and folded tables give no greater ones
+
+pub proved_above : (rule : CostRule) (rows : List (Position × ℕ)) (low high : Position → ℕ) (b goal : Position) (k : ℕ) → IsBoard b → b.grid ≡ goal.grid → All (λ row. IsBoard row.0 × (row.0.grid ≡ goal.grid)) rows
+    → ((r : Position) → IsBoard r → r.grid ≡ goal.grid → low r ≤ high r) → Proves rule rows low b goal k → Proves rule rows high b goal k
+proved_above rule rows low high b goal k board same boards above proves = record {
+  start = ⊎_elim (λ (row : HasRow rows b 0). inl row) (λ (most : k ≤ low b). let more = above b board same in inr (omega (arith, most, more))) proves.start;
+  no_goal = proves.no_goal;
+  closed = λ r g within m r' c moves.
+      let row = All-contains (λ (row : Position × ℕ). IsBoard row.0 × (row.0.grid ≡ goal.grid)) rows (r, g) boards within in
+      let more = above r' (moved_board rule r row.0 m r' c moves) (ap (λ (x : Position). x.grid) moves.after ∙ row.1) in
+      ⊎_elim (λ (most : k ≤ low r' + (g + c)). inl (omega (arith, most, more))) (λ (next : HasRow rows r' (g + c)). inr next) (proves.closed r g within m r' c moves);
+}
+
+-- what a folded table says of a board is no more than what the table says that it was folded from
+pub folded_below : (table : Lookup) (fold : Fold) (b : Position) → IsFoldOf table fold → IsBoard b → IsSelection table.selection → table.selection.grid ≡ b.grid → value_for b fold ≤ value_in table (view_of table.selection.tiles b)
+folded_below table fold b is board group sides =
+    let tiles = table.selection.tiles in
+    let view : IsView table.selection.grid tiles (view_of tiles b) = subst (λ (g : Grid). IsView g tiles (view_of tiles b)) (sym sides) (board_view tiles b board (subst (λ (g : Grid). IsGroup g tiles) sides group.group)) in
+    let low = (is.least (view_of tiles b) view).none_below (view_of tiles b) view refl in
+    let at : value_for b fold ≡ folded_in fold (view_of tiles b) = ap (λ (s : Selection). folded_in fold (view_of s.tiles b)) is.selection in
+    omega (arith, low, at)

@@ -10,7 +10,7 @@ use Rattle.lower_bound.specs.Bounds.{sum_of}
 use Rattle.lower_bound.specs.Tables.{Tables, IsTables, parts_of}
 use Rattle.certificate_check.specs.Refusals.{ItsPlanLeads, IsProved}
 use Rattle.certificate_runs.specs.Built.{AreBuiltFor, HaveSmallEntries}
-use Rattle.certificate_check.proofs.SumLemmas.{proved_above}
+use Rattle.certificate_check.proofs.RowLemmas.{proved_above}
 use Rattle.certificate_runs.proofs.TableLemmas.{AreTrue, sums_below, sums_low, true_potentials}
 use Rattle.reports.specs.declared.report.NoReport.{NoReport}
 use Rattle.outcomes.specs.Outcomes.{Task}

@@ -23,7 +23,7 @@ use Rattle.lower_bound.specs.Bounds.{Part, sum_of}
 use Rattle.lower_bound.specs.Folded.{AreFoldsOf, IsFoldedPotential, folded_parts, part_folded, value_for}
 use Rattle.lower_bound.specs.Tables.{Tables, IsTables, AreTablesOf, ArePotentials, AreWhole, part_of, parts_of}
 use Rattle.lower_bound.proofs.WholeLemmas.{each_lookup, table_grids, whole_each, whole_parts, all_folded_parts}
-use Rattle.certificate_check.proofs.SumLemmas.{folded_below}
+use Rattle.certificate_check.proofs.RowLemmas.{folded_below}
 use Rattle.certificate_runs.specs.Built.{HasSmallEntries, HasSmallFolds, HaveSmallEntries}
 
 -- a table of no group

@@ -15,7 +15,7 @@ use Rattle.certificate.specs.declared.certificate.Version.TheVariants.{Two}
 use Rattle.certificate.specs.Certificates.{AreCostsOf, IsCertificate}
 use Rattle.certificate.proofs.RisingLemmas.{rise, rows_fit}
 use Rattle.certificate_check.specs.Refusals.{sum_in, IsProved}
-use Rattle.certificate_check.proofs.SumLemmas.{proved_above}
+use Rattle.certificate_check.proofs.RowLemmas.{proved_above}
 use Rattle.hda_run.specs.Problems.{Problem, task_in}
 use Rattle.checked_runs.specs.Certificates.{certificate_in, AreAsGood}
 use Rattle.checked_runs.specs.Laws.{BoundsAreAccepted, PlansAreAccepted}

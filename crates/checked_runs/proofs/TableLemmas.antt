@@ -13,7 +13,7 @@ use Rattle.lower_bound.specs.Bounds.{Part, sum_of}
 use Rattle.lower_bound.specs.Folded.{AreFolded, folded_parts, part_folded}
 use Rattle.lower_bound.specs.Tables.{part_of}
 use Rattle.lower_bound.proofs.WholeLemmas.{each_lookup, table_grids, whole_parts, all_folded_parts}
-use Rattle.certificate_check.proofs.SumLemmas.{folded_below}
+use Rattle.certificate_check.proofs.RowLemmas.{folded_below}
 use Rattle.checked_runs.specs.Laws.{TablesFoldedFromAreAsGood}
 
 module _ (b : Position) (board : IsBoard b) where

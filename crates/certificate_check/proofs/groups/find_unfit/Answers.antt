@@ -1,7 +1,7 @@
 use Rattle.std.proofs.Common.{◌≡◌, length, sym, ap, ◌∙◌, arith}
 use Rattle.std.proofs.lemmas.Bool.{true≢false}
 use Rattle.pattern_index.specs.Splits.{Split}
-use Rattle.certificate_check.proofs.GroupLemmas.{length_as, first_at, unfit_there, group_missing, one_more, all_fit}
+use Rattle.certificate_check.proofs.RefusalLemmas.{length_as, first_at, unfit_there, group_missing, one_more, all_fit}
 use Rattle.certificate_check.proofs.groups.find_unfit.Goals as goal
 
 pub returns-then-not-is_fit-clause-first : goal.returns-then-not-is_fit-clause-first

@@ -1,4 +1,4 @@
-use Rattle.certificate_check.proofs.LawLemmas.{folded_refused, other_shape_refused}
+use Rattle.certificate_check.proofs.RefusalLemmas.{folded_refused, other_shape_refused}
 use Rattle.certificate_check.proofs.laws.folded_tables_are_refused.Goals as goal
 
 pub returns-clause-folded : goal.returns-clause-folded

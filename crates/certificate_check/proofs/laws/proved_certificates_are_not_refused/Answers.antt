@@ -1,5 +1,4 @@
-use Rattle.certificate_check.proofs.RefusalLemmas.{proved_has_none}
-use Rattle.certificate_check.proofs.LawLemmas.{proved_whole, no_cause_proved}
+use Rattle.certificate_check.proofs.RefusalLemmas.{proved_has_none, proved_whole, no_cause_proved}
 use Rattle.certificate_check.proofs.laws.proved_certificates_are_not_refused.Goals as goal
 
 pub returns-clause-whole : goal.returns-clause-whole

@@ -1,5 +1,5 @@
 use Rattle.std.proofs.Common.{◌-◌, arith}
-use Rattle.certificate_check.proofs.LookupLemmas.{lower_up_to, not_lower_from}
+use Rattle.certificate_check.proofs.RowLemmas.{lower_up_to, not_lower_from}
 use Rattle.certificate_check.proofs.lookups.first_before.Goals as goal
 
 pub first_between-requires-clause-lower : goal.first_between-requires-clause-lower

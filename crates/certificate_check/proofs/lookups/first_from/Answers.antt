@@ -1,4 +1,4 @@
-use Rattle.certificate_check.proofs.LookupLemmas.{lower_up_to, not_lower_from}
+use Rattle.certificate_check.proofs.RowLemmas.{lower_up_to, not_lower_from}
 use Rattle.certificate_check.proofs.lookups.first_from.Goals as goal
 
 pub first_behind-requires-clause-lower : goal.first_behind-requires-clause-lower
