@@ -1,32 +1,82 @@
--- The laws of runs by one worker, and of what a reader may believe.
-use Rattle.std.proofs.Common.{ℕ, ◌≡◌, ◌⊎◌, List, [], ◌∷◌, ◌++◌, length, map, get_or, Option, Some, None, refl, sym, ap, subst, inl, inr, arith}
-use Rattle.std.specs.Prelude.{Contains, Vec}
+-- The laws of runs by one worker, and what a reader may believe of an outcome.
+use Rattle.std.proofs.Common.{◌≡◌, ◌≢◌, ℕ, List, ◌++◌, subst, Option, Some, None, ◌⊎◌, [], ◌∷◌, length, map, get_or, refl, sym, ap, inl, inr, arith}
+use Rattle.std.specs.Prelude.{Vec, Contains}
 use Rattle.std.specs.declared.alloc.Global.{Global}
 use Rattle.std.proofs.lemmas.List.Elements.{All-contains, Contains-append_cases, Contains-append_right}
 use Rattle.board.specs.declared.moves.Move.{Move}
 use Rattle.board.specs.Positions.{Position}
+use Rattle.board.specs.Rows.{IsLowerBound}
 use Rattle.outcomes.specs.declared.outcome.Cause.{Cause}
-use Rattle.outcomes.specs.declared.outcome.Cause.TheVariants.{Limit as ForLimit}
+use Rattle.outcomes.specs.declared.outcome.Cause.TheVariants.{Cut, Start, Limit as ForLimit}
 use Rattle.outcomes.specs.declared.outcome.Outcome.{Outcome}
-use Rattle.outcomes.specs.declared.outcome.Outcome.TheVariants.{Bounded}
+use Rattle.outcomes.specs.declared.outcome.Outcome.TheVariants as outcomes
+use Rattle.outcomes.specs.declared.outcome.Ending.{Ending}
+use Rattle.outcomes.specs.declared.outcome.Ending.TheVariants as endings
+use Rattle.outcomes.specs.declared.outcome.Outcome.TheVariants.{Optimal, Unsolvable, Bounded}
+use Rattle.outcomes.specs.Outcomes.{Answers, IsBestPlan, best_of}
+use Rattle.world_model.specs.declared.steps.Stop.{Stop}
+use Rattle.world_model.specs.declared.steps.Stop.TheVariants as stop_kinds
+use Rattle.world_model.specs.Openings.{Job, IsJob, opening}
+use Rattle.world_model.specs.Outcomes.{IsGiven, IsBounded}
+use Rattle.world_model.specs.Shapes.{IsShaped}
+use Rattle.world_model.specs.Soundness.{IsSound}
+use Rattle.world_model.specs.Worlds.{WorldState}
+use Rattle.world_model.proofs.BegunLemmas.{runs_kept}
+use Rattle.world_model.proofs.KeptLemmas.{bounds_given, kept_never_cut, causes_stop}
 use Rattle.world_model.specs.declared.steps.HaltCause.{HaltCause}
 use Rattle.world_model.specs.declared.steps.Refusal.{Refusal}
 use Rattle.world_model.specs.declared.steps.Step.{Step}
 use Rattle.world_model.specs.declared.steps.Step.TheVariants.{Rest, Halt}
-use Rattle.world_model.specs.Openings.{Job, opening}
-use Rattle.world_model.specs.Outcomes.{IsGiven}
 use Rattle.world_model.specs.Steps.{IsRun, Next}
 use Rattle.world_model.specs.Turns.{turn}
-use Rattle.world_model.specs.Worlds.{WorldState}
-use Rattle.world_model.proofs.KeptLemmas.{causes_stop}
 use Rattle.world_model.proofs.ListLemmas.{cons_cases, none_in_empty}
-use Rattle.hda_run.specs.Alone.{AreLast, HaltsNowhere, IsHalt}
+use Rattle.world_ends.specs.Endings.{EndsIn}
+use Rattle.world_ends.proofs.LawLemmas.{ends_bounded}
+use Rattle.hda_run.specs.Alone.{AreLast, IsRunAlone, HaltsNowhere, IsHalt}
+use Rattle.hda_run.specs.Headline.{TellsTruth, IsTrueOfBest}
+use Rattle.hda_run.specs.Problems.{Problem, task_in}
 use Rattle.hda_run.specs.Laws.{BoundsSpendTheLimit, BoundTruthsAreBelow, HaltsAreDue, OptimalTruthsAgree, OutcomesAreOfTheirSteps, QuietRunsHaveNoHalt, RunsAloneStop, TrueBoundsHaveProofs, TrueRowsProve, TrueRowsProveBounds, UnsolvableTruthsHaveNoPlan}
-use Rattle.hda_run.specs.Headline.{TellsTruth}
-use Rattle.hda_run.proofs.AloneOutcomes.{has_stopped}
-use Rattle.hda_run.proofs.RunLemmas.{Made}
+use Rattle.hda_run.proofs.AloneLemmas.{Made}
 
--- ---- one worker alone
+-- ---- what one worker that is alone answers
+
+-- the run has stopped, and not because a thread could not be started
+pub has_stopped : (last : List Made) (stop : Option Stop) → AreLast last stop → (stop ≢ None) × (stop ≢ Some stop_kinds.Start)
+has_stopped last None ends = absurd ends
+has_stopped last (Some stop_kinds.Quiet) ends = ((λ e. absurd (cc)), (λ e. absurd (cc)))
+has_stopped last (Some stop_kinds.Limit) ends = ((λ e. absurd (cc)), (λ e. absurd (cc)))
+has_stopped last (Some (stop_kinds.Memory want)) ends = ((λ e. absurd (cc)), (λ e. absurd (cc)))
+has_stopped last (Some stop_kinds.Start) ends = absurd ends
+
+module _ (job : Job) (w : WorldState) (is : IsJob job) (run : IsRunAlone job w) (shaped : IsShaped w) (sound : IsSound w) (lower : IsLowerBound w.task.rule w.task.sum w.task.goal) where
+  never_cut : (bound : ℕ) (best : Option (ℕ × Vec Move Global)) (cause : Cause) → IsBounded w bound best cause → (cause ≢ Cut) × (cause ≢ Start)
+  never_cut bound best cause given =
+      let stopped = has_stopped run.last w.book.stop run.ends in
+      kept_never_cut w bound best cause shaped sound (runs_kept job run.via (run.first ++ run.last) w is run.run stopped.0 stopped.1) lower given
+
+  pub outcome_kept : (outcome : Outcome) → IsGiven w outcome → (bound : ℕ) (best : Option (ℕ × Vec Move Global)) (cause : Cause) (rows : Option (Vec (Position × ℕ) Global)) → outcome ≡ outcomes.Bounded bound best cause rows → (cause ≢ Cut) × (cause ≢ Start)
+  outcome_kept outcome given bound best cause rows e = never_cut bound best cause (bounds_given w bound best cause rows (subst (IsGiven w) e given))
+
+  pub ending_kept : (ending : Ending) → EndsIn w ending → (bound : ℕ) (best : Option (ℕ × Vec Move Global)) (cause : Cause) → ending ≡ endings.Bounded bound best cause → (cause ≢ Cut) × (cause ≢ Start)
+  ending_kept ending given bound best cause e = never_cut bound best cause (ends_bounded w bound best cause (subst (EndsIn w) e given))
+
+-- ---- an outcome that answers a task tells the truth
+
+best_leads : (p : Problem) (bound : ℕ) (best : Option (ℕ × List Move)) → IsBestPlan (task_in p) bound best → IsTrueOfBest p best
+best_leads p bound None is = tt
+best_leads p bound (Some best) is = is.0
+
+pub truth : (p : Problem) (outcome : Outcome) → Answers (task_in p) outcome → TellsTruth p outcome
+truth p (Optimal cost plan rows) answers = (answers.0, answers.1.none_below, answers.2)
+truth p (Unsolvable why) answers = answers.0
+truth p (Bounded bound best cause (Some rows)) answers = (answers.0.0, best_leads p bound (best_of best) answers.0.3, answers.1)
+truth p (Bounded bound best cause None) answers = (answers.0.0, answers.1, answers.2)
+
+-- what answers the job of a world that comes of this job answers this one
+pub truth_of : (p p' : Problem) (outcome : Outcome) → p' ≡ p → Answers (task_in p') outcome → TellsTruth p outcome
+truth_of p p' outcome same answers = truth p outcome (subst (λ (q : Problem). Answers (task_in q) outcome) same answers)
+
+-- ---- the laws of runs by one worker, and of what a reader may believe: one worker alone
 
 pub stops : RunsAloneStop
 stops job w run = has_stopped run.last w.book.stop run.ends

@@ -1,11 +1,5 @@
 -- Lemmas.
 mod PartsLemmas
-mod LaneLemmas
-mod OpeningLemmas
-mod RunLemmas
-mod LowestLemmas
 mod AloneLemmas
-mod AloneEnds
-mod TruthLemmas
-mod AloneOutcomes
+mod LowestLemmas
 mod LawLemmas

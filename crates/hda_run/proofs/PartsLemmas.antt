@@ -1,40 +1,52 @@
--- What the parts of a world are, and what the world is after one of them has changed.
-use Rattle.std.proofs.Common.{◌≡◌, ℕ, zero, suc, ⊎_elim, ◌+◌, ◌%◌, ◌<◌, ◌≤◌, List, [], ◌∷◌, length, map, get_or, set, refl, sym, ap, ◌∙◌, subst, inr, arith, Option, Some}
-use Rattle.std.specs.Prelude.{slice_get, All, Vec}
+-- The parts of a world: what they are in an opening, and what changes in a step.
+use Rattle.std.proofs.Common.{◌≡◌, ℕ, zero, suc, ⊎_elim, ◌+◌, ◌%◌, ◌<◌, ◌≤◌, List, [], ◌∷◌, length, map, get_or, set, refl, sym, ap, ◌∙◌, subst, inr, arith, Option, Some, ◌≢◌, ◌⊎◌, inl, ◌++◌, replicate, false}
+use Rattle.std.specs.Prelude.{slice_get, All, Vec, slice_set, unwrap_or, if◌then◌else◌}
 use Rattle.std.specs.FinMap as fin
 use Rattle.std.specs.Vec.{with_item, vec_len}
 use Rattle.std.specs.declared.alloc.Global.{Global}
-use Rattle.std.proofs.lemmas.List.{map-set, length-map, length-set}
-use Rattle.std.proofs.lemmas.List.Elements.{All-set}
+use Rattle.std.proofs.lemmas.List.{map-set, length-map, length-set, map-append, length-replicate, replicate-append-replicate}
+use Rattle.std.proofs.lemmas.List.Elements.{All-set, All-append}
+use Rattle.std.specs.Ordering.{nat_cmp}
+use Rattle.std.proofs.Math.Nat.{mod-lt}
 use Rattle.board.specs.CostRules.{CostRule}
 use Rattle.board.specs.Keys.{key_of}
 use Rattle.board.specs.Moves.{Moves}
 use Rattle.board.specs.Positions.{Position}
-use Rattle.lower_bound.specs.Tables.{Tables}
-use Rattle.message_ledger.specs.declared.plain.Plain.{Plain}
+use Rattle.board.specs.declared.moves.Move.{Move}
 use Rattle.outcomes.specs.Outcomes.{Task}
-use Rattle.search_lists.specs.Lists.{Lists}
-use Rattle.search_lists.specs.Orders.{Guide}
-use Rattle.worker_core.specs.declared.worker.Worker.{Worker}
-use Rattle.worker_core.specs.Expanding.{role_by}
-use Rattle.worker_core.specs.Roles.{IsGuided, WereReached, guide_of, task_of}
-use Rattle.worker_core.specs.Workers.{state_of, packets_of, with_book}
+use Rattle.lower_bound.specs.Tables.{Tables}
 use Rattle.world_model.specs.declared.limits.TheConstants.{PACKET_LIMIT}
 use Rattle.world_model.specs.declared.steps.Refusal.{Refusal}
 use Rattle.world_model.specs.Books.{BookState}
 use Rattle.world_model.specs.BookSteps.{AtBook}
 use Rattle.world_model.specs.Credit.{IsCredited}
-use Rattle.world_model.specs.Shapes.{IsShaped}
+use Rattle.world_model.specs.Shapes.{IsShaped, IsTask}
 use Rattle.world_model.specs.Soundness.{IsSound}
-use Rattle.world_model.specs.Steps.{ByWorker, OnBook, with_worker}
+use Rattle.world_model.specs.Steps.{ByWorker, OnBook, with_worker, OnLane, from_to, with_lane}
 use Rattle.world_model.specs.Turns.{Turn, turn}
-use Rattle.world_model.specs.Workers.{WorkerState, Packet}
-use Rattle.world_model.specs.Worlds.{IsWorker, Knows, role_of}
+use Rattle.world_model.specs.Workers.{WorkerState, Packet, Lane}
+use Rattle.world_model.specs.Worlds.{IsWorker, Knows, role_of, IsLane}
 use Rattle.world_model.proofs.ListLemmas.{part_le}
 use Rattle.world_model.proofs.StepsCredited.{funds}
+use Rattle.world_model.specs.WorkerSteps.{AtLane}
+use Rattle.world_model.specs.declared.parts.Item.{Item}
+use Rattle.world_model.specs.declared.parts.Known.{Known}
+use Rattle.world_model.specs.Knowledge.{Knowledge, is_news, relaxation}
+use Rattle.world_model.specs.Laws.{OpeningsAreSound}
+use Rattle.world_model.specs.Openings.{Job, IsJob, idle_worker, first_worker, opening}
+use Rattle.search_lists.specs.Lists.{Lists}
+use Rattle.search_lists.specs.Orders.{Guide}
+use Rattle.message_ledger.specs.declared.plain.Plain.{Plain}
+use Rattle.message_ledger.specs.Spending.{Spending, spent}
+use Rattle.worker_core.specs.declared.worker.Worker.{Worker}
+use Rattle.worker_core.specs.Expanding.{role_by}
+use Rattle.worker_core.specs.Roles.{IsGuided, WereReached, guide_of, task_of}
+use Rattle.worker_core.specs.Workers.{state_of, packets_of, with_book, at_lane}
 use Rattle.hda_run.specs.declared.parts.Parts.{Parts}
-use Rattle.hda_run.specs.Problems.{task_in}
-use Rattle.hda_run.specs.Worlds.{world_of, AreGuided}
+use Rattle.hda_run.specs.Problems.{task_in, Problem}
+use Rattle.hda_run.specs.Worlds.{world_of, AreGuided, job_of, IsLawful, IsWorkerCount}
+
+-- ---- what the parts of a world are, and what the world is after one of them has changed
 
 -- a worker that counts by whole numbers
 abbrev pub W : Type 0
@@ -171,3 +183,136 @@ module _ {S : Type 0} (hash_of : S → Position → ℕ) (parts : Parts S) (me :
   pub role_is : IsShaped (world_of hash_of parts) → (goal : Position) (rule : CostRule) (tables : Tables) → goal ≡ parts.job.goal → rule ≡ parts.job.rule → tables ≡ parts.job.tables → role_by (task_of parts.job.start goal rule tables) (hash_of parts.owners) (length worker.unsent.items) me ≡ role_of (world_of hash_of parts) me
   role_is shaped goal rule tables goal_is rule_is tables_is = λ t.
       role_by (task_of parts.job.start (goal_is t) (rule_is t) (tables_is t)) (hash_of parts.owners) (unsent_count shaped t) me
+
+-- ---- a world of which a worker and a lane have changed
+
+-- the lanes of one worker
+abbrev pub Row : Type 0
+Row = Vec Lane Global
+
+-- what was read at a place stands there
+there : {X : Type 0} (xs : List X) (i : ℕ) (x : X) → i < length xs → x ≡ get_or xs i x → slice_get xs i ≡ Some x
+there [] i x lt is = absurd (omega (arith, lt))
+there (y ∷ xs) zero x lt is = ap Some (sym is)
+there (y ∷ xs) (suc i) x lt is = there xs i x (omega (arith, lt)) is
+
+module _ {S : Type 0} (hash_of : S → Position → ℕ) (parts : Parts S) where
+  -- as many rows of lanes as workers
+  pub row_count : IsShaped (world_of hash_of parts) → length parts.lanes.items ≡ length parts.workers.items
+  row_count shaped = sym (length-map parts.lanes.items (λ (row : Row). row.items)) ∙ shaped.senders ∙ state_count hash_of parts
+
+  -- they are not two workers
+  pub no_two : (from to n : ℕ) → n ≡ vec_len parts.workers → (from ≡ to) ⊎ (n ≤ from) ⊎ (n ≤ to) → (from ≡ to) ⊎ (length (world_of hash_of parts).workers ≤ from) ⊎ (length (world_of hash_of parts).workers ≤ to)
+  no_two from to n is (inl same) = inl same
+  no_two from to n is (inr (inl past)) = inr (inl (no_worker hash_of parts from (outside parts.workers n from is past)))
+  no_two from to n is (inr (inr past)) = inr (inr (no_worker hash_of parts to (outside parts.workers n to is past)))
+
+  -- they are two
+  pub are_two : (from to : ℕ) → from ≢ to → from < length parts.workers.items → to < length parts.workers.items → ¬ ((from ≡ to) ⊎ (length (world_of hash_of parts).workers ≤ from) ⊎ (length (world_of hash_of parts).workers ≤ to))
+  are_two from to other low high (inl same) = other same
+  are_two from to other low high (inr (inl past)) = let n = state_count hash_of parts in omega (arith, past, n, low)
+  are_two from to other low high (inr (inr past)) = let n = state_count hash_of parts in omega (arith, past, n, high)
+
+module _ {S : Type 0} (hash_of : S → Position → ℕ) (parts : Parts S) (from to : ℕ) (row : Row) (row_in : from < length parts.lanes.items) (row_at : row ≡ get_or parts.lanes.items from row) where
+  of_sender : slice_get (world_of hash_of parts).lanes from ≡ Some row.items
+  of_sender = seen_at (λ (r : Row). r.items) parts.lanes.items from row row_in row_at
+
+  -- as many lanes in a row as workers
+  pub lane_count : IsShaped (world_of hash_of parts) → length row.items ≡ length parts.workers.items
+  lane_count shaped = shaped.receivers from row.items of_sender ∙ state_count hash_of parts
+
+  -- what was read is the lane
+  pub is_lane : (lane : Lane) → to < length row.items → lane ≡ get_or row.items to lane → IsLane (world_of hash_of parts) from to lane
+  is_lane lane lane_in lane_at = record { from_lanes = row.items; of_sender = of_sender; of_receiver = there row.items to lane lane_in lane_at }
+
+  module _ (lane : Lane) (lane_in : to < length row.items) (lane_at : lane ≡ get_or row.items to lane) (me : ℕ) (worker : W) (within : me < length parts.workers.items) (at : worker ≡ get_or parts.workers.items me worker) where
+    lanes_are : (lane' : Lane) → (world_of hash_of (record parts { lanes = with_item parts.lanes from (with_item row to lane') })).lanes ≡ with_lane (world_of hash_of parts).lanes from to lane'
+    lanes_are lane' =
+        let lanes = (world_of hash_of parts).lanes in
+        map-set (λ (r : Row). r.items) parts.lanes.items from (with_item row to lane')
+        ∙ ap (λ (found : Option (List Lane)). slice_set lanes from (slice_set (unwrap_or found []) to lane')) (sym of_sender)
+
+    lane_changed : (worker' : W) (lane' : Lane) → world_of hash_of (record parts { workers = with_item parts.workers me worker'; lanes = with_item parts.lanes from (with_item row to lane') }) ≡ record (with_worker (world_of hash_of parts) me (state_of worker')) { lanes = with_lane (world_of hash_of parts).lanes from to lane' }
+    lane_changed worker' lane' = λ t. record (world_of hash_of parts) {
+      owner = λ b. hash_of parts.owners b % length-set parts.workers.items me worker' t;
+      workers = map-set (λ (w : W). state_of w) parts.workers.items me worker' t;
+      lanes = lanes_are lane' t;
+    }
+
+    pub on_lane : ¬ ((from ≡ to) ⊎ (length (world_of hash_of parts).workers ≤ from) ⊎ (length (world_of hash_of parts).workers ≤ to)) → (LaneStep : Turn AtLane Refusal → Type 0) (answer : Option Refusal) (worker' : W) (lane' : Lane) → LaneStep (turn (at_lane (state_of worker) lane) answer (at_lane (state_of worker') lane')) → OnLane me (from_to from to) LaneStep (turn (world_of hash_of parts) answer (world_of hash_of (record parts { workers = with_item parts.workers me worker'; lanes = with_item parts.lanes from (with_item row to lane') })))
+    on_lane two LaneStep answer worker' lane' own =
+        inr (two, (state_of worker, lane, at_lane (state_of worker') lane', is_worker hash_of parts me worker within at, is_lane lane lane_in lane_at, own, lane_changed worker' lane'))
+
+-- ---- the workers of an opening world
+
+-- a worker to which nothing was granted yet, and what it has in its purse
+pub begins : (n purse amount : ℕ) (allowance : Spending) (state : WorkerState) → purse ≡ amount → allowance ≡ record { granted = 0; left = 0 } → state ≡ record (idle_worker n) { purse = purse; allowance = allowance.left; expansions = spent allowance } → state ≡ record (idle_worker n) { purse = amount }
+begins n purse amount allowance state has none is =
+    is ∙ (λ t. record (idle_worker n) { purse = has t; allowance = (none t).left; expansions = spent (none t) })
+
+-- one worker more
+pub one_more : (n : ℕ) (xs ys : List W) (k : ℕ) (x : W) → map (λ (w : W). state_of w) xs ≡ replicate k (idle_worker n) → ys ≡ xs ++ x ∷ [] → state_of x ≡ idle_worker n → map (λ (w : W). state_of w) ys ≡ replicate (k + 1) (idle_worker n)
+one_more n xs ys k x before is idle =
+    ap (λ (zs : List W). map (λ (w : W). state_of w) zs) is
+    ∙ map-append (λ (w : W). state_of w) xs (x ∷ [])
+    ∙ (λ t. before t ++ idle t ∷ [])
+    ∙ replicate-append-replicate k 1 (idle_worker n)
+
+-- what all have, and one more, all of these have
+pub all_more : (P : W → Type 0) (xs ys : List W) (x : W) → All P xs → P x → ys ≡ xs ++ x ∷ [] → All P ys
+all_more P xs ys x all one is = subst (All P) (sym is) (All-append P xs (x ∷ []) all (single one))
+  where
+    single : P x → All P (x ∷ [])
+    single has zero d within = has
+    single has (suc k) d within = absurd (omega (arith, within))
+
+abbrev unknown : Knowledge
+unknown = fin.empty
+
+-- the start is all that is known after it was met
+met : (task : Task) (item : Item) → item.cost ≡ 0 → item.board ≡ task.start → relaxation unknown item ≡ fin.insert unknown (key_of task.start) (record { cost = 0; expanded = false; via = item.via })
+met task item free board =
+    ap (λ (found : Option Known). if is_news found item.cost then fin.insert unknown (key_of item.board) (record { cost = item.cost; expanded = false; via = item.via }) else unknown) (fin.get-empty nat_cmp (key_of item.board))
+    ∙ (λ t. fin.insert unknown (key_of (board t)) (record { cost = free t; expanded = false; via = item.via }))
+
+-- so it is the worker that begins
+pub first_is : (n : ℕ) (task : Task) (worker state : WorkerState) (item : Item) → item.cost ≡ 0 → item.board ≡ task.start → worker ≡ record (idle_worker n) { purse = 1 } → state ≡ record worker { known = relaxation worker.known item } → state ≡ first_worker n task item.via
+first_is n task worker state item free board begun is =
+    is
+    ∙ (λ t. record (begun t) { known = relaxation (begun t).known item })
+    ∙ (λ t. record (idle_worker n) { purse = 1; known = met task item free board t })
+
+-- ---- the opening world
+
+-- as many as were made
+pub made_count : (n : ℕ) (all : List W) → map (λ (w : W). state_of w) all ≡ replicate n (idle_worker n) → length all ≡ n
+made_count n all states = sym (length-map all (λ (w : W). state_of w)) ∙ ap length states ∙ length-replicate n (idle_worker n)
+
+pub opens : {S : Type 0} (hash_of : S → Position → ℕ) (owners : S) (p : Problem) (n : ℕ) (all : Vec W Global) (state : WorkerState) (owner : ℕ) (book : BookState) (lanes : Vec Row Global) (via : Move) → map (λ (w : W). state_of w) all.items ≡ slice_set (replicate n (idle_worker n)) owner state → state ≡ first_worker n (task_in p) via → owner ≡ hash_of owners p.start % n → book ≡ (opening (job_of hash_of p owners n) via).book → map (λ (row : Row). row.items) lanes.items ≡ replicate n (replicate n []) → world_of hash_of (record { job = p; owners = owners; workers = all; book = book; lanes = lanes }) ≡ opening (job_of hash_of p owners n) via
+opens hash_of owners p n all state owner book lanes via states first_state owner_is book_is lanes_are =
+    let count : length all.items ≡ n = sym (length-map all.items (λ (w : W). state_of w)) ∙ ap length states ∙ length-set (replicate n (idle_worker n)) owner state ∙ length-replicate n (idle_worker n) in
+    let workers : map (λ (w : W). state_of w) all.items ≡ (opening (job_of hash_of p owners n) via).workers =
+    states ∙ (λ t. slice_set (replicate n (idle_worker n)) (owner_is t) (first_state t)) in
+    λ t. record {
+      task = task_in p;
+      owner = λ b. hash_of owners b % count t;
+      workers = workers t;
+      book = book_is t;
+      lanes = lanes_are t;
+    }
+
+-- parts that make an opening world are lawful
+pub lawful_opening : {S : Type 0} (hash_of : S → Position → ℕ) (parts : Parts S) (job : Job) (via : Move) → OpeningsAreSound → IsJob job → world_of hash_of parts ≡ opening job via → AreGuided parts → IsLawful hash_of parts
+lawful_opening hash_of parts job via law is same guided =
+    let facts = law job via is in
+    let back = sym same in
+    record {
+      shaped = subst IsShaped back facts.0;
+      sound = subst IsSound back facts.1;
+      credited = subst IsCredited back facts.2;
+      guided = guided;
+    }
+
+-- so many workers, some but not too many, have a job where the task is one
+pub is_job : {S : Type 0} (hash_of : S → Position → ℕ) (owners : S) (p : Problem) (n : ℕ) → IsTask (task_in p) → IsWorkerCount n → IsJob (job_of hash_of p owners n)
+is_job hash_of owners p n task count = record { task = task; some = count.0; few = count.1; owners = λ b. mod-lt (hash_of owners b) count.0 }

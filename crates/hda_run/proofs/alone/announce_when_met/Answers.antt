@@ -1,8 +1,7 @@
 use Rattle.world_model.specs.declared.steps.Step.TheVariants.{Announce}
 use Rattle.world_model.specs.Turns.{refusal_in}
 use Rattle.hda_run.specs.Worlds.{world_of}
-use Rattle.hda_run.proofs.AloneLemmas.{announces}
-use Rattle.hda_run.proofs.AloneEnds.{takes}
+use Rattle.hda_run.proofs.AloneLemmas.{announces, takes}
 use Rattle.hda_run.proofs.alone.announce_when_met.Goals as goal
 
 pub returns-then-has_met_goal-clause-run : goal.returns-then-has_met_goal-clause-run

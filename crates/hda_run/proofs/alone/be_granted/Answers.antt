@@ -1,8 +1,7 @@
 use Rattle.std.proofs.Common.{None}
 use Rattle.world_model.specs.declared.steps.Step.TheVariants.{Grant}
 use Rattle.hda_run.specs.Worlds.{world_of}
-use Rattle.hda_run.proofs.AloneLemmas.{grants}
-use Rattle.hda_run.proofs.AloneEnds.{takes, stays, spent_alone}
+use Rattle.hda_run.proofs.AloneLemmas.{grants, takes, stays, spent_alone}
 use Rattle.hda_run.proofs.alone.be_granted.Goals as goal
 
 pub returns-in_default-clause-run : goal.returns-in_default-clause-run

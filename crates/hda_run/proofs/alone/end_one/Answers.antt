@@ -1,7 +1,7 @@
 use Rattle.std.proofs.Common.{arith}
 use Rattle.hda_run.specs.Worlds.{world_of, job_of}
-use Rattle.hda_run.proofs.AloneOutcomes.{ending_kept}
-use Rattle.hda_run.proofs.OpeningLemmas.{is_job}
+use Rattle.hda_run.proofs.LawLemmas.{ending_kept}
+use Rattle.hda_run.proofs.PartsLemmas.{is_job}
 use Rattle.hda_run.proofs.alone.end_one.Goals as goal
 
 pub returns-clause-kept : goal.returns-clause-kept

@@ -1,6 +1,6 @@
 use Rattle.std.proofs.Common.{◌∙◌}
 use Rattle.hda_run.specs.Worlds.{world_of}
-use Rattle.hda_run.proofs.AloneEnds.{reaches_on}
+use Rattle.hda_run.proofs.AloneLemmas.{reaches_on}
 use Rattle.hda_run.proofs.alone.go_on.Goals as goal
 
 pub returns-in-Err-clause-run : goal.returns-in-Err-clause-run

@@ -1,6 +1,6 @@
 use Rattle.world_model.specs.Turns.{refusal_in}
 use Rattle.hda_run.specs.Worlds.{world_of}
-use Rattle.hda_run.proofs.AloneEnds.{stops_resting}
+use Rattle.hda_run.proofs.AloneLemmas.{stops_resting}
 use Rattle.hda_run.proofs.alone.rest.Goals as goal
 
 pub returns-clause-stops : goal.returns-clause-stops

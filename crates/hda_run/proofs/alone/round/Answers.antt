@@ -3,8 +3,7 @@ use Rattle.world_model.specs.declared.steps.Refusal.{Refusal}
 use Rattle.world_model.specs.declared.steps.Step.TheVariants.{Expand}
 use Rattle.hda_run.specs.Rounds.{Refuses, work_left}
 use Rattle.hda_run.specs.Worlds.{world_of}
-use Rattle.hda_run.proofs.AloneLemmas.{expands}
-use Rattle.hda_run.proofs.AloneEnds.{takes, stays, reaches_on, refused_alone, quiet_only}
+use Rattle.hda_run.proofs.AloneLemmas.{expands, takes, stays, reaches_on, refused_alone, quiet_only}
 use Rattle.hda_run.proofs.alone.round.Goals as goal
 
 pub announce_when_met-requires : goal.announce_when_met-requires

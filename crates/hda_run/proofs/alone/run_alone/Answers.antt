@@ -1,7 +1,7 @@
 use Rattle.std.proofs.Common.{arith, refl}
 use Rattle.hda_run.specs.Worlds.{world_of, job_of}
-use Rattle.hda_run.proofs.AloneEnds.{opened_lone, alone_from}
-use Rattle.hda_run.proofs.OpeningLemmas.{is_job}
+use Rattle.hda_run.proofs.AloneLemmas.{opened_lone, alone_from}
+use Rattle.hda_run.proofs.PartsLemmas.{is_job}
 use Rattle.hda_run.proofs.alone.run_alone.Goals as goal
 
 pub go_on-end-requires : goal.go_on-end-requires

@@ -2,7 +2,7 @@ use Rattle.std.proofs.Common.{subst}
 use Rattle.world_model.specs.Turns.{refusal_in}
 use Rattle.hda_run.specs.Rounds.{IsStuck}
 use Rattle.hda_run.specs.Worlds.{world_of}
-use Rattle.hda_run.proofs.AloneEnds.{stops_for_limit, stops_for_memory}
+use Rattle.hda_run.proofs.AloneLemmas.{stops_for_limit, stops_for_memory}
 use Rattle.hda_run.proofs.alone.stop_for.Goals as goal
 
 pub returns-in-Limit-clause-stops : goal.returns-in-Limit-clause-stops

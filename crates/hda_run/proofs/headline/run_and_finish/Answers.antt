@@ -1,5 +1,5 @@
 use Rattle.std.proofs.Common.{◌∙◌}
-use Rattle.hda_run.proofs.TruthLemmas.{truth_of}
+use Rattle.hda_run.proofs.LawLemmas.{truth_of}
 use Rattle.hda_run.proofs.headline.run_and_finish.Goals as goal
 
 pub returns-clause-truth : goal.returns-clause-truth

@@ -3,8 +3,7 @@ use Rattle.board.specs.declared.moves.Move.TheVariants.{U}
 use Rattle.worker_core.specs.Roles.{guide_of, task_of}
 use Rattle.worker_core.specs.Workers.{state_of}
 use Rattle.hda_run.specs.Problems.{task_in}
-use Rattle.hda_run.proofs.PartsLemmas.{guided_for}
-use Rattle.hda_run.proofs.OpeningLemmas.{begins, first_is}
+use Rattle.hda_run.proofs.PartsLemmas.{guided_for, begins, first_is}
 use Rattle.hda_run.proofs.opening.first_worker.Goals as goal
 
 pub returns-clause-state : goal.returns-clause-state

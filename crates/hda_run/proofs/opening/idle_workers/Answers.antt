@@ -2,8 +2,7 @@ use Rattle.std.proofs.Common.{◌≡◌, ◌∙◌, rules}
 use Rattle.worker_core.specs.Roles.{IsGuided}
 use Rattle.worker_core.specs.Workers.{state_of}
 use Rattle.world_model.specs.Openings.{idle_worker}
-use Rattle.hda_run.proofs.PartsLemmas.{W}
-use Rattle.hda_run.proofs.OpeningLemmas.{begins, one_more, all_more}
+use Rattle.hda_run.proofs.PartsLemmas.{W, begins, one_more, all_more}
 use Rattle.hda_run.proofs.opening.idle_workers.Goals as goal
 
 pub workers-preserved : goal.workers-preserved

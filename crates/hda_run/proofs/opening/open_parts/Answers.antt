@@ -5,7 +5,7 @@ use Rattle.worker_core.specs.Workers.{state_of}
 use Rattle.world_model.specs.Openings.{opening}
 use Rattle.hda_run.specs.Problems.{task_in}
 use Rattle.hda_run.specs.Worlds.{job_of}
-use Rattle.hda_run.proofs.OpeningLemmas.{opens}
+use Rattle.hda_run.proofs.PartsLemmas.{opens}
 use Rattle.hda_run.proofs.opening.open_parts.Goals as goal
 
 pub returns-clause-opening : goal.returns-clause-opening

@@ -5,8 +5,7 @@ use Rattle.std.proofs.lemmas.List.Elements.{All-set}
 use Rattle.worker_core.specs.Roles.{IsGuided}
 use Rattle.worker_core.specs.Workers.{state_of}
 use Rattle.world_model.specs.Workers.{WorkerState}
-use Rattle.hda_run.proofs.OpeningLemmas.{made_count}
-use Rattle.hda_run.proofs.PartsLemmas.{W}
+use Rattle.hda_run.proofs.PartsLemmas.{made_count, W}
 use Rattle.hda_run.proofs.opening.workers_with.Goals as goal
 
 pub index_mut-requires : goal.index_mut-requires

@@ -1,7 +1,7 @@
 use Rattle.std.proofs.Common.{◌∙◌}
 use Rattle.world_model.specs.Turns.{refusal_in}
 use Rattle.hda_run.specs.Worlds.{world_of}
-use Rattle.hda_run.proofs.RunLemmas.{one_more}
+use Rattle.hda_run.proofs.AloneLemmas.{one_more}
 use Rattle.hda_run.proofs.runs.run_steps.Goals as goal
 
 pub steps-preserved : goal.steps-preserved

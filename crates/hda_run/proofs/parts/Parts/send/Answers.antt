@@ -1,8 +1,7 @@
 use Rattle.std.proofs.Common.{◌<◌, length, inl, refl, arith}
 use Rattle.world_model.specs.Turns.{refusal_in}
 use Rattle.world_model.specs.WorkerSteps.{SendStep}
-use Rattle.hda_run.proofs.PartsLemmas.{inside, same_guided, unsent_count}
-use Rattle.hda_run.proofs.LaneLemmas.{row_count, no_two, are_two, lane_count, on_lane}
+use Rattle.hda_run.proofs.PartsLemmas.{inside, same_guided, unsent_count, row_count, no_two, are_two, lane_count, on_lane}
 use Rattle.hda_run.proofs.parts.Parts.send.Goals as goal
 
 pub returns-then-not-are_two-clause-step : goal.returns-then-not-are_two-clause-step

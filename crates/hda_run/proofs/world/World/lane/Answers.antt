@@ -2,7 +2,7 @@ use Rattle.std.proofs.Common.{◌<◌, length, subst, ap, arith}
 use Rattle.world_model.specs.Worlds.{IsLane}
 use Rattle.hda_run.specs.declared.parts.Parts.{Parts}
 use Rattle.hda_run.specs.Worlds.{world_of}
-use Rattle.hda_run.proofs.LaneLemmas.{row_count, lane_count, is_lane}
+use Rattle.hda_run.proofs.PartsLemmas.{row_count, lane_count, is_lane}
 use Rattle.hda_run.proofs.world.World.lane.Goals as goal
 
 pub index-requires : goal.index-requires

@@ -1,5 +1,5 @@
 use Rattle.hda_run.specs.Worlds.{job_of}
-use Rattle.hda_run.proofs.OpeningLemmas.{lawful_opening, is_job}
+use Rattle.hda_run.proofs.PartsLemmas.{lawful_opening, is_job}
 use Rattle.hda_run.proofs.world.World.open.Goals as goal
 
 pub invariant_of-result : goal.invariant_of-result
