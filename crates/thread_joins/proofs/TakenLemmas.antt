@@ -1,25 +1,155 @@
--- Parts that are taken apart one after the other.
-use Rattle.std.proofs.Common.{◌≡◌, ℕ, ◌+◌, List, [], ◌∷◌, ◌++◌, Vec, map, length, Some, ap, sym, ◌∙◌, subst, refl, arith, append-nil}
-use Rattle.std.specs.Prelude.{slice_get, ◌%◌}
+-- Parts that are taken apart, and the rows of what is taken of them.
+use Rattle.std.proofs.Common.{◌≡◌, ◌≢◌, ℕ, ◌+◌, ◌<◌, List, [], inl, inr, Vec, map, set, get_or, length, slice_index_or, ap, ◌∙◌, refl, arith, zero, suc, ◌∷◌, ◌++◌, Some, subst, sym, append-nil}
+use Rattle.std.proofs.Math.Seq.{map-set_same}
+use Rattle.std.proofs.lemmas.Bool.Decides.{eqb_tells}
+use Rattle.std.specs.declared.alloc.Global.{Global}
+use Rattle.std.specs.Prelude.{option_map, slice_get, ◌%◌}
+use Rattle.std.proofs.lemmas.Option.{slice_get-map}
 use Rattle.std.proofs.lemmas.List.{map-append, length-map, length-append, append_assoc}
 use Rattle.std.proofs.lemmas.List.Elements.{All-push}
-use Rattle.std.specs.declared.alloc.Global.{Global}
 use Rattle.board.specs.Positions.{Position}
-use Rattle.world_model.specs.Workers.{WorkerState, Role}
+use Rattle.world_model.specs.Workers.{Lane, WorkerState, Role}
 use Rattle.thread_model.specs.Parts.{PartState, IsRole, Keeps}
-use Rattle.thread_model.specs.Joined.{role_in}
-use Rattle.rings.specs.Rings.{Ring, SendingEnd, ReceivingEnd, ArePaired, out_rings, in_rings, sent_lanes, received_lanes, rings_of_outs, rings_of_ins, sent_rows, received_rows}
+use Rattle.thread_model.specs.Joined.{workers_of, role_in}
 use Rattle.worker_core.specs.declared.worker.Worker.{Worker}
 use Rattle.worker_core.specs.Roles.{IsGuided, guide_of}
 use Rattle.worker_core.specs.Workers.{state_of}
 use Rattle.world_ends.specs.Parts.{AreGuided, states_of}
+use Rattle.rings.specs.Rings.{SendingEnd, ReceivingEnd, out_rings, in_rings, sent_lanes, received_lanes, rings_of_outs, rings_of_ins, sent_rows, received_rows, lane_at, Ring, ArePaired}
+use Rattle.rings.proofs.EndLemmas.{map_at_set, map_at_other}
 use Rattle.hda_run.specs.Problems.{Problem, task_in}
 use Rattle.thread_parts.specs.declared.part.Part.{Part}
 use Rattle.thread_parts.specs.Parts.{Face, Holds, face_of, part_state, role_of}
+use Rattle.thread_joins.specs.Lanes.{IsTied}
+use Rattle.thread_joins.specs.Worlds.{parts_with, AreApart, shared_by}
 use Rattle.thread_joins.specs.declared.apart.Joined.{Joined}
 use Rattle.thread_joins.specs.Joints.{IsJoint}
-use Rattle.thread_joins.specs.Worlds.{AreApart, parts_with, shared_by}
-use Rattle.thread_joins.proofs.PartLemmas.{part_count, part_more, each_more, next_at}
+
+-- ---- rows of ends, of which one has changed
+
+-- a row of the same rings, by which the same was sent or received, in the place of another
+pub out_rings-set : (xs : List (Vec SendingEnd Global)) (i : ℕ) (q x : Vec SendingEnd Global) → x ≡ get_or xs i x → q.items ≡ x.items → rings_of_outs (set xs i q) ≡ rings_of_outs xs
+out_rings-set xs i q x at same = map-set_same (λ (v : Vec SendingEnd Global). out_rings v.items) xs i q x (ap out_rings same ∙ ap (λ (v : Vec SendingEnd Global). out_rings v.items) at)
+
+pub sent-set : (xs : List (Vec SendingEnd Global)) (i : ℕ) (q x : Vec SendingEnd Global) → x ≡ get_or xs i x → q.items ≡ x.items → sent_rows (set xs i q) ≡ sent_rows xs
+sent-set xs i q x at same = map-set_same (λ (v : Vec SendingEnd Global). sent_lanes v.items) xs i q x (ap sent_lanes same ∙ ap (λ (v : Vec SendingEnd Global). sent_lanes v.items) at)
+
+pub in_rings-set : (xs : List (Vec ReceivingEnd Global)) (i : ℕ) (q x : Vec ReceivingEnd Global) → x ≡ get_or xs i x → in_rings q.items ≡ in_rings x.items → rings_of_ins (set xs i q) ≡ rings_of_ins xs
+in_rings-set xs i q x at same = map-set_same (λ (v : Vec ReceivingEnd Global). in_rings v.items) xs i q x (same ∙ ap (λ (v : Vec ReceivingEnd Global). in_rings v.items) at)
+
+pub received-set : (xs : List (Vec ReceivingEnd Global)) (i : ℕ) (q x : Vec ReceivingEnd Global) → x ≡ get_or xs i x → received_lanes q.items ≡ received_lanes x.items → received_rows (set xs i q) ≡ received_rows xs
+received-set xs i q x at same = map-set_same (λ (v : Vec ReceivingEnd Global). received_lanes v.items) xs i q x (same ∙ ap (λ (v : Vec ReceivingEnd Global). received_lanes v.items) at)
+
+pub ruleset rows = (out_rings-set, sent-set, in_rings-set, received-set)
+
+-- In row j of those from which two lists of lanes are made, the i-th lane has changed: f has what was received, g what is left.
+module _ {V : Type 0} (f g : V → List Lane) (xs : List V) (j i : ℕ) (q x : V) (inside : j < length xs) where
+  pub tied_row : (sent : List Lane) → IsTied (slice_index_or sent j []) (slice_index_or (f q) i []) (slice_index_or (g q) i [])
+      → ((k : ℕ) → k < j → IsTied (slice_index_or sent k []) (lane_at (map f xs) k i) (lane_at (map g xs) k i))
+      → (k : ℕ) → k < j + 1 → IsTied (slice_index_or sent k []) (lane_at (map f (set xs j q)) k i) (lane_at (map g (set xs j q)) k i)
+  tied_row sent new below k low = elim (eqb_tells k j) [
+    | inl p ↦ rw (p.1, map_at_set f xs j q [] inside, map_at_set g xs j q [] inside) new
+    | inr p ↦ rw (map_at_other f xs j k q [] p.1, map_at_other g xs j k q [] p.1) (below k (omega (arith, p.1)))
+  ]
+
+  pub quiet_row : slice_index_or (g q) i [] ≡ []
+      → ((k : ℕ) → k < j → lane_at (map g xs) k i ≡ [])
+      → (k : ℕ) → k < j + 1 → lane_at (map g (set xs j q)) k i ≡ []
+  quiet_row new below k low = elim (eqb_tells k j) [
+    | inl p ↦ rw (p.1, map_at_set g xs j q [] inside) new
+    | inr p ↦ rw (map_at_other g xs j k q [] p.1) (below k (omega (arith, p.1)))
+  ]
+
+  pub others_row : slice_index_or (map g xs) j [] ≡ g x → ((m : ℕ) → m ≢ i → slice_index_or (g q) m [] ≡ slice_index_or (g x) m [])
+      → (k m : ℕ) → m ≢ i → lane_at (map g (set xs j q)) k m ≡ lane_at (map g xs) k m
+  others_row here same k m other = elim (eqb_tells k j) [
+    | inl p ↦ rw (p.1, map_at_set g xs j q [] inside, here) (same m other)
+    | inr p ↦ rw (map_at_other g xs j k q [] p.1) refl
+  ]
+
+-- one more row was tied, and the others' are as before
+module _ (n i : ℕ) (sent received left left' : List (List Lane)) (row : List Lane) (at : slice_index_or sent i [] ≡ row) (others : (j k : ℕ) → k ≢ i → lane_at left' j k ≡ lane_at left j k) where
+  pub tied_more : ((j : ℕ) → j < n → IsTied (slice_index_or row j []) (lane_at received j i) (lane_at left' j i))
+      → ((a b : ℕ) → a < i → b < n → IsTied (lane_at sent a b) (lane_at received b a) (lane_at left b a))
+      → (a b : ℕ) → a < i + 1 → b < n → IsTied (lane_at sent a b) (lane_at received b a) (lane_at left' b a)
+  tied_more new below a b low inside = elim (eqb_tells a i) [
+    | inl p ↦ rw (p.1, at) (new b inside)
+    | inr p ↦ rw (others b a p.1) (below a b (omega (arith, p.1)) inside)
+  ]
+
+  pub quiet_more : ((j : ℕ) → j < n → lane_at left' j i ≡ [])
+      → ((a b : ℕ) → a < i → b < n → lane_at left b a ≡ [])
+      → (a b : ℕ) → a < i + 1 → b < n → lane_at left' b a ≡ []
+  quiet_more new below a b low inside = elim (eqb_tells a i) [
+    | inl p ↦ rw p.1 (new b inside)
+    | inr p ↦ rw (others b a p.1) (below a b (omega (arith, p.1)) inside)
+  ]
+
+-- ---- workers, with what each sent and received: the parts that were taken apart
+
+abbrev pub part : WorkerState → List Lane → List Lane → PartState
+part worker sent received = record { worker = worker; sent = sent; received = received }
+
+pub some_is : {X : Type 0} (a b : X) → Some a ≡ Some b → a ≡ b
+some_is a b h = cc
+
+-- what a part is made of
+pub part_at : (ws : List WorkerState) (ss rs : List (List Lane)) (i : ℕ) (it : PartState) → slice_get (parts_with ws ss rs) i ≡ Some it → (slice_get ws i ≡ Some it.worker) × (slice_get ss i ≡ Some it.sent) × (slice_get rs i ≡ Some it.received)
+part_at [] ss rs i it at = absurd (cc at)
+part_at (w ∷ ws) [] rs i it at = absurd (cc at)
+part_at (w ∷ ws) (s ∷ ss) [] i it at = absurd (cc at)
+part_at (w ∷ ws) (s ∷ ss) (r ∷ rs) zero it at =
+    let e = some_is (part w s r) it at in
+    (ap (λ (x : PartState). Some x.worker) e, ap (λ (x : PartState). Some x.sent) e, ap (λ (x : PartState). Some x.received) e)
+part_at (w ∷ ws) (s ∷ ss) (r ∷ rs) (suc i) it at = part_at ws ss rs i it at
+
+pub part_count : (ws : List WorkerState) (ss rs : List (List Lane)) → length ss ≡ length ws → length rs ≡ length ws → length (parts_with ws ss rs) ≡ length ws
+part_count [] ss rs a b = refl
+part_count (w ∷ ws) [] rs a b = absurd (omega (arith, a))
+part_count (w ∷ ws) (s ∷ ss) [] a b = absurd (omega (arith, b))
+part_count (w ∷ ws) (s ∷ ss) (r ∷ rs) a b = let e = part_count ws ss rs (omega (arith, a)) (omega (arith, b)) in omega (arith, e)
+
+pub part_workers : (ws : List WorkerState) (ss rs : List (List Lane)) → length ss ≡ length ws → length rs ≡ length ws → workers_of (parts_with ws ss rs) ≡ ws
+part_workers [] ss rs a b = refl
+part_workers (w ∷ ws) [] rs a b = absurd (omega (arith, a))
+part_workers (w ∷ ws) (s ∷ ss) [] a b = absurd (omega (arith, b))
+part_workers (w ∷ ws) (s ∷ ss) (r ∷ rs) a b = ap (λ (l : List WorkerState). w ∷ l) (part_workers ws ss rs (omega (arith, a)) (omega (arith, b)))
+
+-- one part more
+pub part_more : (ws : List WorkerState) (ss rs : List (List Lane)) (w : WorkerState) (s r : List Lane) → length ss ≡ length ws → length rs ≡ length ws → parts_with (ws ++ w ∷ []) (ss ++ s ∷ []) (rs ++ r ∷ []) ≡ parts_with ws ss rs ++ part w s r ∷ []
+part_more [] [] [] w s r a b = refl
+part_more [] (y ∷ ss) rs w s r a b = absurd (omega (arith, a))
+part_more [] [] (z ∷ rs) w s r a b = absurd (omega (arith, b))
+part_more (x ∷ ws) [] rs w s r a b = absurd (omega (arith, a))
+part_more (x ∷ ws) (y ∷ ss) [] w s r a b = absurd (omega (arith, b))
+part_more (x ∷ ws) (y ∷ ss) (z ∷ rs) w s r a b = ap (λ (l : List PartState). part x y z ∷ l) (part_more ws ss rs w s r (omega (arith, a)) (omega (arith, b)))
+
+-- what holds of each element and of one more at the end
+pub each_more : {X : Type 0} (P : ℕ → X → Type 0) (xs : List X) (y : X) → ((i : ℕ) (x : X) → slice_get xs i ≡ Some x → P i x) → P (length xs) y → (i : ℕ) (x : X) → slice_get (xs ++ y ∷ []) i ≡ Some x → P i x
+each_more P [] y old new zero x at = subst (P 0) (some_is y x at) new
+each_more P [] y old new (suc i) x at = absurd (cc at)
+each_more P (z ∷ xs) y old new zero x at = old 0 x at
+each_more P (z ∷ xs) y old new (suc i) x at = each_more (λ (k : ℕ). P (suc k)) xs y (λ k v h. old (suc k) v h) new i x at
+
+pub nothing : {X : Type 0} (xs : List X) → length xs ≡ 0 → xs ≡ []
+nothing [] h = refl
+nothing (x ∷ xs) h = absurd (omega arith)
+
+-- what comes next after those that came
+pub next_at : {X : Type 0} (done : List X) (x : X) (rest : List X) → slice_get (done ++ x ∷ rest) (length done) ≡ Some x
+next_at [] x rest = refl
+next_at (y ∷ done) x rest = next_at done x rest
+
+-- what a mapped list has at a place, it has of what stands there
+pub map_at : {X Y : Type 0} (f : X → Y) (xs : List X) (i : ℕ) (x : X) → slice_get xs i ≡ Some x → slice_get (map f xs) i ≡ Some (f x)
+map_at f xs i x at = slice_get-map f xs i ∙ ap (option_map f) at
+
+pub mapped_at : {X Y : Type 0} (f : X → Y) (xs : List X) (i : ℕ) (y : Y) → slice_get (map f xs) i ≡ Some y → (x : X) × (slice_get xs i ≡ Some x) × (f x ≡ y)
+mapped_at f [] i y at = absurd (cc at)
+mapped_at f (x ∷ xs) zero y at = (x, refl, some_is (f x) y at)
+mapped_at f (x ∷ xs) (suc i) y at = mapped_at f xs i y at
+
+-- ---- parts that are taken apart one after the other
 
 -- each of these parts keeps what a part keeps in its role
 abbrev pub AllHold : {S : Type 0} → (S → Position → ℕ) → Problem → S → ℕ → List PartState → Type 0

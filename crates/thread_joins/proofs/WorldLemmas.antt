@@ -1,33 +1,194 @@
--- Joined workers, and what is left in their rings, are the world of parts.
-use Rattle.std.proofs.Common.{◌≡◌, ℕ, suc, ◌<◌, ◌≤◌, List, [], ◌∷◌, ◌++◌, Vec, length, Some, ap, sym, ◌∙◌, subst, refl, arith}
-use Rattle.std.specs.Prelude.{All, slice_get, slice_index_or, sum_by, ◌%◌}
-use Rattle.std.proofs.lemmas.List.{length-map}
-use Rattle.std.proofs.lemmas.List.Elements.{All-get_or}
-use Rattle.std.proofs.lemmas.List.Sums.{sum_by-cons}
-use Rattle.std.proofs.lemmas.Option.{slice_get_within, get_or_from_slice_get}
+-- The world of joined workers and of what is left in their rings, and when it is kept.
+use Rattle.std.proofs.Common.{◌≡◌, ◌⊎◌, ℕ, ◌+◌, ◌<◌, ◌≤◌, List, [], ◌∷◌, ◌++◌, Vec, length, get_or, Option, Some, None, ap, sym, ◌∙◌, subst, refl, arith, append-nil, inl, inr, ⊎_elim, suc, ◌*◌, true, set}
+use Rattle.std.specs.Prelude.{Contains, slice_get, slice_index_or, All, sum_by, ◌%◌, ◌↔◌, option_map}
+use Rattle.std.specs.List.{range_with_len}
+use Rattle.std.proofs.lemmas.Bool.{cases_lt}
+use Rattle.std.proofs.lemmas.List.{length-map, append_assoc}
+use Rattle.std.proofs.lemmas.List.Elements.{Contains-append_right, All-get_or, All-set}
+use Rattle.std.proofs.lemmas.List.FromFn.{length-range_with_len, length-map-range_with_len, get_or-range_with_len}
+use Rattle.std.proofs.lemmas.Option.{slice_get_within, slice_get-get_or, get_or_from_slice_get, none-some}
 use Rattle.std.specs.declared.alloc.Global.{Global}
+use Rattle.std.proofs.lemmas.List.Sums.{sum_by-cons}
+use Rattle.std.proofs.Math.Seq.{map-set_same}
+use Rattle.std.proofs.lemmas.Bool.Decides.{eqb_tells}
+use Rattle.board.specs.Grids.{Grid}
 use Rattle.board.specs.Positions.{Position}
-use Rattle.rings.specs.Rings.{Ring, SendingEnd, ReceivingEnd, in_rings, sent_lanes, received_lanes, left_lanes, rings_of_ins, sent_rows, received_rows, left_rows, lane_at}
-use Rattle.world_model.specs.declared.limits.TheConstants.{LANE_LIMIT}
-use Rattle.world_model.specs.declared.steps.Stop.TheVariants.{Quiet}
+use Rattle.outcomes.specs.Outcomes.{Task}
+use Rattle.world_model.specs.declared.parts.Item.{Item}
+use Rattle.world_model.specs.Shapes.{IsShaped}
+use Rattle.world_model.specs.Workers.{Packet, Lane, WorkerState, IsTaskBoard, IsFloor, HasNothingBelow}
+use Rattle.world_model.specs.Worlds.{WorldState, IsLane, LiesIn, HasInLaneTo, IsUnderWay, IsWorker, Knows}
+use Rattle.world_model.proofs.ListLemmas.{get_below, at_in, place_of, head_in, all_from_places, part_le, none_in_empty}
+use Rattle.world_model.specs.declared.limits.TheConstants.{LANE_LIMIT, GREATEST_GRANT}
+use Rattle.world_model.specs.declared.steps.Stop.TheVariants.{Quiet, Limit}
 use Rattle.world_model.specs.Books.{BookState}
-use Rattle.world_model.specs.Workers.{WorkerState, Lane}
-use Rattle.world_model.specs.Worlds.{WorldState}
-use Rattle.world_model.proofs.ListLemmas.{all_from_places}
+use Rattle.world_model.specs.declared.parts.Known.{Known}
+use Rattle.world_model.specs.declared.steps.Stop.{Stop}
+use Rattle.world_model.specs.Costs.{limit_of}
+use Rattle.world_model.specs.Frontiers.{IsInFrontier, IsReached}
+use Rattle.world_model.specs.Quiet.{IsQuiet, IsKept, IsKeptAt, HasBegun}
+use Rattle.world_model.proofs.OutcomeLemmas.{least_unique}
+use Rattle.world_model.proofs.ShapeLemmas.{knows_owned}
 use Rattle.thread_model.specs.Parts.{PartState, IsRole, Keeps}
 use Rattle.thread_model.specs.Joined.{AreParts, IsAt, Shared, role_in, world_with}
 use Rattle.thread_model.specs.Laws.{JoinedPartsAreSound}
 use Rattle.thread_model.proofs.JoinedQuiet.{worker_at_rest}
+use Rattle.search_lists.specs.Orders.{Guide}
 use Rattle.worker_core.specs.declared.worker.Worker.{Worker}
-use Rattle.worker_core.specs.Roles.{guide_of}
+use Rattle.worker_core.specs.Roles.{guide_of, IsGuided}
 use Rattle.worker_core.specs.Workers.{state_of}
-use Rattle.world_ends.specs.Parts.{AreGuided, states_of}
+use Rattle.world_ends.specs.Lowest.{IsLeastBeside, IsLowestInLanes, AreItemsOn}
+use Rattle.world_ends.proofs.LeastLemmas.{beside_none, beside_both, beside_same, beside_nothing, least_same}
+use Rattle.world_ends.specs.Parts.{AreGuided, states_of, HasParts, known_in}
+use Rattle.world_ends.proofs.PartLemmas.{worker_at, worker_from, knows_of, known_from, reached_is}
+use Rattle.rings.specs.Rings.{ReceivingEnd, left_lanes, left_rows, lane_at, Ring, SendingEnd, in_rings, sent_lanes, received_lanes, rings_of_ins, sent_rows, received_rows}
+use Rattle.rings.proofs.GridLemmas.{get_end, get_before, length_end}
+use Rattle.hda_run.specs.Lanes.{IsOfOne}
 use Rattle.hda_run.specs.Problems.{Problem, task_in}
+use Rattle.thread_joins.specs.Lanes.{lanes_from, by_sender, AreOfWidth, IsLeftInRows, IsTied}
 use Rattle.thread_joins.specs.declared.apart.Joined.{Joined}
-use Rattle.thread_joins.specs.Lanes.{IsTied, AreOfWidth, by_sender, lanes_from}
-use Rattle.thread_joins.specs.Worlds.{AreApart, IsWorldOf, parts_in, parts_with, shared_by}
-use Rattle.thread_joins.proofs.LaneLemmas.{lane_from, receiver_count, sender_count, sender_from}
-use Rattle.thread_joins.proofs.PartLemmas.{map_at, part_at, part_count, part_workers}
+use Rattle.thread_joins.specs.Worlds.{AreApart, IsWorldOf, parts_in, parts_with, shared_by, AreAtRest}
+use Rattle.thread_joins.proofs.TakenLemmas.{map_at, mapped_at, part_at, part_count, part_workers, some_is}
+
+-- ---- what is left in rings, and the lanes of the world that it makes: the least of one after the other
+
+pub none_least : {A : Type 0} (IsOf : A → ℕ → Type 0) (x : Option ℕ) → IsLeastBeside (IsOfOne IsOf []) x x
+none_least IsOf x = beside_same (λ f. ⊥) (IsOfOne IsOf []) (λ n p. absurd p) (λ n p. absurd (cc (p.2))) x x (beside_none x)
+
+-- one more
+pub one_least : {A : Type 0} (IsOf : A → ℕ → Type 0) (done : List A) (here : A) (x y z : Option ℕ) → IsLeastBeside (IsOfOne IsOf done) x y → IsLeastBeside (IsOf here) y z → IsLeastBeside (IsOfOne IsOf (done ++ here ∷ [])) x z
+one_least {A} IsOf done here x y z before more =
+    beside_same (λ f. IsOfOne IsOf done f ⊎ IsOf here f) (IsOfOne IsOf (done ++ here ∷ []))
+    (λ n p. ⊎_elim
+    (λ (q : IsOfOne IsOf done n). (q.0, q.1, get_before done here q.0 (slice_get_within done q.0 q.1 q.2) ∙ q.2, q.3))
+    (λ (q : IsOf here n). (length done, here, get_end done here (length done) refl, q)) p)
+    (λ n p. ⊎_elim
+    (λ (lt : p.0 < length done). inl (p.0, p.1, sym (get_before done here p.0 lt) ∙ p.2, p.3))
+    (λ (le : length done ≤ p.0).
+    let low = slice_get_within (done ++ here ∷ []) p.0 p.1 p.2 in
+    let e : length done ≡ p.0 = omega (arith, low, le, length_end done here) in
+    let both : ◌≡◌ {A = Option A} (Some p.1) (Some here) = sym p.2 ∙ get_end done here p.0 e in
+    inr (subst (λ (a : A). IsOf a n) (search both) p.3)) (cases_lt p.0 (length done)))
+    x z (beside_both (IsOfOne IsOf done) (IsOf here) x y z before more)
+
+-- the least beside those that are done, where these come next
+pub record IsLeastSoFar {A : Type 0} (IsOf : A → ℕ → Type 0) (all next : List A) (x y : Option ℕ) : Type 0 where
+  pub done : List A
+  pub is : done ++ next ≡ all
+  pub least : IsLeastBeside (IsOfOne IsOf done) x y
+
+module _ {A : Type 0} (IsOf : A → ℕ → Type 0) (all : List A) (x : Option ℕ) where
+  pub so_far_none : (next : List A) → next ≡ all → IsLeastSoFar IsOf all next x x
+  so_far_none next is = record { done = []; is = is; least = none_least IsOf x }
+
+  pub so_far_more : (here : A) (before next : List A) (y z : Option ℕ) → before ≡ here ∷ next → IsLeastSoFar IsOf all before x y → IsLeastBeside (IsOf here) y z → IsLeastSoFar IsOf all next x z
+  so_far_more here before next y z first so more = record {
+    done = so.done ++ here ∷ [];
+    is = append_assoc so.done (here ∷ []) next ∙ (ap (λ (r : List A). so.done ++ r) (sym first) ∙ so.is);
+    least = one_least IsOf so.done here x y z so.least more;
+  }
+
+  pub so_far_all : (next : List A) (y : Option ℕ) → next ≡ [] → IsLeastSoFar IsOf all next x y → IsLeastBeside (IsOfOne IsOf all) x y
+  so_far_all next y none so =
+      let e : so.done ≡ all = sym (append-nil so.done) ∙ (ap (λ (r : List A). so.done ++ r) (sym none) ∙ so.is) in
+      subst (λ (xs : List A). IsLeastBeside (IsOfOne IsOf xs) x y) e so.least
+
+  -- what comes next is one of all
+  pub so_far_next : (here : A) (before next : List A) (y : Option ℕ) → before ≡ here ∷ next → IsLeastSoFar IsOf all before x y → Contains all here
+  so_far_next here before next y first so =
+      subst (λ (xs : List A). Contains xs here) (ap (λ (r : List A). so.done ++ r) (sym first) ∙ so.is) (Contains-append_right so.done (here ∷ next) here (head_in here next))
+
+-- ---- lanes by their senders
+
+number_at : (n i k : ℕ) → slice_get (range_with_len 0 n) i ≡ Some k → (i < n) × (k ≡ i)
+number_at n i k at =
+    let low = slice_get_within (range_with_len 0 n) i k at in
+    let lt : i < n = omega (arith, low, length-range_with_len 0 n) in
+    let e = get_or_from_slice_get (range_with_len 0 n) i k 0 at in
+    let e' = get_or-range_with_len 0 n i 0 lt in
+    (lt, omega (arith, e, e'))
+
+at_number : (n i : ℕ) → i < n → slice_get (range_with_len 0 n) i ≡ Some i
+at_number n i lt =
+    let e : get_or (range_with_len 0 n) i 0 ≡ i = let e' = get_or-range_with_len 0 n i 0 lt in omega (arith, e') in
+    slice_get-get_or (range_with_len 0 n) i 0 (omega (arith, lt, length-range_with_len 0 n)) ∙ ap (λ (k : ℕ). Some k) e
+
+pub sender_at : (n from : ℕ) (rows : List (List Lane)) → from < n → slice_get (by_sender n rows) from ≡ Some (lanes_from from rows)
+sender_at n from rows lt = map_at (λ (k : ℕ). lanes_from k rows) (range_with_len 0 n) from from (at_number n from lt)
+
+pub sender_from : (n from : ℕ) (rows : List (List Lane)) (lanes : List Lane) → slice_get (by_sender n rows) from ≡ Some lanes → (from < n) × (lanes ≡ lanes_from from rows)
+sender_from n from rows lanes at =
+    let has = mapped_at (λ (k : ℕ). lanes_from k rows) (range_with_len 0 n) from lanes at in
+    let is = number_at n from has.0 has.1 in
+    (is.0, sym has.2 ∙ ap (λ (k : ℕ). lanes_from k rows) is.1)
+
+pub sender_count : (n : ℕ) (rows : List (List Lane)) → length (by_sender n rows) ≡ n
+sender_count n rows = length-map-range_with_len (λ (k : ℕ). lanes_from k rows) 0 n
+
+pub receiver_count : (from : ℕ) (rows : List (List Lane)) → length (lanes_from from rows) ≡ length rows
+receiver_count from rows = length-map rows (λ (row : List Lane). slice_index_or row from [])
+
+-- the lane from one worker to another, among the lanes to each
+pub lane_from : (from to : ℕ) (rows : List (List Lane)) (lane : Lane) → slice_get (lanes_from from rows) to ≡ Some lane → lane ≡ lane_at rows to from
+lane_from from to rows lane at =
+    let has = mapped_at (λ (row : List Lane). slice_index_or row from []) rows to lane at in
+    sym has.2 ∙ ap (λ (row : List Lane). slice_index_or row from []) (sym (get_or_from_slice_get rows to has.0 [] has.1))
+
+-- ---- the items that are left
+
+module _ (w : WorldState) (n : ℕ) (ins : List (Vec ReceivingEnd Global)) (lanes : w.lanes ≡ by_sender n (left_rows ins)) (widths : AreOfWidth n ins) where
+  -- an end that stands in a row is at the end of a lane
+  pub is_lane : (to from : ℕ) (row : Vec ReceivingEnd Global) (it : ReceivingEnd) → slice_get ins to ≡ Some row → slice_get row.items from ≡ Some it → IsLane w from to it.left
+  is_lane to from row it at_row at =
+      let lt : from < n = omega (arith, slice_get_within row.items from it at, widths to row at_row) in
+      let here : slice_get (left_rows ins) to ≡ Some (left_lanes row.items) = map_at (λ (v : Vec ReceivingEnd Global). left_lanes v.items) ins to row at_row in
+      let lane : slice_get (left_lanes row.items) from ≡ Some it.left = map_at (λ (e : ReceivingEnd). e.left) row.items from it at in
+      record {
+        from_lanes = lanes_from from (left_rows ins);
+        of_sender = ap (λ (l : List (List Lane)). slice_get l from) lanes ∙ sender_at n from (left_rows ins) lt;
+        of_receiver = map_at (λ (r : List Lane). slice_index_or r from []) (left_rows ins) to (left_lanes row.items) here ∙ ap (λ (l : Lane). Some l) (get_or_from_slice_get (left_lanes row.items) from it.left [] lane);
+      }
+
+  -- and a lane has such an end
+  pub lane_end : (to from : ℕ) (lane : Lane) → IsLane w from to lane → (row : Vec ReceivingEnd Global) × (it : ReceivingEnd) × (slice_get ins to ≡ Some row) × (slice_get row.items from ≡ Some it) × (it.left ≡ lane)
+  lane_end to from lane is =
+      let sender = sender_from n from (left_rows ins) is.from_lanes (sym (ap (λ (l : List (List Lane)). slice_get l from) lanes) ∙ is.of_sender) in
+      let receiver : slice_get (lanes_from from (left_rows ins)) to ≡ Some lane = subst (λ (l : List Lane). slice_get l to ≡ Some lane) sender.1 is.of_receiver in
+      let has = mapped_at (λ (r : List Lane). slice_index_or r from []) (left_rows ins) to lane receiver in
+      let row = mapped_at (λ (v : Vec ReceivingEnd Global). left_lanes v.items) ins to has.0 has.1 in
+      let lt : from < length row.0.items = omega (arith, sender.0, widths to row.0 row.1) in
+      let it = get_below row.0.items from lt in
+      let left : slice_get (left_lanes row.0.items) from ≡ Some it.0.left = map_at (λ (e : ReceivingEnd). e.left) row.0.items from it.0 it.1 in
+      (row.0, it.0, row.1, it.1, sym (get_or_from_slice_get (left_lanes row.0.items) from it.0.left [] left) ∙ (ap (λ (r : List Lane). slice_index_or r from []) row.2 ∙ has.2))
+
+  -- the items that are left are of the world's boards
+  pub items_left : (grid : Grid) → IsShaped w → grid ≡ w.task.goal.grid
+      → (row : Vec ReceivingEnd Global) (it : ReceivingEnd) (packet : Packet) → Contains ins row → Contains row.items it → Contains it.left packet → AreItemsOn grid packet
+  items_left grid shaped sides row it packet has_row has_end has_packet =
+      let to = place_of ins row has_row in
+      let from = place_of row.items it has_end in
+      let are = (shaped.lanes from.0 to.0 it.left (is_lane to.0 from.0 row it to.1 from.1)).packets packet has_packet in
+      λ item has. let good = are.1.items item has in (good.0.1 ∙ sym sides, good.2)
+
+  -- the least cost plus sum of what is left is that of the world's lanes
+  pub lowest_left : (sum : Position → ℕ) (lowest : Option ℕ) → sum ≡ w.task.sum → IsLeastBeside (IsLeftInRows sum ins) None lowest → IsLowestInLanes w lowest
+  lowest_left sum lowest sums least =
+      least_same (IsLeftInRows sum ins) (λ f. (to : ℕ) × (item : Item) × HasInLaneTo w to item × (f ≡ item.cost + w.task.sum item.board))
+      (λ f p.
+      let row = p.1 in let inner = p.3 in
+      let it = inner.1 in let most = inner.3 in
+      let packet = most.1 in let of_item = most.3 in
+      let lies : LiesIn w inner.0 p.0 packet = record { lane = it.left; is = is_lane p.0 inner.0 row it p.2 inner.2; lies = at_in it.left most.0 packet most.2 } in
+      (p.0, of_item.0, (inner.0, packet, lies, of_item.1), subst (λ (s : Position → ℕ). f ≡ of_item.0.cost + s of_item.0.board) sums of_item.2))
+      (λ f p.
+      let item = p.1 in let lying = p.2 in
+      let lies = lying.2 in
+      let has = lane_end p.0 lying.0 lies.lane lies.is in
+      let place = place_of has.1.left lying.1 (subst (λ (l : Lane). Contains l lying.1) (sym has.4) lies.lies) in
+      (p.0, has.0, has.2, (lying.0, has.1, has.3, (place.0, lying.1, place.1, (item, lying.3, subst (λ (s : Position → ℕ). f ≡ item.cost + s item.board) (sym sums) p.3)))))
+      lowest (beside_nothing (IsLeftInRows sum ins) lowest least)
+
+-- ---- joined workers, and what is left in their rings, are the world of parts
 
 none_summed : {X : Type 0} (f : X → ℕ) (xs : List X) → ((i : ℕ) (x : X) → slice_get xs i ≡ Some x → f x ≡ 0) → sum_by f xs ≡ 0
 none_summed f [] each = refl
@@ -174,3 +335,143 @@ module _ {S C D E K G : Type 0} (hash_of : S → Position → ℕ) (p : Problem)
             lanes = refl;
             at_quiet = λ quiet. record { lanes = no_packet quiet; workers = worker_at_rest shared parts lanes are (no_purse quiet) };
           }
+
+-- ---- when a world of joined workers is kept
+
+-- a worker of the same state, whose lists are guided, in the place of another
+module _ {C D E K G : Type 0} (xs : List (Worker C D E K G)) (i : ℕ) (d new : Worker C D E K G) where
+  pub states_kept : (states : List WorkerState) → states_of xs ≡ states → state_of new ≡ state_of (get_or xs i d) → states_of (set xs i new) ≡ states
+  states_kept states same kept = map-set_same state_of xs i new d kept ∙ same
+
+  pub guided_kept : (task : Task) (guide : Guide) → i < length xs → (IsGuided task guide (get_or xs i d).lists → IsGuided task guide new.lists) → AreGuided task guide xs → AreGuided task guide (set xs i new)
+  guided_kept task guide within kept all = All-set (λ (worker : Worker C D E K G). IsGuided task guide worker.lists) xs i new (kept (all i d within)) all
+
+-- one worker more has nothing below the limit
+pub high_more : (task : Task) (limit : ℕ) (states : List WorkerState) (i : ℕ) (here : WorkerState) → slice_get states i ≡ Some here → HasNothingBelow task here limit
+    → ((k : ℕ) (worker : WorkerState) → k < i → slice_get states k ≡ Some worker → HasNothingBelow task worker limit)
+    → (k : ℕ) (worker : WorkerState) → k < i + 1 → slice_get states k ≡ Some worker → HasNothingBelow task worker limit
+high_more task limit states i here at high before k worker low is = elim (eqb_tells k i) [
+  | inl p ↦ subst (λ (x : WorkerState). HasNothingBelow task x limit) (some_is here worker (sym at ∙ (ap (slice_get states) (sym p.1) ∙ is))) high
+  | inr p ↦ before k worker (omega (arith, low, p.1)) is
+]
+
+-- all have nothing below it
+pub high_all : (task : Task) (limit : ℕ) (states : List WorkerState) (n : ℕ) → length states ≤ n → ((k : ℕ) (worker : WorkerState) → k < n → slice_get states k ≡ Some worker → HasNothingBelow task worker limit) → All (λ worker. HasNothingBelow task worker limit) states
+high_all task limit states n ended each = all_from_places (λ (worker : WorkerState). HasNothingBelow task worker limit) states (λ k worker at. each k worker (let low = slice_get_within states k worker at in omega (arith, low, ended)) at)
+
+-- what holds of all workers holds of each
+pub high_at : (task : Task) (limit : ℕ) (states : List WorkerState) (i : ℕ) (here : WorkerState) → slice_get states i ≡ Some here → All (λ worker. HasNothingBelow task worker limit) states → HasNothingBelow task here limit
+high_at task limit states i here at all =
+    subst (λ (worker : WorkerState). HasNothingBelow task worker limit) (get_or_from_slice_get states i here here at)
+    (All-get_or (λ (worker : WorkerState). HasNothingBelow task worker limit) states i here (slice_get_within states i here at) all)
+
+-- where its open list has no floor, a worker has nothing below any limit
+pub no_floor : (task : Task) (worker : WorkerState) (floor : Option ℕ) (limit : ℕ) → IsFloor task worker floor → floor ≡ None → HasNothingBelow task worker limit
+no_floor task worker None limit none is = λ b known at. absurd (none (known.cost + task.sum b) (b, known, at, refl))
+no_floor task worker (Some least) limit floor is = absurd (none-some least (sym is))
+
+-- by the floor of its open list a worker has nothing below a limit exactly where the floor is not below it
+pub floor_high : (task : Task) (worker : WorkerState) (floor : Option ℕ) (limit least : ℕ) → IsFloor task worker floor → floor ≡ Some least → (limit ≤ least) ↔ HasNothingBelow task worker limit
+floor_high task worker None limit least none is = absurd (none-some least is)
+floor_high task worker (Some floor) limit least least_is is =
+    let same = some_is floor least is in (
+      (λ le b known at. let le' = least_is.1 (known.cost + task.sum b) (b, known, at, refl) in omega (arith, le, le', same)),
+      (λ high. let has = least_is.0 in let le = high has.0 has.1 has.2 in let at = has.3 in omega (arith, le, at, same)),
+    )
+
+module _ (w : WorldState) (rest : AreAtRest w) where
+  none_lies : (from to : ℕ) (packet : List Item) → LiesIn w from to packet → ⊥
+  none_lies from to packet lies =
+      let row = part_le (λ (r : List Lane). sum_by length r) w.lanes from lies.is.from_lanes lies.is.of_sender in
+      let lane = part_le (λ (l : List (List Item)). length l) lies.is.from_lanes to lies.lane lies.is.of_receiver in
+      let z = rest.lanes in
+      omega (arith, row, lane, z, lies.lies.1)
+
+  emptied : (xs : List (List Item)) (to : ℕ) (packet : List Item) → All (λ p. p ≡ []) xs → slice_get xs to ≡ Some packet → packet ≡ []
+  emptied xs to packet all at = subst (λ (p : List Item). p ≡ []) (get_or_from_slice_get xs to packet packet at) (all to packet (slice_get_within xs to packet at))
+
+  -- nothing is under way where all is at rest
+  pub none_under_way : (to : ℕ) (item : Item) → IsUnderWay w to item → ⊥
+  none_under_way to item (inl has) = none_in_empty has.0.held item (rest.workers to has.0 has.1).held has.2
+  none_under_way to item (inr (inl has)) = none_in_empty has.2 item (emptied has.1.unsent to has.2 (rest.workers has.0 has.1 has.3).unsent has.4) has.5
+  none_under_way to item (inr (inr has)) = none_lies has.0 to has.1 has.2
+
+module _ (task : Task) (hash : Position → ℕ) (states : List WorkerState) (w : WorldState) (parts : HasParts task hash states w) where
+  goal_board : IsTaskBoard task task.goal
+  goal_board = subst (λ (t : Task). IsTaskBoard t t.goal) parts.asks (parts.shaped.task.goal, refl)
+
+  start_board : IsTaskBoard task task.start
+  start_board = subst (λ (t : Task). IsTaskBoard t t.start) parts.asks (parts.shaped.task.start, parts.shaped.task.sides)
+
+  high_frontier : AreAtRest w → (limit : ℕ) → All (λ worker. HasNothingBelow task worker limit) states → (b : Position) (cost : ℕ) → IsInFrontier w b cost → limit ≤ cost + w.task.sum b
+  high_frontier rest limit high b cost (inl has) =
+      let knows = has.2 in
+      let at = worker_from task hash states w parts has.0 knows.worker knows.is in
+      let here : HasNothingBelow task knows.worker limit = high_at task limit states has.0 knows.worker at high in
+      let there : HasNothingBelow w.task knows.worker limit = subst (λ (t : Task). HasNothingBelow t knows.worker limit) (sym parts.asks) here in
+      let le = there b has.1 (record { board = knows.board; knows = knows.knows; unexpanded = has.3; no_goal = has.4 }) in
+      omega (arith, le, has.5)
+  high_frontier rest limit high b cost (inr has) = absurd (none_under_way w rest has.0 has.1 has.2)
+
+  -- it is quiet where all is at rest, the frontier is not below the limit, and the best cost is that at which the goal is known
+  quiet_is : AreAtRest w → All (λ worker. HasNothingBelow task worker (limit_of w.book.best)) states → option_map (λ known. known.cost) (known_in hash states task.goal) ≡ w.book.best → IsQuiet w
+  quiet_is rest high reached = record {
+    lanes = rest.lanes;
+    workers = rest.workers;
+    frontier = high_frontier rest (limit_of w.book.best) high;
+    best = subst (λ (o : Option ℕ). IsReached w o) reached (reached_is task hash states w parts (known_in hash states task.goal) goal_board refl);
+  }
+
+  -- where it is quiet, no worker has anything below the limit
+  all_high : IsQuiet w → All (λ worker. HasNothingBelow task worker (limit_of w.book.best)) states
+  all_high quiet =
+      all_from_places (λ (worker : WorkerState). HasNothingBelow task worker (limit_of w.book.best)) states
+      (λ i worker at. subst (λ (t : Task). HasNothingBelow t worker (limit_of w.book.best)) parts.asks (high_here i worker (worker_at task hash states w parts i worker at)))
+    where
+      high_here : (i : ℕ) (worker : WorkerState) → IsWorker w i worker → HasNothingBelow w.task worker (limit_of w.book.best)
+      high_here i worker is b known at =
+          quiet.frontier b known.cost (inl (i, known, record { worker = worker; is = is; board = at.board; knows = at.knows }, at.unexpanded, at.no_goal, refl))
+
+  -- and the best cost is that at which the goal is known
+  best_known : IsQuiet w → option_map (λ known. known.cost) (known_in hash states task.goal) ≡ w.book.best
+  best_known quiet = least_unique _ _ w.book.best (reached_is task hash states w parts (known_in hash states task.goal) goal_board refl) quiet.best
+
+  -- the start is expanded at its owner
+  abbrev pub HasExpanded : Type 0
+  HasExpanded = (known : Known) × (known_in hash states task.start ≡ Some known) × (known.expanded ≡ true)
+
+  -- it has begun exactly where the start is expanded at its owner
+  has_begun : HasExpanded → HasBegun w
+  has_begun has = (
+    w.owner task.start,
+    has.0,
+    subst (λ (b : Position). Knows w (w.owner task.start) b has.0) (ap (λ (t : Task). t.start) (sym parts.asks)) (knows_of task hash states w parts task.start has.0 start_board has.1),
+    has.2,
+  )
+
+  is_expanded : HasBegun w → HasExpanded
+  is_expanded has =
+      let known = has.1 in
+      let own : w.owner w.task.start ≡ has.0 = (knows_owned w parts.shaped has.0 w.task.start known has.2).0 in
+      let there : Knows w (w.owner w.task.start) w.task.start known = subst (λ (i : ℕ). Knows w i w.task.start known) (sym own) has.2 in
+      let here : Knows w (w.owner task.start) task.start known = subst (λ (t : Task). Knows w (w.owner t.start) t.start known) parts.asks there in
+      (known, known_from task hash states w parts task.start known here, has.3)
+
+  -- by what it stopped, it is kept exactly where it is so at that
+  pub kept_at : (stop : Option Stop) → w.book.stop ≡ stop → IsKeptAt w stop ↔ IsKept w
+  kept_at stop is = ((λ kept. subst (λ (o : Option Stop). IsKeptAt w o) (sym is) kept), (λ kept. subst (λ (o : Option Stop). IsKeptAt w o) is kept))
+
+  -- stopped by Quiet it is kept exactly where the best cost is that at which the goal is known, and no worker has anything below the limit
+  pub kept_quiet : w.book.stop ≡ Some Quiet → AreAtRest w → (best : Option ℕ) → best ≡ w.book.best
+      → ((option_map (λ known. known.cost) (known_in hash states task.goal) ≡ best) × All (λ worker. HasNothingBelow task worker (limit_of best)) states) ↔ IsKept w
+  kept_quiet stop rest best is =
+      subst (λ (o : Option ℕ). ((option_map (λ known. known.cost) (known_in hash states task.goal) ≡ o) × All (λ worker. HasNothingBelow task worker (limit_of o)) states) ↔ IsKept w) (sym is)
+      ((λ both. (kept_at (Some Quiet) stop).0 (quiet_is rest both.1 both.0)), (λ kept. let quiet = (kept_at (Some Quiet) stop).1 kept in (best_known quiet, all_high quiet)))
+
+  -- halted for the limit it is kept exactly where the start is expanded, or the limit is no more than one grant for each worker
+  pub kept_limit : w.book.stop ≡ Some Limit → (count limit : ℕ) → length states ≡ count → w.book.limit ≡ limit → (GREATEST_GRANT * count < limit → HasExpanded) ↔ IsKept w
+  kept_limit stop count limit is same =
+      let workers : length w.workers ≡ count = ap (λ (ws : List WorkerState). length ws) parts.works ∙ is in
+      subst (λ (k : ℕ). (GREATEST_GRANT * k < limit → HasExpanded) ↔ IsKept w) workers
+      (subst (λ (k : ℕ). (GREATEST_GRANT * length w.workers < k → HasExpanded) ↔ IsKept w) same
+      ((λ spent. (kept_at (Some Limit) stop).0 (λ low. has_begun (spent low))), (λ kept low. is_expanded ((kept_at (Some Limit) stop).1 kept low))))

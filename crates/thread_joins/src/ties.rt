@@ -14,7 +14,7 @@ use world_model::Stop;
 
 /// Looks at all rings from both ends: what was received and what is left is what was sent, and
 /// where the run is quiet nothing is left.
-#[tactic(auto, using(crate::proofs::RowLemmas::rows))]
+#[tactic(auto, using(crate::proofs::TakenLemmas::rows))]
 pub(crate) fn tie_all<C: Tokens>(
     book: &mut Book<C>,
     outs: &mut Vec<Vec<Sender<C>>>,
@@ -41,7 +41,7 @@ pub(crate) fn tie_all<C: Tokens>(
 }
 
 // Looks at the rings from worker i to each.
-#[tactic(auto, using(crate::proofs::RowLemmas::rows))]
+#[tactic(auto, using(crate::proofs::TakenLemmas::rows))]
 fn tie_row<C: Tokens>(
     book: &mut Book<C>,
     outs: &mut Vec<Sender<C>>,

@@ -1,8 +1,7 @@
 use Rattle.std.proofs.Common.{rules, arith, ◌≡◌, ◌∷◌, [], List, subst, sym, refl}
 use Rattle.std.specs.Vec.Iter.{into_iter_items}
 use Rattle.thread_parts.specs.Parts.{Face}
-use Rattle.thread_joins.proofs.PartLemmas.{nothing}
-use Rattle.thread_joins.proofs.TakenLemmas.{AreTaken, none_taken, taken_same, taken_more, all_taken}
+use Rattle.thread_joins.proofs.TakenLemmas.{nothing, AreTaken, none_taken, taken_same, taken_more, all_taken}
 use Rattle.thread_joins.proofs.apart.take_apart.Goals as goal
 
 pub parts-init : goal.parts-init

@@ -4,7 +4,7 @@ use Rattle.worker_core.specs.Workers.{state_of}
 use Rattle.world_ends.specs.Parts.{states_of}
 use Rattle.world_ends.proofs.PartLemmas.{state_at}
 use Rattle.std.specs.Prelude.{slice_index_or}
-use Rattle.thread_joins.proofs.LookLemmas.{states_kept, guided_kept, high_at, high_more, high_all}
+use Rattle.thread_joins.proofs.WorldLemmas.{states_kept, guided_kept, high_at, high_more, high_all}
 use Rattle.thread_joins.proofs.looks.are_high.Goals as goal
 
 pub workers-preserved : goal.workers-preserved

@@ -1,6 +1,6 @@
 use Rattle.std.proofs.Common.{rules, ◌≡◌, None, refl}
 use Rattle.worker_core.specs.Workers.{state_of}
-use Rattle.thread_joins.proofs.LookLemmas.{floor_high, no_floor}
+use Rattle.thread_joins.proofs.WorldLemmas.{floor_high, no_floor}
 use Rattle.thread_joins.proofs.looks.is_high.Goals as goal
 
 pub returns-in_default-clause-high : goal.returns-in_default-clause-high

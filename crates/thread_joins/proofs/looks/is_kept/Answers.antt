@@ -6,7 +6,7 @@ use Rattle.world_model.specs.Books.{BookState}
 use Rattle.worker_core.specs.Workers.{state_of}
 use Rattle.world_ends.specs.Parts.{states_of}
 use Rattle.hda_run.specs.Problems.{task_in}
-use Rattle.thread_joins.proofs.LookLemmas.{kept_at, kept_quiet, kept_limit}
+use Rattle.thread_joins.proofs.WorldLemmas.{kept_at, kept_quiet, kept_limit}
 use Rattle.thread_joins.proofs.looks.is_kept.Goals as goal
 
 pub returns-in_default-clause-kept : goal.returns-in_default-clause-kept

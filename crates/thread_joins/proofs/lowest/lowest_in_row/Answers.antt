@@ -3,8 +3,8 @@ use Rattle.std.specs.Vec.Iter.{into_iter_items}
 use Rattle.lower_bound.specs.Bounds.{sum_of}
 use Rattle.lower_bound.specs.Tables.{parts_of}
 use Rattle.thread_joins.specs.Lanes.{IsLeft}
-use Rattle.thread_joins.proofs.LaneLemmas.{so_far_none, so_far_more, so_far_all, so_far_next}
-use Rattle.thread_joins.proofs.PartLemmas.{nothing}
+use Rattle.thread_joins.proofs.WorldLemmas.{so_far_none, so_far_more, so_far_all, so_far_next}
+use Rattle.thread_joins.proofs.TakenLemmas.{nothing}
 use Rattle.thread_joins.proofs.lowest.lowest_in_row.Goals as goal
 
 pub senders-init : goal.senders-init

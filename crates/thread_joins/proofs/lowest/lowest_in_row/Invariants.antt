@@ -2,7 +2,7 @@ use Rattle.lower_bound.specs.Bounds.{sum_of}
 use Rattle.lower_bound.specs.Tables.{parts_of}
 use Rattle.std.specs.Vec.Iter.{into_iter_items}
 use Rattle.thread_joins.specs.Lanes.{IsLeft}
-use Rattle.thread_joins.proofs.LaneLemmas.{IsLeastSoFar}
+use Rattle.thread_joins.proofs.WorldLemmas.{IsLeastSoFar}
 use Rattle.thread_joins.proofs.lowest.lowest_in_row.Given as goal
 
 -- the least beside the rings so far

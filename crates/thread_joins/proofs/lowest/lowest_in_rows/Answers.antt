@@ -6,8 +6,8 @@ use Rattle.lower_bound.specs.Bounds.{sum_of}
 use Rattle.lower_bound.specs.Tables.{parts_of}
 use Rattle.rings.specs.Rings.{ReceivingEnd}
 use Rattle.thread_joins.specs.Lanes.{IsLeftInRow}
-use Rattle.thread_joins.proofs.LaneLemmas.{so_far_none, so_far_more, so_far_all, so_far_next}
-use Rattle.thread_joins.proofs.PartLemmas.{nothing}
+use Rattle.thread_joins.proofs.WorldLemmas.{so_far_none, so_far_more, so_far_all, so_far_next}
+use Rattle.thread_joins.proofs.TakenLemmas.{nothing}
 use Rattle.thread_joins.proofs.lowest.lowest_in_rows.Goals as goal
 
 pub receivers-init : goal.receivers-init

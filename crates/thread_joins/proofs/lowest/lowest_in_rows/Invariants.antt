@@ -5,7 +5,7 @@ use Rattle.lower_bound.specs.Tables.{parts_of}
 use Rattle.std.specs.Vec.Iter.{into_iter_items}
 use Rattle.rings.specs.Rings.{ReceivingEnd}
 use Rattle.thread_joins.specs.Lanes.{IsLeftInRow}
-use Rattle.thread_joins.proofs.LaneLemmas.{IsLeastSoFar}
+use Rattle.thread_joins.proofs.WorldLemmas.{IsLeastSoFar}
 use Rattle.thread_joins.proofs.lowest.lowest_in_rows.Given as goal
 
 -- the least beside the rows so far

@@ -3,8 +3,8 @@ use Rattle.lower_bound.specs.Bounds.{sum_of}
 use Rattle.lower_bound.specs.Tables.{parts_of}
 use Rattle.world_model.specs.Workers.{Packet}
 use Rattle.world_ends.specs.Lowest.{IsLeastBeside, IsOfItem, AreItemsOn}
-use Rattle.thread_joins.proofs.LaneLemmas.{so_far_none, so_far_more, so_far_all, so_far_next}
-use Rattle.thread_joins.proofs.PartLemmas.{nothing}
+use Rattle.thread_joins.proofs.WorldLemmas.{so_far_none, so_far_more, so_far_all, so_far_next}
+use Rattle.thread_joins.proofs.TakenLemmas.{nothing}
 use Rattle.thread_joins.proofs.lowest.lowest_left.Goals as goal
 
 pub packets-init : goal.packets-init

@@ -2,7 +2,7 @@ use Rattle.std.proofs.Common.{◌≡◌, ◌+◌, length}
 use Rattle.lower_bound.specs.Bounds.{sum_of}
 use Rattle.lower_bound.specs.Tables.{parts_of}
 use Rattle.world_ends.specs.Lowest.{IsOfItem}
-use Rattle.thread_joins.proofs.LaneLemmas.{IsLeastSoFar}
+use Rattle.thread_joins.proofs.WorldLemmas.{IsLeastSoFar}
 use Rattle.thread_joins.proofs.lowest.lowest_left.Given as goal
 
 -- the least beside the packets so far

@@ -3,7 +3,7 @@ use Rattle.std.proofs.lemmas.List.{get_or-map, length-map}
 use Rattle.rings.specs.Rings.{Ring, SendingEnd, out_rings, rings_of_outs, sent_lanes, sent_rows, received_rows, left_rows, lane_at}
 use Rattle.world_model.specs.Workers.{Lane}
 use Rattle.thread_joins.specs.Lanes.{IsTied}
-use Rattle.thread_joins.proofs.RowLemmas.{out_rings-set, sent-set, tied_more, quiet_more}
+use Rattle.thread_joins.proofs.TakenLemmas.{out_rings-set, sent-set, tied_more, quiet_more}
 use Rattle.thread_joins.proofs.ties.tie_all.Goals as goal
 
 pub tie_row-requires-clause-len : goal.tie_row-requires-clause-len

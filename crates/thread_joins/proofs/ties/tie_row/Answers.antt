@@ -3,7 +3,7 @@ use Rattle.std.proofs.lemmas.List.{get_or-map, length-map}
 use Rattle.rings.specs.Rings.{Ring, ReceivingEnd, in_rings, received_lanes, left_lanes, rings_of_ins, sent_lanes}
 use Rattle.world_model.specs.Workers.{Lane}
 use Rattle.thread_joins.specs.Lanes.{IsTied}
-use Rattle.thread_joins.proofs.RowLemmas.{in_rings-set, received-set, tied_row, quiet_row, others_row}
+use Rattle.thread_joins.proofs.TakenLemmas.{in_rings-set, received-set, tied_row, quiet_row, others_row}
 use Rattle.thread_joins.proofs.ties.tie_row.Goals as goal
 
 pub tie_ring-requires-clause-from : goal.tie_ring-requires-clause-from

@@ -12,7 +12,7 @@ use Rattle.worker_core.specs.Roles.{IsGuided}
 use Rattle.worker_core.specs.Workers.{state_of}
 use Rattle.world_ends.specs.Parts.{states_of}
 use Rattle.world_ends.proofs.PartLemmas.{state_at}
-use Rattle.thread_joins.proofs.PartLemmas.{some_is}
+use Rattle.thread_joins.proofs.TakenLemmas.{some_is}
 use Rattle.thread_joins.proofs.world.audit_all.Goals as goal
 
 pub workers-preserved : goal.workers-preserved
