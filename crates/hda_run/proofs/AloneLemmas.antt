@@ -32,16 +32,14 @@ use Rattle.world_model.specs.Shapes.{IsShaped}
 use Rattle.world_model.specs.Workers.{WorkerState, Packet, Role, HasNothingBelow, KnowsGoalAt, IsIdle}
 use Rattle.world_model.specs.WorkerSteps.{IsOverfull}
 use Rattle.world_model.proofs.ChangeLemmas.{changed}
-use Rattle.world_model.proofs.QuietLemmas.{expansions_limited}
-use Rattle.world_model.proofs.RunLemmas.{refusals_change_nothing, openings_sound, one_spends_it, runs_spend}
+use Rattle.world_model.proofs.RunLemmas.{expansions_limited, refusals_change_nothing, openings_sound, one_spends_it, runs_spend}
 use Rattle.world_model.proofs.StepCases.{Cases, OwnChange, BookChange, Expands, Announces, next_cases}
-use Rattle.world_model.proofs.StepsCredited.{steps_credited}
-use Rattle.world_model.proofs.StepsShaped.{steps_shaped}
+use Rattle.world_model.proofs.CreditLemmas.{steps_credited, limit_falls, lower_best, not_below_itself, not_below_stable}
+use Rattle.world_model.proofs.ShapeKept.{steps_shaped}
 use Rattle.world_model.specs.declared.steps.HaltCause.{HaltCause}
 use Rattle.world_model.specs.declared.steps.HaltCause.TheVariants as causes
 use Rattle.world_model.specs.declared.steps.Stop.TheVariants as stops
 use Rattle.world_model.specs.Openings.{Job, IsJob, opening, first_worker, idle_worker}
-use Rattle.world_model.proofs.CreditLemmas.{limit_falls, lower_best, not_below_itself, not_below_stable}
 use Rattle.world_model.proofs.RestLemmas.{runs_joined}
 use Rattle.hda_run.specs.Rounds.{IsLone, Refuses, work_left, Reaches, Stops}
 use Rattle.hda_run.specs.Alone.{HaltsNowhere, IsHalt, AreLast, IsRunAlone}

@@ -21,15 +21,14 @@ use Rattle.world_model.specs.Outcomes.{IsGiven, IsBounded}
 use Rattle.world_model.specs.Shapes.{IsShaped}
 use Rattle.world_model.specs.Soundness.{IsSound}
 use Rattle.world_model.specs.Worlds.{WorldState}
-use Rattle.world_model.proofs.BegunLemmas.{runs_kept}
-use Rattle.world_model.proofs.KeptLemmas.{bounds_given, kept_never_cut, causes_stop}
+use Rattle.world_model.proofs.KeptLemmas.{runs_kept, bounds_given, kept_never_cut, causes_stop}
 use Rattle.world_model.specs.declared.steps.HaltCause.{HaltCause}
 use Rattle.world_model.specs.declared.steps.Refusal.{Refusal}
 use Rattle.world_model.specs.declared.steps.Step.{Step}
 use Rattle.world_model.specs.declared.steps.Step.TheVariants.{Rest, Halt}
 use Rattle.world_model.specs.Steps.{IsRun, Next}
 use Rattle.world_model.specs.Turns.{turn}
-use Rattle.world_model.proofs.ListLemmas.{cons_cases, none_in_empty}
+use Rattle.world_model.proofs.ChangeLemmas.{cons_cases, none_in_empty}
 use Rattle.world_ends.specs.Endings.{EndsIn}
 use Rattle.world_ends.proofs.LawLemmas.{ends_bounded}
 use Rattle.hda_run.specs.Alone.{AreLast, IsRunAlone, HaltsNowhere, IsHalt}

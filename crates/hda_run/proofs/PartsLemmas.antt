@@ -26,8 +26,8 @@ use Rattle.world_model.specs.Steps.{ByWorker, OnBook, with_worker, OnLane, from_
 use Rattle.world_model.specs.Turns.{Turn, turn}
 use Rattle.world_model.specs.Workers.{WorkerState, Packet, Lane}
 use Rattle.world_model.specs.Worlds.{IsWorker, Knows, role_of, IsLane}
-use Rattle.world_model.proofs.ListLemmas.{part_le}
-use Rattle.world_model.proofs.StepsCredited.{funds}
+use Rattle.world_model.proofs.ChangeLemmas.{part_le}
+use Rattle.world_model.proofs.CreditLemmas.{funds}
 use Rattle.world_model.specs.WorkerSteps.{AtLane}
 use Rattle.world_model.specs.declared.parts.Item.{Item}
 use Rattle.world_model.specs.declared.parts.Known.{Known}

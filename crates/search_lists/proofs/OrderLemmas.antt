@@ -13,7 +13,7 @@ use Rattle.closed_table.specs.Tables.{Table, arrivals, relaxation_answer, table_
 use Rattle.closed_table.specs.declared.table.Relaxed.TheVariants.{New, Lower, Kept}
 use Rattle.world_model.specs.declared.parts.Known.{Known}
 use Rattle.world_model.specs.Knowledge.{Knowledge, is_news}
-use Rattle.world_model.proofs.TableLemmas.{with_insert, get_inserted, same_known}
+use Rattle.world_model.proofs.ChangeLemmas.{with_insert, get_inserted, same_known}
 use Rattle.search_lists.specs.Lists.{Lists, both, AreKnown, HasEntriesOf, HasMoreRoom}
 use Rattle.open_buckets.specs.declared.open.TheConstants.{GREATEST_F}
 use Rattle.search_lists.specs.Orders.{Guide, IsOpen, IsInOrder, NoneBelow, IsFirst, IsLeastOpen, AddsUp}

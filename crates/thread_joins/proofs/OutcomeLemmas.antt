@@ -17,7 +17,7 @@ use Rattle.world_model.specs.Books.{BookState}
 use Rattle.world_model.specs.Workers.{WorkerState, Lane}
 use Rattle.world_model.specs.Worlds.{WorldState, IsUnderWay, LiesIn}
 use Rattle.world_model.specs.declared.parts.Item.{Item}
-use Rattle.world_model.proofs.ListLemmas.{part_le, none_in_empty}
+use Rattle.world_model.proofs.ChangeLemmas.{part_le, none_in_empty}
 use Rattle.world_model.proofs.KeptLemmas.{kept_quiet}
 use Rattle.world_model.proofs.OutcomeLemmas.{outcomes_answer}
 use Rattle.worker_core.specs.declared.worker.Worker.{Worker}

@@ -18,7 +18,7 @@ use Rattle.world_model.specs.declared.parts.Item.{Item}
 use Rattle.world_model.specs.Shapes.{IsShaped}
 use Rattle.world_model.specs.Workers.{Packet, Lane, WorkerState, IsTaskBoard, IsFloor, HasNothingBelow}
 use Rattle.world_model.specs.Worlds.{WorldState, IsLane, LiesIn, HasInLaneTo, IsUnderWay, IsWorker, Knows}
-use Rattle.world_model.proofs.ListLemmas.{get_below, at_in, place_of, head_in, all_from_places, part_le, none_in_empty}
+use Rattle.world_model.proofs.ChangeLemmas.{get_below, at_in, place_of, head_in, all_from_places, part_le, none_in_empty, knows_owned}
 use Rattle.world_model.specs.declared.limits.TheConstants.{LANE_LIMIT, GREATEST_GRANT}
 use Rattle.world_model.specs.declared.steps.Stop.TheVariants.{Quiet, Limit}
 use Rattle.world_model.specs.Books.{BookState}
@@ -28,7 +28,6 @@ use Rattle.world_model.specs.Costs.{limit_of}
 use Rattle.world_model.specs.Frontiers.{IsInFrontier, IsReached}
 use Rattle.world_model.specs.Quiet.{IsQuiet, IsKept, IsKeptAt, HasBegun}
 use Rattle.world_model.proofs.OutcomeLemmas.{least_unique}
-use Rattle.world_model.proofs.ShapeLemmas.{knows_owned}
 use Rattle.thread_model.specs.Parts.{PartState, IsRole, Keeps}
 use Rattle.thread_model.specs.Joined.{AreParts, IsAt, Shared, role_in, world_with}
 use Rattle.thread_model.specs.Laws.{JoinedPartsAreSound}

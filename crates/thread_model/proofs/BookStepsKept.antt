@@ -11,7 +11,7 @@ use Rattle.world_model.specs.Books.{BookState, grant_of}
 use Rattle.world_model.specs.Costs.{limit_of}
 use Rattle.world_model.specs.Turns.{turn}
 use Rattle.world_model.specs.Workers.{IsIdle, Packet, Role, WorkerState}
-use Rattle.world_model.proofs.ListLemmas.{is_empty}
+use Rattle.world_model.proofs.ChangeLemmas.{is_empty}
 use Rattle.world_model.proofs.CreditLemmas.{not_below_stable}
 use Rattle.world_model.proofs.ShapeKept.{shaped_same}
 use Rattle.world_model.proofs.StepCases.{Announces, Cases, Draws, Grants, Halts, Rests, announce_cases, draw_cases, grant_cases, halt_cases, rest_cases}

@@ -19,12 +19,10 @@ use Rattle.world_model.specs.Shapes.{IsShapedWorker}
 use Rattle.world_model.specs.Turns.{turn}
 use Rattle.world_model.specs.WorkerSteps.{ExpandStepBy, IsOverfull}
 use Rattle.world_model.specs.Workers.{WorkerState, Role, IsTaskBoard, KnowsAs, IsIdle, IsOpen, HasNothingBelow}
-use Rattle.world_model.proofs.ExpandLemmas.{Among, HasSlots, all_known, all_lower, all_there, all_unsent, all_put, all_back, all_held, all_rest}
-use Rattle.world_model.proofs.ExpandOffers.{offered_by, offers_but, offered_board_by}
+use Rattle.world_model.proofs.ExpandLemmas.{Among, HasSlots, all_known, all_lower, all_there, all_unsent, all_put, all_back, all_held, all_rest, offered_by, offers_but, offered_board_by}
 use Rattle.world_model.proofs.ShapeKept.{expanded_low, shaped_expanded_by, slots}
-use Rattle.world_model.proofs.ShapeLemmas.{known_owned}
+use Rattle.world_model.proofs.ChangeLemmas.{known_owned, entry, same_key, with_insert}
 use Rattle.world_model.proofs.StepCases.{IsLeft, ExpandsBy, expand_cases_by}
-use Rattle.world_model.proofs.TableLemmas.{entry, same_key, with_insert}
 use Rattle.thread_model.specs.Parts.{PartState, HasOrigin, HasUnsent, KnowsAtMost, KnowsBefore, IsSeenTo, IsMade, LeadsBack, IsRole, Keeps}
 use Rattle.thread_model.specs.Changes.{with_worker}
 use Rattle.thread_model.specs.Laws.{ExpandingIsKept}

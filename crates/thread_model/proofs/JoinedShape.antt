@@ -10,7 +10,7 @@ use Rattle.world_model.specs.declared.parts.Item.{Item}
 use Rattle.world_model.specs.Books.{BookState}
 use Rattle.world_model.specs.Shapes.{IsItemFor, IsPacketFor, IsShaped, IsShapedLane, IsShapedWorker}
 use Rattle.world_model.specs.Workers.{Lane, Packet, WorkerState}
-use Rattle.world_model.proofs.ListLemmas.{get_below}
+use Rattle.world_model.proofs.ChangeLemmas.{get_below}
 use Rattle.thread_model.specs.Parts.{HasCome, IsAmong, IsRole, PartState, WasSent}
 use Rattle.thread_model.specs.Joined.{AreParts, IsAt, Shared, role_in, workers_of, world_with}
 

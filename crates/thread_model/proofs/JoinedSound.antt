@@ -12,7 +12,7 @@ use Rattle.world_model.specs.Shapes.{IsItemFor}
 use Rattle.world_model.specs.Soundness.{HasPredecessor, IsCovered, IsSound}
 use Rattle.world_model.specs.Workers.{IsTaskBoard, KnowsAs, Lane, WorkerState}
 use Rattle.world_model.specs.Worlds.{IsUnderWay, Knows, WorldState}
-use Rattle.world_model.proofs.ShapeLemmas.{known_owned, moved_task_board}
+use Rattle.world_model.proofs.ChangeLemmas.{known_owned, moved_task_board}
 use Rattle.thread_model.specs.Parts.{HasCome, HasOrigin, IsMade, IsPassedOn, IsSeenTo, KnowsAtMost, KnowsBefore, LeadsBack, PartState, WasSent}
 use Rattle.thread_model.specs.Joined.{AreParts, Shared, role_in, workers_of, world_with}
 use Rattle.thread_model.specs.Laws.{JoinedPartsAreSound}

@@ -11,9 +11,8 @@ use Rattle.world_model.specs.declared.parts.Item.{Item}
 use Rattle.world_model.specs.declared.parts.Known.{Known}
 use Rattle.world_model.specs.Shapes.{IsItemFor, IsPacketFor}
 use Rattle.world_model.specs.Workers.{Lane, Packet, Role, packet_for}
-use Rattle.world_model.proofs.ListLemmas.{get_set_same, get_set_other, at_set, none_in_empty, some_in, get_below}
-use Rattle.world_model.proofs.ShapeKept.{shaped_same, shaped_sent}
-use Rattle.world_model.proofs.StepsShaped.{some_unsent}
+use Rattle.world_model.proofs.ChangeLemmas.{get_set_same, get_set_other, at_set, none_in_empty, some_in, get_below}
+use Rattle.world_model.proofs.ShapeKept.{shaped_same, shaped_sent, some_unsent}
 use Rattle.thread_model.specs.Changes.{with_packet}
 use Rattle.thread_model.specs.Laws.{ReceivingIsKept, SendingIsKept}
 use Rattle.thread_model.specs.Parts.{AreFor, CameAs, HasCome, HasOrigin, HasUnsent, IsAmong, IsSeenTo, Keeps, KnowsAtMost, LeadsBack, PartState, WasSent}

@@ -15,8 +15,7 @@ use Rattle.world_model.specs.Openings.{first_worker, idle_worker}
 use Rattle.world_model.specs.Shapes.{IsPacketFor, IsShapedWorker}
 use Rattle.world_model.specs.Workers.{IsIdle, IsTaskBoard, KnowsAs, Role, WorkerState}
 use Rattle.world_model.specs.Costs.{limit_of}
-use Rattle.world_model.proofs.ListLemmas.{at_replicate, none_in, none_in_empty}
-use Rattle.world_model.proofs.TableLemmas.{get_inserted, same_key, with_insert}
+use Rattle.world_model.proofs.ChangeLemmas.{at_replicate, none_in, none_in_empty, get_inserted, same_key, with_insert}
 use Rattle.thread_model.specs.Changes.{opening_part}
 use Rattle.thread_model.specs.Laws.{OpeningsAreKept}
 use Rattle.thread_model.specs.Parts.{HasUnsent, IsAmong, IsRole, Keeps, KnowsAtMost, WasSent}

@@ -7,7 +7,7 @@ use Rattle.std.proofs.lemmas.Option.{slice_get_within}
 use Rattle.board.specs.declared.moves.Move.{Move}
 use Rattle.world_model.specs.Openings.{IsJob, Job, first_worker, idle_worker, opening}
 use Rattle.world_model.specs.Workers.{Lane, Role, WorkerState}
-use Rattle.world_model.proofs.ListLemmas.{at_replicate, at_set, get_replicate, get_set_other}
+use Rattle.world_model.proofs.ChangeLemmas.{at_replicate, at_set, get_replicate, get_set_other}
 use Rattle.thread_model.specs.Parts.{IsRole, Keeps, PartState}
 use Rattle.thread_model.specs.Changes.{opening_part}
 use Rattle.thread_model.specs.Joined.{AreParts, IsAt, opening_parts, role_in, shared_by, workers_of}

@@ -23,15 +23,11 @@ use Rattle.world_model.specs.Turns.{Turn, turn}
 use Rattle.world_model.specs.WorkerSteps.{AtLane, ExpandStep, SettleStep}
 use Rattle.world_model.specs.Workers.{IsIdle, Lane, Packet, Role, WorkerState, packet_for}
 use Rattle.world_model.specs.Worlds.{IsLane, IsWorker, WorldState, role_of}
-use Rattle.world_model.proofs.BookKept.{IsSame, book_steps_keep}
-use Rattle.world_model.proofs.ChangeLemmas.{changed, worker_there}
-use Rattle.world_model.proofs.ListLemmas.{head_in, is_empty, none_in_empty}
+use Rattle.world_model.proofs.StepCases.{IsSame, book_steps_keep, Accepts, Cases, Delivers, Expands, LaneChange, OwnChange, Sends as SendsOnLane, Settles, next_cases}
+use Rattle.world_model.proofs.ChangeLemmas.{changed, worker_there, head_in, is_empty, none_in_empty, known_owned}
 use Rattle.world_model.proofs.RunLemmas.{openings_sound}
-use Rattle.world_model.proofs.ShapeKept.{shaped_same}
-use Rattle.world_model.proofs.ShapeLemmas.{known_owned}
-use Rattle.world_model.proofs.StepCases.{Accepts, Cases, Delivers, Expands, LaneChange, OwnChange, Sends as SendsOnLane, Settles, next_cases}
-use Rattle.world_model.proofs.StepsCredited.{steps_credited}
-use Rattle.world_model.proofs.StepsShaped.{steps_shaped}
+use Rattle.world_model.proofs.ShapeKept.{shaped_same, steps_shaped}
+use Rattle.world_model.proofs.CreditLemmas.{steps_credited}
 use Rattle.thread_model.specs.Parts.{IsRole, Keeps, PartState}
 use Rattle.thread_model.specs.Changes.{IsBookStep, IsPartStep, Receives, Sends, StepsAlone, with_worker}
 use Rattle.thread_model.specs.Joined.{IsOfParts, opening_parts, shared_by}

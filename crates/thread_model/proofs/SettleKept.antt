@@ -15,10 +15,9 @@ use Rattle.world_model.specs.Knowledge.{relaxation}
 use Rattle.world_model.specs.Shapes.{IsItemFor, IsPacketFor, IsShapedWorker}
 use Rattle.world_model.specs.Turns.{turn}
 use Rattle.world_model.specs.Workers.{WorkerState, Role, IsTaskBoard, KnowsAs, IsIdle}
-use Rattle.world_model.proofs.ListLemmas.{none_in_empty, cons_cases, none_in}
+use Rattle.world_model.proofs.ChangeLemmas.{none_in_empty, cons_cases, none_in, entry, same_key, lowered_by, lowered_there}
 use Rattle.world_model.proofs.ShapeKept.{shaped_delivered, shaped_settled}
 use Rattle.world_model.proofs.StepCases.{IsLeft, Settles, settle_cases}
-use Rattle.world_model.proofs.TableLemmas.{entry, same_key, lowered_by, lowered_there}
 use Rattle.thread_model.specs.Parts.{PartState, KnowsAtMost, IsRole, Keeps}
 use Rattle.thread_model.specs.Changes.{with_worker}
 use Rattle.thread_model.specs.Laws.{SettlingIsKept, DroppingIsKept}

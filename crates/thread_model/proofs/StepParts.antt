@@ -9,8 +9,7 @@ use Rattle.world_model.specs.Shapes.{IsShaped}
 use Rattle.world_model.specs.Steps.{with_lane}
 use Rattle.world_model.specs.Workers.{Lane, Packet, WorkerState}
 use Rattle.world_model.specs.Worlds.{IsLane, WorldState, role_of}
-use Rattle.world_model.proofs.ChangeLemmas.{changed, lane_after, lane_there}
-use Rattle.world_model.proofs.ListLemmas.{at_set, get_below, get_set_other}
+use Rattle.world_model.proofs.ChangeLemmas.{changed, lane_after, lane_there, at_set, get_below, get_set_other}
 use Rattle.thread_model.specs.Parts.{IsRole, Keeps, PartState}
 use Rattle.thread_model.specs.Changes.{with_packet}
 use Rattle.thread_model.specs.Joined.{IsAt, IsOfParts, shared_by, workers_of}

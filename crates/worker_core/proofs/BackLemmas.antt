@@ -26,7 +26,7 @@ use Rattle.world_model.specs.Turns.{Becomes, Turn, Unless, turn}
 use Rattle.world_model.specs.WorkerSteps.{ExpandOnwardStep, ExpandStep, IsOverfull, WithMemory}
 use Rattle.world_model.specs.Workers.{WorkerState, Role, KnowsAs, IsNext}
 use Rattle.world_model.proofs.ExpandLemmas.{all_lower}
-use Rattle.world_model.proofs.TableLemmas.{with_insert}
+use Rattle.world_model.proofs.ChangeLemmas.{with_insert}
 use Rattle.worker_core.specs.Expanding.{all_taken, taken, role_by}
 use Rattle.worker_core.specs.Roles.{WereReached}
 use Rattle.worker_core.proofs.ExpandLemmas.{in_four, one_first}

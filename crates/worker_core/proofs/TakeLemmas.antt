@@ -24,7 +24,7 @@ use Rattle.world_model.specs.declared.parts.Known.{Known}
 use Rattle.world_model.specs.Knowledge.{Knowledge, is_news, relaxation_at}
 use Rattle.world_model.specs.Expansions.{with_successor}
 use Rattle.world_model.specs.Workers.{WorkerState, Packet, Role, IsTaskBoard}
-use Rattle.world_model.proofs.TableLemmas.{with_insert}
+use Rattle.world_model.proofs.ChangeLemmas.{with_insert}
 use Rattle.worker_core.specs.Expanding.{IsReady, stock, OfAll, taken, AddsUpBy}
 use Rattle.worker_core.specs.Roles.{IsGuided, AreTaskBoards}
 

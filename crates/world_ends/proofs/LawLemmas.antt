@@ -15,7 +15,7 @@ use Rattle.world_model.specs.Frontiers.{IsReached}
 use Rattle.world_model.specs.Laws.{OutcomesAnswer}
 use Rattle.world_model.specs.Shapes.{IsShaped}
 use Rattle.world_model.specs.Worlds.{WorldState}
-use Rattle.world_model.proofs.ShapeLemmas.{knows_owned, plan_short}
+use Rattle.world_model.proofs.ChangeLemmas.{knows_owned, plan_short}
 use Rattle.outcomes.specs.declared.outcome.Ending.TheVariants.{Optimal, Unsolvable, Bounded}
 use Rattle.world_model.specs.KeptLaws.{KnowsGoal}
 use Rattle.world_model.specs.Outcomes.{AreRowsFor, End, IsBoundOf, IsGiven, IsStoppedAt}

@@ -1,33 +1,150 @@
--- The outcome that a sound world gives answers its task.
-use Rattle.std.proofs.Common.{◌≡◌, ◌≢◌, ◌⊎◌, ℕ, suc, ◌+◌, ◌<◌, ◌≤◌, true, false, List, [], length, get_or, refl, sym, ap, ◌∙◌, subst, inl, inr, ⊎_elim, arith, Option, Some, None}
-use Rattle.std.specs.Prelude.{min, Contains, AllPairs, Vec}
+-- What a sound world says of plans, and the outcome that it gives.
+use Rattle.std.proofs.Common.{◌≡◌, ◌≢◌, ◌⊎◌, ℕ, ◌+◌, ◌<◌, ◌≤◌, true, false, List, [], ◌∷◌, refl, sym, subst, inl, inr, ⊎_elim, arith, zero, suc, ◌++◌, length, get_or, ap, ◌∙◌, Option, Some, None, ◌^◌}
+use Rattle.std.proofs.lemmas.Bool.{cases_lt, cases_Bool, cases_eq}
+use Rattle.std.specs.Prelude.{min, Contains, AllPairs, Vec, max}
 use Rattle.std.specs.declared.alloc.Global.{Global}
-use Rattle.std.proofs.lemmas.Bool.{cases_lt, cases_Bool}
-use Rattle.std.proofs.lemmas.List.Elements.{Contains-get_or}
+use Rattle.std.proofs.lemmas.List.Elements.{Contains-get_or, Contains-append_left, Contains-push, Contains-push_cases}
+use Rattle.std.specs.FinMap as map
+use Rattle.std.proofs.lemmas.List.Quantifiers.{all_pairs_push}
 use Rattle.board.specs.declared.moves.Move.{Move}
-use Rattle.world_model.specs.declared.steps.Stop.{Stop}
-use Rattle.world_model.specs.declared.steps.Stop.TheVariants.{Quiet, Limit, Memory, Start}
-use Rattle.board.specs.Positions.{Position}
+use Rattle.board.specs.Positions.{Position, IsBoard}
 use Rattle.board.specs.Plans.{Leads, NothingBelow}
-use Rattle.board.specs.Rows.{HasRow, Proves, IsLowerBound}
-use Rattle.outcomes.specs.Outcomes.{Answers, AllowsCause, AllowsWhy, AreRowsOf, HasProof, IsAboveSums, IsBestPlan, IsTrueBound, best_of}
-use Rattle.world_model.specs.declared.parts.Known.{Known}
+use Rattle.board.specs.Rows.{IsLowerBound, HasRow, Proves}
+use Rattle.board.specs.Moves.{Moves}
+use Rattle.board.proofs.PlanLemmas.{one_more}
 use Rattle.board.specs.Keys.{key_of}
+use Rattle.board.specs.declared.costs.TheConstants.{GREATEST_COST, GREATEST_EXPANDED_COST}
+use Rattle.board.specs.Grids.{cell_count}
+use Rattle.board.proofs.KeyLemmas.{key_of-lt}
+use Rattle.outcomes.specs.Outcomes.{Answers, AllowsCause, AllowsWhy, AreRowsOf, HasProof, IsAboveSums, IsBestPlan, IsTrueBound, best_of}
 use Rattle.outcomes.specs.declared.outcome.Cause.{Cause}
 use Rattle.outcomes.specs.declared.outcome.Outcome.{Outcome}
-use Rattle.board.specs.declared.costs.TheConstants.{GREATEST_COST, GREATEST_EXPANDED_COST}
 use Rattle.outcomes.specs.declared.outcome.Outcome.TheVariants.{Optimal, Unsolvable, Bounded}
-use Rattle.world_model.specs.Costs.{IsLeastWith, lesser, limit_of}
+use Rattle.outcomes.specs.declared.outcome.Why.TheVariants.{Exhausted}
+use Rattle.world_model.specs.declared.parts.Item.{Item}
+use Rattle.world_model.specs.declared.parts.Known.{Known}
 use Rattle.world_model.specs.Frontiers.{IsInFrontier, IsLowest, IsReached}
-use Rattle.world_model.specs.Laws.{BoundsAreTrue, OutcomesAnswer}
-use Rattle.world_model.specs.Outcomes.{AreRowsBelow, AreRowsFor, End, IsAloneAt, IsBoundOf, IsFollowedBack, IsGiven, IsGivenAt, IsKnownBelow, IsStoppedAt, cause_of}
-use Rattle.world_model.specs.Quiet.{IsQuiet, QuietIsTrueIn}
 use Rattle.world_model.specs.Shapes.{IsShaped}
-use Rattle.world_model.specs.Soundness.{IsCovered, IsSound}
-use Rattle.world_model.specs.Worlds.{Knows, WorldState}
-use Rattle.world_model.proofs.ShapeLemmas.{knows_owned, offer_owned, plan_short}
+use Rattle.world_model.specs.Soundness.{IsCovered, IsSound, HasPredecessor, IsLedTo}
+use Rattle.world_model.specs.Worlds.{IsUnderWay, Knows, WorldState}
+use Rattle.world_model.specs.KeptLaws.{LastMovesLeadBack, WorldsGiveOutcomes}
+use Rattle.world_model.specs.Outcomes.{IsByLastMoves, AreRowsBelow, AreRowsFor, End, IsAloneAt, IsBoundOf, IsFollowedBack, IsGiven, IsGivenAt, IsKnownBelow, IsStoppedAt, cause_of, cause_at}
+use Rattle.world_model.specs.declared.steps.Stop.{Stop}
+use Rattle.world_model.specs.declared.steps.Stop.TheVariants.{Quiet, Limit, Memory, Start}
+use Rattle.world_model.specs.Costs.{IsLeastWith, lesser, limit_of}
+use Rattle.world_model.specs.Laws.{BoundsAreTrue, OutcomesAnswer}
+use Rattle.world_model.specs.Quiet.{IsQuiet, QuietIsTrueIn}
+use Rattle.world_model.specs.Workers.{WorkerState}
+use Rattle.world_model.proofs.ChangeLemmas.{offer_owned, knows_owned, move_low, plan_short, none_in, same_key, same_known}
 use Rattle.world_model.proofs.RowLists.{rows_exist}
-use Rattle.world_model.proofs.SearchLemmas.{BelowFrontier, BelowReached, offer_low, frontier_bounds}
+
+-- ---- what a sound world says of plans
+
+-- n is no more than each cost plus sum of the frontier
+abbrev pub BelowFrontier : WorldState → ℕ → Type 0
+BelowFrontier w n = (b : Position) (cost : ℕ) → IsInFrontier w b cost → n ≤ cost + w.task.sum b
+
+-- n is no more than the goal's cost, where its owner knows it
+abbrev pub BelowReached : WorldState → ℕ → Type 0
+BelowReached w n = (known : Known) → Knows w (w.owner w.task.goal) w.task.goal known → n ≤ known.cost
+
+-- an offer that covers a board is in the frontier
+pub offer_low : (w : WorldState) (n : ℕ) → BelowFrontier w n → (b : Position) (cost : ℕ) → ((to : ℕ) × (offer : Item) × IsUnderWay w to offer × (offer.board ≡ b) × (offer.cost ≤ cost)) → n ≤ cost + w.task.sum b
+offer_low w n low b cost has =
+    let here = low b has.1.cost (inr (has.0, has.1, has.2, has.3, refl)) in
+    let below = has.4 in
+    omega arith
+
+module _ (w : WorldState) (shaped : IsShaped w) (sound : IsSound w) (bound : IsLowerBound w.task.rule w.task.sum w.task.goal) (n : ℕ) (low : BelowFrontier w n) (reached : BelowReached w n) where
+  offered : (b : Position) (cost : ℕ) → ((to : ℕ) × (offer : Item) × IsUnderWay w to offer × (offer.board ≡ b) × (offer.cost ≤ cost)) → (plan : List Move) (j : ℕ) → Leads w.task.rule b plan w.task.goal j → n ≤ cost + j
+  offered b cost has plan j leads =
+      let here = offer_low w n low b cost has in
+      let board : IsBoard b = subst IsBoard has.3 (offer_owned w shaped has.0 has.1 has.2).0.0 in
+      let sum = bound b board plan j leads in
+      omega arith
+
+  -- from a board that is covered at a cost, each plan adds up to n at least
+  from_covered : (b : Position) (cost : ℕ) → IsCovered w b cost → (plan : List Move) (j : ℕ) → Leads w.task.rule b plan w.task.goal j → n ≤ cost + j
+  from_covered b cost (inr has) [] j leads = offered b cost has [] j leads
+  from_covered b cost (inr has) (m ∷ plan) j leads = offered b cost has (m ∷ plan) j leads
+  from_covered b cost (inl has) [] j leads =
+      let known = reached has.0 (subst (λ x. Knows w (w.owner x) x has.0) (sym leads.0) has.1) in
+      let below = has.2 in
+      omega arith
+  from_covered b cost (inl has) (m ∷ plan) j leads =
+      ⊎_elim
+      (λ (open_board : has.0.expanded ≡ false).
+      ⊎_elim
+      (λ (lt : cost + j < n).
+      let other : b ≢ w.task.goal = λ same. let known = reached has.0 (subst (λ x. Knows w (w.owner x) x has.0) same has.1) in omega (arith, has.2) in
+      let here = low b has.0.cost (inl (w.owner b, has.0, has.1, open_board, other, refl)) in
+      let sum = bound b has.1.board.0 (m ∷ plan) j leads in
+      omega (arith, has.2))
+      (λ (le : n ≤ cost + j). le)
+      (cases_lt (cost + j) n))
+      (λ (closed : has.0.expanded ≡ true).
+      let next = sound.successors (w.owner b) b has.0 has.1 closed m leads.0 leads.1 leads.3 in
+      let rest = from_covered leads.0 (has.0.cost + leads.1) next plan leads.2 leads.4 in
+      omega (arith, has.2, leads.5))
+      (turned (cases_Bool has.0.expanded))
+    where
+      turned : (has.0.expanded ≡ true) ⊎ (has.0.expanded ≡ false) → (has.0.expanded ≡ false) ⊎ (has.0.expanded ≡ true)
+      turned (inl e) = inr e
+      turned (inr e) = inl e
+
+  pub frontier_bounds : NothingBelow w.task.rule w.task.start w.task.goal n
+  frontier_bounds plan j leads = let h = from_covered w.task.start 0 sound.start plan j leads in omega arith
+
+-- ---- to each board that a sound world knows, or has under way, a plan leads, at no more than the cost that it has there
+
+module _ (w : WorldState) (shaped : IsShaped w) (sound : IsSound w) where
+  reached_from : (b : Position) (cost : ℕ) (via : Move) (m : ℕ) → cost < suc m → ((i : ℕ) (x : Position) (k : Known) → Knows w i x k → k.cost < m → IsLedTo w x k.cost) → HasPredecessor w b cost via → IsLedTo w b cost
+  reached_from b cost via m low earlier (inl start) = ([], 0, (start.0, refl), omega arith)
+  reached_from b cost via m low earlier (inr has) =
+      let some = move_low w.task shaped.task has.0 has.4.board via b has.1 has.3 in
+      let plan = earlier (w.owner has.0) has.0 has.2 has.4 (omega (arith, has.5)) in
+      (plan.0 ++ via ∷ [], plan.1 + has.1, one_more w.task.rule w.task.start plan.0 has.0 plan.1 via b has.1 plan.2 has.3, omega (arith, plan.3, has.5))
+
+  known_below : (m i : ℕ) (b : Position) (known : Known) → Knows w i b known → known.cost < m → IsLedTo w b known.cost
+  known_below zero i b known knows low = absurd (omega arith)
+  known_below (suc m) i b known knows low = reached_from b known.cost known.via m low (λ j x k at lt. known_below m j x k at lt) (sound.reached i b known knows)
+
+  pub known_reached : (i : ℕ) (b : Position) (known : Known) → Knows w i b known → IsLedTo w b known.cost
+  known_reached i b known knows = known_below (suc known.cost) i b known knows (omega arith)
+
+  pub items_reached : (to : ℕ) (item : Item) → IsUnderWay w to item → IsLedTo w item.board item.cost
+  items_reached to item way = reached_from item.board item.cost item.via item.cost (omega arith) (λ j x k at lt. known_reached j x k at) (sound.items_reached to item way)
+
+-- a plan by last moves, with one more
+longer : (w : WorldState) (plan : List Move) (a x b : Position) (c : ℕ) (known : Known) → IsByLastMoves w a plan x → Moves w.task.rule x known.via b c → Knows w (w.owner b) b known → IsByLastMoves w a (plan ++ known.via ∷ []) b
+longer w [] a x b c known by moves knows = (b, c, known, subst (λ (p : Position). Moves w.task.rule p known.via b c) (sym by) moves, knows, refl, refl)
+longer w (m ∷ plan) a x b c known (next, d, k, first, there, via, rest) moves knows = (next, d, k, first, there, via, longer w plan next x b c known rest moves knows)
+
+module _ (w : WorldState) (shaped : IsShaped w) (sound : IsSound w) where
+  abbrev LeadsBack : Position → ℕ → Type 0
+  LeadsBack b cost = (plan : List Move) × (k : ℕ) × Leads w.task.rule w.task.start plan b k × (k ≤ cost) × IsByLastMoves w w.task.start plan b
+
+  back_from : (b : Position) (known : Known) (m i : ℕ) → Knows w i b known → known.cost < suc m → ((j : ℕ) (x : Position) (k : Known) → Knows w j x k → k.cost < m → LeadsBack x k.cost) → HasPredecessor w b known.cost known.via → LeadsBack b known.cost
+  back_from b known m i knows low earlier (inl start) = ([], 0, (start.0, refl), omega arith, sym start.0)
+  back_from b known m i knows low earlier (inr has) =
+      let some = move_low w.task shaped.task has.0 has.4.board known.via b has.1 has.3 in
+      let own = (knows_owned w shaped i b known knows).0 in
+      let plan = earlier (w.owner has.0) has.0 has.2 has.4 (omega (arith, has.5)) in (
+        plan.0 ++ known.via ∷ [],
+        plan.1 + has.1,
+        one_more w.task.rule w.task.start plan.0 has.0 plan.1 known.via b has.1 plan.2 has.3,
+        omega (arith, plan.3, has.5),
+        longer w plan.0 w.task.start has.0 b has.1 known plan.4 has.3 (subst (λ j. Knows w j b known) (sym own) knows),
+      )
+
+  back_below : (m i : ℕ) (b : Position) (known : Known) → Knows w i b known → known.cost < m → LeadsBack b known.cost
+  back_below zero i b known knows low = absurd (omega arith)
+  back_below (suc m) i b known knows low = back_from b known m i knows low (λ j x k at lt. back_below m j x k at lt) (sound.reached i b known knows)
+
+pub leads_back : LastMovesLeadBack
+leads_back w shaped sound i b known knows = back_below w shaped sound (suc known.cost) i b known knows (omega arith)
+
+-- ---- the outcome that a sound world gives answers its task
 
 abbrev pub end_at : WorldState → Option ℕ → Option ℕ → End
 end_at w lowest reached = record { world = w; lowest = lowest; reached = reached }
@@ -102,15 +219,15 @@ module _ (w : WorldState) (shaped : IsShaped w) (sound : IsSound w) (bound : IsL
       let le = offer_low w is.0 (below_frontier is.0 is.1) b cost has in
       inl (omega arith)
 
-  none_in : (rows : List (Position × ℕ)) (row : Position × ℕ) → rows ≡ [] → Contains rows row → ⊥
-  none_in rows row empty has = let n = ap length empty in omega (arith, has.1)
+  no_row_in : (rows : List (Position × ℕ)) (row : Position × ℕ) → rows ≡ [] → Contains rows row → ⊥
+  no_row_in rows row empty has = let n = ap length empty in omega (arith, has.1)
 
   -- the known boards below the cost prove it
   rows_prove : (k : ℕ) (rows : List (Position × ℕ)) → IsBoundOf (end_at w lowest reached) k → AreRowsFor w k rows → Proves w.task.rule rows w.task.sum w.task.start w.task.goal k
   rows_prove k rows is (inl few) = record {
     start = inr few.0;
-    no_goal = λ g has. none_in rows (w.task.goal, g) few.1 has;
-    closed = λ r g has m r' c moves. absurd (none_in rows (r, g) few.1 has);
+    no_goal = λ g has. no_row_in rows (w.task.goal, g) few.1 has;
+    closed = λ r g has m r' c moves. absurd (no_row_in rows (r, g) few.1 has);
   }
   rows_prove k rows is (inr many) = record {
     start = ⊎_elim (λ (above : k ≤ w.task.sum w.task.start + 0). inr (omega arith)) (λ (row : HasRow rows w.task.start 0). inl row) (covered_row k rows is many.0 many.1 w.task.start 0 sound.start);
@@ -278,3 +395,167 @@ bound_rows w n best cause rows shaped sound bound given = rows_at w shaped sound
 -- the outcome of a sound world answers its task
 pub outcomes_answer : OutcomesAnswer
 outcomes_answer w outcome shaped sound quiet bound given = answers_at w shaped sound bound given.0 given.1 given.2 given.3 quiet outcome given.4
+
+-- ---- a sound world gives some outcome
+
+-- where no number is least, there is none
+none_from : (P : ℕ → Type 0) → ((k : ℕ) → ¬ IsLeastWith P (Some k)) → (m n : ℕ) → n < m → ¬ P n
+none_from P none zero n lt has = absurd (omega arith)
+none_from P none (suc m) n lt has =
+    ⊎_elim
+    (λ (below : n < m). none_from P none m n below has)
+    (λ (le : m ≤ n). none n (has, λ x at. ⊎_elim (λ (low : x < m). absurd (none_from P none m x low at)) (λ (high : m ≤ x). omega arith) (cases_lt x m)))
+    (cases_lt n m)
+
+no_least : (P : ℕ → Type 0) → ¬ ((o : Option ℕ) → ¬ IsLeastWith P o)
+no_least P none = none None (λ n has. none_from P (λ k least. none (Some k) least) (suc n) n (omega arith) has)
+
+abbrev Row : Type 0
+Row = Position × ℕ
+
+module _ (w : WorldState) (shaped : IsShaped w) (k : ℕ) where
+  abbrev Listed : ℕ → Row → Type 0
+  Listed n row = IsKnownBelow w k row.0 row.1 × (key_of row.0 < n)
+
+  -- the rows of boards whose keys are below n
+  record AreRowsUpTo (n : ℕ) (rows : List Row) : Type 0 where
+    rising : AllPairs (λ row later. key_of row.0 < key_of later.0) rows
+    only : (row : Row) → Contains rows row → Listed n row
+    all : (row : Row) → Listed n row → Contains rows row
+
+  known_there : (row : Row) → IsKnownBelow w k row.0 row.1 → (known : Known) × Knows w (w.owner row.0) row.0 known × (known.cost ≡ row.1)
+  known_there row has =
+      let own = (knows_owned w shaped has.0 row.0 has.1 has.2).0 in
+      (has.1, subst (λ j. Knows w j row.0 has.1) (sym own) has.2, has.3)
+
+  same_cost : (b : Position) (x y : Known) → Knows w (w.owner b) b x → Knows w (w.owner b) b y → x.cost ≡ y.cost
+  same_cost b x y knows knows' =
+      let worker : Some knows.worker ≡ Some knows'.worker = sym knows.is ∙ knows'.is in
+      let worker' : knows.worker ≡ knows'.worker = cc in
+      ap (λ (z : Known). z.cost) (same_known knows.worker.known (key_of b) x y knows.knows (ap (λ (v : WorkerState). map.get v.known (key_of b)) worker' ∙ knows'.knows))
+
+  -- a board of one key is known at one cost
+  same_row : (row other : Row) → IsKnownBelow w k row.0 row.1 → IsKnownBelow w k other.0 other.1 → key_of row.0 ≡ key_of other.0 → row ≡ other
+  same_row row other has has' same =
+      let board : row.0 ≡ other.0 = same_key w.task row.0 other.0 has.2.board has'.2.board same in
+      let here = known_there row has in
+      let there = known_there other has' in
+      let moved : Knows w (w.owner row.0) row.0 there.0 = subst (λ (p : Position). Knows w (w.owner p) p there.0) (sym board) there.1 in
+      let cost : row.1 ≡ other.1 = sym here.2 ∙ same_cost row.0 here.0 there.0 here.1 moved ∙ there.2 in
+      λ t. (board t, cost t)
+
+  with_row : (n : ℕ) (rows : List Row) (row : Row) → AreRowsUpTo n rows → IsKnownBelow w k row.0 row.1 → key_of row.0 ≡ n → AreRowsUpTo (suc n) (rows ++ row ∷ [])
+  with_row n rows row are has key = record { rising = rises; only = only_these; all = all_these }
+    where
+      rises : AllPairs (λ (x : Row) (later : Row). key_of x.0 < key_of later.0) (rows ++ row ∷ [])
+      rises = all_pairs_push (λ (x : Row) (later : Row). key_of x.0 < key_of later.0) rows row are.rising (λ j d lt. let low = (are.only (get_or rows j d) (Contains-get_or rows j d lt)).1 in omega arith)
+
+      only_these : (x : Row) → Contains (rows ++ row ∷ []) x → Listed (suc n) x
+      only_these x at =
+          ⊎_elim
+          (λ (old : Contains rows x). let h = are.only x old in (h.0, omega (arith, h.1)))
+          (λ (new : row ≡ x). subst (Listed (suc n)) new (has, omega arith))
+          (Contains-push_cases rows row x at)
+
+      all_these : (x : Row) → Listed (suc n) x → Contains (rows ++ row ∷ []) x
+      all_these x at =
+          ⊎_elim
+          (λ (lt : key_of x.0 < n). Contains-append_left rows (row ∷ []) x (are.all x (at.0, lt)))
+          (λ (le : n ≤ key_of x.0). subst (Contains (rows ++ row ∷ [])) (same_row row x has at.0 (omega (arith, at.1))) (Contains-push rows row))
+          (cases_lt (key_of x.0) n)
+
+  without_row : (n : ℕ) (rows : List Row) → AreRowsUpTo n rows → ((row : Row) → IsKnownBelow w k row.0 row.1 → key_of row.0 ≢ n) → AreRowsUpTo (suc n) rows
+  without_row n rows are none = record {
+    rising = are.rising;
+    only = λ x at. let h = are.only x at in (h.0, omega (arith, h.1));
+    all = λ x at. ⊎_elim (λ (lt : key_of x.0 < n). are.all x (at.0, lt)) (λ (le : n ≤ key_of x.0). absurd (none x at.0 (omega (arith, at.1)))) (cases_lt (key_of x.0) n);
+  }
+
+  no_rows_at : AreRowsUpTo 0 []
+  no_rows_at = record { rising = λ i j d lt j_in. absurd (omega arith); only = λ x at. absurd (none_in x at); all = λ x at. absurd (omega (arith, at.1)) }
+
+  rows_up_to : (n : ℕ) → ¬ ((rows : List Row) → ¬ AreRowsUpTo n rows)
+  rows_up_to zero none = none [] no_rows_at
+  rows_up_to (suc n) none = rows_up_to n (λ rows are. none rows (without_row n rows are (λ row has key. none (rows ++ row ∷ []) (with_row n rows row are has key))))
+
+  rows_below : ¬ ((rows : List Row) → ¬ AreRowsBelow w k rows)
+  rows_below none = rows_up_to (32 ^ cell_count w.task.goal.grid) (λ rows are. none rows (record { rising = are.rising; each = λ b cost. ((λ at. (are.only (b, cost) at).0), λ has. are.all (b, cost) (has, low b cost has)) }))
+    where
+      low : (b : Position) (cost : ℕ) → IsKnownBelow w k b cost → key_of b < 32 ^ cell_count w.task.goal.grid
+      low b cost has = subst (λ g. key_of b < 32 ^ cell_count g) has.2.board.1 (key_of-lt b has.2.board.0)
+
+  no_rows_for : ¬ ((rows : List Row) → ¬ AreRowsFor w k rows)
+  no_rows_for none = ⊎_elim (λ (lt : w.task.sum w.task.start < k). rows_below (λ rows are. none rows (inr (lt, are)))) (λ (le : k ≤ w.task.sum w.task.start). none [] (inl (le, refl))) (cases_lt (w.task.sum w.task.start) k)
+
+abbrev Gives : WorldState → List Move → List Row → Type 0
+Gives w moves listed = (plan : Vec Move Global) (rows : Vec Row Global) → plan.items ≡ moves → rows.items ≡ listed → (outcome : Outcome) × IsGiven w outcome
+
+floor_there : (lowest : Option ℕ) (goal : ℕ) → (n : ℕ) × (lesser lowest (Some goal) ≡ Some n)
+floor_there None goal = (goal, refl)
+floor_there (Some f) goal = (min f goal, refl)
+
+module _ (w : WorldState) (shaped : IsShaped w) (sound : IsSound w) (none : (moves : List Move) (listed : List Row) → ¬ Gives w moves listed) where
+  abbrev LeadsAt : List Move → ℕ → Type 0
+  LeadsAt moves cost = Leads w.task.rule w.task.start moves w.task.goal cost
+
+  abbrev TracedBy : List Move → Type 0
+  TracedBy moves = IsByLastMoves w w.task.start moves w.task.goal
+
+  unreached : (lowest : Option ℕ) → IsLowest w lowest → IsReached w None → ⊥
+  unreached None low reached = none [] [] (λ plan rows moves listed. (Unsolvable Exhausted, (None, None, low, reached, (refl, refl))))
+  unreached (Some f) low reached =
+      no_rows_for w shaped (max (w.task.sum w.task.start) f)
+      (λ rows are. none [] rows
+      (λ plan vector is_plan is_rows. (
+        Bounded (max (w.task.sum w.task.start) f) None (cause_at (end_at w (Some f) None)) (Some vector),
+        (Some f, None, low, reached, (((f, refl, refl), refl, refl), subst (AreRowsFor w (max (w.task.sum w.task.start) f)) (sym is_rows) are)),
+      )))
+
+  reached_at : (lowest : Option ℕ) (goal : ℕ) → IsLowest w lowest → IsReached w (Some goal) → ⊥
+  reached_at lowest goal low reached =
+      let led = leads_back w shaped sound (w.owner w.task.goal) w.task.goal reached.0.0 reached.0.1 in
+      let under : led.1 ≤ goal = omega (arith, led.3, reached.0.2) in
+      let n = floor_there lowest goal in
+      ⊎_elim (λ (same : led.1 ≡ max (w.task.sum w.task.start) n.0). optimal led.0 led.1 led.2 led.4 under n.0 n.1 same) (λ (other : led.1 ≢ max (w.task.sum w.task.start) n.0). bounded led.0 led.1 led.2 led.4 under n.0 n.1 other) (cases_eq led.1 (max (w.task.sum w.task.start) n.0))
+    where
+      optimal : (moves : List Move) (cost : ℕ) → LeadsAt moves cost → TracedBy moves → cost ≤ goal → (n : ℕ) → lesser lowest (Some goal) ≡ Some n → cost ≡ max (w.task.sum w.task.start) n → ⊥
+      optimal moves cost leads traced under n is same =
+          no_rows_for w shaped cost
+          (λ rows are. none moves rows
+          (λ plan vector is_plan is_rows. (
+            Optimal cost plan vector,
+            (
+              lowest,
+              Some goal,
+              low,
+              reached,
+              ((n, is, same), record { goal = goal; is = refl; traced = subst TracedBy (sym is_plan) traced; leads = subst (λ ms. LeadsAt ms cost) (sym is_plan) leads; within = under }, subst (AreRowsFor w cost) (sym is_rows) are),
+            ),
+          )))
+
+      bounded : (moves : List Move) (cost : ℕ) → LeadsAt moves cost → TracedBy moves → cost ≤ goal → (n : ℕ) → lesser lowest (Some goal) ≡ Some n → cost ≢ max (w.task.sum w.task.start) n → ⊥
+      bounded moves cost leads traced under n is other =
+          no_rows_for w shaped (max (w.task.sum w.task.start) n)
+          (λ rows are. none moves rows
+          (λ plan vector is_plan is_rows. (
+            Bounded (max (w.task.sum w.task.start) n) (Some (cost, plan)) (cause_at (end_at w lowest (Some goal))) (Some vector),
+            (
+              lowest,
+              Some goal,
+              low,
+              reached,
+              (
+                ((n, is, refl), record { goal = goal; is = refl; traced = subst TracedBy (sym is_plan) traced; leads = subst (λ ms. LeadsAt ms cost) (sym is_plan) leads; within = under }, other, refl),
+                subst (AreRowsFor w (max (w.task.sum w.task.start) n)) (sym is_rows) are,
+              ),
+            ),
+          )))
+
+  split : (lowest reached : Option ℕ) → IsLowest w lowest → IsReached w reached → ⊥
+  split lowest None low reached = unreached lowest low reached
+  split lowest (Some goal) low reached = reached_at lowest goal low reached
+
+pub worlds_give : WorldsGiveOutcomes
+worlds_give w shaped sound none =
+    no_least (λ f. (b : Position) × (cost : ℕ) × IsInFrontier w b cost × (f ≡ cost + w.task.sum b))
+    (λ lowest low. no_least (λ cost. (known : Known) × Knows w (w.owner w.task.goal) w.task.goal known × (known.cost ≡ cost)) (λ reached at. split w shaped sound none lowest reached low at))

@@ -26,10 +26,8 @@ use Rattle.world_model.specs.Turns.{Turn, turn}
 use Rattle.world_model.specs.WorkerSteps.{AtLane, DeliverStep, ExpandStep, SendStep, SettleStep}
 use Rattle.world_model.specs.Workers.{HasNothingBelow, IsFloor, IsNext, IsOpen, KnowsAs, Lane, Role, WorkerState}
 use Rattle.world_model.specs.Worlds.{IsLane, IsWorker, WorldState, role_of}
-use Rattle.world_model.proofs.ListLemmas.{all_from_places, at_replicate, get_set_other, get_set_same, set_same}
-use Rattle.world_model.proofs.TableLemmas.{entry, same_key, same_known, with_insert}
+use Rattle.world_model.proofs.ChangeLemmas.{all_from_places, at_replicate, get_set_other, get_set_same, set_same, entry, same_key, same_known, with_insert, changed, lane_after, lane_before}
 use Rattle.world_model.proofs.ExpandLemmas.{all_known}
-use Rattle.world_model.proofs.ChangeLemmas.{changed, lane_after, lane_before}
 use Rattle.world_model.proofs.CreditLemmas.{limit_falls, lower_best, not_below_stable}
 use Rattle.world_model.proofs.StepCases.{Accepts, Announces, BookChange, Cases, Draws, Expands, Grants, Halts, LaneChange, OwnChange, Rests, expand_cases, next_cases}
 

@@ -18,9 +18,7 @@ use Rattle.world_model.specs.Outcomes.{AreRowsFor, IsKnownBelow}
 use Rattle.world_model.specs.Shapes.{IsShaped, IsShapedWorker}
 use Rattle.world_model.specs.Workers.{IsTaskBoard, KnowsAs, WorkerState}
 use Rattle.world_model.specs.Worlds.{IsWorker, Knows, WorldState, role_of}
-use Rattle.world_model.proofs.ListLemmas.{cons_cases, get_below, head_in, later_in, none_in}
-use Rattle.world_model.proofs.ShapeLemmas.{knows_owned}
-use Rattle.world_model.proofs.TableLemmas.{same_key, same_known}
+use Rattle.world_model.proofs.ChangeLemmas.{cons_cases, get_below, head_in, later_in, none_in, knows_owned, same_key, same_known}
 
 -- a list of just the elements with P
 record Listed {X : Type 0} (P : X → Type 0) : Type 0 where

@@ -15,8 +15,7 @@ use Rattle.world_model.specs.Workers.{WorkerState}
 use Rattle.world_model.specs.Worlds.{WorldState}
 use Rattle.world_model.proofs.SmallWorkers.{In, Entries, Small, cost_of, current, current_complete, current_sound, found, look_up}
 use Rattle.world_model.proofs.SmallSteps.{lt_tests}
-use Rattle.world_model.proofs.SmallFrontiers.{contained_in, gather, gather_from, gather_in, in_contained, in_place, place_in, small_worker}
-use Rattle.world_model.proofs.SmallWorlds.{AllBoards, SmallWorld, boards_at, known_in, world_of}
+use Rattle.world_model.proofs.SmallWorlds.{contained_in, gather, gather_from, gather_in, in_contained, in_place, place_in, small_worker, AllBoards, SmallWorld, boards_at, known_in, world_of}
 
 -- a board with the cost at which it is known
 abbrev pub Row : Type 0

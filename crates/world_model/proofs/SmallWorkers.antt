@@ -12,7 +12,7 @@ use Rattle.world_model.specs.declared.parts.Known.{Known}
 use Rattle.world_model.specs.Expansions.{expansion, successor_items, with_successor}
 use Rattle.world_model.specs.Knowledge.{Knowledge, is_news, relaxation}
 use Rattle.world_model.specs.Workers.{IsOpen, IsTaskBoard, Packet, Role, WorkerState}
-use Rattle.world_model.proofs.TableLemmas.{same_key, entry, with_insert, get_inserted}
+use Rattle.world_model.proofs.ChangeLemmas.{same_key, entry, with_insert, get_inserted}
 
 -- the element is one of the list
 abbrev pub In : {X : Type 0} → List X → X → Type 0

@@ -1,9 +1,12 @@
--- Each step is refused, and leaves all as it was, or it is accepted, and changes what it says.
-use Rattle.std.proofs.Common.{◌≡◌, ◌≢◌, ◌⊎◌, ℕ, ◌+◌, ◌-◌, ◌<◌, List, [], ◌∷◌, ◌++◌, length, refl, ap, ◌∙◌, inl, inr, Option, Some, None}
+-- What each step answers: it is refused and changes nothing, or accepted and changes what it says.
+use Rattle.std.proofs.Common.{◌≡◌, ◌≢◌, ◌⊎◌, ℕ, ◌+◌, ◌-◌, ◌<◌, List, [], ◌∷◌, ◌++◌, length, refl, ap, ◌∙◌, inl, inr, Option, Some, None, sym, subst, zero, suc, ◌^◌, ◌≤◌, ⊎_elim, arith}
 use Rattle.std.specs.Prelude.{slice_set}
+use Rattle.std.proofs.lemmas.List.{length-set}
+use Rattle.std.proofs.lemmas.Bool.{cases_lt}
 use Rattle.board.specs.declared.moves.Move.{Move}
 use Rattle.board.specs.Moves.{all_moves}
 use Rattle.board.specs.Positions.{Position}
+use Rattle.outcomes.specs.Outcomes.{Task}
 use Rattle.world_model.specs.declared.limits.TheConstants.{CREDIT_DRAWN, LANE_LIMIT}
 use Rattle.world_model.specs.declared.parts.Item.{Item}
 use Rattle.world_model.specs.declared.parts.Known.{Known}
@@ -14,14 +17,18 @@ use Rattle.world_model.specs.declared.steps.Step.TheVariants.{Expand, Settle, Se
 use Rattle.world_model.specs.BookSteps.{AnnounceStep, AtBook, DrawStep, GrantStep, HaltStep, MayAnnounce, MayGoOn, RestStep, at_book}
 use Rattle.world_model.specs.Books.{BookState, grant_of, stop_of, with_rest}
 use Rattle.world_model.specs.Costs.{limit_of}
-use Rattle.world_model.specs.Expansions.{expansion_by}
+use Rattle.world_model.specs.Expansions.{expansion_by, expansion}
 use Rattle.world_model.specs.Knowledge.{relaxation}
-use Rattle.world_model.specs.Steps.{ByWorker, Ends, Next, OnBook, OnLane, from_to, with_lane}
+use Rattle.world_model.specs.Steps.{ByWorker, Ends, Next, OnBook, OnLane, from_to, with_lane, with_worker}
 use Rattle.world_model.specs.Turns.{IsRefused, Turn, turn}
 use Rattle.world_model.specs.WorkerSteps.{AtLane, DeliverStep, ExpandStep, ExpandStepBy, IsOverfull, SendStep, SettleStep}
-use Rattle.world_model.specs.Workers.{HasNothingBelow, IsFloor, IsIdle, IsNext, Lane, Packet, Role, WorkerState, packet_for}
+use Rattle.world_model.specs.Workers.{HasNothingBelow, IsFloor, IsIdle, IsNext, Lane, Packet, Role, WorkerState, packet_for, IsOpen}
 use Rattle.world_model.specs.Worlds.{IsLane, IsWorker, WorldState, role_of}
-use Rattle.world_model.proofs.ChangeLemmas.{changed, unchanged_world, unchanged_lanes}
+use Rattle.world_model.specs.declared.steps.Refusal.TheVariants.{NothingBelowLimit, NoAllowance, NoRoom, RingFull, RingEmpty, PurseTooSmall, StillHolding, NothingToAnnounce, NotIdle, Stopped, PurseEmpty, NothingThere, AllowanceLeft, NoSuchWorker, PurseFull}
+use Rattle.world_model.specs.Shapes.{IsShaped}
+use Rattle.world_model.proofs.ChangeLemmas.{changed, unchanged_world, unchanged_lanes, get_below}
+
+-- ---- each step is refused, and leaves all as it was, or it is accepted, and changes what it says
 
 -- refused, and all is left
 abbrev pub IsLeft : {S F : Type 0} → Turn S F → Type 0
@@ -224,3 +231,186 @@ next_cases (Announce i) it next = on_book i (AnnounceStep (role_of it.before i))
 next_cases (Grant i) it next = on_book i (GrantStep (role_of it.before i)) (Grants (role_of it.before i)) (grant_cases (role_of it.before i)) it next
 next_cases (Rest i) it next = on_book i (RestStep (role_of it.before i)) (Rests (role_of it.before i)) (rest_cases (role_of it.before i)) it next
 next_cases (Halt i cause) it next = on_book i (HaltStep cause) (Halts cause) (halt_cases cause) it next
+
+-- ---- steps on the book leave the boards and items of a worker as they are, and of the book its limit and the count of floors
+
+-- the same boards are known, and the same items are held and unsent
+pub record IsSame (x y : WorkerState) : Type 0 where
+  pub known : y.known ≡ x.known
+  pub held : y.held ≡ x.held
+  pub unsent : y.unsent ≡ x.unsent
+
+-- what a step on the book keeps
+pub record IsKeptByBook (x y : AtBook) : Type 0 where
+  pub worker : IsSame x.worker y.worker
+  pub floors : length y.book.floors ≡ length x.book.floors
+  pub limit : y.book.limit ≡ x.book.limit
+  pub expansions : y.worker.expansions ≡ x.worker.expansions
+
+same_lists : (worker new : WorkerState) → new.known ≡ worker.known → new.held ≡ worker.held → new.unsent ≡ worker.unsent → IsSame worker new
+same_lists worker new known held unsent = record { known = known; held = held; unsent = unsent }
+
+pub draw_same : (x y : AtBook) → Draws x y → IsKeptByBook x y
+draw_same x y step = subst (IsKeptByBook x) (sym step.is) (record { worker = same_lists x.worker _ refl refl refl; floors = refl; limit = refl; expansions = refl })
+
+pub announce_same : (role : Role) (x y : AtBook) → Announces role x y → IsKeptByBook x y
+announce_same role x y step = subst (IsKeptByBook x) (sym step.is) (record { worker = same_lists x.worker _ refl refl refl; floors = refl; limit = refl; expansions = refl })
+
+pub grant_same : (role : Role) (x y : AtBook) → Grants role x y → IsKeptByBook x y
+grant_same role x y step = subst (IsKeptByBook x) (sym step.is) (record { worker = same_lists x.worker _ refl refl refl; floors = refl; limit = refl; expansions = refl })
+
+pub rest_same : (role : Role) (x y : AtBook) → Rests role x y → IsKeptByBook x y
+rest_same role x y step = subst (IsKeptByBook x) (sym step.is) (record { worker = same_lists x.worker _ refl refl refl; floors = length-set x.book.floors role.me step.floor; limit = refl; expansions = refl })
+
+pub halt_same : (cause : HaltCause) (x y : AtBook) → Halts cause x y → IsKeptByBook x y
+halt_same cause x y step = subst (IsKeptByBook x) (sym step.is) (record { worker = same_lists x.worker _ refl refl refl; floors = refl; limit = refl; expansions = refl })
+
+-- the worker after a step on the book
+abbrev KeepsWorker : Turn AtBook Refusal → Type 0
+KeepsWorker it = (it.after.worker.known ≡ it.before.worker.known) × (it.after.worker.held ≡ it.before.worker.held) × (it.after.worker.unsent ≡ it.before.worker.unsent)
+
+kept : (it : Turn AtBook Refusal) (Change : AtBook → AtBook → Type 0) → ((x y : AtBook) → Change x y → IsKeptByBook x y) → Cases it (Change it.before it.after) → KeepsWorker it
+kept it Change same (inl out) = (ap (λ (x : AtBook). x.worker.known) out.1.1, ap (λ (x : AtBook). x.worker.held) out.1.1, ap (λ (x : AtBook). x.worker.unsent) out.1.1)
+kept it Change same (inr done) = let h = (same it.before it.after done.1).worker in (h.known, h.held, h.unsent)
+
+pub book_steps_keep : (role : Role) (cause : HaltCause) (it : Turn AtBook Refusal) → DrawStep it ⊎ AnnounceStep role it ⊎ GrantStep role it ⊎ RestStep role it ⊎ HaltStep cause it → KeepsWorker it
+book_steps_keep role cause it (inl step) = kept it Draws draw_same (draw_cases it step)
+book_steps_keep role cause it (inr (inl step)) = kept it (Announces role) (announce_same role) (announce_cases role it step)
+book_steps_keep role cause it (inr (inr (inl step))) = kept it (Grants role) (grant_same role) (grant_cases role it step)
+book_steps_keep role cause it (inr (inr (inr (inl step)))) = kept it (Rests role) (rest_same role) (rest_cases role it step)
+book_steps_keep role cause it (inr (inr (inr (inr step)))) = kept it (Halts cause) (halt_same cause) (halt_cases cause it step)
+
+-- ---- no step of a shaped world is without an answer
+
+-- where no board is one of least cost plus sum, none is open
+none_open : (task : Task) (worker : WorkerState) → ((b : Position) (known : Known) → ¬ IsNext task worker b known) → (m : ℕ) (b : Position) (known : Known) → known.cost + task.sum b < m → ¬ IsOpen task worker b known
+none_open task worker none zero b known lt at = omega arith
+none_open task worker none (suc m) b known lt at =
+    ⊎_elim
+    (λ (below : known.cost + task.sum b < m). none_open task worker none m b known below at)
+    (λ (le : m ≤ known.cost + task.sum b).
+    none b known (record { opens = at; least = λ x k other. ⊎_elim (λ (low : k.cost + task.sum x < m). absurd (none_open task worker none m x k low other)) (λ (high : m ≤ k.cost + task.sum x). omega arith) (cases_lt (k.cost + task.sum x) m) }))
+    (cases_lt (known.cost + task.sum b) m)
+
+-- there is a floor
+no_floor : (task : Task) (worker : WorkerState) → ¬ ((floor : Option ℕ) → ¬ IsFloor task worker floor)
+no_floor task worker none = none None (λ f has. none_open task worker (λ b known next. none (Some (known.cost + task.sum b)) ((b, known, next.opens, refl), λ m other. let le = next.least other.0 other.1 other.2 in omega (arith, other.3))) (suc f) has.0 has.1 (omega (arith, has.3)) has.2)
+
+split_last : (xs : List Item) → ¬ (xs ≡ []) → (front : List Item) × (last : Item) × (xs ≡ front ++ last ∷ [])
+split_last [] some = absurd (some refl)
+split_last (x ∷ []) some = ([], x, refl)
+split_last (x ∷ y ∷ xs) some = let rest = split_last (y ∷ xs) (λ e. let n = ap length e in omega arith) in (x ∷ rest.0, rest.1, ap (λ ys. x ∷ ys) rest.2)
+
+split_first : (lane : Lane) → ¬ (lane ≡ []) → (packet : Packet) × (rest : Lane) × (lane ≡ packet ∷ rest)
+split_first [] some = absurd (some refl)
+split_first (packet ∷ rest) some = (packet, rest, refl)
+
+-- a step of this kind has an answer
+abbrev HasAnswer : {S : Type 0} → (Turn S Refusal → Type 0) → S → Type 0
+HasAnswer {S} StepOf before = ¬ ((answer : Option Refusal) (after : S) → ¬ StepOf (turn before answer after))
+
+expand_answers : (role : Role) (worker : WorkerState) → HasAnswer (ExpandStep role) worker
+expand_answers role worker none =
+    let busy : ¬ HasNothingBelow role.task worker (limit_of worker.best) = λ h. none (Some NothingBelowLimit) worker (inl (h, (refl, refl))) in
+    let left : ¬ (worker.allowance ≡ 0) = λ h. none (Some NoAllowance) worker (inr (busy, inl (h, (refl, refl)))) in
+    busy (λ b known at. absurd (none_open role.task worker (λ x k next.
+    let room : ¬ IsOverfull (expansion role worker x k) = λ full. none (Some NoRoom) worker (inr (busy, inr (left, (x, k, next, inl (full, (refl, refl)))))) in
+    none None (expansion role worker x k) (inr (busy, inr (left, (x, k, next, inr (room, inl (refl, refl))))))) (suc (known.cost + role.task.sum b)) b known (omega arith) at))
+
+settle_answers : (worker : WorkerState) → HasAnswer SettleStep worker
+settle_answers worker none =
+    let some : ¬ (worker.held ≡ []) = λ h. none (Some NothingThere) worker (inl (h, (refl, refl))) in
+    let at = split_last worker.held some in
+    none None (record worker { held = at.0; known = relaxation worker.known at.1 }) (inr (some, (at.0, at.1, at.2, inl (refl, refl))))
+
+send_answers : (to : ℕ) (x : AtLane) → HasAnswer (SendStep to) x
+send_answers to x none =
+    let some : ¬ (packet_for x.worker to ≡ []) = λ h. none (Some NothingThere) x (inl (h, (refl, refl))) in
+    let rich : ¬ (x.worker.purse < 2) = λ h. none (Some PurseTooSmall) x (inr (some, inl (h, (refl, refl)))) in
+    let room : ¬ (length x.lane ≡ LANE_LIMIT) = λ h. none (Some RingFull) x (inr (some, inr (rich, inl (h, (refl, refl))))) in
+    none None _ (inr (some, inr (rich, inr (room, (refl, refl)))))
+
+deliver_answers : (x : AtLane) → HasAnswer DeliverStep x
+deliver_answers x none =
+    let free : ¬ (x.worker.held ≢ []) = λ h. none (Some StillHolding) x (inl (h, (refl, refl))) in
+    let fits : ¬ (x.worker.purse + 1 ≡ 2 ^ 64) = λ h. none (Some PurseFull) x (inr (free, inl (h, (refl, refl)))) in
+    let some : ¬ (x.lane ≡ []) = λ h. none (Some RingEmpty) x (inr (free, inr (fits, inl (h, (refl, refl))))) in
+    let at = split_first x.lane some in
+    none None _ (inr (free, inr (fits, inr (some, (at.0, at.1, at.2, (refl, refl))))))
+
+draw_answers : (x : AtBook) → HasAnswer DrawStep x
+draw_answers x none =
+    let runs : ¬ (x.book.stop ≢ None) = λ h. none (Some Stopped) x (inl (h, (refl, refl))) in
+    let some : ¬ (x.worker.purse ≡ 0) = λ h. none (Some PurseEmpty) x (inr (runs, inl (h, (refl, refl)))) in
+    let fits : ¬ (2 ^ 63 < x.book.credit) = λ h. none (Some PurseFull) x (inr (runs, inr (some, inl (h, (refl, refl))))) in
+    none None _ (inr (runs, inr (some, inr (fits, (refl, refl)))))
+
+announce_answers : (role : Role) (x : AtBook) → HasAnswer (AnnounceStep role) x
+announce_answers role x none =
+    let runs : ¬ (x.book.stop ≢ None) = λ h. none (Some Stopped) x (inl (h, (refl, refl))) in
+    let some : ¬ ((cost : ℕ) → ¬ MayAnnounce role x cost) = λ h. none (Some NothingToAnnounce) x (inr (runs, inl (h, (refl, refl)))) in
+    some (λ cost may. none None _ (inr (runs, inr (some, (cost, may, (refl, refl))))))
+
+grant_answers : (role : Role) (x : AtBook) → HasAnswer (GrantStep role) x
+grant_answers role x none =
+    let runs : ¬ (x.book.stop ≢ None) = λ h. none (Some Stopped) x (inl (h, (refl, refl))) in
+    let busy : ¬ HasNothingBelow role.task x.worker (limit_of x.book.best) = λ h. none (Some NothingBelowLimit) x (inr (runs, inl (h, (refl, refl)))) in
+    let spent : ¬ (x.worker.allowance ≢ 0) = λ h. none (Some AllowanceLeft) x (inr (runs, inr (busy, inl (h, (refl, refl))))) in
+    let more : ¬ (x.book.granted ≡ x.book.limit) = λ h. none (Some NoAllowance) x (inr (runs, inr (busy, inr (spent, inl (h, (refl, refl)))))) in
+    none None _ (inr (runs, inr (busy, inr (spent, inr (more, (refl, refl))))))
+
+rest_answers : (role : Role) (x : AtBook) → HasAnswer (RestStep role) x
+rest_answers role x none =
+    let runs : ¬ (x.book.stop ≢ None) = λ h. none (Some Stopped) x (inl (h, (refl, refl))) in
+    let some : ¬ (x.worker.purse ≡ 0) = λ h. none (Some PurseEmpty) x (inr (runs, inl (h, (refl, refl)))) in
+    let idle : ¬ (¬ IsIdle role.task x.worker (limit_of x.book.best) x.book.best) = λ h. none (Some NotIdle) x (inr (runs, inr (some, inl (h, (refl, refl))))) in
+    no_floor role.task x.worker (λ floor is. none None _ (inr (runs, inr (some, inr (idle, (floor, is, (refl, refl)))))))
+
+halt_answers : (cause : HaltCause) (x : AtBook) → HasAnswer (HaltStep cause) x
+halt_answers cause x none =
+    let runs : ¬ (x.book.stop ≢ None) = λ h. none (Some Stopped) x (inl (h, (refl, refl))) in
+    let done : ¬ MayGoOn x cause = λ h. none (Some AllowanceLeft) x (inr (runs, inl (h, (refl, refl)))) in
+    none None _ (inr (runs, inr (done, (refl, refl))))
+
+module _ (w : WorldState) where
+  worker_at : (i : ℕ) → ¬ (length w.workers ≤ i) → (worker : WorkerState) × IsWorker w i worker
+  worker_at i there = get_below w.workers i (⊎_elim (λ (lt : i < length w.workers). lt) (λ (le : length w.workers ≤ i). absurd (there le)) (cases_lt i (length w.workers)))
+
+  by_worker_answered : (i : ℕ) (OwnStep : Turn WorkerState Refusal → Type 0) → ((worker : WorkerState) → HasAnswer OwnStep worker) → HasAnswer (ByWorker i OwnStep) w
+  by_worker_answered i OwnStep answers none =
+      let there : ¬ (length w.workers ≤ i) = λ h. none (Some NoSuchWorker) w (inl (h, (refl, refl))) in
+      let worker = worker_at i there in
+      answers worker.0 (λ answer new step. none answer (with_worker w i new) (inr (there, (worker.0, new, worker.1, step, refl))))
+
+  on_book_answered : (i : ℕ) (BookStep : Turn AtBook Refusal → Type 0) → ((x : AtBook) → HasAnswer BookStep x) → HasAnswer (OnBook i BookStep) w
+  on_book_answered i BookStep answers none =
+      let there : ¬ (length w.workers ≤ i) = λ h. none (Some NoSuchWorker) w (inl (h, (refl, refl))) in
+      let worker = worker_at i there in
+      answers (record { worker = worker.0; book = w.book }) (λ answer new step. none answer (record (with_worker w i new.worker) { book = new.book }) (inr (there, (worker.0, new, worker.1, step, refl))))
+
+  module _ (shaped : IsShaped w) where
+    lane_at : (from to : ℕ) → from < length w.workers → to < length w.workers → (lane : Lane) × IsLane w from to lane
+    lane_at from to lt lt' =
+        let row = get_below w.lanes from (omega (arith, shaped.senders)) in
+        let lane = get_below row.0 to (omega (arith, shaped.receivers from row.0 row.1)) in
+        (lane.0, record { from_lanes = row.0; of_sender = row.1; of_receiver = lane.1 })
+
+    on_lane_answered : (i : ℕ) (ends : Ends) → (ends.from ≡ i) ⊎ (ends.to ≡ i) → (LaneStep : Turn AtLane Refusal → Type 0) → ((x : AtLane) → HasAnswer LaneStep x) → HasAnswer (OnLane i ends LaneStep) w
+    on_lane_answered i ends mine LaneStep answers none =
+        let there : ¬ ((ends.from ≡ ends.to) ⊎ (length w.workers ≤ ends.from) ⊎ (length w.workers ≤ ends.to)) = λ h. none (Some NoSuchWorker) w (inl (h, (refl, refl))) in
+        let lt : ends.from < length w.workers = ⊎_elim (λ (l : ends.from < length w.workers). l) (λ (le : length w.workers ≤ ends.from). absurd (there (inr (inl le)))) (cases_lt ends.from (length w.workers)) in
+        let lt' : ends.to < length w.workers = ⊎_elim (λ (l : ends.to < length w.workers). l) (λ (le : length w.workers ≤ ends.to). absurd (there (inr (inr le)))) (cases_lt ends.to (length w.workers)) in
+        let worker = get_below w.workers i (⊎_elim (λ (e : ends.from ≡ i). omega arith) (λ (e : ends.to ≡ i). omega arith) mine) in
+        let lane = lane_at ends.from ends.to lt lt' in
+        answers (record { worker = worker.0; lane = lane.0 }) (λ answer new step. none answer (record (with_worker w i new.worker) { lanes = with_lane w.lanes ends.from ends.to new.lane }) (inr (there, (worker.0, lane.0, new, worker.1, lane.1, step, refl))))
+
+    pub steps_answer : (step : Step) → HasAnswer (Next step) w
+    steps_answer (Expand i) none = by_worker_answered i (ExpandStep (role_of w i)) (expand_answers (role_of w i)) none
+    steps_answer (Settle i) none = by_worker_answered i SettleStep settle_answers none
+    steps_answer (Send i j) none = on_lane_answered i (from_to i j) (inl refl) (SendStep j) (send_answers j) none
+    steps_answer (Deliver i j) none = on_lane_answered i (from_to j i) (inr refl) DeliverStep deliver_answers none
+    steps_answer (Draw i) none = on_book_answered i DrawStep draw_answers none
+    steps_answer (Announce i) none = on_book_answered i (AnnounceStep (role_of w i)) (announce_answers (role_of w i)) none
+    steps_answer (Grant i) none = on_book_answered i (GrantStep (role_of w i)) (grant_answers (role_of w i)) none
+    steps_answer (Rest i) none = on_book_answered i (RestStep (role_of w i)) (rest_answers (role_of w i)) none
+    steps_answer (Halt i cause) none = on_book_answered i (HaltStep cause) (halt_answers cause) none

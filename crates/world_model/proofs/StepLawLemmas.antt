@@ -18,7 +18,7 @@ use Rattle.world_model.specs.Turns.{Becomes, Turn, Unless, turn}
 use Rattle.world_model.specs.WorkerSteps.{AtLane, DeliverStep, ExpandStep, SendStep, SettleStep, WithMemory}
 use Rattle.world_model.specs.Workers.{Lane, Role, WorkerState}
 use Rattle.world_model.specs.Worlds.{IsLane, IsWorker, WorldState, role_of}
-use Rattle.world_model.proofs.TableLemmas.{same_known}
+use Rattle.world_model.proofs.ChangeLemmas.{same_known}
 use Rattle.world_model.proofs.OutcomeLemmas.{least_unique}
 use Rattle.world_model.proofs.RunLemmas.{refusals_change_nothing}
 

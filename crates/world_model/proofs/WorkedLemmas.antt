@@ -1,42 +1,46 @@
--- The worked runs: each is computed, and what it ends with.
-use Rattle.std.proofs.Common.{◌≡◌, ◌≢◌, ℕ, zero, suc, ◌-◌, ◌<◌, ◌≤◌, Bool, true, false, List, [], ◌∷◌, ◌++◌, length, refl, sym, ap, ◌∙◌, subst, inl, arith, Some, None, replicate}
-use Rattle.std.specs.Prelude.{All, AllPairs, ◌==◌, ◌&&◌, nat_lt, not, slice_get, slice_set, slice_index, option_map, Option}
-use Rattle.std.proofs.Common.{lit<}
+-- Worked runs and worked steps: each is computed.
+use Rattle.std.proofs.Common.{◌≡◌, ◌≢◌, ℕ, zero, suc, ◌-◌, ◌<◌, ◌≤◌, Bool, true, false, List, [], ◌∷◌, ◌++◌, length, refl, sym, ap, ◌∙◌, subst, inl, arith, Some, None, replicate, lit<, ◌+◌, ◌^◌}
+use Rattle.std.specs.Prelude.{All, AllPairs, ◌==◌, ◌&&◌, nat_lt, not, slice_get, slice_set, slice_index, option_map, Option, if◌then◌else◌}
 use Rattle.std.specs.FinMap as map
 use Rattle.std.specs.Ordering.{nat_cmp}
 use Rattle.std.proofs.lemmas.Bool.{cond-true, cond-false}
-use Rattle.std.specs.Prelude.{if◌then◌else◌}
+use Rattle.std.proofs.lemmas.List.{length-replicate}
+use Rattle.std.proofs.lemmas.List.Elements.{All-cons}
+use Rattle.std.proofs.lemmas.List.Kept.{AllPairs-cons}
+use Rattle.std.proofs.Math.Nat.{mod-lt}
 use Rattle.board.specs.declared.moves.Move.{Move}
+use Rattle.board.specs.Plans.{Leads}
+use Rattle.board.specs.declared.moves.Move.TheVariants.{U, L, R, D}
+use Rattle.board.specs.Grids.{Grid, IsShape, cell_count}
+use Rattle.board.specs.Positions.{Position, IsBoard, blank_of, goal_of}
+use Rattle.board.specs.CostRules.{IsCostRule, unit_rule}
+use Rattle.board.specs.Worked.{grid_of, two_by_two, two_by_three}
+use Rattle.board.specs.Keys.{key_of}
 use Rattle.world_model.specs.Frontiers.{IsLowest, IsReached}
 use Rattle.world_model.specs.Knowledge.{Knowledge, is_news, relaxation_at}
 use Rattle.world_model.specs.Openings.{IsJob, Job, opening}
 use Rattle.world_model.specs.Outcomes.{AreRowsFor, IsByLastMoves}
 use Rattle.world_model.specs.Shapes.{IsShaped}
 use Rattle.world_model.specs.Steps.{IsRun}
-use Rattle.world_model.specs.Worked.{BoardIsExpandedAgain, CutIsGiven, HaltIsGiven, LimitIsGiven, PlanIsGiven, RefusalsAreGiven, RefusalsOnTheWayAreGiven, RelaxationsLower, far_goal, one_move, one_way, other_way}
+use Rattle.world_model.specs.Worked.{BoardIsExpandedAgain, CutIsGiven, HaltIsGiven, LimitIsGiven, PlanIsGiven, RefusalsAreGiven, RefusalsOnTheWayAreGiven, RelaxationsLower, far_goal, one_move, one_way, other_way, entry_of}
 use Rattle.world_model.specs.Worlds.{WorldState}
-use Rattle.world_model.proofs.TableLemmas.{get_inserted}
-use Rattle.board.specs.Plans.{Leads}
-use Rattle.std.proofs.lemmas.List.{length-replicate}
-use Rattle.std.proofs.lemmas.List.Elements.{All-cons}
-use Rattle.std.proofs.lemmas.List.Kept.{AllPairs-cons}
-use Rattle.std.proofs.Math.Nat.{mod-lt}
-use Rattle.board.specs.declared.moves.Move.TheVariants.{U, L}
-use Rattle.board.specs.Grids.{Grid, IsShape, cell_count}
-use Rattle.board.specs.Positions.{Position, IsBoard, blank_of, goal_of}
-use Rattle.board.specs.CostRules.{IsCostRule, unit_rule}
-use Rattle.board.specs.Worked.{grid_of, two_by_two, two_by_three}
-use Rattle.board.specs.Keys.{key_of}
 use Rattle.world_model.specs.declared.parts.Known.{Known}
 use Rattle.world_model.specs.declared.steps.HaltCause.TheVariants.{Limit, Memory, Start}
 use Rattle.world_model.specs.declared.steps.Step.{Step}
 use Rattle.world_model.specs.declared.steps.Step.TheVariants.{Expand, Settle, Send, Deliver, Draw, Announce, Grant, Rest, Halt}
-use Rattle.world_model.proofs.OpeningLemmas.{opening_shaped}
-use Rattle.world_model.proofs.SmallWorkers.{Small, look_up}
-use Rattle.world_model.proofs.SmallSteps.{eq_tests, lt_tests, not_tests}
-use Rattle.world_model.proofs.SmallWorlds.{SmallWorld, AllBoards, known_first, world_of, made, end_of, run_is}
-use Rattle.world_model.proofs.SmallFrontiers.{all_costs, least_number, lowest_is, reached_is}
+use Rattle.world_model.specs.declared.limits.TheConstants.{PACKET_LIMIT, LANE_LIMIT, GREATEST_GRANT}
+use Rattle.world_model.specs.declared.parts.Item.{Item}
+use Rattle.world_model.specs.declared.steps.Stop.TheVariants.{Quiet}
+use Rattle.world_model.specs.Workers.{Packet, Role}
+use Rattle.world_model.specs.WorkedSteps.{FullLanesRefuse, FullPursesRefuse, FullCreditsRefuse, LastIsSettled, FullPacketsRefuse, SuccessorsAreInOrder, LowerGoalsAreAnnounced, GrantsAreWhole, FloorsAreKept, LimitsAreHaltedAt, starter, finisher, goal_at, lane_of, greatest_sum, book_with, book_best, book_rested, start_board, three_ways}
+use Rattle.world_model.proofs.ChangeLemmas.{get_inserted}
+use Rattle.world_model.proofs.RunLemmas.{opening_shaped}
+use Rattle.world_model.proofs.SmallWorkers.{Small, look_up, AreBoards, Entries}
+use Rattle.world_model.proofs.SmallSteps.{eq_tests, lt_tests, not_tests, expand_is, settle_is, send_is, deliver_is, draw_is, announce_is, grant_is, rest_is, halt_is}
+use Rattle.world_model.proofs.SmallWorlds.{SmallWorld, AllBoards, known_first, world_of, made, end_of, run_is, all_costs, least_number, lowest_is, reached_is}
 use Rattle.world_model.proofs.RowsOfSmallWorlds.{Row, are_rows, both, rows_for}
+
+-- ---- the worked runs: each is computed, and what it ends with
 
 -- whether a list of numbers is a board's
 abbrev all_below : ℕ → List ℕ → Bool
@@ -311,4 +315,128 @@ limit_given rows listed = (
     reached_by limited_move limited_is refl one_boards limit_steps _ refl,
     (((1, refl, refl), refl, refl), rows_by limited_move limited_is refl one_boards limit_steps 1 start_row rows.items listed (omega arith) refl),
   ),
+)
+
+-- ---- worked steps: each is computed
+
+abbrev small_with : Entries → ℕ → Small
+small_with entries purse = record { entries = entries; held = []; unsent = [] ∷ [] ∷ []; purse = purse; allowance = 0; expansions = 0; best = None }
+
+abbrev small_sends : ℕ → ℕ → Small
+small_sends count purse = record (small_with [] purse) { unsent = replicate count (goal_at 1) ∷ [] ∷ [] }
+
+pub full_lanes : FullLanesRefuse
+full_lanes = (send_is 0 (small_sends 1 2) (lane_of LANE_LIMIT), send_is 0 (small_sends 1 2) (lane_of (LANE_LIMIT - 1)), send_is 0 (small_sends 1 1) (lane_of LANE_LIMIT), send_is 0 (small_sends 0 1) (lane_of LANE_LIMIT))
+
+abbrev small_takes : List Item → ℕ → Small
+small_takes held purse = record (small_with [] purse) { held = held }
+
+pub full_purses : FullPursesRefuse
+full_purses = (
+  deliver_is (small_takes [] greatest_sum) (lane_of 1),
+  deliver_is (small_takes [] (greatest_sum - 1)) ((goal_at 1 ∷ []) ∷ lane_of 1),
+  deliver_is (small_takes (goal_at 1 ∷ []) greatest_sum) (lane_of 1),
+  deliver_is (small_takes [] greatest_sum) [],
+)
+
+pub full_credits : FullCreditsRefuse
+full_credits = (
+  draw_is (small_with [] 1) (book_with (2 ^ 63 + 1) 0 None),
+  draw_is (small_with [] 1) (book_with (2 ^ 63) 0 None),
+  draw_is (small_with [] 0) (book_with (2 ^ 63 + 1) 0 None),
+  draw_is (small_with [] 0) (book_with (2 ^ 63 + 1) 0 (Some Quiet)),
+)
+
+pub last_settled : LastIsSettled
+last_settled = settle_is (small_takes (record { board = start_board; cost = 3; via = R } ∷ goal_at 1 ∷ []) 1)
+
+abbrev start_entries : Entries
+start_entries = (start_board, entry_of 0 false U) ∷ []
+
+start_there : AreBoards one_move.task start_entries
+start_there = ((one_move_is.task.start, refl), tt)
+
+abbrev small_expands : ℕ → ℕ → Option ℕ → Small
+small_expands allowance count best = record (small_with start_entries 1) { unsent = replicate count (goal_at 2) ∷ [] ∷ []; allowance = allowance; best = best }
+
+pub full_packets : FullPacketsRefuse
+full_packets = (
+  expand_is starter one_move_is.task.goal (small_expands 1 PACKET_LIMIT None) start_there,
+  expand_is starter one_move_is.task.goal (small_expands 1 (PACKET_LIMIT - 1) None) start_there,
+  expand_is starter one_move_is.task.goal (small_expands 0 PACKET_LIMIT None) start_there,
+  expand_is starter one_move_is.task.goal (small_expands 0 PACKET_LIMIT (Some 0)) start_there,
+)
+
+abbrev three_role : Role
+three_role = record { task = three_ways.task; owner = three_ways.owner; me = 1 }
+
+abbrev small_three : Packet → Small
+small_three packet = record (small_with ((three_ways.task.start, entry_of 4 false D) ∷ []) 1) { unsent = packet ∷ [] ∷ []; allowance = 7; expansions = 2 }
+
+three_start : IsBoard three_ways.task.start
+three_start = board_is three_ways.task.start three_shape refl refl refl
+
+three_goal : IsBoard three_ways.task.goal
+three_goal = board_is three_ways.task.goal three_shape refl refl refl
+
+abbrev left_item : Item
+left_item = record { board = two_by_three (0 ∷ 1 ∷ 2 ∷ 3 ∷ 4 ∷ 5 ∷ []); cost = 5; via = L }
+
+pub in_order : SuccessorsAreInOrder
+in_order = (
+  expand_is three_role three_goal (small_three (replicate 29 left_item)) ((three_start, refl), tt),
+  expand_is three_role three_goal (small_three (replicate 30 left_item)) ((three_start, refl), tt),
+)
+
+abbrev small_goal : Small
+small_goal = small_with ((goal_of (grid_of 2 2), entry_of 3 false L) ∷ []) 1
+
+goal_there : AreBoards one_move.task small_goal.entries
+goal_there = ((one_move_is.task.goal, refl), tt)
+
+pub lower_goals : LowerGoalsAreAnnounced
+lower_goals = (
+  announce_is finisher small_goal (book_best 4 None),
+  announce_is finisher small_goal (book_best 3 None),
+  announce_is starter small_goal (book_best 4 None),
+  announce_is starter small_goal (book_best 3 (Some Quiet)),
+)
+
+pub whole_grants : GrantsAreWhole
+whole_grants = (
+  grant_is starter one_move_is.task.goal (small_expands 0 0 None) start_there (book_best 9 None),
+  grant_is starter one_move_is.task.goal (small_expands 0 0 None) start_there (book_with 1 GREATEST_GRANT None),
+  grant_is starter one_move_is.task.goal (small_expands 0 0 None) start_there (book_with 1 (GREATEST_GRANT + 44) None),
+  grant_is starter one_move_is.task.goal (small_expands 1 0 None) start_there (book_with 1 (GREATEST_GRANT + 44) None),
+  grant_is starter one_move_is.task.goal (small_expands 1 0 None) start_there (book_best 0 None),
+  grant_is starter one_move_is.task.goal (small_expands 1 0 None) start_there (book_best 0 (Some Quiet)),
+)
+
+abbrev small_rests : ℕ → Small
+small_rests purse = small_with ((start_board, entry_of 7 false U) ∷ []) purse
+
+rest_there : AreBoards one_move.task (small_rests 0).entries
+rest_there = ((one_move_is.task.start, refl), tt)
+
+pub kept_floors : FloorsAreKept
+kept_floors = (
+  rest_is starter one_move_is.task.goal (small_rests 3) rest_there (book_rested 5 (Some 8) None None),
+  rest_is starter one_move_is.task.goal (small_rests 5) rest_there (book_rested 5 (Some 8) None None),
+  rest_is finisher one_move_is.task.goal (small_with [] 1) tt (book_rested 5 (Some 8) (Some 9) None),
+  rest_is starter one_move_is.task.goal (record (small_rests 3) { held = goal_at 9 ∷ [] }) rest_there (book_rested 5 None None None),
+  rest_is starter one_move_is.task.goal (record (small_rests 3) { unsent = (goal_at 9 ∷ []) ∷ [] ∷ [] }) rest_there (book_rested 5 None None None),
+  rest_is starter one_move_is.task.goal small_goal goal_there (book_rested 5 None None None),
+  rest_is starter one_move_is.task.goal (small_rests 3) rest_there (record (book_rested 5 None None None) { best = Some 8 }),
+  rest_is starter one_move_is.task.goal (record (small_rests 0) { held = goal_at 9 ∷ [] }) rest_there (book_rested 5 None None None),
+  rest_is starter one_move_is.task.goal (small_rests 0) rest_there (book_rested 5 None None (Some Quiet)),
+)
+
+pub halted_limits : LimitsAreHaltedAt
+halted_limits = (
+  halt_is Limit (small_expands 0 0 None) (book_with 1 (GREATEST_GRANT + 44) None),
+  halt_is Limit (small_expands 1 0 None) (book_with 1 (GREATEST_GRANT + 44) None),
+  halt_is Limit (small_expands 0 0 None) (book_with 1 (GREATEST_GRANT + 43) None),
+  halt_is Start (small_expands 1 0 None) (book_best 9 None),
+  halt_is Limit (small_expands 1 0 None) (book_with 1 0 (Some Quiet)),
+  halt_is Start (small_expands 1 0 None) (book_with 1 0 (Some Quiet)),
 )

@@ -26,7 +26,7 @@ use Rattle.world_model.specs.Steps.{IsRun}
 use Rattle.world_model.specs.Worked.{first_half, one_move, plain_job}
 use Rattle.world_model.specs.WorkedOutcomes.{CostIsGiven, EmptyPlanIsGiven, JobsAreOfAllCounts, MemoryIsGiven, NoRowsAreGiven, OpeningsAreNotKept, PlanAboveIsGiven, StartIsGiven, ThreeRowsAreGiven, UnsolvableIsGiven, WorldsAreReached, far_start, halfway, known_start, two_expansions, two_moves}
 use Rattle.world_model.specs.Workers.{IsTaskBoard, WorkerState}
-use Rattle.world_model.proofs.TableLemmas.{get_inserted}
+use Rattle.world_model.proofs.ChangeLemmas.{get_inserted}
 use Rattle.world_model.specs.Worlds.{Knows, WorldState}
 use Rattle.world_model.proofs.RunLemmas.{runs_sound}
 use Rattle.world_model.proofs.SmallWorkers.{look_first}

@@ -2,7 +2,7 @@ use Rattle.std.proofs.Common.{◌≡◌, Some, refl, sym, ap, ◌∙◌, arith}
 use Rattle.std.specs.FinMap as map
 use Rattle.std.proofs.lemmas.Option.{slice_get-get_or}
 use Rattle.world_model.specs.declared.parts.Known.{Known}
-use Rattle.world_model.proofs.TableLemmas.{same_known}
+use Rattle.world_model.proofs.ChangeLemmas.{same_known}
 use Rattle.search_lists.specs.Lists.{both, AreKnown}
 use Rattle.search_lists.proofs.OrderLemmas.{IsStale, is_there, was_there, places_stay, one_less, order_dropped, known_same, order_same, count_same}
 use Rattle.search_lists.proofs.lists.next_open.Goals as goal

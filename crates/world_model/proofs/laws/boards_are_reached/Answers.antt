@@ -1,4 +1,4 @@
-use Rattle.world_model.proofs.ReachLemmas.{known_reached, items_reached}
+use Rattle.world_model.proofs.OutcomeLemmas.{known_reached, items_reached}
 use Rattle.world_model.proofs.laws.boards_are_reached.Goals as goal
 
 pub returns : goal.returns

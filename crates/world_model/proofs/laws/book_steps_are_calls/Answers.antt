@@ -1,4 +1,4 @@
-use Rattle.world_model.proofs.BookLemmas.{draws, announces, grants, rests, halts}
+use Rattle.world_model.proofs.CreditLemmas.{draws, announces, grants, rests, halts}
 use Rattle.world_model.proofs.laws.book_steps_are_calls.Goals as goal
 
 pub returns : goal.returns

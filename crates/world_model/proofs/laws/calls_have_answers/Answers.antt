@@ -1,4 +1,4 @@
-use Rattle.world_model.proofs.BookLemmas.{calls_answer}
+use Rattle.world_model.proofs.CreditLemmas.{calls_answer}
 use Rattle.world_model.proofs.laws.calls_have_answers.Goals as goal
 
 pub returns : goal.returns

@@ -1,5 +1,5 @@
 use Rattle.world_model.proofs.KeptLemmas.{quiet_at_rest, kept_quiet, kept_never_cut, kept_begun}
-use Rattle.world_model.proofs.QuietLemmas.{quiet_bounds}
+use Rattle.world_model.proofs.RunLemmas.{quiet_bounds}
 use Rattle.world_model.proofs.laws.kept_worlds_are_the_runs.Goals as goal
 
 pub returns : goal.returns

@@ -1,5 +1,4 @@
-use Rattle.world_model.proofs.QuietLemmas.{expansions_limited, limit_spent}
-use Rattle.world_model.proofs.RunLemmas.{runs_spend, one_spends_it}
+use Rattle.world_model.proofs.RunLemmas.{expansions_limited, limit_spent, runs_spend, one_spends_it}
 use Rattle.world_model.proofs.laws.limits_are_spent.Goals as goal
 
 pub returns : goal.returns

@@ -1,5 +1,5 @@
-use Rattle.world_model.proofs.StepsShaped.{expand_shaped, settle_shaped, send_shaped, deliver_shaped}
-use Rattle.world_model.proofs.BookKept.{book_steps_keep}
+use Rattle.world_model.proofs.ShapeKept.{expand_shaped, settle_shaped, send_shaped, deliver_shaped}
+use Rattle.world_model.proofs.StepCases.{book_steps_keep}
 use Rattle.world_model.proofs.laws.steps_keep_their_worker.Goals as goal
 
 pub returns : goal.returns

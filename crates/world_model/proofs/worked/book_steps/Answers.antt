@@ -1,4 +1,4 @@
-use Rattle.world_model.proofs.WorkedStepLemmas.{lower_goals, whole_grants, kept_floors, halted_limits}
+use Rattle.world_model.proofs.WorkedLemmas.{lower_goals, whole_grants, kept_floors, halted_limits}
 use Rattle.world_model.proofs.worked.book_steps.Goals as goal
 
 pub returns : goal.returns

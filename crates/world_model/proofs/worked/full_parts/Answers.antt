@@ -1,4 +1,4 @@
-use Rattle.world_model.proofs.WorkedStepLemmas.{full_packets, full_lanes, full_purses, full_credits}
+use Rattle.world_model.proofs.WorkedLemmas.{full_packets, full_lanes, full_purses, full_credits}
 use Rattle.world_model.proofs.worked.full_parts.Goals as goal
 
 pub returns : goal.returns

@@ -1,4 +1,4 @@
-use Rattle.world_model.proofs.WorkedStepLemmas.{last_settled, in_order}
+use Rattle.world_model.proofs.WorkedLemmas.{last_settled, in_order}
 use Rattle.world_model.proofs.worked.item_order.Goals as goal
 
 pub returns : goal.returns

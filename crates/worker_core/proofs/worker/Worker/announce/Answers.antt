@@ -6,7 +6,7 @@ use Rattle.world_model.specs.Turns.{turn}
 use Rattle.world_model.specs.Workers.{KnowsGoalAt}
 use Rattle.world_model.specs.BookCalls.{BookAnnounce}
 use Rattle.world_model.specs.BookSteps.{AnnounceStep}
-use Rattle.world_model.proofs.BookLemmas.{announces}
+use Rattle.world_model.proofs.CreditLemmas.{announces}
 use Rattle.worker_core.specs.Workers.{state_of, with_book}
 use Rattle.worker_core.proofs.worker.Worker.announce.Goals as goal
 

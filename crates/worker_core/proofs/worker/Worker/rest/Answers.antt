@@ -9,7 +9,7 @@ use Rattle.world_model.specs.Turns.{turn}
 use Rattle.world_model.specs.Workers.{Packet, KnowsGoalAt}
 use Rattle.world_model.specs.BookCalls.{BookRest}
 use Rattle.world_model.specs.BookSteps.{AtBook, RestStep}
-use Rattle.world_model.proofs.BookLemmas.{rests}
+use Rattle.world_model.proofs.CreditLemmas.{rests}
 use Rattle.quiescence.specs.Answers.{account}
 use Rattle.worker_core.specs.Workers.{state_of, with_book, packets_of}
 use Rattle.worker_core.proofs.CallLemmas.{rest_left}
