@@ -15,7 +15,7 @@ use Rattle.world_model.specs.Workers.{Packet, Lane}
 use Rattle.world_model.specs.Worlds.{WorldState, IsLane, LiesIn, HasInLaneTo}
 use Rattle.worker_core.specs.Roles.{task_of}
 use Rattle.world_ends.specs.Lowest.{IsLeastBeside, IsLowestInLanes, AreItemsOn}
-use Rattle.world_ends.proofs.LeastLemmas.{beside_none, beside_both, beside_same, beside_nothing, least_same}
+use Rattle.world_ends.proofs.PartLemmas.{beside_none, beside_both, beside_same, beside_nothing, least_same}
 use Rattle.hda_run.specs.Lanes.{IsOfOne, IsInLanes}
 use Rattle.hda_run.specs.Problems.{Problem, task_in}
 

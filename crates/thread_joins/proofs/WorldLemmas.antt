@@ -37,9 +37,8 @@ use Rattle.worker_core.specs.declared.worker.Worker.{Worker}
 use Rattle.worker_core.specs.Roles.{guide_of, IsGuided}
 use Rattle.worker_core.specs.Workers.{state_of}
 use Rattle.world_ends.specs.Lowest.{IsLeastBeside, IsLowestInLanes, AreItemsOn}
-use Rattle.world_ends.proofs.LeastLemmas.{beside_none, beside_both, beside_same, beside_nothing, least_same}
+use Rattle.world_ends.proofs.PartLemmas.{beside_none, beside_both, beside_same, beside_nothing, least_same, worker_at, worker_from, knows_of, known_from, reached_is}
 use Rattle.world_ends.specs.Parts.{AreGuided, states_of, HasParts, known_in}
-use Rattle.world_ends.proofs.PartLemmas.{worker_at, worker_from, knows_of, known_from, reached_is}
 use Rattle.rings.specs.Rings.{ReceivingEnd, left_lanes, left_rows, lane_at, Ring, SendingEnd, in_rings, sent_lanes, received_lanes, rings_of_ins, sent_rows, received_rows}
 use Rattle.rings.proofs.GridLemmas.{get_end, get_before, length_end}
 use Rattle.hda_run.specs.Lanes.{IsOfOne}

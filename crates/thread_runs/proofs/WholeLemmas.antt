@@ -25,7 +25,7 @@ use Rattle.world_model.specs.Openings.{IsJob, opening, idle_worker, first_worker
 use Rattle.world_model.specs.Shapes.{IsTask}
 use Rattle.world_model.specs.Worlds.{WorldState}
 use Rattle.world_model.proofs.RunLemmas.{expansions_limited, openings_sound}
-use Rattle.world_ends.proofs.LawLemmas.{ends_answer, ends_bounded}
+use Rattle.world_ends.proofs.EndingLemmas.{ends_answer, ends_bounded}
 use Rattle.world_model.proofs.KeptLemmas.{bounds_given, kept_never_cut, kept_quiet, memory_bounded}
 use Rattle.world_model.proofs.OutcomeLemmas.{outcomes_answer}
 use Rattle.hda_run.specs.Problems.{Problem, task_in}

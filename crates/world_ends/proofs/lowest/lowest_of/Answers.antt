@@ -7,7 +7,7 @@ use Rattle.lower_bound.specs.Bounds.{sum_of}
 use Rattle.lower_bound.specs.Tables.{parts_of}
 use Rattle.world_model.specs.declared.parts.Item.{Item}
 use Rattle.world_ends.specs.Lowest.{IsLeastBeside, IsOfItem}
-use Rattle.world_ends.proofs.LeastLemmas.{item_more}
+use Rattle.world_ends.proofs.PartLemmas.{item_more}
 use Rattle.world_ends.proofs.lowest.lowest_of.Goals as goal
 
 -- src/lowest.rt:28:29

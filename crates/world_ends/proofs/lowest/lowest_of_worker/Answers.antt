@@ -5,7 +5,7 @@ use Rattle.world_model.specs.Workers.{WorkerState}
 use Rattle.worker_core.specs.Workers.{state_of}
 use Rattle.world_ends.specs.Parts.{task_in}
 use Rattle.world_ends.specs.Lowest.{IsLeastBeside, IsOfItem, IsOfUnsent}
-use Rattle.world_ends.proofs.LeastLemmas.{worker_is}
+use Rattle.world_ends.proofs.PartLemmas.{worker_is}
 use Rattle.world_ends.proofs.lowest.lowest_of_worker.Goals as goal
 
 -- src/lowest.rt:81:9

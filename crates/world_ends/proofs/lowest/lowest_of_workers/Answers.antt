@@ -7,8 +7,7 @@ use Rattle.worker_core.specs.Workers.{state_of}
 use Rattle.worker_core.specs.Roles.{IsGuided}
 use Rattle.world_ends.specs.Parts.{task_in, states_of}
 use Rattle.world_ends.specs.Lowest.{IsLeastBeside}
-use Rattle.world_ends.proofs.LeastLemmas.{IsOfWorkersUpTo, worker_more, all_workers}
-use Rattle.world_ends.proofs.PartLemmas.{state_at}
+use Rattle.world_ends.proofs.PartLemmas.{IsOfWorkersUpTo, worker_more, all_workers, state_at}
 use Rattle.world_ends.proofs.lowest.lowest_of_workers.Goals as goal
 
 -- src/lowest.rt:61:9

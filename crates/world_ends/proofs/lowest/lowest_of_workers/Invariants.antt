@@ -2,7 +2,7 @@ use Rattle.std.proofs.Common.{◌≡◌}
 use Rattle.search_lists.specs.Orders.{Guide}
 use Rattle.world_ends.specs.Parts.{task_in, states_of, AreGuided}
 use Rattle.world_ends.specs.Lowest.{IsLeastBeside}
-use Rattle.world_ends.proofs.LeastLemmas.{IsOfWorkersUpTo}
+use Rattle.world_ends.proofs.PartLemmas.{IsOfWorkersUpTo}
 use Rattle.world_ends.proofs.lowest.lowest_of_workers.Given as goal
 
 -- the least beside the workers so far, which are as they were

@@ -5,7 +5,7 @@ use Rattle.lower_bound.specs.Bounds.{sum_of}
 use Rattle.lower_bound.specs.Tables.{parts_of}
 use Rattle.worker_core.specs.Workers.{state_of}
 use Rattle.world_ends.specs.Lowest.{IsLeastBeside}
-use Rattle.world_ends.proofs.LeastLemmas.{IsOfUnsentUpTo, packet_at, packet_more, all_packets}
+use Rattle.world_ends.proofs.PartLemmas.{IsOfUnsentUpTo, packet_at, packet_more, all_packets}
 use Rattle.world_ends.proofs.lowest.lowest_unsent.Goals as goal
 
 -- src/lowest.rt:93:9

@@ -2,7 +2,7 @@ use Rattle.lower_bound.specs.Bounds.{sum_of}
 use Rattle.lower_bound.specs.Tables.{parts_of}
 use Rattle.worker_core.specs.Workers.{state_of}
 use Rattle.world_ends.specs.Lowest.{IsLeastBeside}
-use Rattle.world_ends.proofs.LeastLemmas.{IsOfUnsentUpTo}
+use Rattle.world_ends.proofs.PartLemmas.{IsOfUnsentUpTo}
 use Rattle.world_ends.proofs.lowest.lowest_unsent.Given as goal
 
 -- the least beside the items for the workers so far

@@ -7,8 +7,7 @@ use Rattle.board.specs.Plans.{Leads}
 use Rattle.world_model.specs.Worlds.{WorldState}
 use Rattle.world_model.specs.Outcomes.{IsByLastMoves}
 use Rattle.world_ends.specs.Parts.{task_in, states_of, HasParts}
-use Rattle.world_ends.proofs.PartLemmas.{before_is}
-use Rattle.world_ends.proofs.PlanLemmas.{differs, same_as, traced_more}
+use Rattle.world_ends.proofs.PartLemmas.{before_is, differs, same_as, traced_more}
 use Rattle.world_ends.proofs.plan.plan_back.Goals as goal
 
 -- src/plan.rt:52:13

@@ -5,7 +5,7 @@ use Rattle.board.specs.Moves.{Moves}
 use Rattle.world_model.specs.declared.parts.Known.{Known}
 use Rattle.world_model.specs.Workers.{IsTaskBoard}
 use Rattle.world_ends.specs.Parts.{task_in, states_of, known_in}
-use Rattle.world_ends.proofs.PlanLemmas.{stepped_back, some_is}
+use Rattle.world_ends.proofs.PartLemmas.{stepped_back, some_is}
 use Rattle.world_ends.proofs.plan.step_back.Goals as goal
 
 -- src/plan.rt:82:18
