@@ -1,31 +1,37 @@
 -- What was written for a line, or of a certificate, is true.
-use Rattle.std.proofs.Common.{◌≡◌, ◌≢◌, ℕ, suc, ◌+◌, ◌^◌, ◌<◌, List, [], ◌∷◌, ◌++◌, Bool, true, false, cond, Option, None, Some, Result, Ok, Err, length, refl, sym, ap, ◌∙◌, subst, inl, inr, arith, append-nil, length-append, get_or, not, slice_get}
+use Rattle.std.proofs.Common.{ℕ, ◌≡◌, Option, None, Some, Vec, ap, ◌⊎◌, inl, inr, true, ◌<◌, ◌+◌, List, [], ◌∷◌, ◌++◌, All, length, refl, sym, ◌∙◌, arith, length-append, ◌≢◌, suc, ◌^◌, Bool, false, cond, Result, Ok, Err, subst, append-nil, get_or, not, slice_get}
+use Rattle.std.specs.declared.alloc.Global.{Global}
+use Rattle.std.proofs.KnownBytes.{Consumes-trans, Appends-nil, Keeps-refl}
+use Rattle.std.proofs.lemmas.List.Elements.{All-nil, All-cons, All-append, recursion_from_All}
 use Rattle.std.specs.Prelude.{◌≤◌, IfSome, IsSome, codes, nat_lt}
 use Rattle.std.specs.List.{AllByRecursion}
-use Rattle.std.proofs.lemmas.List.Elements.{recursion_from_All}
+use Rattle.std.proofs.lemmas.Bool.{ne_eqb}
 use Rattle.serde_json.specs.Data.{Data, null, boolean, number, string, array, object}
 use Rattle.serde_json.specs.Read.{read}
 use Rattle.serde_json.specs.Written.{compact_text}
-use Rattle.std.proofs.lemmas.Bool.{ne_eqb}
-use Rattle.byte_streams.specs.Streams.{SourceState, SinkState, Change}
-use Rattle.byte_streams.specs.Sink.{Puts, PutsNone}
 use Rattle.board.specs.declared.moves.Move.{Move}
 use Rattle.board.specs.Positions.{Position}
 use Rattle.board.specs.CostRules.{CostRule}
 use Rattle.board.specs.Plans.{Leads, NothingBelow, IsLeast}
-use Rattle.outcomes.specs.Outcomes.{Task}
-use Rattle.outcomes.specs.Endings.{EndAnswers}
-use Rattle.outcomes.specs.declared.outcome.Cause.TheVariants.{Memory}
-use Rattle.outcomes.specs.declared.outcome.Want.TheVariants.{Refused}
+use Rattle.outcomes.specs.declared.outcome.Cause.{Cause}
 use Rattle.outcomes.specs.declared.outcome.Ending.{Ending}
 use Rattle.outcomes.specs.declared.outcome.Ending.TheVariants.{Optimal, Unsolvable, Bounded}
 use Rattle.outcomes.specs.declared.outcome.Outcome.{Outcome}
 use Rattle.outcomes.specs.declared.outcome.Outcome.TheVariants as outcome
-use Rattle.batch_lines.specs.Words.{entry_code}
-use Rattle.batch_lines.specs.Lines.{lines_of, onto_first, without_return, is_passed_over, kind_of}
+use Rattle.outcomes.specs.declared.outcome.Why.TheVariants.{Exhausted}
+use Rattle.outcomes.specs.Endings.{EndAnswers, without_rows}
+use Rattle.outcomes.specs.Outcomes.{Answers, Task}
+use Rattle.outcomes.specs.declared.outcome.Cause.TheVariants.{Memory}
+use Rattle.outcomes.specs.declared.outcome.Want.TheVariants.{Refused}
+use Rattle.pattern_index.specs.Splits.{Split}
+use Rattle.byte_streams.specs.Streams.{SourceState, from_to, SinkState, Change}
+use Rattle.byte_streams.specs.Sink.{Puts, PutsNone}
+use Rattle.batch_lines.specs.Readings.{TakesKnown, TakesNoLine, CountsKnown, Stops, IsJudged}
+use Rattle.batch_lines.specs.declared.lines.TheConstants.{INPUT_LIMIT, LINE_LIMIT}
 use Rattle.batch_lines.specs.declared.lines.LineKind.{LineKind}
 use Rattle.batch_lines.specs.declared.lines.LineKind.TheVariants.{PassedOver, Within, TooLong}
-use Rattle.batch_lines.specs.declared.lines.TheConstants.{LINE_LIMIT}
+use Rattle.batch_lines.specs.Words.{entry_code}
+use Rattle.batch_lines.specs.Lines.{lines_of, onto_first, without_return, is_passed_over, kind_of}
 use Rattle.reports.specs.Reports.{outcome_data, refused_data, refused_certificate_data, report_text}
 use Rattle.reports.specs.Readings.{AreSmall, HasStatus, IsReport, IsSmall, SaysNumber}
 use Rattle.reports.specs.Readings.IsReport.{of_outcome, of_line, of_cost, of_bound, of_certificate}
@@ -39,29 +45,91 @@ use Rattle.certificate.specs.declared.faults.ReadFault.{ReadFault}
 use Rattle.certificate.specs.declared.faults.ReadFault.TheVariants.{Format, Failed, NoMemory}
 use Rattle.certificate.proofs.LawLemmas.{spelled_read}
 use Rattle.certificate_check.specs.Refusals.{ItsPlanLeads, refusal_code}
-use Rattle.pattern_index.specs.Splits.{Split}
-use Rattle.batch_runs.specs.Batches.{Rules, IsTruthful, Answer, AnswersEntry, AnswersKind, AnswersLine, AnswersLines, AreAll, AreFirst, answer_text, answers_text}
+use Rattle.batch_runs.specs.Batches.{AreRead, TakesSome, IsTooLong, Rules, IsTruthful, Answer, AnswersEntry, AnswersKind, AnswersLine, AnswersLines, AreAll, AreFirst, answer_text, answers_text}
+use Rattle.batch_runs.proofs.BatchLemmas.{AreRead-more, AreFirst-read}
 use Rattle.batch_runs.specs.Batches.AnswersEntry.{by_fault, by_outcome, by_want}
 use Rattle.batch_runs.specs.Batches.Answer.{passed_over}
 use Rattle.batch_runs.specs.Meanings.{IsReply, Names, asks, questions}
 use Rattle.batch_runs.specs.Headline.{TellsTheTruth}
-use Rattle.batch_runs.proofs.BatchLemmas.{AreFirst-read}
 use Rattle.batch_runs.proofs.TruthLemmas.{truth}
-use Rattle.certificate_runs.specs.Rules.{MayReport, ProofRules, ProvesTruly, report_rules}
-use Rattle.certificate_runs.proofs.RowLemmas.{ends_answered, lone_bound}
+use Rattle.certificate_runs.specs.Rules.{rows_of, MayReport, ProofRules, ProvesTruly, report_rules}
+use Rattle.certificate_runs.specs.Certifying.{IsPassedOver, IsUncertified, NeedsReport, IsCertificateOf, FindsFirst, PassesAll, RepliesTo, Replies, first_line}
 use Rattle.certificate_runs.specs.Outputs.{Output, IsUntouched}
 use Rattle.certificate_runs.specs.declared.faults.CertifyFault.{CertifyFault}
 use Rattle.certificate_runs.specs.declared.faults.CheckFault.{CheckFault}
 use Rattle.certificate_runs.specs.declared.faults.UpgradeFault.{UpgradeFault}
 use Rattle.certificate_runs.specs.declared.faults.UpgradeFault.TheVariants.{CertificateRead, CertificateMemory}
 use Rattle.certificate_runs.specs.Upgrading.{EndsUpgrade, Upgrades}
-use Rattle.certificate_runs.specs.Certifying.{IsPassedOver, IsUncertified, NeedsReport, IsCertificateOf, FindsFirst, PassesAll, RepliesTo, Replies, first_line}
 use Rattle.certificate_runs.specs.Checking.{claim_data, IsJudgement, IsVerdict, Checks}
 use Rattle.certificate_runs.specs.Headline.{BoundsLackRows, CertifiesTruly, ClaimsTruly, AnswersFirst, WritesAnswer, IsTrueAnswer, IsRefusedBy, SaysOf, IsTrueVerdict, WritesVerdict, IsTrueCheck, WritesUpgrade, IsTrueUpgrade}
 use Rattle.certificate_runs.specs.Headline.AnswersFirst.{by_none, by_certificate, by_report}
-use Rattle.std.proofs.KnownBytes.{Appends-nil, Keeps-refl}
 
--- ---- the lines that ask
+-- ---- outcomes without rows
+
+-- a bound as an outcome without rows
+abbrev lone : Ending → Outcome
+lone (Optimal cost plan) = outcome.Unsolvable Exhausted
+lone (Unsolvable why) = outcome.Unsolvable why
+lone (Bounded bound best cause) = outcome.Bounded bound best cause None
+
+-- what says a bound and has no rows is this
+pub lone_bound : (given : Outcome) (bound : ℕ) (best : Option (ℕ × Vec Move Global)) (cause : Cause) → without_rows given ≡ Bounded bound best cause → rows_of given ≡ None → given ≡ outcome.Bounded bound best cause None
+lone_bound (outcome.Optimal cost plan rows) bound best cause says none = absurd (cc)
+lone_bound (outcome.Unsolvable why) bound best cause says none = absurd (cc)
+lone_bound (outcome.Bounded bound' best' cause' (Some rows)) bound best cause says none = absurd (cc)
+lone_bound (outcome.Bounded bound' best' cause' None) bound best cause says none = ap lone says
+
+-- what answers a task does so without rows too
+pub ends_answered : (task : Task) (given : Outcome) → Answers task given → EndAnswers task (without_rows given)
+ends_answered task (outcome.Optimal cost plan rows) answers = (answers.0, answers.1, (rows.items, answers.2), answers.3, answers.4)
+ends_answered task (outcome.Unsolvable why) answers = answers
+ends_answered task (outcome.Bounded bound best cause (Some rows)) answers = (answers.0, (rows.items, answers.1))
+ends_answered task (outcome.Bounded bound best cause None) answers = (answers.0, answers.2)
+
+-- ---- the lines that are passed over before the first other one
+
+-- so many lines were read, and all are passed over
+pub record IsSearching (input now : Option (List ℕ)) (numbered : ℕ) : Type 0 where
+  pub lines : List (List ℕ)
+  pub read : AreRead input now lines
+  pub passed : All IsPassedOver lines
+  pub counted : numbered ≡ length lines
+
+read_none : (input : Option (List ℕ)) → AreRead input input []
+read_none None = tt
+read_none (Some bytes) = refl
+
+pub searching_begins : (input : Option (List ℕ)) → IsSearching input input 0
+searching_begins input = record { lines = []; read = read_none input; passed = All-nil IsPassedOver; counted = refl }
+
+-- one line more is passed over
+pub searching_on : (input now new : Option (List ℕ)) (n m : ℕ) (bytes kept : List ℕ) (kind : LineKind) → IsSearching input now n → TakesKnown now new bytes → IsJudged bytes kind kept → kind ≡ PassedOver → m ≡ n + 1 → IsSearching input new m
+searching_on input now new n m bytes kept kind searching taken judged passed next =
+    let longer = length-append searching.lines (bytes ∷ []) in
+    record {
+      lines = searching.lines ++ bytes ∷ [];
+      read = AreRead-more input now new searching.lines bytes searching.read taken;
+      passed = All-append IsPassedOver searching.lines (bytes ∷ []) searching.passed (All-cons IsPassedOver bytes [] (sym judged.judged ∙ passed) (All-nil IsPassedOver));
+      counted = omega (arith, next, searching.counted, longer);
+    }
+
+-- what was taken, and then of a line that was lost
+pub TakesSome-lost : (a b c : SourceState) (room : ℕ) → TakesSome (from_to a b) → TakesNoLine (from_to b c) room → TakesSome (from_to a c)
+TakesSome-lost a b c room before (seen, taken, none) = (before.0 ++ seen, Consumes-trans a.left b.left c.left before.0 seen before.1 taken)
+
+-- an input is too long of which more was counted than the limit
+too_long : (a b c : Option (List ℕ)) (x y : ℕ) → CountsKnown a b 0 x → CountsKnown b c x y → INPUT_LIMIT < y → IsTooLong a
+too_long None b c x y p q past = tt
+too_long (Some input) None c x y p q past = absurd p
+too_long (Some input) (Some left) None x y p q past = absurd q
+too_long (Some input) (Some left) (Some rest) x y p q past = omega (arith, p, q, past)
+
+-- why a line is lost
+pub lost_for : (a b c : SourceState) (x y : ℕ) → CountsKnown a.left b.left 0 x → CountsKnown b.left c.left x y → Stops (from_to b c) y → (c.has_failed ≡ true) ⊎ IsTooLong a.left
+lost_for a b c x y before now (inl failed) = inl failed
+lost_for a b c x y before now (inr past) = inr (too_long a.left b.left c.left x y before now past)
+
+-- ---- what was written is true: the lines that ask
 
 abbrev is_over : LineKind → Bool
 is_over PassedOver = true

@@ -19,7 +19,7 @@ use Rattle.batch_runs.specs.Meanings.{Names}
 use Rattle.batch_runs.proofs.NameLemmas.{same_name}
 use Rattle.certificate.specs.declared.faults.ReadFault.TheVariants.{Format, Failed, NoMemory}
 use Rattle.certificate_runs.specs.Rules.{ProofRules, report_rules, rows_of}
-use Rattle.certificate_runs.proofs.RowLemmas.{lone_bound}
+use Rattle.certificate_runs.proofs.HeadlineLemmas.{lone_bound}
 use Rattle.certificate_runs.specs.Certifying.{claim_status}
 use Rattle.certificate_runs.specs.Laws.{CertificatesAreOfOutcomes, WantsAreOfRules, GroupsAreWantedForRows, SaidBoundsLackRows, OutcomesWithRowsAreCertified, ReportedBoundsLackRows, BoundsAreCertified, ClaimsAreOfEndings, LeastPlansAreCertified, StatusesTellClaims, OtherFaultsLeaveTheSink, OtherFaultsWriteNoVerdict, VerdictsAreOnWhatWasRead, WantsAreForVerdicts}
 use Rattle.certificate_runs.specs.declared.faults.CertifyFault.TheVariants as certify

@@ -23,7 +23,7 @@ use Rattle.thread_runs.specs.Solved.{IsOfWholeRun, IsSolved, HasWholeRun, EndsWh
 use Rattle.thread_runs.specs.Laws.{HasItsRows}
 use Rattle.thread_runs.proofs.LawLemmas.{solved_ends}
 use Rattle.certificate_runs.specs.Rules.{MayProve, ProvesTruly}
-use Rattle.certificate_runs.proofs.RowLemmas.{ends_answered}
+use Rattle.certificate_runs.proofs.HeadlineLemmas.{ends_answered}
 use Rattle.setup_runs.specs.Laws.{CertifiedEndsAreAnswered, IsAloneBound, ParityIsCertified}
 use Rattle.setup_runs.specs.Solving.{IsOfProvedRun, MayAnswer, MayCertify, certifying_rules_of, problem_of}
 use Rattle.setup_runs.proofs.SolvingLemmas.{left_any, lone_owner, one_class}

@@ -3,7 +3,7 @@ use Rattle.byte_streams.specs.Streams.{change}
 use Rattle.batch_runs.specs.Batches.{LosesLine}
 use Rattle.batch_runs.proofs.BatchLemmas.{AreRead-more, TakesSome-line, CountsKnown-more}
 use Rattle.certificate_runs.specs.Certifying.{FindsFirst}
-use Rattle.certificate_runs.proofs.FindLemmas.{searching_on, TakesSome-lost, lost_for}
+use Rattle.certificate_runs.proofs.HeadlineLemmas.{searching_on, TakesSome-lost, lost_for}
 use Rattle.certificate_runs.proofs.certifying.find_line.Goals as goal
 
 pub lines-preserved : goal.lines-preserved

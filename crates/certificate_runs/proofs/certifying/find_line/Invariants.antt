@@ -3,7 +3,7 @@ use Rattle.byte_streams.specs.Streams.{change}
 use Rattle.batch_lines.specs.Readings.{CountsKnown}
 use Rattle.batch_runs.specs.Batches.{TakesSome}
 use Rattle.batch_lines.specs.declared.lines.TheConstants.{INPUT_LIMIT}
-use Rattle.certificate_runs.proofs.FindLemmas.{IsSearching}
+use Rattle.certificate_runs.proofs.HeadlineLemmas.{IsSearching}
 use Rattle.certificate_runs.proofs.certifying.find_line.Given as goal
 
 abbrev pub invariant-lines : goal.invariant-lines

@@ -5,7 +5,7 @@ use Rattle.certificate.specs.declared.faults.ReadFault.{ReadFault}
 use Rattle.certificate.specs.declared.faults.ReadFault.TheVariants.{Format}
 use Rattle.certificate_runs.specs.Outputs.{Output}
 use Rattle.certificate_runs.specs.Checking.{IsJudgement, IsJudgementBy, IsRefused}
-use Rattle.certificate_runs.proofs.CheckLemmas.{checked}
+use Rattle.certificate_runs.proofs.CertifyLemmas.{checked}
 use Rattle.certificate_runs.proofs.checking.check_source.Goals as goal
 
 pub returns-in-Ok-judge : goal.returns-in-Ok-judge

@@ -1,4 +1,4 @@
-use Rattle.certificate_runs.proofs.SilenceLemmas.{silence}
+use Rattle.certificate_runs.proofs.CertifyLemmas.{silence}
 use Rattle.certificate_runs.proofs.laws.silence_is_unasked.Goals as goal
 
 pub returns : goal.returns
