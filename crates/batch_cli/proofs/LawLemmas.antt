@@ -1,7 +1,7 @@
 -- What the program leaves in an empty output, and what of its message in the error stream.
 use Rattle.std.proofs.Common.{◌≡◌, ℕ, List, ◌++◌, Option, None, Some}
 use Rattle.std.specs.Io.KnownBytes.{Appends}
-use Rattle.batch_runs.proofs.LawLemmas.{outputs_true}
+use Rattle.batch_runs.proofs.BatchLemmas.{outputs_true}
 use Rattle.setup_runs.specs.Solving.{rules_of}
 use Rattle.batch_cli.specs.Laws.{MessagesAreBegun, OutputsTellTheTruth}
 

@@ -24,7 +24,7 @@ use Rattle.batch_runs.specs.Headline.{WritesTruth, BeginsTruth, IsTrueRun}
 use Rattle.batch_runs.specs.declared.batch.Summary.{Summary}
 use Rattle.batch_runs.specs.declared.faults.LinesFault.{LinesFault}
 use Rattle.batch_runs.specs.declared.faults.LinesFault.TheVariants as lines
-use Rattle.batch_runs.proofs.RunLemmas.{run_true}
+use Rattle.batch_runs.proofs.BatchLemmas.{run_true}
 use Rattle.certificate_runs.specs.declared.faults.CertifyFault.{CertifyFault}
 use Rattle.certificate_runs.specs.declared.faults.CertifyFault.TheVariants as certify
 use Rattle.certificate_runs.specs.declared.faults.CheckFault.{CheckFault}

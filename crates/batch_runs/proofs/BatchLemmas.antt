@@ -1,22 +1,28 @@
--- The reports of lines, one line after the other.
-use Rattle.std.proofs.Common.{◌≡◌, ◌≢◌, codes, ◌⊎◌, ℕ, suc, ◌+◌, ◌^◌, ◌<◌, ◌≤◌, List, [], ◌∷◌, ◌++◌, Option, None, Some, Result, Ok, Err, length, refl, sym, ap, ◌∙◌, subst, inl, inr, arith, append_assoc, append-nil, length-append}
+-- The reports of lines, of a beginning, and of whole runs.
+use Rattle.std.proofs.Common.{◌≡◌, ◌≢◌, codes, ◌⊎◌, ℕ, suc, ◌+◌, ◌^◌, ◌<◌, ◌≤◌, List, [], ◌∷◌, ◌++◌, Option, None, Some, Result, Ok, Err, length, refl, sym, ap, ◌∙◌, subst, inl, inr, arith, append_assoc, append-nil, length-append, zero, Bool, true, false, cond, ◌==◌, slice_get}
 use Rattle.std.proofs.KnownBytes.{Appends-nil, Appends-trans, Appends-kept, Consumes-nil, Consumes-trans}
 use Rattle.std.proofs.lemmas.Bool.{false≢true}
-use Rattle.std.specs.Io.KnownBytes.{Consumes}
+use Rattle.std.specs.Io.KnownBytes.{Consumes, Appends}
+use Rattle.outcomes.specs.declared.outcome.Ending.TheVariants.{Optimal, Unsolvable, Bounded}
 use Rattle.byte_streams.specs.Streams.{SourceState, SinkState, Change, from_to}
 use Rattle.byte_streams.specs.Sink.{Puts, PutsBeginning, WritesAll, Writes, Flushes}
 use Rattle.byte_streams.specs.declared.sink.WriteFailed.{WriteFailed}
 use Rattle.byte_streams.proofs.SinkLemmas.{PutsBeginning-after}
-use Rattle.batch_lines.specs.Lines.{lines_of, without_return}
+use Rattle.batch_lines.specs.Lines.{lines_of, without_return, onto_first}
 use Rattle.batch_lines.specs.Readings.{TakesKnown, TakesLine, CountsKnown, IsJudged}
-use Rattle.batch_runs.specs.Batches.{Rules, Answer, AnswersEntry, AnswersKind, AnswersLine, AnswersLines, answer_text, answers_text, with_answer, with_answers, no_lines, AreRead, AreFirst, TakesSome, ReportsFirst, ReportsSome}
-use Rattle.batch_runs.specs.Batches.Answer.{passed_over, refused, answered}
 use Rattle.batch_lines.specs.declared.lines.LineKind.{LineKind}
 use Rattle.batch_lines.specs.declared.lines.LineKind.TheVariants.{PassedOver, Within, TooLong}
-use Rattle.outcomes.specs.declared.outcome.Ending.TheVariants.{Optimal, Unsolvable, Bounded}
+use Rattle.batch_lines.specs.declared.lines.TheConstants.{INPUT_LIMIT}
+use Rattle.batch_runs.specs.Batches.{Rules, Answer, AnswersEntry, AnswersKind, AnswersLine, AnswersLines, answer_text, answers_text, with_answer, with_answers, no_lines, AreRead, AreFirst, TakesSome, ReportsFirst, ReportsSome, IsTruthful, ReportsLines, status_of_counts, AreAll, IsTooLong}
+use Rattle.batch_runs.specs.Batches.Answer.{passed_over, refused, answered}
 use Rattle.batch_runs.specs.declared.batch.Summary.{Summary}
+use Rattle.batch_runs.specs.Headline.{IsTrueRun, TellsTheTruth, OutputsTellTheTruth, BeginningsTellTheTruth}
+use Rattle.batch_runs.specs.declared.faults.LinesFault.{LinesFault}
+use Rattle.batch_runs.specs.declared.faults.LinesFault.TheVariants.{Read, Write, Memory}
+use Rattle.batch_runs.specs.Laws.{LinesAreLostToFailures, OutputsAreAnswers, FailedWritesAreTold}
+use Rattle.batch_runs.proofs.TruthLemmas.{truth, settled}
 
--- ---- one answer more
+-- ---- the reports of lines, one line after the other: one answer more
 
 AnswersLines-more : (rules : Rules) (lines : List (List ℕ)) (answers : List Answer) (line : List ℕ) (answer : Answer) → AnswersLines rules lines answers → AnswersLine rules line answer → AnswersLines rules (lines ++ line ∷ []) (answers ++ answer ∷ [])
 AnswersLines-more rules [] [] line answer before now = (now, tt)
@@ -207,3 +213,107 @@ CountsKnown-more None b c x y z p q = tt
 CountsKnown-more (Some xs) None c x y z p q = absurd p
 CountsKnown-more (Some xs) (Some ys) None x y z p q = absurd q
 CountsKnown-more (Some xs) (Some ys) (Some zs) x y z p q = p ∙ q
+
+-- ---- the lines of a beginning
+
+abbrev line_or : Option (List ℕ) → List ℕ
+line_or None = []
+line_or (Some line) = line
+
+later_same : (b : ℕ) (lines : List (List ℕ)) (k : ℕ) → slice_get (onto_first b lines) (suc k) ≡ slice_get lines (suc k)
+later_same b [] k = refl
+later_same b (line ∷ lines) k = refl
+
+first_onto : (b : ℕ) (lines : List (List ℕ)) (line : List ℕ) → slice_get lines 0 ≡ Some line → slice_get (onto_first b lines) 0 ≡ Some (b ∷ line)
+first_onto b [] line e = absurd (cc)
+first_onto b (l ∷ lines) line e = ap (λ (o : Option (List ℕ)). Some (b ∷ line_or o)) e
+
+some_first : (lines : List (List ℕ)) → 0 < length lines → (line : List ℕ) × (slice_get lines 0 ≡ Some line)
+some_first [] some = absurd (omega arith)
+some_first (line ∷ lines) some = (line, refl)
+
+long_onto : (b : ℕ) (lines : List (List ℕ)) → 1 < length (onto_first b lines) → length (onto_first b lines) ≡ length lines
+long_onto b [] long = absurd (omega arith)
+long_onto b (line ∷ lines) long = refl
+
+onto_same : (b : ℕ) (short long : List (List ℕ)) (k : ℕ) → k + 1 < length (onto_first b short) → (k + 1 < length short → slice_get long k ≡ slice_get short k) → slice_get (onto_first b long) k ≡ slice_get (onto_first b short) k
+onto_same b short long zero few same =
+    let some = some_first short (omega (arith, long_onto b short (omega arith))) in
+    first_onto b long some.0 (same (omega (arith, long_onto b short (omega arith))) ∙ some.1) ∙ sym (first_onto b short some.0 some.1)
+onto_same b short long (suc k) few same =
+    later_same b long k ∙ same (omega (arith, long_onto b short (omega arith))) ∙ sym (later_same b short k)
+
+either_same : (test : Bool) (b : ℕ) (short long : List (List ℕ)) (k : ℕ) → k + 1 < length (cond test ([] ∷ short) (onto_first b short)) → ((j : ℕ) → j + 1 < length short → slice_get long j ≡ slice_get short j) → slice_get (cond test ([] ∷ long) (onto_first b long)) k ≡ slice_get (cond test ([] ∷ short) (onto_first b short)) k
+either_same true b short long zero few same = refl
+either_same true b short long (suc k) few same = same k (omega arith)
+either_same false b short long k few same = onto_same b short long k few (same k)
+
+pub begun_same : (begun rest : List ℕ) (k : ℕ) → k + 1 < length (lines_of begun) → slice_get (lines_of (begun ++ rest)) k ≡ slice_get (lines_of begun) k
+begun_same [] rest k few = absurd (omega arith)
+begun_same (b ∷ bs) rest k few = either_same (b == 10) b (lines_of bs) (lines_of (bs ++ rest)) k few (begun_same bs rest)
+
+-- ---- what a run wrote tells the truth
+
+pub run_true : (rules : Rules) → IsTruthful rules → (source : Change SourceState) (sink : Change SinkState) (result : Result Summary LinesFault) → ReportsLines rules source sink result → IsTrueRun rules source sink result
+run_true rules truthful source sink (Ok counts) (all, readable, kept) =
+    record { lines = all.lines; output = answers_text 1 all.answers; all = all.all; put = all.written; truth = truth rules truthful all.lines all.answers all.few all.answered; settled = λ fine. settled rules all.lines all.answers all.few all.answered (ap status_of_counts (sym all.counted) ∙ fine) }
+run_true rules truthful source sink (Err Read) (whole, kept) = record {
+  lines = whole.lines;
+  output = answers_text 1 whole.answers;
+  first = AreFirst-read source.before.left whole.lost.between.left whole.lines whole.lost.whole;
+  begun = record { sent = answers_text 1 whole.answers; unsent = []; parts = sym (append-nil (answers_text 1 whole.answers)); put = whole.written };
+  truth = truth rules truthful whole.lines whole.answers whole.few whole.answered;
+}
+run_true rules truthful source sink (Err Write) (some, readable, failed) =
+    record { lines = some.lines; output = answers_text 1 some.answers; first = some.first; begun = some.begun; truth = truth rules truthful some.lines some.answers some.few some.answered }
+run_true rules truthful source sink (Err (Memory lacking)) (first, readable, kept) = record {
+  lines = first.lines;
+  output = answers_text 1 first.answers;
+  first = first.first;
+  begun = record { sent = answers_text 1 first.answers; unsent = []; parts = sym (append-nil (answers_text 1 first.answers)); put = first.written };
+  truth = truth rules truthful first.lines first.answers first.few first.answered;
+}
+
+-- ---- what the definitions say of streams whose bytes are known, and of sinks that have not failed
+
+-- an input within the limit is not too long
+fits : (left : Option (List ℕ)) (input : List ℕ) → left ≡ Some input → length input ≤ INPUT_LIMIT → ¬ IsTooLong left
+fits left input is short long = let more = subst (λ (l : Option (List ℕ)). IsTooLong l) is long in omega (arith, short, more)
+
+pub lost : LinesAreLostToFailures
+lost source lines input is short losing = of_cause losing.cause
+  where
+    of_cause : (source.after.has_failed ≡ true) ⊎ IsTooLong source.before.left → source.after.has_failed ≡ true
+    of_cause (inl failed) = failed
+    of_cause (inr long) = absurd (fits source.before.left input is short long)
+
+-- what was put into an empty sink is what it holds
+held : (before after : Option (List ℕ)) (bytes : List ℕ) → before ≡ Some [] → Appends before after bytes → after ≡ Some bytes
+held before after bytes empty put = of_after after (subst (λ (contents : Option (List ℕ)). Appends contents after bytes) empty put)
+  where
+    of_after : (after : Option (List ℕ)) → Appends (Some []) after bytes → after ≡ Some bytes
+    of_after None none = absurd none
+    of_after (Some now) is = ap (λ (l : List ℕ). Some l) is
+
+pub outputs : (rules : Rules) → OutputsAreAnswers rules
+outputs rules source sink counts input known empty reports =
+    let all = reports.0 in
+    let lines_are : lines_of input ≡ all.lines = subst (λ (left : Option (List ℕ)). AreAll left all.lines) known all.all in
+    (all.answers, subst (λ (lines : List (List ℕ)). AnswersLines rules lines all.answers) (sym lines_are) all.answered, held sink.before.contents sink.after.contents (answers_text 1 all.answers) empty all.written)
+
+pub outputs_true : (rules : Rules) → OutputsTellTheTruth rules
+outputs_true rules source sink status input known empty all =
+    let lines_are : lines_of input ≡ all.lines = subst (λ (left : Option (List ℕ)). AreAll left all.lines) known all.all in
+    (all.output, held sink.before.contents sink.after.contents all.output empty all.put, subst (λ (lines : List (List ℕ)). TellsTheTruth rules lines all.output) (sym lines_are) all.truth, all.settled)
+
+pub beginnings_true : (rules : Rules) → BeginningsTellTheTruth rules
+beginnings_true rules source sink input known empty some =
+    let first : (more : List (List ℕ)) × (lines_of input ≡ some.lines ++ more) = subst (λ (left : Option (List ℕ)). AreFirst left some.lines) known some.first in
+    let written = held sink.before.contents sink.after.contents some.begun.sent empty some.begun.put in
+    (some.lines, first.0, some.begun.sent, some.begun.unsent, first.1, written, subst (TellsTheTruth rules some.lines) some.begun.parts some.truth)
+
+pub told : (rules : Rules) → FailedWritesAreTold rules
+told rules source sink (Ok counts) unfailed other reports = reports.2 ∙ unfailed
+told rules source sink (Err Read) unfailed other reports = reports.1 ∙ unfailed
+told rules source sink (Err Write) unfailed other reports = absurd (other refl)
+told rules source sink (Err (Memory lacking)) unfailed other reports = reports.2 ∙ unfailed

@@ -16,7 +16,7 @@ use Rattle.batch_runs.specs.Batches.{AnswersEntry, AnswersKind, AnswersLine}
 use Rattle.batch_runs.specs.Batches.Answer.{answered}
 use Rattle.batch_runs.specs.Batches.AnswersEntry.{by_outcome}
 use Rattle.batch_runs.specs.Meanings.{Names}
-use Rattle.batch_runs.proofs.NameLemmas.{same_name}
+use Rattle.batch_runs.proofs.TruthLemmas.{same_name}
 use Rattle.certificate.specs.declared.faults.ReadFault.TheVariants.{Format, Failed, NoMemory}
 use Rattle.certificate_runs.specs.Rules.{ProofRules, report_rules, rows_of}
 use Rattle.certificate_runs.proofs.HeadlineLemmas.{lone_bound}

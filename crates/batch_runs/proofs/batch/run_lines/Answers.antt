@@ -1,5 +1,5 @@
 use Rattle.byte_streams.specs.Streams.{change}
-use Rattle.batch_runs.proofs.RunLemmas.{run_true}
+use Rattle.batch_runs.proofs.BatchLemmas.{run_true}
 use Rattle.batch_runs.proofs.batch.run_lines.Goals as goal
 
 pub returns-clause-truth : goal.returns-clause-truth

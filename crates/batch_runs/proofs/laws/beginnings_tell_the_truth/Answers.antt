@@ -1,4 +1,4 @@
-use Rattle.batch_runs.proofs.LawLemmas.{beginnings_true}
+use Rattle.batch_runs.proofs.BatchLemmas.{beginnings_true}
 use Rattle.batch_runs.proofs.laws.beginnings_tell_the_truth.Goals as goal
 
 pub returns : goal.returns

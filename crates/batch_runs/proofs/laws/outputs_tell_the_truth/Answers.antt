@@ -1,4 +1,4 @@
-use Rattle.batch_runs.proofs.LawLemmas.{outputs_true}
+use Rattle.batch_runs.proofs.BatchLemmas.{outputs_true}
 use Rattle.batch_runs.proofs.laws.outputs_tell_the_truth.Goals as goal
 
 pub returns : goal.returns

@@ -1,4 +1,4 @@
-use Rattle.batch_runs.proofs.LawLemmas.{outputs, told}
+use Rattle.batch_runs.proofs.BatchLemmas.{outputs, told}
 use Rattle.batch_runs.proofs.laws.runs_are_told.Goals as goal
 
 pub returns-clause-outputs : goal.returns-clause-outputs
