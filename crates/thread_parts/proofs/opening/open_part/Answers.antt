@@ -1,4 +1,4 @@
-use Rattle.thread_parts.proofs.OpeningLemmas.{opens}
+use Rattle.thread_parts.proofs.PartLemmas.{opens}
 use Rattle.thread_parts.proofs.opening.open_part.Goals as goal
 
 pub new-requires-after_bounds : goal.new-requires-after_bounds

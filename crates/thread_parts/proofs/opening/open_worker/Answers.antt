@@ -3,8 +3,7 @@ use Rattle.board.specs.declared.moves.Move.TheVariants.{U}
 use Rattle.worker_core.specs.Roles.{guide_of, task_of}
 use Rattle.worker_core.specs.Workers.{state_of}
 use Rattle.hda_run.specs.Problems.{task_in}
-use Rattle.thread_parts.proofs.OpeningLemmas.{first_is}
-use Rattle.thread_parts.proofs.PartLemmas.{guided_for}
+use Rattle.thread_parts.proofs.PartLemmas.{first_is, guided_for}
 use Rattle.thread_parts.proofs.opening.open_worker.Goals as goal
 
 pub returns-then-owner-me-clause-guided : goal.returns-then-owner-me-clause-guided

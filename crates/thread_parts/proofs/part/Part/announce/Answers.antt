@@ -3,8 +3,7 @@ use Rattle.worker_core.specs.Workers.{state_of, with_book}
 use Rattle.world_model.specs.BookSteps.{AnnounceStep}
 use Rattle.world_model.specs.Turns.{refusal_in, turn}
 use Rattle.thread_parts.specs.Parts.{part_state, role_of}
-use Rattle.thread_parts.proofs.PartLemmas.{holds_with, same_guided, unsent_count}
-use Rattle.thread_parts.proofs.StepLemmas.{unbarred}
+use Rattle.thread_parts.proofs.PartLemmas.{holds_with, same_guided, unsent_count, unbarred}
 use Rattle.thread_parts.proofs.part.Part.announce.Goals as goal
 
 pub returns-clause-step : goal.returns-clause-step

@@ -2,8 +2,7 @@ use Rattle.std.proofs.Common.{inl}
 use Rattle.worker_core.specs.Workers.{state_of}
 use Rattle.world_model.specs.Turns.{refusal_in}
 use Rattle.thread_parts.specs.Parts.{part_state, role_of}
-use Rattle.thread_parts.proofs.PartLemmas.{holds_with, same_guided}
-use Rattle.thread_parts.proofs.StepLemmas.{barred_draw}
+use Rattle.thread_parts.proofs.PartLemmas.{holds_with, same_guided, barred_draw}
 use Rattle.thread_parts.proofs.part.Part.draw.Goals as goal
 
 pub returns-in-Err-clause-step : goal.returns-in-Err-clause-step

@@ -5,8 +5,7 @@ use Rattle.world_model.specs.BookSteps.{GrantStep}
 use Rattle.world_model.specs.Turns.{refusal_in, turn}
 use Rattle.hda_run.specs.Problems.{task_in}
 use Rattle.thread_parts.specs.Parts.{part_state, role_of}
-use Rattle.thread_parts.proofs.PartLemmas.{holds_with}
-use Rattle.thread_parts.proofs.StepLemmas.{unbarred}
+use Rattle.thread_parts.proofs.PartLemmas.{holds_with, unbarred}
 use Rattle.thread_parts.proofs.part.Part.grant.Goals as goal
 
 pub returns-clause-step : goal.returns-clause-step

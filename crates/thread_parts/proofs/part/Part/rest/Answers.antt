@@ -4,8 +4,7 @@ use Rattle.worker_core.specs.Workers.{state_of}
 use Rattle.world_model.specs.Turns.{refusal_in}
 use Rattle.hda_run.specs.Problems.{task_in}
 use Rattle.thread_parts.specs.Parts.{part_state, role_of}
-use Rattle.thread_parts.proofs.PartLemmas.{holds_with}
-use Rattle.thread_parts.proofs.StepLemmas.{barred_rest}
+use Rattle.thread_parts.proofs.PartLemmas.{holds_with, barred_rest}
 use Rattle.thread_parts.proofs.part.Part.rest.Goals as goal
 
 pub returns-in-Err-clause-step : goal.returns-in-Err-clause-step

@@ -6,8 +6,7 @@ use Rattle.worker_core.specs.Settling.{SettleOrDrop}
 use Rattle.worker_core.specs.Workers.{state_of}
 use Rattle.hda_run.specs.Problems.{task_in}
 use Rattle.thread_parts.specs.Parts.{part_state, role_of}
-use Rattle.thread_parts.proofs.PartLemmas.{some_unsent, role_is, guided_for, holds_with}
-use Rattle.thread_parts.proofs.StepLemmas.{settled_kept}
+use Rattle.thread_parts.proofs.PartLemmas.{some_unsent, role_is, guided_for, holds_with, settled_kept}
 use Rattle.thread_parts.proofs.part.Part.settle.Goals as goal
 
 pub settle-requires-clause-some : goal.settle-requires-clause-some
