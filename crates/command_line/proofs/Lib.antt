@@ -1,7 +1,2 @@
-mod CommandLemmas
-mod LawLemmas
 mod ParseLemmas
-mod ReadLemmas
-mod RunLemmas
-mod SimpleLemmas
-mod WordLemmas
+mod LawLemmas

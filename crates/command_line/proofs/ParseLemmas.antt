@@ -1,12 +1,58 @@
--- What a parse of words by the program says of them.
-use Rattle.std.proofs.Common.{◌≡◌, List, [], Result, Ok, Err, IfOk, IfErr, true, inl, refl, ap, ◌∙◌}
+-- What a parse of the words says of a command, its matches, and what they ask for.
+use Rattle.std.proofs.Common.{◌≡◌, true, refl, Bool, false, ap, ap₂, ◌∙◌, List, [], Result, Ok, Err, IfOk, IfErr, inl, ℕ, Option, None, Some, sym, option_map, ◌≢◌, codes, ◌==◌, ◌⊎◌, ◌∷◌, inr, subst, map, length}
+use Rattle.std.specs.Prelude.{◌||◌, IfSome, IsTrue, ◌↔◌, is_some, unwrap_or, Box}
 use Rattle.std.specs.Result.{IsErrAnd}
-use Rattle.clap.specs.Words.{App, Text, FailsBy, HasKind, HasMatchesOf, fault_of, is_simple, is_simple_and_free, kind_of, subcommand_of, subcommand_rows_of}
+use Rattle.std.proofs.lemmas.Bool.{true≢false}
+use Rattle.std.specs.Str.{bytes_eq}
+use Rattle.std.proofs.lemmas.Slice.Eq.{bytes_eq-Decides}
+use Rattle.std.specs.Borrow.{Bor}
+use Rattle.std.specs.Str.Parse.{digits_value, without_leading_plus}
+use Rattle.std.specs.Box.{box_value}
+use Rattle.std.proofs.lemmas.Result.{IfOk-weaker, IfErr-weaker}
+use Rattle.clap.specs.Words.{is_simple, is_simple_and_free, App, Rule, AddsArg, AddsSubcommand, app_of, rule_of, with_rule, with_subcommand, Text, FailsBy, HasKind, HasMatchesOf, fault_of, kind_of, subcommand_of, subcommand_rows_of, ReadsOne, one_text, first_of, first_value, rows_of, Row, subcommand_name_of, Kinds}
+use Rattle.clap.proofs.OnLiterals.{clap_on_literals}
+use Rattle.clap.specs.declared.builder.arg.Arg.{Arg}
+use Rattle.clap.specs.declared.builder.command.Command.{Command}
+use Rattle.clap.specs.declared.builder.command.Command.TheViews.{out-Command}
 use Rattle.clap.specs.declared.error.Error.{Error}
 use Rattle.clap.specs.declared.error.kind.ErrorKind.TheVariants.{OutOfMemory}
 use Rattle.clap.specs.declared.parser.matches.ArgMatches.{ArgMatches}
-use Rattle.command_line.specs.Commands.{Choices, AreChoices, IsProgram, program_app}
-use Rattle.command_line.proofs.SimpleLemmas.{program_is_simple, program_is_free}
+use Rattle.clap.specs.declared.parser.matches.Found.{Found}
+use Rattle.clap.proofs.WalkLemmas.{one_text-rows, first_value-rows}
+use Rattle.clap.specs.Simple.{subcommand_rows}
+use Rattle.clap.specs.declared.parser.matches.ArgMatches.TheViews.{out-ArgMatches, out-SubCommand}
+use Rattle.clap.specs.declared.parser.matches.SubCommand.{SubCommand}
+use Rattle.command_line.specs.Commands.{Choices, program_app, AreChoices, IsProgram}
+use Rattle.command_line.specs.Requests.{HasNumber, RunFails, AsksRun, AsksText, TextFails, WordsAsk, WordsFail}
+use Rattle.command_line.specs.declared.faults.NoRequest.TheVariants.{Memory}
+use Rattle.command_line.specs.declared.requests.Request.{Request}
+use Rattle.command_line.specs.declared.faults.NoRequest.{NoRequest}
+
+-- ---- the command is one of those whose parse clap's contracts give as a function of the words
+
+pub program_is_simple : (spreads : Choices) → is_simple (program_app spreads) ≡ true
+unfolding clap_on_literals
+program_is_simple spreads = refl
+
+pub program_is_free : (spreads : Choices) → is_simple_and_free (program_app spreads) ≡ true
+unfolding clap_on_literals
+program_is_free spreads = refl
+
+-- ---- what a command has after an argument was added
+
+-- the argument's rule comes last
+pub adds_rule : (old new : Command) (arg : Arg) → AddsArg old arg new → arg.global ≡ false → {app : App} → app_of old ≡ app → {rule : Rule} → rule_of arg ≡ rule → app_of new ≡ with_rule app rule
+adds_rule old new arg added local before is = added.shape local ∙ ap₂ with_rule before is
+
+-- no argument is global
+pub stays_local : (old new : Command) (arg : Arg) → AddsArg old arg new → arg.global ≡ false → (out-Command old).has_globals ≡ false → (out-Command new).has_globals ≡ false
+stays_local old new arg added local before = added.globals ∙ ap₂ (λ (x y : Bool). x || y) before local
+
+-- the subcommand comes last
+pub adds_subcommand : (old below new : Command) → AddsSubcommand old below new → (out-Command below).has_globals ≡ false → {app : App} → app_of old ≡ app → {app' : App} → app_of below ≡ app' → app_of new ≡ with_subcommand app app'.top
+adds_subcommand old below new added local before is = added.shape local ∙ ap₂ with_subcommand before (ap (λ (a : App). a.top) is)
+
+-- ---- what a parse of words by the program says of them
 
 -- matches say that there is no fault, and what the subcommand has
 pub matches_say : (spreads : Choices) → AreChoices spreads → (program : App) → program ≡ program_app spreads → (words : List Text) → (result : Result ArgMatches Error) → IfOk result (HasMatchesOf program words) → (is_simple_and_free program ≡ true → FailsBy (fault_of program words) result) → IfOk result (λ matches. (program : App) × IsProgram program × (fault_of program words ≡ []) × (subcommand_rows_of matches ≡ subcommand_of program words))
@@ -27,3 +73,80 @@ error_says spreads choices program is words (Err error) fails = (program, (sprea
 pub refused_says : (spreads : Choices) → AreChoices spreads → (words : List Text) → (refused : Error) → kind_of refused ≡ OutOfMemory → (result : Result ArgMatches Error) → IsErrAnd result (λ error. error ≡ refused) → IfErr result (λ error. (program : App) × IsProgram program × HasKind (fault_of program words) error)
 refused_says spreads choices words refused kind (Ok matches) told = tt
 refused_says spreads choices words refused kind (Err error) told = (program_app spreads, (spreads, choices, refl), inl (ap kind_of told ∙ kind))
+
+-- ---- what a value that was read says of the matches
+
+-- a getter that read a number read it from the option's value
+pub number_read : (E : Type 0) (gives : List ℕ → Result ℕ E → Type 0) → ((t : Text) (n : ℕ) → gives t (Ok n) → n ≡ digits_value 10 (without_leading_plus t)) → (f : Found) (id : Text) (given : Option Text) → one_text f id ≡ given → (read : Option ℕ) → (given ≡ None → read ≡ None) → ((t : Text) → given ≡ Some t → ReadsOne gives t read) → IfSome read (HasNumber (rows_of f) id)
+number_read E gives exact f id None is read none value = rw (none refl) tt
+number_read E gives exact f id (Some t) is None none value = tt
+number_read E gives exact f id (Some t) is (Some n) none value = record {
+  text = t;
+  given = sym (one_text-rows f id) ∙ is;
+  value = exact t n (value t refl);
+}
+
+-- a getter that gave a text gave the option's value
+pub text_read : (f : Found) (id : Text) (read : Option (Bor Text)) (text : Bor Text) (word : Text) → option_map (λ t. t.now) read ≡ first_value f id → read ≡ Some text → text.now ≡ word → first_of id (rows_of f) ≡ Some word
+text_read f id read text word value is same = sym (first_value-rows f id) ∙ sym value ∙ ap (option_map (λ (t : Bor Text). t.now)) is ∙ ap Some same
+
+-- a getter gave a text that is this word
+pub word_read : (f : Found) (id text word : Text) (same : Bool) → Some text ≡ first_value f id → same ≡ bytes_eq text word → same ≡ true → first_of id (rows_of f) ≡ Some word
+word_read f id text word same given test is = sym (first_value-rows f id) ∙ sym given ∙ ap Some ((bytes_eq-Decides text word).0 (sym test ∙ is))
+
+-- a getter gave a text, or none, and a test tells whether it is this word
+pub word_told : (f : Found) (id text word : Text) (same : Bool) → Some text ≡ first_value f id → same ≡ bytes_eq text word → IsTrue same ↔ (first_of id (rows_of f) ≡ Some word)
+word_told f id text word same given test = (
+  λ is. word_read f id text word same given test is,
+  λ is.
+      let one : Some text ≡ Some word = given ∙ first_value-rows f id ∙ is in
+      test ∙ (bytes_eq-Decides text word).1 (ap (λ (o : Option Text). unwrap_or o text) one),
+)
+
+pub none_told : (f : Found) (id word : Text) → ◌≡◌ {A = Option Text} None (first_value f id) → IsTrue false ↔ (first_of id (rows_of f) ≡ Some word)
+none_told f id word given = (λ never. absurd (true≢false (sym never)), λ is. absurd (true≢false (ap (λ (o : Option Text). is_some o) (sym is ∙ sym (first_value-rows f id) ∙ sym given))))
+
+-- ---- why a subcommand asks for no run, by what the matches say of its name
+
+-- the name of a subcommand is that beside its rows
+name_beside : {Z : Type 0} → (met : Option (Box SubCommand Z)) → option_map (λ p. p.0) (subcommand_rows met) ≡ option_map (λ b. (out-SubCommand (box_value b)).name.now) met
+name_beside None = refl
+name_beside (Some b) = refl
+
+pub names_agree : (m : ArgMatches) → option_map (λ p. p.0) (subcommand_rows_of m) ≡ subcommand_name_of m
+names_agree m = name_beside (out-ArgMatches m).subcommand
+
+-- where it is neither `check` nor `upgrade` memory may be refused
+pub memory_fails : (subcommand : Option (Text × List Row)) → (option_map (λ p. p.0) subcommand ≢ Some (codes "check")) → (option_map (λ p. p.0) subcommand ≢ Some (codes "upgrade")) → RunFails subcommand Memory
+memory_fails None other another = refl
+memory_fails (Some p) other another = (λ is. other (ap Some is), λ is. another (ap Some is), tt)
+
+-- ---- what words ask for, or why they ask for nothing, by what a parse of them says
+
+-- some words ask for what a parse says
+words_ask : {A : Type 0} → (f : A → Text) → (given : List A) → false ≡ (length given == 0) → (program : App) → IsProgram program → (request : Request) → AsksText (fault_of program (map f given)) request ⊎ ((fault_of program (map f given) ≡ []) × AsksRun (subcommand_of program (map f given)) request) → WordsAsk (map f given) request
+words_ask f [] some program is request asks = absurd (true≢false (sym some))
+words_ask f (word ∷ words) some program is request asks = (program, is, asks)
+
+-- or fail as it says
+words_fail : {A : Type 0} → (f : A → Text) → (given : List A) → false ≡ (length given == 0) → (program : App) → IsProgram program → (refusal : NoRequest) → TextFails (fault_of program (map f given)) refusal ⊎ ((fault_of program (map f given) ≡ []) × RunFails (subcommand_of program (map f given)) refusal) → WordsFail (map f given) refusal
+words_fail f [] some program is refusal fails = absurd (true≢false (sym some))
+words_fail f (word ∷ words) some program is refusal fails = (program, is, fails)
+
+-- where there are no matches a text is asked for
+pub text_asks : {A : Type 0} → (f : A → Text) → (given : List A) → false ≡ (length given == 0) → (error : Error) → (parse : (program : App) × IsProgram program × HasKind (fault_of program (map f given)) error) → (result : Result Request NoRequest) → ((faults : Kinds) → HasKind faults error → IfOk result (AsksText faults)) → IfOk result (WordsAsk (map f given))
+text_asks f given some error parse result told =
+    IfOk-weaker result _ _ (λ request asks. words_ask f given some parse.0 parse.1 request (inl asks)) (told (fault_of parse.0 (map f given)) parse.2)
+
+pub text_fails : {A : Type 0} → (f : A → Text) → (given : List A) → false ≡ (length given == 0) → (error : Error) → (parse : (program : App) × IsProgram program × HasKind (fault_of program (map f given)) error) → (result : Result Request NoRequest) → ((faults : Kinds) → HasKind faults error → IfErr result (TextFails faults)) → IfErr result (WordsFail (map f given))
+text_fails f given some error parse result told =
+    IfErr-weaker result _ _ (λ refusal fails. words_fail f given some parse.0 parse.1 refusal (inl fails)) (told (fault_of parse.0 (map f given)) parse.2)
+
+-- and where there are a run
+pub run_asks : {A : Type 0} → (f : A → Text) → (given : List A) → false ≡ (length given == 0) → (subcommand : Option (Text × List Row)) → (parse : (program : App) × IsProgram program × (fault_of program (map f given) ≡ []) × (subcommand ≡ subcommand_of program (map f given))) → (result : Result Request NoRequest) → IfOk result (AsksRun subcommand) → IfOk result (WordsAsk (map f given))
+run_asks f given some subcommand parse result asks =
+    IfOk-weaker result _ _ (λ request run. words_ask f given some parse.0 parse.1 request (inr (parse.2, subst (λ (s : Option (Text × List Row)). AsksRun s request) parse.3 run))) asks
+
+pub run_fails : {A : Type 0} → (f : A → Text) → (given : List A) → false ≡ (length given == 0) → (subcommand : Option (Text × List Row)) → (parse : (program : App) × IsProgram program × (fault_of program (map f given) ≡ []) × (subcommand ≡ subcommand_of program (map f given))) → (result : Result Request NoRequest) → IfErr result (RunFails subcommand) → IfErr result (WordsFail (map f given))
+run_fails f given some subcommand parse result fails =
+    IfErr-weaker result _ _ (λ refusal run. words_fail f given some parse.0 parse.1 refusal (inr (parse.2, subst (λ (s : Option (Text × List Row)). RunFails s refusal) parse.3 run))) fails

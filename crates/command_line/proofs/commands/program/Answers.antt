@@ -3,7 +3,7 @@ use Rattle.clap.specs.Words.{Shape}
 use Rattle.clap.specs.Simple.{app_of_fields, on_top}
 use Rattle.clap.specs.declared.builder.command.Command.{Command}
 use Rattle.clap.specs.declared.builder.command.Command.TheOpen.{Command-F}
-use Rattle.command_line.proofs.CommandLemmas.{adds_rule, adds_subcommand, stays_local}
+use Rattle.command_line.proofs.ParseLemmas.{adds_rule, adds_subcommand, stays_local}
 use Rattle.command_line.proofs.commands.program.Goals as goal
 
 abbrev globals : Command-F Command → Bool

@@ -1,4 +1,4 @@
-use Rattle.command_line.proofs.CommandLemmas.{adds_rule, stays_local}
+use Rattle.command_line.proofs.ParseLemmas.{adds_rule, stays_local}
 use Rattle.command_line.proofs.commands.puzzle.Goals as goal
 
 pub returns-clause-app : goal.returns-clause-app

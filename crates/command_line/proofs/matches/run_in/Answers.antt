@@ -1,7 +1,7 @@
 use Rattle.std.proofs.Common.{sym, ◌∙◌}
 use Rattle.std.proofs.lemmas.Bool.{true≢false}
 use Rattle.clap.specs.Words.{subcommand_rows_of}
-use Rattle.command_line.proofs.RunLemmas.{memory_fails, names_agree}
+use Rattle.command_line.proofs.ParseLemmas.{memory_fails, names_agree}
 use Rattle.command_line.proofs.matches.run_in.Goals as goal
 
 pub returns-clause-refusal : goal.returns-clause-refusal

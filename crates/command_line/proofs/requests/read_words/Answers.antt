@@ -1,6 +1,6 @@
 use Rattle.std.proofs.Common.{string_bytes}
 use Rattle.clap.specs.Words.{subcommand_rows_of}
-use Rattle.command_line.proofs.WordLemmas.{text_asks, text_fails, run_asks, run_fails}
+use Rattle.command_line.proofs.ParseLemmas.{text_asks, text_fails, run_asks, run_fails}
 use Rattle.command_line.proofs.requests.read_words.Goals as goal
 
 pub returns-in-Err-matches_of-clause-request : goal.returns-in-Err-matches_of-clause-request

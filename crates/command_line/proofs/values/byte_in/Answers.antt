@@ -1,7 +1,7 @@
 use Rattle.std.proofs.Common.{refl}
 use Rattle.std.specs.Str.Parse.{ParsesUnsigned, ExplainsUnsignedError, HasUnsignedDigitsIfOk}
 use Rattle.clap.specs.Words.{found_of}
-use Rattle.command_line.proofs.ReadLemmas.{number_read}
+use Rattle.command_line.proofs.ParseLemmas.{number_read}
 use Rattle.command_line.proofs.values.byte_in.Goals as goal
 
 pub returns : goal.returns

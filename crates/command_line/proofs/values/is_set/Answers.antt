@@ -1,6 +1,6 @@
 use Rattle.std.proofs.Common.{codes}
 use Rattle.clap.specs.Words.{found_of}
-use Rattle.command_line.proofs.ReadLemmas.{word_told, none_told}
+use Rattle.command_line.proofs.ParseLemmas.{word_told, none_told}
 use Rattle.command_line.proofs.values.is_set.Goals as goal
 
 pub returns-in-Some : goal.returns-in-Some

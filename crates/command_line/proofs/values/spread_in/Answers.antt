@@ -1,6 +1,6 @@
 use Rattle.std.proofs.Common.{codes}
 use Rattle.clap.specs.Words.{found_of}
-use Rattle.command_line.proofs.ReadLemmas.{word_read}
+use Rattle.command_line.proofs.ParseLemmas.{word_read}
 use Rattle.command_line.proofs.values.spread_in.Goals as goal
 
 pub returns-then-eq : goal.returns-then-eq
