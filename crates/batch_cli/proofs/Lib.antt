@@ -1,4 +1,2 @@
-pub mod FitLemmas
-pub mod EndLemmas
 pub mod TruthLemmas
 pub mod LawLemmas

@@ -1,23 +1,28 @@
--- What the program writes is true.
-use Rattle.std.proofs.Common.{ℕ, ◌≡◌, ◌≢◌, ◌⊎◌, ◌∙◌, ◌<◌, refl, List, [], Option, None, Some, Result, Ok, Err, inl, inr, sym, append-nil, arith, subst, ap, string_bytes}
+-- What words ask for, and that what the program writes is true.
+use Rattle.std.proofs.Common.{◌≡◌, ◌∙◌, Bool, List, [], ◌∷◌, Option, None, Some, inl, inr, sym, ap, subst, map, arith, codes, ℕ, ◌≢◌, Result, Ok, Err, refl, ◌⊎◌, ◌<◌, append-nil, string_bytes}
 use Rattle.std.specs.Prelude.{IfSome, IsSome}
 use Rattle.std.proofs.KnownBytes.{Appends-kept, Keeps-trans}
+use Rattle.clap.specs.Words.{Text, Row, Kinds, first_of}
+use Rattle.memory.specs.declared.OutOfMemory.{OutOfMemory}
+use Rattle.board.specs.Grids.{Grid}
+use Rattle.board.specs.CostRules.{CostRule}
+use Rattle.board.specs.Positions.{Position}
 use Rattle.board.specs.declared.moves.Move.{Move}
 use Rattle.board.specs.Plans.{Leads, IsLeast}
-use Rattle.byte_streams.specs.Streams.{SourceState, SinkState, Change, from_to}
-use Rattle.byte_streams.specs.Sink.{Puts, PutsNone, Writes}
-use Rattle.byte_streams.specs.declared.sink.WriteFailed.{WriteFailed}
-use Rattle.memory.specs.declared.OutOfMemory.{OutOfMemory}
-use Rattle.clap.specs.Words.{Text}
 use Rattle.pattern_index.specs.Splits.{Split}
+use Rattle.table_sets.specs.Built.{AreTrueTables, AreBuilt}
+use Rattle.byte_streams.specs.Streams.{SinkState, Change, SourceState, from_to}
+use Rattle.byte_streams.specs.Sink.{PutsNone, Flushes, Puts, Writes}
+use Rattle.byte_streams.specs.declared.sink.WriteFailed.{WriteFailed}
+use Rattle.option_texts.specs.Defaults.{default_groups}
+use Rattle.option_texts.specs.declared.faults.GroupsFault.TheVariants as groups
 use Rattle.certificate.specs.Certificates.{Statement}
 use Rattle.certificate.specs.declared.faults.ReadFault.{ReadFault}
-use Rattle.certificate.specs.declared.faults.ReadFault.TheVariants.{Format, Failed, NoMemory}
+use Rattle.certificate.specs.declared.faults.ReadFault.TheVariants.{Format, Failed, NoMemory as NoMemoryToRead}
 use Rattle.certificate.specs.Faults.{format_code}
 use Rattle.certificate.specs.Sources.{Tells}
 use Rattle.certificate.proofs.LawLemmas.{spelled_read}
 use Rattle.certificate_check.specs.Refusals.{refusal_code}
-use Rattle.setup_runs.specs.Solving.{rules_of, certifying_rules_of}
 use Rattle.batch_runs.specs.Setups.{SetupState}
 use Rattle.batch_runs.specs.Batches.{Rules, IsTruthful, AreAll, AreFirst}
 use Rattle.batch_runs.specs.Headline.{WritesTruth, BeginsTruth, IsTrueRun}
@@ -37,25 +42,135 @@ use Rattle.certificate_runs.specs.Certifying.{Replies}
 use Rattle.certificate_runs.specs.Checking.{Checks, IsVerdict}
 use Rattle.certificate_runs.specs.Headline.{WritesAnswer, WritesVerdict, IsRefusedBy, WritesUpgrade, IsTrueUpgrade}
 use Rattle.certificate_runs.proofs.HeadlineLemmas.{answer_true, check_true, upgrade_true}
+use Rattle.setup_runs.specs.Solving.{rules_of, certifying_rules_of}
 use Rattle.replay_runs.specs.Replays.{Jobs, Replays}
 use Rattle.replay_runs.specs.Openings.{setup_jobs}
+use Rattle.command_line.specs.declared.requests.Options.{Options}
 use Rattle.command_line.specs.declared.requests.Request.{Request}
 use Rattle.command_line.specs.declared.requests.Request.TheVariants.{Solve, Certify, Check, Upgrade, Replay, Help, Version}
+use Rattle.command_line.specs.Requests.{AreCostsSaid, AreGroupsSaid, AreOptions, AsksRun, AsksText, AreDefaults, WordsAsk, WordsFail}
 use Rattle.command_line.specs.declared.faults.NoRequest.{NoRequest}
 use Rattle.command_line.specs.declared.faults.NoRequest.TheVariants.{Usage, Goal, Costs, Groups, Memory}
-use Rattle.option_texts.specs.declared.faults.GroupsFault.TheVariants as groups
-use Rattle.command_line.specs.Requests.{WordsAsk, WordsFail}
+use Rattle.batch_cli.specs.Setups.{AreFit, IsFit, AreTablesFor, IsSetupOf, IsDefaultSetup}
+use Rattle.batch_cli.specs.declared.faults.BatchFault.{BatchFault}
 use Rattle.batch_cli.specs.declared.endings.Ending.{Ending}
-use Rattle.batch_cli.specs.declared.endings.Ending.TheVariants.{Refused, Ran, Answered, Shown}
+use Rattle.batch_cli.specs.declared.endings.Ending.TheVariants.{NoTexts, Refused, NoMemory, Ran, Answered, Shown, Faulted}
+use Rattle.batch_cli.specs.Endings.{status_of, HasNotBegun}
+use Rattle.batch_cli.specs.Programs.{ending_of, after_flush, FlushesBehind, IsUnused, Solves, Certifies, Judges, Rewrites, TakesSteps, Shows, EndsRun, EndsRequest, EndsBy}
 use Rattle.batch_cli.specs.declared.faults.BatchFault.TheVariants.{Write}
 use Rattle.batch_cli.specs.Faults.{of_lines, of_certify, of_check, of_upgrade}
-use Rattle.batch_cli.specs.Endings.{status_of, HasNotBegun}
-use Rattle.batch_cli.specs.Programs.{IsUnused, ending_of, Solves, Certifies, Judges, Rewrites, TakesSteps, Shows, EndsRun, EndsRequest, EndsBy}
 use Rattle.batch_cli.specs.Headline.{IsTrue, IsTrueOf, IsTrueBy, JudgesTruly, StatesTruth, UpgradesTruly, WritesReplay}
-use Rattle.batch_cli.proofs.EndLemmas.{behind_none, status_ran, begun_flushed, begun_run}
-use Rattle.batch_cli.proofs.FitLemmas.{default_setup}
 
--- ---- what was written stays behind a flush
+-- ---- what words ask for is fit, and without words it is the default
+
+-- groups that are said are of the shape that is said
+groups_sides : (grid : Grid) (text : Option Text) (split : Split) → AreGroupsSaid grid text split → split.grid ≡ grid
+groups_sides grid None split said = said.0
+groups_sides grid (Some text) split said = said.0
+
+-- so are the costs
+costs_sides : (grid : Grid) (text : Option Text) (rule : CostRule) → AreCostsSaid grid text rule → rule.grid ≡ grid
+costs_sides grid None rule said = ap (λ (r : CostRule). r.grid) said
+costs_sides grid (Some text) rule (inl unit) = ap (λ (r : CostRule). r.grid) unit.1
+costs_sides grid (Some text) rule (inr (inl face)) = ap (λ (r : CostRule). r.grid) face.1
+costs_sides grid (Some text) rule (inr (inr weights)) = ap (λ (r : CostRule). r.grid) weights.listed
+
+fit_options : (rows : List Row) (o : Options) → AreOptions rows o → AreFit o
+fit_options rows o options = record { costs = costs_sides o.goal.grid (first_of (codes "cost") rows) o.costs options.costs; sides = groups_sides o.goal.grid (first_of (codes "groups") rows) o.groups options.groups; some = options.workers.some; few = options.workers.few }
+
+fit_defaults : (o : Options) → AreDefaults o → AreFit o
+fit_defaults o defaults = record { costs = ap (λ (r : CostRule). r.grid) defaults.costs ∙ sym (ap (λ (b : Position). b.grid) defaults.goal); sides = defaults.groups.0; some = omega (arith, defaults.workers); few = omega (arith, defaults.workers) }
+
+fit_text : (faults : Kinds) (request : Request) → AsksText faults request → IsFit request
+fit_text faults (Solve o) never = absurd never
+fit_text faults (Certify o) never = absurd never
+fit_text faults Check never = tt
+fit_text faults Upgrade never = tt
+fit_text faults (Replay o) never = absurd never
+fit_text faults (Help text) asked = tt
+fit_text faults (Version text) asked = tt
+
+fit_run : (subcommand : Option (Text × List Row)) (request : Request) → AsksRun subcommand request → IsFit request
+fit_run None request never = absurd never
+fit_run (Some p) (Solve o) asked = fit_options p.1 o asked.1
+fit_run (Some p) (Certify o) asked = fit_options p.1 o asked.1
+fit_run (Some p) Check asked = tt
+fit_run (Some p) Upgrade asked = tt
+fit_run (Some p) (Replay o) asked = fit_options p.1 o asked.1
+fit_run (Some p) (Help text) asked = tt
+fit_run (Some p) (Version text) asked = tt
+
+-- what words ask for is fit
+pub fit_asked : (words : List Text) (request : Request) → WordsAsk words request → IsFit request
+fit_asked [] (Solve o) defaults = fit_defaults o defaults
+fit_asked [] (Certify o) never = absurd never
+fit_asked [] Check never = tt
+fit_asked [] Upgrade never = tt
+fit_asked [] (Replay o) never = absurd never
+fit_asked [] (Help text) never = tt
+fit_asked [] (Version text) never = tt
+fit_asked (word ∷ words) request (program, is, inl text) = fit_text _ request text
+fit_asked (word ∷ words) request (program, is, inr run) = fit_run _ request run.1
+
+-- the setup of the default options is a default setup
+pub default_setup : (o : Options) (setup : SetupState) → AreDefaults o → IsSetupOf o setup → IsDefaultSetup setup
+default_setup o setup defaults is =
+    let grid = ap (λ (b : Position). b.grid) defaults.goal in
+    let built : AreBuilt o.groups setup.rule setup.goal setup.tables = subst (λ (f : Bool). AreTablesFor f o.groups setup.rule setup.goal setup.tables) defaults.fold is.tables in
+    record {
+      goal = is.goal ∙ defaults.goal;
+      rule = is.rule ∙ defaults.costs;
+      groups = ap (λ (s : Split). map (λ g. g.tiles) s.groups) built.groups ∙ defaults.groups.1 ∙ ap default_groups grid;
+      tables = subst (λ (s : Split). AreTrueTables s.groups setup.rule setup.goal setup.tables.lookups) (sym built.groups) built.each;
+      whole = built.whole;
+      limit = is.limit ∙ defaults.limit;
+      workers = is.workers ∙ defaults.workers;
+      spread = is.spread ∙ defaults.spread;
+    }
+
+-- ---- how the program ends after a run and the flush behind it
+
+-- a flush writes nothing
+flush_none : (sink : Change SinkState) (flushed : Result (Unit {0}) WriteFailed) → Flushes sink flushed → PutsNone sink
+flush_none sink (Ok done) flush = flush.0
+flush_none sink (Err failed) flush = flush.0
+
+pub behind_none : (ran : Ending) (sink : Change SinkState) (ending : Ending) → FlushesBehind ran sink ending → PutsNone sink
+behind_none ran sink ending behind = flush_none sink behind.0 behind.1
+
+-- a flush changes the ending only to a fault with the status 3
+unchanged : (ran : Ending) (flushed : Result (Unit {0}) WriteFailed) → status_of (after_flush ran flushed) ≢ 3 → after_flush ran flushed ≡ ran
+unchanged ran (Ok done) other = refl
+unchanged NoTexts (Err failed) other = absurd (other refl)
+unchanged (Refused refusal) (Err failed) other = absurd (other refl)
+unchanged NoMemory (Err failed) other = absurd (other refl)
+unchanged (Ran counts) (Err failed) other = absurd (other refl)
+unchanged (Answered status) (Err failed) other = absurd (other refl)
+unchanged Shown (Err failed) other = absurd (other refl)
+unchanged (Faulted fault) (Err failed) other = refl
+
+-- so any other status is that of the run
+pub status_ran : (ran : Ending) (sink : Change SinkState) (ending : Ending) (status : ℕ) → FlushesBehind ran sink ending → status ≡ status_of ending → status ≢ 3 → status ≡ status_of ran
+status_ran ran sink ending status (flushed, flush, is) told other =
+    let after = told ∙ ap status_of is in
+    after ∙ ap status_of (unchanged ran flushed (λ e. other (after ∙ e)))
+
+-- nor does the program end as one that has not begun
+pub begun_flushed : (ran : Ending) (flushed : Result (Unit {0}) WriteFailed) → ¬ HasNotBegun ran → ¬ HasNotBegun (after_flush ran flushed)
+begun_flushed ran (Ok done) begun = begun
+begun_flushed NoTexts (Err failed) begun = λ idle. idle
+begun_flushed (Refused refusal) (Err failed) begun = λ idle. idle
+begun_flushed NoMemory (Err failed) begun = λ idle. idle
+begun_flushed (Ran counts) (Err failed) begun = λ idle. idle
+begun_flushed (Answered status) (Err failed) begun = λ idle. idle
+begun_flushed Shown (Err failed) begun = λ idle. idle
+begun_flushed (Faulted fault) (Err failed) begun = λ idle. idle
+
+pub begun_run : {A E : Type 0} (well : A → Ending) (early : E → BatchFault) (result : Result A E) → ((a : A) → ¬ HasNotBegun (well a)) → ¬ HasNotBegun (ending_of well early result)
+begun_run well early (Ok a) begun = begun a
+begun_run well early (Err fault) begun = λ idle. idle
+
+-- ---- what the program writes is true: what was written stays behind a flush
 
 BeginsTruth-kept : (rules : Rules) (source : Change SourceState) (a b c : SinkState) → BeginsTruth rules source (from_to a b) → PutsNone (from_to b c) → BeginsTruth rules source (from_to a c)
 BeginsTruth-kept rules source a b c some kept = record {
@@ -91,15 +206,15 @@ AreFirst-all None lines all = tt
 AreFirst-all (Some bytes) lines all = ([], all ∙ sym (append-nil lines))
 
 -- all is a beginning
-begun : (rules : Rules) (source : Change SourceState) (sink : Change SinkState) (result : Result Summary LinesFault) → IsTrueRun rules source sink result → BeginsTruth rules source sink
-begun rules source sink (Ok counts) all = record {
+truth_begun : (rules : Rules) (source : Change SourceState) (sink : Change SinkState) (result : Result Summary LinesFault) → IsTrueRun rules source sink result → BeginsTruth rules source sink
+truth_begun rules source sink (Ok counts) all = record {
   lines = all.lines;
   output = all.output;
   first = AreFirst-all source.before.left all.lines all.all;
   begun = record { sent = all.output; unsent = []; parts = sym (append-nil all.output); put = all.put };
   truth = all.truth;
 }
-begun rules source sink (Err fault) some = some
+truth_begun rules source sink (Err fault) some = some
 
 -- only a run that is reported whole ends well
 whole : (rules : Rules) (source : Change SourceState) (sink : Change SinkState) (result : Result Summary LinesFault) (status : ℕ) → status ≡ status_of (ending_of Ran of_lines result) → status < 2 → IsTrueRun rules source sink result → WritesTruth rules source sink status
@@ -123,7 +238,7 @@ module _ (source : Change SourceState) (sink : Change SinkState) (ending : Endin
       let ran = run_true rules (truthful setup) source first result ended.run.1 in
       let last = from_to ended.between sink.after in
       let kept = behind_none ended.ran last ending ended.flush in (
-        BeginsTruth-kept rules source sink.before ended.between sink.after (begun rules source first result ran) kept,
+        BeginsTruth-kept rules source sink.before ended.between sink.after (truth_begun rules source first result ran) kept,
         λ fine.
             let is = status_ran ended.ran last ending status ended.flush told (λ three. omega (arith, fine, three)) ∙ ap status_of ended.run.2 in
             WritesTruth-kept rules source sink.before ended.between sink.after status (whole rules source first result status is fine ran) kept,
@@ -176,7 +291,7 @@ verdict_judged (Err (Format fault)) sink input output status tells refused is wr
   λ five. (format_code fault, inl (fault, tells, refl)),
 )
 verdict_judged (Err Failed) sink input output status tells never is written = absurd never
-verdict_judged (Err (NoMemory refused)) sink input output status tells never is written = absurd never
+verdict_judged (Err (NoMemoryToRead refused)) sink input output status tells never is written = absurd never
 
 known : (input : Option (List ℕ)) (read : Result Statement ReadFault) (sink : Change SinkState) (output : Output) (status : ℕ) → IfSome input (Tells read) → IsVerdict read output → status ≡ output.status → IfSome input (WritesVerdict sink) → IfSome input (Judged status sink)
 known None read sink output status tells verdict is written = tt
