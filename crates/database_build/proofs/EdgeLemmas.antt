@@ -24,7 +24,7 @@ use Rattle.database_build.specs.Orders.{below}
 use Rattle.database_build.specs.Sets.{choose, set_place, set_at, AreSame, replaced}
 use Rattle.database_build.specs.Regions.{IsPlaced, IsFree, IsRegions, HasRegions, region_in, IsCrossing, IsEdgeOf, AreEdges}
 use Rattle.database_build.specs.Edges.{IsRising, IsStep, IsStepEdge, AreFound, HasFound, IsTrueEdge, AreAdded}
-use Rattle.database_build.proofs.OrderLoops.{factorial_some}
+use Rattle.database_build.proofs.OrderTables.{factorial_some}
 use Rattle.database_build.proofs.SetLemmas.{place_below, same_place, set_is, set_below}
 use Rattle.database_build.proofs.OrderLemmas.{in_map, from_map, same_below, replaced_listing}
 use Rattle.database_build.specs.declared.edges.Edge.{Edge}

@@ -22,10 +22,9 @@ use Rattle.database_build.specs.Graphs.{node_in, node_count}
 use Rattle.database_build.specs.Rows.{AreLarger, IsRow, node_value}
 use Rattle.database_build.specs.declared.regions.Regions.{Regions}
 use Rattle.database_build.proofs.OrderLemmas.{order_with, order_below, below-le-length, below-zero}
-use Rattle.database_build.proofs.OrderLoops.{factorial_small}
+use Rattle.database_build.proofs.OrderTables.{factorial_small}
 use Rattle.database_build.proofs.SetLemmas.{choose_small, place_below}
-use Rattle.database_build.proofs.RowLemmas.{AreRows, rows_more, listing_push, row_none, row_pass, row_push, below_next_in, below_next_out}
-use Rattle.database_build.proofs.LargerLemmas.{listing_wide}
+use Rattle.database_build.proofs.RowLemmas.{AreRows, rows_more, listing_push, row_none, row_pass, row_push, below_next_in, below_next_out, listing_wide}
 
 -- the values of the free cells before this one are there, and the order is that of the other cells with this one
 pub record IsFilling (r : Regions) (nodes : List ℕ) (blank : ℕ) (others : List ℕ) (unit : ℕ) (old : List ℕ) (cell order : ℕ) (new : List ℕ) : Type 0 where

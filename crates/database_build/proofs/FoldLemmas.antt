@@ -1,16 +1,169 @@
--- How the least entries over the blank's places are found.
-use Rattle.std.proofs.Common.{◌≡◌, ◌⊎◌, ℕ, ◌≢◌, ◌+◌, ◌<◌, ◌≤◌, List, length, set, get_or, replicate, refl, sym, ap, ◌∙◌, subst, inl, inr, ⊎_elim, arith}
-use Rattle.std.specs.Prelude.{slice_index}
+-- How the bytes of views are written at their sparse places.
+use Rattle.std.proofs.Common.{◌≡◌, ◌≢◌, ℕ, ◌+◌, ◌-◌, ◌*◌, ◌^◌, ◌<◌, ◌≤◌, List, ◌∷◌, ◌++◌, length, take, drop, set, sym, ap, ◌∙◌, subst, ⊎_elim, arith, ◌⊎◌, get_or, replicate, refl, inl, inr}
+use Rattle.std.specs.Prelude.{All, AllPairs, Some, min, slice_get, slice_index}
 use Rattle.std.proofs.lemmas.Bool.{cases_lt, cases_eq}
-use Rattle.std.proofs.lemmas.List.{length-set, length-replicate, get_or-replicate, get_or-set_same, get_or-set_other}
+use Rattle.std.proofs.Math.Nat.{mul_comm}
+use Rattle.std.proofs.lemmas.List.{drop_all, drop_more, length-append, length-drop, length-set, length-take-le, take_at, get_or-set_same, get_or-set_other, length-replicate, get_or-replicate}
+use Rattle.std.proofs.lemmas.List.Elements.{All-drop, recursion_from_All}
+use Rattle.std.proofs.lemmas.Option.{slice_get-get_or, get_or_from_slice_get, slice_get_within}
 use Rattle.board.specs.Grids.{cell_count}
-use Rattle.pattern_index.specs.Ranks.{rank_of}
+use Rattle.pattern_index.specs.Ranks.{rank_of, list_at}
 use Rattle.pattern_index.specs.Views.{Sight, IsView}
-use Rattle.pattern_index.specs.Selections.{rank_in, place_in, size_of, folded_size_of}
+use Rattle.pattern_index.specs.Selections.{Selection, IsSelection, folded_size_of, place_in, rank_in, size_of}
+use Rattle.pattern_index.specs.Sparse.{sparse_of, digits_in, sparse_in, sparse_size_of}
+use Rattle.pattern_index.proofs.GroupLemmas.{groups_small}
+use Rattle.pattern_index.proofs.PlaceLemmas.{place_below, place_listing, same_cells}
+use Rattle.pattern_index.proofs.RankLemmas.{Below, Differ, below_in, differ_in, listing_from, length-list_at, list_at_below, list_at_differ, rank_of-list_at, rank_differs}
+use Rattle.pattern_index.proofs.SparseLemmas.{sparse_below, sparse_small, digits_back, view_digits}
+use Rattle.database_build.specs.SmallValues.{HasNoView}
 use Rattle.pattern_index.proofs.SightLemmas.{sight_below, sight_from_rank}
-use Rattle.pattern_index.proofs.PlaceLemmas.{place_below, same_cells}
 use Rattle.database_build.specs.Tables.{Lookup, value_in}
 use Rattle.database_build.specs.Folds.{IsFoldOf, IsFoldedValue}
+
+-- ---- the sparse place of some cells
+
+-- no digit is in
+pub digits_none : (n : ℕ) (cells : List ℕ) → 0 ≡ sparse_of n (drop (length cells) cells)
+unfolding sparse_of
+digits_none n cells = sym (ap (sparse_of n) (drop_all (length cells) cells (omega arith)))
+
+module _ (n : ℕ) (cells : List ℕ) (place sparse : ℕ) (some : 0 < place) (within : place ≤ length cells) (is : sparse ≡ sparse_of n (drop place cells)) where
+  -- one digit more, before those that are in
+  pub digits_on : sparse * n + slice_index cells (place - 1) ≡ sparse_of n (drop (place - 1) cells)
+  unfolding sparse_of
+  digits_on =
+      let follows : (place - 1) + 1 ≡ place = omega (arith, some) in
+      let split : drop (place - 1) cells ≡ slice_index cells (place - 1) ∷ drop place cells = drop_more cells (place - 1) 0 (omega (arith, some, within)) ∙ ap (λ k. slice_index cells (place - 1) ∷ drop k cells) follows in
+      let times : sparse * n ≡ n * sparse_of n (drop place cells) = ap (λ k. k * n) is ∙ mul_comm (sparse_of n (drop place cells)) n in
+      let whole : slice_index cells (place - 1) + n * sparse_of n (drop place cells) ≡ sparse_of n (drop (place - 1) cells) = sym (ap (sparse_of n) split) in
+      omega (arith, times, whole)
+
+  -- it is small
+  pub digits_fit : n ≤ 25 → length cells ≤ 9 → All (λ cell. cell < n) cells → sparse * n + slice_index cells (place - 1) ≤ 3814697265625
+  digits_fit few short below =
+      let rest = recursion_from_All (λ cell. cell < n) (drop (place - 1) cells) (All-drop (λ cell. cell < n) (place - 1) cells below) in
+      let long = length-drop (place - 1) cells in
+      let small = sparse_small n (drop (place - 1) cells) few (omega (arith, long, short)) rest in
+      let on = digits_on in
+      omega (arith, small, on)
+
+-- ---- the bytes of all views
+
+-- the views of the places before this one have their bytes, and where no view is stands 255
+pub record AreWritten (g : Selection) (least : List ℕ) (place : ℕ) (bytes : List ℕ) : Type 0 where
+  pub size : length bytes ≡ sparse_size_of g
+  pub views : (v : Sight) → IsView g.grid g.tiles v → place_in g.grid v < place → slice_index bytes (sparse_in g.grid v) ≡ min (slice_index least (place_in g.grid v)) 255
+  pub others : (sparse : ℕ) → sparse < length bytes → HasNoView g sparse → slice_index bytes sparse ≡ 255
+
+-- the sparse place of a view is below the size
+view_below : (g : Selection) (v : Sight) → IsView g.grid g.tiles v → sparse_in g.grid v < sparse_size_of g
+view_below g v view =
+    subst (λ k. sparse_in g.grid v < cell_count g.grid ^ k) view.one_each (sparse_below (cell_count g.grid) v.cells (below_in (cell_count g.grid) v.cells (place_listing g.grid g.tiles v view)))
+
+module _ (g : Selection) (selection : IsSelection g) (place : ℕ) (low : place < folded_size_of g) where
+  -- the cells of a place
+  abbrev at : List ℕ
+  at = list_at (cell_count g.grid) (length g.tiles) place
+
+  room : length g.tiles ≤ cell_count g.grid
+  room = let h = (groups_small g selection).1 in omega (arith, h)
+
+  below : Below (cell_count g.grid) at
+  below = list_at_below (cell_count g.grid) (length g.tiles) place room low
+
+  differ : Differ at
+  differ = list_at_differ (cell_count g.grid) (length g.tiles) place
+
+  long : length at ≡ length g.tiles
+  long = length-list_at (cell_count g.grid) (length g.tiles) place room
+
+  rank : rank_of (cell_count g.grid) at ≡ place
+  rank = rank_of-list_at (cell_count g.grid) (length g.tiles) place room low
+
+  digits : digits_in (cell_count g.grid) (length g.tiles) (sparse_of (cell_count g.grid) at) ≡ at
+  digits = ap (λ k. digits_in (cell_count g.grid) k (sparse_of (cell_count g.grid) at)) (sym long) ∙ digits_back (cell_count g.grid) at below
+
+  -- a view with this sparse place has these cells
+  view_there : (v : Sight) → IsView g.grid g.tiles v → sparse_in g.grid v ≡ sparse_of (cell_count g.grid) at → place_in g.grid v ≡ place
+  view_there v view same = ap (rank_of (cell_count g.grid)) (sym (view_digits g.grid g.tiles v (sparse_of (cell_count g.grid) at) view same) ∙ digits) ∙ rank
+
+  -- a view with this place has these cells
+  view_here : (v : Sight) → IsView g.grid g.tiles v → place_in g.grid v ≡ place → v.cells ≡ at
+  view_here v view same =
+      let is = place_listing g.grid g.tiles v view in
+      rank_differs (cell_count g.grid) v.cells at (below_in (cell_count g.grid) v.cells is) (differ_in (cell_count g.grid) v.cells is) below differ (view.one_each ∙ sym long) (same ∙ sym rank)
+
+  -- there is a view
+  some_view : HasNoView g (sparse_of (cell_count g.grid) at) → ⊥
+  some_view none = none (subst (λ (xs : List ℕ). AllPairs (λ x y. x ≢ y) xs) (sym digits) (listing_from (cell_count g.grid) at below differ).different)
+
+  within : sparse_of (cell_count g.grid) at < sparse_size_of g
+  within = subst (λ k. sparse_of (cell_count g.grid) at < cell_count g.grid ^ k) long (sparse_below (cell_count g.grid) at below)
+
+  -- the cells that are written over the first of an array
+  module _ (cells count : ℕ) (array list : List ℕ) (counted : cells ≡ cell_count g.grid) (tiles : count ≡ length g.tiles) (all : length array ≡ 9) (is : list ≡ list_at cells (length (take count array)) place) where
+    few : count ≤ 9
+    few = let h = (groups_small g selection).0 in omega (arith, h, tiles)
+
+    same : list ≡ at
+    same = is ∙ (λ i. list_at (counted i) ((length-take-le count array (let h = few in omega (arith, h, all)) ∙ tiles) i) place)
+
+    one_each : length list ≡ count
+    one_each = ap length same ∙ long ∙ sym tiles
+
+    listed : take count (list ++ drop count array) ≡ at
+    listed = take_at list (drop count array) count one_each ∙ same
+
+    pub listed_long : length (list ++ drop count array) ≡ 9
+    listed_long = let h = few in let e = one_each in let a = length-append list (drop count array) in let d = length-drop count array in omega (arith, h, e, a, d, all)
+
+    pub listed_below : All (λ cell. cell < cells) (take count (list ++ drop count array))
+    listed_below =
+        subst (λ (xs : List ℕ). All (λ cell. cell < cells) xs) (sym listed)
+        (subst (λ n. All (λ cell. cell < n) at) (sym counted) (listing_from (cell_count g.grid) at below differ).in_range)
+
+    -- the byte of one place more
+    module _ (least bytes : List ℕ) (sparse byte : ℕ) (sparse_is : sparse ≡ sparse_of cells (take count (list ++ drop count array))) (byte_is : byte ≡ min (slice_index least place) 255) (written : AreWritten g least place bytes) where
+      there : sparse ≡ sparse_of (cell_count g.grid) at
+      there = sparse_is ∙ (λ i. sparse_of (counted i) (listed i))
+
+      pub written_within : sparse < length bytes
+      written_within = let size = written.size in let h = within in let e = there in omega (arith, size, h, e)
+
+      all_bytes : length (set bytes sparse byte) ≡ length bytes
+      all_bytes = length-set bytes sparse byte
+
+      here : slice_index (set bytes sparse byte) sparse ≡ byte
+      here = get_or-set_same bytes sparse byte 0 written_within
+
+      pub written_more : AreWritten g least (place + 1) (set bytes sparse byte)
+      written_more = record {
+        size = all_bytes ∙ written.size;
+        views = λ v view lt.
+            ⊎_elim
+            (λ (before : place_in g.grid v < place).
+            get_or-set_other bytes sparse (sparse_in g.grid v) byte 0 (λ e. let h = view_there v view (e ∙ there) in absurd (omega (arith, h, before))) ∙ written.views v view before)
+            (λ (after : place ≤ place_in g.grid v).
+            let h : place_in g.grid v ≡ place = omega (arith, lt, after) in
+            let e : sparse_in g.grid v ≡ sparse = ap (sparse_of (cell_count g.grid)) (view_here v view h) ∙ sym there in
+            ap (slice_index (set bytes sparse byte)) e ∙ here ∙ byte_is ∙ ap (λ k. min (slice_index least k) 255) (sym h))
+            (cases_lt (place_in g.grid v) place);
+        others = λ k k_in none.
+            get_or-set_other bytes sparse k byte 0 (λ e. some_view (subst (HasNoView g) (e ∙ there) none)) ∙ written.others k (let all = all_bytes in omega (arith, k_in, all)) none;
+      }
+
+-- all views have their bytes
+module _ (g : Selection) (least bytes : List ℕ) (place : ℕ) (end : folded_size_of g ≤ place) (written : AreWritten g least place bytes) where
+  pub written_views : (v : Sight) → IsView g.grid g.tiles v → slice_get bytes (sparse_in g.grid v) ≡ Some (min (slice_index least (place_in g.grid v)) 255)
+  written_views v view =
+      let low = view_below g v view in
+      let before = place_below g.grid g.tiles v view in
+      slice_get-get_or bytes (sparse_in g.grid v) 0 (omega (arith, low, written.size)) ∙ ap (λ (n : ℕ). Some n) (written.views v view (omega (arith, before, end)))
+
+  pub written_others : (sparse byte : ℕ) → HasNoView g sparse → slice_get bytes sparse ≡ Some byte → byte ≡ 255
+  written_others sparse byte none is = sym (get_or_from_slice_get bytes sparse byte 0 is) ∙ written.others sparse (slice_get_within bytes sparse byte is) none
+
+-- ---- how the least entries over the blank's places are found
 
 -- a view of the place with this entry
 abbrev pub Met : Lookup → ℕ → ℕ → Type 0

@@ -30,7 +30,7 @@ use Rattle.database_build.specs.Searches.{AreFound}
 use Rattle.database_build.specs.declared.regions.Regions.{Regions}
 use Rattle.database_build.specs.declared.finding.Found.{Found}
 use Rattle.database_build.proofs.OrderLemmas.{order_below, below-all, below_there, in_or_out}
-use Rattle.database_build.proofs.OrderLoops.{factorial_small}
+use Rattle.database_build.proofs.OrderTables.{factorial_small}
 use Rattle.database_build.proofs.SetLemmas.{choose_small, choose_ways, place_below}
 use Rattle.database_build.proofs.RegionLemmas.{region_within}
 use Rattle.database_build.proofs.RowLemmas.{other_from}

@@ -1,16 +1,12 @@
 pub mod BucketLemmas
-pub mod OrderLoops
-pub mod OrderTables
 pub mod OrderLemmas
+pub mod OrderTables
 pub mod MovedLemmas
 pub mod SetLemmas
-pub mod LabelLemmas
-pub mod NumberingLemmas
 pub mod RegionLemmas
 pub mod EdgeLemmas
 pub mod GraphLemmas
 pub mod RowLemmas
-pub mod LargerLemmas
 pub mod FillLemmas
 pub mod NodeSetLemmas
 pub mod ReachLemmas
@@ -19,5 +15,4 @@ pub mod LayerLemmas
 pub mod GroupGraphLemmas
 pub mod PotentialLemmas
 pub mod LeastLemmas
-pub mod SparseLemmas
 pub mod FoldLemmas

@@ -9,8 +9,7 @@ use Rattle.database_build.specs.declared.orders.Orders.{Orders}
 use Rattle.database_build.specs.Graphs.{IsOrders}
 use Rattle.database_build.specs.Orders.{order_of, positions_at, exchanged, moved_position, moved_order}
 use Rattle.database_build.proofs.OrderLemmas.{positions_are, positions_back}
-use Rattle.database_build.proofs.OrderLoops.{length-positions_at}
-use Rattle.database_build.proofs.OrderTables.{passed_low, pass_read}
+use Rattle.database_build.proofs.OrderTables.{length-positions_at, passed_low, pass_read}
 
 -- a tile that has not moved
 moved_none : (from p : ℕ) → moved_position from from p ≡ p

@@ -1,19 +1,164 @@
--- What is kept for each order.
-use Rattle.std.proofs.Common.{◌≡◌, ℕ, suc, ◌+◌, ◌-◌, ◌*◌, ◌<◌, ◌≤◌, eqb, List, [], ◌∷◌, ◌++◌, length, get_or, map, take, sym, ap, ◌∙◌, subst, ⊎_elim, arith}
+-- What the loops over orders keep.
+use Rattle.std.proofs.Common.{◌≡◌, ◌≢◌, ℕ, zero, suc, ◌+◌, ◌-◌, ◌*◌, ◌/◌, ◌%◌, ◌<◌, ◌≤◌, List, [], ◌∷◌, ◌++◌, length, get_or, map, take, drop, set, refl, sym, ap, ◌∙◌, subst, add-one, arith, eqb, ⊎_elim}
+use Rattle.std.proofs.lemmas.List.{take_more, take_all, take_at, take_more_set, length-take-le, length-append, length-drop, length-map, length_push, get_or_default, append_assoc, get_or_append_left, get_or-append-add, get_or_read}
+use Rattle.std.proofs.lemmas.List.Edits.{map_over_more}
+use Rattle.std.proofs.lemmas.Bool.Decides.{nat_tests}
+use Rattle.std.proofs.lemmas.Nat.{mod_below, mul-add-lt}
+use Rattle.std.proofs.Math.Nat.{mul-le-mul_right, mod-eq_of_lt, mul_comm}
+use Rattle.std.specs.List.{All, position_or_len, range_with_len}
+use Rattle.pattern_index.specs.Laws.{factorial}
+use Rattle.pattern_index.specs.Ranks.{spread}
+use Rattle.pattern_index.proofs.CellLemmas.{split_digit}
+use Rattle.database_build.specs.Orders.{below, order_after, order_of, positions_at, exchanged, tile_of}
+use Rattle.database_build.proofs.OrderLemmas.{order_with, order_below, positions_are, below_full, below_absent, in_or_out, tile_is}
 use Rattle.std.specs.Prelude.{Contains}
-use Rattle.std.specs.List.{position_or_len, range_with_len}
-use Rattle.std.proofs.lemmas.List.{take_at, length-map, length-append, length-take-le, append_assoc, get_or_append_left, get_or-append-add, get_or_read}
 use Rattle.std.proofs.lemmas.List.FromFn.{map-range_with_len_more, length-range_with_len, get_or-map-range_with_len}
 use Rattle.std.proofs.lemmas.Bool.{cases_lt}
-use Rattle.std.proofs.lemmas.Nat.{mul-add-lt}
-use Rattle.std.proofs.Math.Nat.{mul_comm}
-use Rattle.pattern_index.specs.Laws.{factorial}
 use Rattle.pattern_index.proofs.RankLemmas.{below_in, differ_in}
 use Rattle.database_build.specs.declared.orders.Orders.{Orders}
 use Rattle.database_build.specs.Graphs.{IsOrders}
-use Rattle.database_build.specs.Orders.{below, order_of, positions_at, tile_of, exchanged}
-use Rattle.database_build.proofs.OrderLemmas.{order_below, positions_are, below_full, below_absent, in_or_out, tile_is}
-use Rattle.database_build.proofs.OrderLoops.{length-positions_at}
+
+pub factorial_some : (n : ℕ) → 1 ≤ factorial n
+factorial_some zero = omega arith
+factorial_some (suc n) = let some = factorial_some n in let more : 1 * factorial n ≤ suc n * factorial n = mul-le-mul_right (factorial n) (omega arith) in omega arith
+
+factorial_up : (n : ℕ) → factorial n ≤ factorial (suc n)
+factorial_up n = let more : 1 * factorial n ≤ suc n * factorial n = mul-le-mul_right (factorial n) (omega arith) in omega arith
+
+pub factorial_grows : (m more : ℕ) → factorial m ≤ factorial (m + more)
+factorial_grows m zero = subst (λ k. factorial m ≤ factorial k) (same m) (omega arith)
+  where
+    same : (k : ℕ) → k ≡ k + 0
+    same k = omega arith
+factorial_grows m (suc more) = let rest = factorial_grows m more in let up = factorial_up (m + more) in subst (λ k. factorial m ≤ factorial k) (same m more) (omega arith)
+  where
+    same : (k n : ℕ) → suc (k + n) ≡ k + suc n
+    same k n = omega arith
+
+-- a factorial of at most nine is small
+pub factorial_small : (n : ℕ) → n ≤ 9 → factorial n ≤ 362880
+factorial_small n le =
+    let grows = factorial_grows n (9 - n) in
+    let nine : n + (9 - n) ≡ 9 = omega arith in
+    subst (λ k. factorial n ≤ factorial k) nine grows
+
+pub factorial_next : (n : ℕ) → factorial (n + 1) ≡ factorial n * (n + 1)
+factorial_next n = ap factorial (add-one n) ∙ omega arith
+
+-- one step of the loop that makes an order
+pub order_step : (cells : List ℕ) (tile count : ℕ) → tile < length cells → count ≡ below (get_or cells tile 0) (take tile cells) → order_of (take tile cells) + count * factorial tile ≡ order_of (take (tile + 1) cells)
+order_step cells tile count within counted =
+    let size = length-take-le tile cells (omega arith) in
+    (λ i. order_of (take tile cells) + counted i * factorial (sym size i))
+    ∙ sym (order_with (take tile cells) (get_or cells tile 0))
+    ∙ ap order_of (sym (take_more cells tile 0 within))
+
+pub order_small : (cells : List ℕ) (tile : ℕ) → length cells ≤ 9 → tile ≤ length cells → (order_of (take tile cells) < factorial tile) × (factorial tile ≤ 362880)
+order_small cells tile short within =
+    (subst (λ k. order_of (take tile cells) < factorial k) (length-take-le tile cells within) (order_below (take tile cells)), factorial_small tile (omega arith))
+
+pub order_of-nil : order_of [] ≡ 0
+unfolding order_of order_after
+order_of-nil = refl
+
+-- the order and the unit after one step more
+pub record IsOrderStep (cells : List ℕ) (tile order unit digit : ℕ) : Type 0 where
+  pub order_is : order + digit * unit ≡ order_of (take (tile + 1) cells)
+  pub unit_is : unit * (tile + 1) ≡ factorial (tile + 1)
+  pub low : order + digit * unit < factorial (tile + 1)
+  pub small : factorial (tile + 1) ≤ 362880
+
+pub order_stepped : (cells : List ℕ) (tile order unit digit : ℕ) → length cells ≤ 9 → tile < length cells → order ≡ order_of (take tile cells) → unit ≡ factorial tile → digit ≡ below (get_or cells tile 0) (take tile cells) → IsOrderStep cells tile order unit digit
+order_stepped cells tile order unit digit short within order_is unit_is counted =
+    let next : order + digit * unit ≡ order_of (take (tile + 1) cells) = (λ i. order_is i + digit * unit_is i) ∙ order_step cells tile digit within counted in
+    let low = order_small cells (tile + 1) short (omega arith) in
+    record {
+      order_is = next;
+      unit_is = ap (λ u. u * (tile + 1)) unit_is ∙ sym (factorial_next tile);
+      low = omega (arith, low.0);
+      small = low.1;
+    }
+
+-- where all cells are seen the order is made
+pub order_made : (cells : List ℕ) (tile order : ℕ) → tile ≡ length cells → order ≡ order_of (take tile cells) → order ≡ order_of cells
+order_made cells tile order all order_is = order_is ∙ ap order_of (take_all tile cells (omega arith))
+
+-- a loop over a list writes over one element more
+pub map_step : (f : ℕ → ℕ) (xs ys zs : List ℕ) (i y : ℕ) → i < length xs → length ys ≡ length xs → ys ≡ map f (take i xs) ++ drop i xs → zs ≡ set ys i y → y ≡ f (get_or ys i 0) → zs ≡ map f (take (i + 1) xs) ++ drop (i + 1) xs
+map_step f xs ys zs i y within size kept written is =
+    written ∙ ap (set ys i) is ∙ map_over_more f xs ys i (get_or ys i 0) within kept (get_or_default ys i 0 (get_or ys i 0) (omega arith))
+
+pub spread_up : (digit p : ℕ) → digit ≤ p → p + 1 ≡ spread digit p
+spread_up digit p le = grind (arith, nat_tests)
+
+pub spread_same : (digit p : ℕ) → p < digit → p ≡ spread digit p
+spread_same digit p lt = grind (arith, nat_tests)
+
+pub exchanged_up : (position other : ℕ) → other ≡ position → position + 1 ≡ exchanged position other
+exchanged_up position other same = grind (arith, nat_tests)
+
+pub exchanged_down : (position other : ℕ) → other ≡ position + 1 → position ≡ exchanged position other
+exchanged_down position other same = grind (arith, nat_tests)
+
+pub exchanged_same : (position other : ℕ) → other ≢ position → other ≢ position + 1 → other ≡ exchanged position other
+exchanged_same position other one two = grind (arith, nat_tests)
+
+-- the positions of the first tiles are written, and what is left of the order
+pub record IsWritten (order : ℕ) (positions : List ℕ) (tile rest : ℕ) : Type 0 where
+  pub rest_is : rest ≡ order / factorial tile
+  pub list_is : take tile positions ≡ positions_at tile (order % factorial tile)
+
+pub length-positions_at : (n k : ℕ) → length (positions_at n k) ≡ n
+unfolding positions_at
+length-positions_at zero k = refl
+length-positions_at (suc n) k =
+    length_push (map (spread (k / factorial n)) (positions_at n (k % factorial n))) (k / factorial n)
+    ∙ ap (λ m. m + 1) (length-map (positions_at n (k % factorial n)) (spread (k / factorial n)) ∙ length-positions_at n (k % factorial n))
+    ∙ add-one n
+
+pub written_none : (order : ℕ) (positions : List ℕ) → IsWritten order positions 0 order
+unfolding positions_at
+written_none order positions = record { rest_is = omega arith; list_is = refl }
+
+written_next : (order : ℕ) (positions : List ℕ) (tile rest : ℕ) (later : List ℕ) → tile < length positions → IsWritten order positions tile rest → later ≡ map (spread (rest % suc tile)) (take tile positions) → IsWritten order (set (later ++ drop tile positions) tile (rest % suc tile)) (suc tile) (rest / suc tile)
+unfolding positions_at
+written_next order positions tile rest later within written is =
+    let f = factorial tile in
+    let some = factorial_some tile in
+    let parts = split_digit order f (suc tile) some (omega arith) in
+    let d = rest % suc tile in
+    let digit : d ≡ order % (suc tile * f) / f = (λ j. written.rest_is j % suc tile) ∙ sym parts.0 in
+    let size : length later ≡ tile = ap length is ∙ length-map (take tile positions) (spread d) ∙ length-take-le tile positions (omega arith) in
+    let long : length (later ++ drop tile positions) ≡ length later + (length positions - tile) = length-append later (drop tile positions) ∙ ap (λ m. length later + m) (length-drop tile positions) in
+    let shape : tile + 1 ≡ suc tile = add-one tile in
+    let made : later ≡ map (spread d) (positions_at tile (order % (suc tile * f) % f)) = is ∙ ap (map (spread d)) (written.list_is ∙ ap (positions_at tile) (sym parts.1)) in
+    record {
+      rest_is = (λ j. written.rest_is j / suc tile) ∙ sym parts.2;
+      list_is = ap (λ m. take m (set (later ++ drop tile positions) tile d)) (sym shape)
+          ∙ take_more_set (later ++ drop tile positions) tile d (omega arith)
+          ∙ ap (λ xs. xs ++ d ∷ []) (take_at later (drop tile positions) tile size ∙ made)
+          ∙ (λ j. map (spread (digit j)) (positions_at tile (order % (suc tile * f) % f)) ++ digit j ∷ []);
+    }
+
+pub written_step : (order : ℕ) (positions : List ℕ) (tile rest : ℕ) (later : List ℕ) → tile < length positions → IsWritten order positions tile rest → later ≡ map (spread (rest % (tile + 1))) (take tile positions) → IsWritten order (set (later ++ drop tile positions) tile (rest % (tile + 1))) (tile + 1) (rest / (tile + 1))
+written_step order positions tile rest later within written =
+    subst (λ m. later ≡ map (spread (rest % m)) (take tile positions) → IsWritten order (set (later ++ drop tile positions) tile (rest % m)) m (rest / m)) (sym (add-one tile))
+    (written_next order positions tile rest later within written)
+
+pub written_small : (order : ℕ) (positions : List ℕ) (tile rest : ℕ) → tile ≤ 9 → IsWritten order positions tile rest → All (λ position. position < 255) (take tile positions)
+written_small order positions tile rest short written =
+    let positions = positions_are tile (order % factorial tile) (mod_below order (factorial tile) (factorial_some tile)) in
+    subst (λ xs. All (λ position. position < 255) xs) (sym written.list_is) (λ k d within. let low = positions.0.in_range k d within in omega arith)
+
+pub written_all : (order : ℕ) (positions : List ℕ) (tile rest n : ℕ) → tile ≡ n → length positions ≡ n → order < factorial n → IsWritten order positions tile rest → positions ≡ positions_at n order
+written_all order positions tile rest n all size low written =
+    let at : IsWritten order positions n rest = subst (λ m. IsWritten order positions m rest) all written in
+    sym (take_all n positions (omega arith)) ∙ at.list_is ∙ ap (positions_at n) (mod_is order (factorial n) low)
+  where
+    mod_is : (a b : ℕ) → a < b → a % b ≡ a
+    mod_is a b lt = mod-eq_of_lt lt
+
+-- ---- what is kept for each order
 
 -- the front of an array, where positions are written
 pub front_is : (n m order : ℕ) (zeros written rest : List ℕ) → length zeros ≡ 9 → n ≤ 9 → m ≡ n → written ≡ positions_at (length (take n zeros)) order → take m (written ++ rest) ≡ positions_at n order

@@ -1,22 +1,318 @@
--- Numbers of regions say where the blank wanders.
-use Rattle.std.proofs.Common.{◌≡◌, ℕ, zero, suc, ◌+◌, ◌-◌, ◌*◌, ◌<◌, ◌≤◌, List, [], ◌++◌, length, sym, ap, ◌∙◌, subst, ⊎_elim, arith, Some}
-use Rattle.std.specs.Prelude.{slice_get, slice_index}
-use Rattle.std.proofs.lemmas.Bool.{cases_lt}
-use Rattle.std.proofs.lemmas.Option.{slice_get_within}
-use Rattle.std.proofs.Math.Nat.{mul_assoc, mul_comm, mul-le-mul_right, mul-le-mul_left}
+-- Labels fall to the lowest cell that the blank reaches.
+use Rattle.std.proofs.Common.{◌≡◌, ◌≢◌, ◌⊎◌, ℕ, ◌+◌, ◌<◌, Bool, true, false, List, [], ◌∷◌, ◌++◌, length, get_or, refl, sym, ap, ◌∙◌, subst, ⊎_elim, below_more, arith, suc, ◌-◌, ◌*◌, ◌≤◌, cond, add-one, inl, inr, Some, Result, Ok, Err, zero}
+use Rattle.std.specs.Prelude.{◌||◌, slice_index, sum, Contains, slice_get, IfOk, is_ok}
+use Rattle.std.proofs.Math.ListN.{set}
+use Rattle.std.proofs.lemmas.Bool.{cases_order, false≢true, cases_lt}
+use Rattle.std.proofs.lemmas.List.{get_or-set_same, get_or-set_other, length-set, length-append, get_or_append_left}
+use Rattle.std.proofs.lemmas.List.Sums.{sum_by-set}
 use Rattle.board.specs.declared.moves.Move.{Move}
 use Rattle.board.specs.Grids.{Grid, cell_count}
-use Rattle.board.specs.Neighbours.{LiesTowards}
-use Rattle.pattern_index.specs.Laws.{factorial}
-use Rattle.pattern_index.specs.Ranks.{ways, IsListing}
-use Rattle.database_build.specs.Sets.{AreSame, choose, set_place, set_at}
-use Rattle.database_build.specs.Regions.{IsPlaced, IsFree, Wanders, HasRegions, region_in}
-use Rattle.database_build.specs.Numberings.{HasRow, AreNumbered}
+use Rattle.board.specs.Neighbours.{LiesTowards, opposite}
+use Rattle.board.proofs.MoveLemmas.{cell_below}
+use Rattle.pattern_index.proofs.ViewMoveLemmas.{lies_back}
+use Rattle.database_build.specs.Sets.{AreSame, set_at, choose, set_place}
+use Rattle.database_build.specs.Regions.{IsFree, Wanders, IsPlaced, HasRegions, region_in}
+use Rattle.database_build.specs.Labels.{IsLabel, AreLabels, AreSettled, IsLowering, IsSettled}
+use Rattle.std.proofs.lemmas.Option.{slice_get_within, slice_get-get_or, get_or_from_slice_get}
+use Rattle.std.proofs.Math.Seq.{get_or-append_seam}
+use Rattle.std.proofs.Math.Nat.{mul-le-mul_right, mul_assoc, mul_comm, mul-le-mul_left}
+use Rattle.pattern_index.specs.Ranks.{IsListing, ways}
+use Rattle.pattern_index.proofs.RankLemmas.{Differ, differ_in, below_in}
+use Rattle.database_build.specs.Orders.{below}
+use Rattle.database_build.specs.Numberings.{IsHome, IsNumberedRow, HasRow, AreNumbered, AreNumberedTo}
 use Rattle.database_build.specs.declared.regions.Home.{Home}
+use Rattle.database_build.proofs.OrderLemmas.{below-zero, below-all, below_there, below_absent, in_or_out}
+use Rattle.pattern_index.specs.Laws.{factorial}
 use Rattle.database_build.specs.declared.regions.Regions.{Regions}
-use Rattle.database_build.proofs.LabelLemmas.{wanders_on, wanders_back, wanders_same, free_same}
-use Rattle.database_build.proofs.NumberingLemmas.{lower_place}
 use Rattle.database_build.proofs.SetLemmas.{set_is, place_below, one_set, sets_differ, choose_ways}
+
+-- ---- ways of the blank
+
+pub wanders_on : (grid : Grid) (cells : List ℕ) (from : ℕ) (moves : List Move) (to : ℕ) (more : List Move) (end : ℕ) → Wanders grid cells from moves to → Wanders grid cells to more end → Wanders grid cells from (moves ++ more) end
+wanders_on grid cells from [] to more end first second = subst (λ (x : ℕ). Wanders grid cells x more end) first second
+wanders_on grid cells from (m ∷ moves) to more end first second = (first.0, first.1, first.2, wanders_on grid cells first.0 moves to more end first.3 second)
+
+-- the way back, by the opposite moves
+pub wanders_back : (grid : Grid) (cells : List ℕ) (from : ℕ) (moves : List Move) (to : ℕ) → IsFree grid cells from → Wanders grid cells from moves to → (back : List Move) × Wanders grid cells to back from
+wanders_back grid cells from [] to free way = ([], sym way)
+wanders_back grid cells from (m ∷ moves) to free way =
+    let inside = cell_below grid m from way.0 way.1 in
+    let rest = wanders_back grid cells way.0 moves to (record { inside = inside; free = way.2 }) way.3 in
+    let last : Wanders grid cells way.0 (opposite m ∷ []) from = (from, lies_back grid m from way.0 free.inside way.1, free.free, refl) in
+    (rest.0 ++ (opposite m ∷ []), wanders_on grid cells to rest.0 way.0 (opposite m ∷ []) from rest.1 last)
+
+-- the ways hang on which cells are taken alone
+pub wanders_same : (grid : Grid) (xs ys : List ℕ) (from : ℕ) (moves : List Move) (to : ℕ) → AreSame xs ys → Wanders grid xs from moves to → Wanders grid ys from moves to
+wanders_same grid xs ys from [] to same way = way
+wanders_same grid xs ys from (m ∷ moves) to same way = (way.0, way.1, (λ on. way.2 ((same way.0).1 on)), wanders_same grid xs ys way.0 moves to same way.3)
+
+pub free_same : (grid : Grid) (xs ys : List ℕ) (cell : ℕ) → AreSame xs ys → IsFree grid xs cell → IsFree grid ys cell
+free_same grid xs ys cell same free = record { inside = free.inside; free = λ on. free.free ((same cell).1 on) }
+
+-- ---- one label is lowered
+
+-- a free neighbour's label is one of the cell's too
+label_at : (grid : Grid) (cells labels : List ℕ) (cell next : ℕ) → AreLabels grid cells labels → IsFree grid cells cell → (m : Move) → LiesTowards grid m cell next → ¬ Contains cells next → slice_index labels next < slice_index labels cell → IsLabel grid cells cell (slice_index labels next)
+label_at grid cells labels cell next are free m towards empty less =
+    let there = are.each next (record { inside = cell_below grid m cell next towards; free = empty }) in
+    let here = are.each cell free in
+    let le = here.low in
+    record { low = omega arith; free = there.free; reached = (m ∷ there.reached.0, (next, towards, empty, there.reached.1)) }
+
+pub lowered_labels : (grid : Grid) (cells labels : List ℕ) (cell next : ℕ) (m : Move) → cell < 25 → AreLabels grid cells labels → IsFree grid cells cell → LiesTowards grid m cell next → ¬ Contains cells next → slice_index labels next < slice_index labels cell → AreLabels grid cells (set labels cell (slice_index labels next))
+lowered_labels grid cells labels cell next m low are free towards empty less =
+    let size = are.size in
+    let within : cell < length labels = omega arith in
+    let new = set labels cell (slice_index labels next) in
+    record {
+      size = length-set labels cell (slice_index labels next) ∙ size;
+      each = λ k k_free.
+          ⊎_elim
+          (λ (e : k ≡ cell).
+          let at : slice_index new k ≡ slice_index labels next = ap (λ (x : ℕ). get_or new x 0) e ∙ get_or-set_same labels cell (slice_index labels next) 0 within in
+          subst (λ (x : ℕ). IsLabel grid cells k x) (sym at)
+          (subst (λ (x : ℕ). IsLabel grid cells x (slice_index labels next)) (sym e) (label_at grid cells labels cell next are free m towards empty less)))
+          (λ (ne : (k < cell) ⊎ (cell < k)).
+          let other : k ≢ cell = omega arith in
+          subst (λ (x : ℕ). IsLabel grid cells k x) (sym (get_or-set_other labels cell k (slice_index labels next) 0 other)) (are.each k k_free))
+          (cases_order k cell);
+    }
+
+pub lowering_at : (labels : List ℕ) (cell label : ℕ) → cell < length labels → label < slice_index labels cell → IsLowering labels (set labels cell label) true
+lowering_at labels cell label within less = record {
+  falls = λ _. let s = sum_by-set (λ (x : ℕ). x) labels cell label 0 within in omega arith;
+  same = λ e. absurd (false≢true (sym e));
+}
+
+pub lowering_none : (labels : List ℕ) → IsLowering labels labels false
+lowering_none labels = record { falls = λ e. absurd (false≢true e); same = λ _. refl }
+
+-- ---- the labels of all cells
+
+pub none_of : (a b : Bool) → (a || b) ≡ false → (a ≡ false) × (b ≡ false)
+none_of false b e = (refl, e)
+none_of true b e = absurd (false≢true (sym e))
+
+pub lowering_more : (before middle after : List ℕ) (a b : Bool) → IsLowering before middle a → IsLowering middle after b → IsLowering before after (a || b)
+lowering_more before middle after false false first second = record {
+  falls = λ e. absurd (false≢true e);
+  same = λ _. second.same refl ∙ first.same refl;
+}
+lowering_more before middle after false true first second = record {
+  falls = λ _. subst (λ (xs : List ℕ). sum after < sum xs) (first.same refl) (second.falls refl);
+  same = λ e. absurd (false≢true (sym e));
+}
+lowering_more before middle after true false first second = record {
+  falls = λ _. subst (λ (xs : List ℕ). sum xs < sum before) (sym (second.same refl)) (first.falls refl);
+  same = λ e. absurd (false≢true (sym e));
+}
+lowering_more before middle after true true first second = record {
+  falls = λ _. let one = first.falls refl in let two = second.falls refl in omega arith;
+  same = λ e. absurd (false≢true (sym e));
+}
+
+pub settled_more : (grid : Grid) (cells before after : List ℕ) (cell : ℕ) (a b : Bool) → IsLowering before after b → (a ≡ false → (k : ℕ) → k < cell → IsSettled grid cells before k) → (b ≡ false → IsSettled grid cells after cell) → (a || b) ≡ false → (k : ℕ) → k < cell + 1 → IsSettled grid cells after k
+settled_more grid cells before after cell a b lowering settled here none =
+    let parts = none_of a b none in
+    below_more (λ (k : ℕ). IsSettled grid cells after k) cell
+    (λ k lt. subst (λ (xs : List ℕ). IsSettled grid cells xs k) (sym (lowering.same parts.1)) (settled parts.0 k lt))
+    (here parts.1)
+
+-- at first each cell is its own label
+pub first_labels : (grid : Grid) (cells labels : List ℕ) → length labels ≡ 25 → ((k : ℕ) → k < cell_count grid → get_or labels k 0 ≡ k) → AreLabels grid cells labels
+first_labels grid cells labels size own = record {
+  size = size;
+  each = λ cell free.
+      let e = own cell free.inside in
+      subst (λ (x : ℕ). IsLabel grid cells cell x) (sym e) (record { low = omega arith; free = free.free; reached = ([], refl) });
+}
+
+-- where no cell's label is above that of a free neighbour, the two are one
+pub all_settled : (grid : Grid) (cells labels : List ℕ) → AreLabels grid cells labels → ((k : ℕ) → k < cell_count grid → IsSettled grid cells labels k) → AreSettled grid cells labels
+all_settled grid cells labels are settled = record {
+  are = are;
+  near = λ m from to free there towards.
+      let up = settled from free.inside m to free towards there.free in
+      let down = settled to there.inside (opposite m) from there (lies_back grid m from to free.inside towards) free.free in
+      omega arith;
+}
+
+-- ---- numbers of regions, one cell after another
+
+-- ---- how many tiles stand below the next cell
+
+-- as many as below the cell before it, if none stands there
+next_free : (cell : ℕ) (cells : List ℕ) → ¬ Contains cells cell → below (cell + 1) cells ≡ below cell cells
+next_free cell cells free = ap (λ (k : ℕ). below k cells) (add-one cell) ∙ below_absent cell cells free
+
+-- one more at most
+next_below : (cell : ℕ) (cells : List ℕ) → Differ cells → below (cell + 1) cells ≤ below cell cells + 1
+next_below cell cells differ =
+    let next : below (cell + 1) cells ≡ below (suc cell) cells = ap (λ (k : ℕ). below k cells) (add-one cell) in
+    ⊎_elim (λ (on : Contains cells cell). let h = below_there cell cells differ on in omega arith) (λ (off : ¬ Contains cells cell). let h = below_absent cell cells off in omega arith) (in_or_out cell cells)
+
+-- ---- what stays when lists grow
+
+pub kept_number : (numbers : List ℕ) (x at : ℕ) → at < length numbers → slice_index (numbers ++ x ∷ []) at ≡ slice_index numbers at
+kept_number numbers x at within = get_or_append_left numbers (x ∷ []) 0 at within
+
+last_number : (numbers : List ℕ) (x at : ℕ) → at ≡ length numbers → slice_index (numbers ++ x ∷ []) at ≡ x
+last_number numbers x at is = ap (λ (k : ℕ). get_or (numbers ++ x ∷ []) k 0) is ∙ get_or-append_seam numbers x [] 0
+
+module _ (homes : List Home) (home : Home) where
+  kept_home : (region : ℕ) (other : Home) → slice_get homes region ≡ Some other → slice_get (homes ++ home ∷ []) region ≡ Some other
+  kept_home region other is =
+      let within = slice_get_within homes region other is in
+      let n = length-append homes (home ∷ []) in
+      slice_get-get_or (homes ++ home ∷ []) region home (omega arith)
+      ∙ ap Some (get_or_append_left homes (home ∷ []) home region within ∙ get_or_from_slice_get homes region other home is)
+
+  last_home : slice_get (homes ++ home ∷ []) (length homes) ≡ Some home
+  last_home =
+      let n = length-append homes (home ∷ []) in
+      slice_get-get_or (homes ++ home ∷ []) (length homes) home (omega arith) ∙ ap Some (get_or-append_seam homes home [] home)
+
+  home_cases : (region : ℕ) (other : Home) → slice_get (homes ++ home ∷ []) region ≡ Some other → (slice_get homes region ≡ Some other) ⊎ ((region ≡ length homes) × (other ≡ home))
+  home_cases region other is =
+      let within = slice_get_within (homes ++ home ∷ []) region other is in
+      let n = length-append homes (home ∷ []) in
+      let at = get_or_from_slice_get (homes ++ home ∷ []) region other home is in
+      ⊎_elim
+      (λ (lt : region < length homes). inl (slice_get-get_or homes region home lt ∙ ap Some (sym (get_or_append_left homes (home ∷ []) home region lt) ∙ at)))
+      (λ (le : length homes ≤ region).
+      let e : region ≡ length homes = omega arith in
+      inr (e, sym at ∙ ap (λ (k : ℕ). get_or (homes ++ home ∷ []) k home) e ∙ get_or-append_seam homes home [] home))
+      (cases_lt region (length homes))
+
+-- a place of a lower set is a lower place
+pub lower_place : (n other set cell : ℕ) → other < set → cell < n → other * n + cell < set * n
+lower_place n other set cell lt within = let m : (other + 1) * n ≤ set * n = mul-le-mul_right n (omega arith) in omega arith
+
+-- ---- labels are constant where the blank wanders
+
+pub one_label : (grid : Grid) (cells labels : List ℕ) (from : ℕ) (moves : List Move) (to : ℕ) → AreSettled grid cells labels → IsFree grid cells from → Wanders grid cells from moves to → slice_index labels to ≡ slice_index labels from
+one_label grid cells labels from [] to settled free way = ap (slice_index labels) way
+one_label grid cells labels from (m ∷ moves) to settled free way =
+    let next : IsFree grid cells way.0 = record { inside = cell_below grid m from way.0 way.1; free = way.2 } in
+    one_label grid cells labels way.0 moves to settled next way.3 ∙ settled.near m from way.0 free next way.1
+
+-- ---- one more cell is numbered
+
+pub home_stays : (grid : Grid) (count : ℕ) (numbers : List ℕ) (x region : ℕ) (home : Home) → IsHome grid count numbers region home → IsHome grid count (numbers ++ x ∷ []) region home
+home_stays grid count numbers x region home is =
+    let m = length-append numbers (x ∷ []) in
+    let place = is.place in
+    record { place = omega arith; free = is.free; number = kept_number numbers x (home.set * cell_count grid + home.cell) is.place ∙ is.number }
+
+module _ (grid : Grid) (cells labels numbers : List ℕ) (homes : List Home) (set cell : ℕ) (inside : cell < cell_count grid) (numbered : AreNumberedTo grid (length cells) cells labels numbers homes set cell) where
+  -- with a number whose home is the label, if the cell is free
+  step : (x : ℕ) (next : List Home) → ((region : ℕ) (home : Home) → slice_get homes region ≡ Some home → slice_get next region ≡ Some home)
+      → ((region : ℕ) (home : Home) → slice_get next region ≡ Some home → IsHome grid (length cells) (numbers ++ x ∷ []) region home)
+      → length next + below (cell + 1) cells ≤ set * (cell_count grid - length cells) + (cell + 1)
+      → (IsFree grid cells cell → slice_get next x ≡ Some (record { set = set; cell = slice_index labels cell }))
+      → AreNumberedTo grid (length cells) cells labels (numbers ++ x ∷ []) next set (cell + 1)
+  step x next keep back few here =
+      let n = cell_count grid in
+      let size = numbered.size in
+      let more = length-append numbers (x ∷ []) in
+      record {
+        size = omega arith;
+        rows = λ other lt.
+            let old = numbered.rows other lt in
+            record {
+              labels = old.labels;
+              settled = old.settled;
+              row = λ k k_in free.
+                  let low = lower_place n other set k lt k_in in
+                  let same = kept_number numbers x (other * n + k) (omega arith) in
+                  subst (λ (y : ℕ). slice_get next y ≡ Some (record { set = other; cell = slice_index old.labels k })) (sym same) (keep _ _ (old.row k k_in free));
+            };
+        row = below_more (λ (k : ℕ). IsFree grid cells k → slice_get next (slice_index (numbers ++ x ∷ []) (set * n + k)) ≡ Some (record { set = set; cell = slice_index labels k })) cell
+            (λ k lt free.
+            let same = kept_number numbers x (set * n + k) (omega arith) in
+            subst (λ (y : ℕ). slice_get next y ≡ Some (record { set = set; cell = slice_index labels k })) (sym same) (keep _ _ (numbered.row k lt free)))
+            (λ free.
+            let same = last_number numbers x (set * n + cell) (omega arith) in
+            subst (λ (y : ℕ). slice_get next y ≡ Some (record { set = set; cell = slice_index labels cell })) (sym same) (here free));
+        are_homes = back;
+        few = few;
+      }
+
+  -- with a region that is there
+  pub with_region : (x : ℕ) → IsListing (cell_count grid) cells → (IsFree grid cells cell → slice_get homes x ≡ Some (record { set = set; cell = slice_index labels cell })) → AreNumberedTo grid (length cells) cells labels (numbers ++ x ∷ []) homes set (cell + 1)
+  with_region x listing here =
+      let few = numbered.few in
+      let more = next_below cell cells (differ_in (cell_count grid) cells listing) in
+      step x homes (λ region home is. is) (λ region home is. home_stays grid (length cells) numbers x region home (numbered.are_homes region home is)) (omega arith) here
+
+  -- with a region that is new
+  pub with_new_region : cells ≡ set_at (cell_count grid) (length cells) set → IsFree grid cells cell → slice_index labels cell ≡ cell → AreNumberedTo grid (length cells) cells labels (numbers ++ length homes ∷ []) (homes ++ record { set = set; cell = cell } ∷ []) set (cell + 1)
+  with_new_region are free own =
+      let n = cell_count grid in
+      let home : Home = record { set = set; cell = cell } in
+      let size = numbered.size in
+      let few = numbered.few in
+      let x = length homes in
+      let more = length-append homes (home ∷ []) in
+      let longer = length-append numbers (x ∷ []) in
+      let same = next_free cell cells free.free in
+      let new : IsHome grid (length cells) (numbers ++ x ∷ []) x home = record {
+        place = omega arith;
+        free = subst (λ (xs : List ℕ). IsFree grid xs cell) are free;
+        number = last_number numbers x (set * n + cell) (omega arith);
+      } in
+      step x (homes ++ home ∷ []) (kept_home homes home)
+      (λ region other is.
+      ⊎_elim (λ (old : slice_get homes region ≡ Some other). home_stays grid (length cells) numbers x region other (numbered.are_homes region other old))
+      (λ (here : (region ≡ length homes) × (other ≡ home)).
+      subst (λ (y : ℕ). IsHome grid (length cells) (numbers ++ x ∷ []) y other) (sym here.0)
+      (subst (λ (h : Home). IsHome grid (length cells) (numbers ++ x ∷ []) x h) (sym here.1) new))
+      (home_cases homes home region other is))
+      (omega arith)
+      (λ _. last_home homes home ∙ ap (λ (y : ℕ). Some (record { set = set; cell = y })) (sym own))
+
+  -- the region of the label
+  pub label_region : AreSettled grid cells labels → IsFree grid cells cell → slice_index labels cell < cell → slice_get homes (slice_index numbers (set * cell_count grid + slice_index labels cell)) ≡ Some (record { set = set; cell = slice_index labels cell })
+  label_region settled free less =
+      let label = settled.are.each cell free in
+      let there : IsFree grid cells (slice_index labels cell) = record { inside = omega arith; free = label.free } in
+      let same = one_label grid cells labels cell label.reached.0 (slice_index labels cell) settled free label.reached.1 in
+      numbered.row (slice_index labels cell) less there ∙ ap (λ (y : ℕ). Some (record { set = set; cell = y })) same
+
+-- ---- what a push leaves
+
+pub when_pushed : {T E : Type 0} (r : Result T E) (P : List ℕ → Type 0) (old new : List ℕ) (x : ℕ) → new ≡ cond (is_ok r) (old ++ x ∷ []) old → P (old ++ x ∷ []) → IfOk r (λ _. P new)
+when_pushed (Ok value) P old new x is p = subst P (sym is) p
+when_pushed (Err fault) P old new x is p = tt
+
+-- ---- a whole set
+
+pub numbered_none : (grid : Grid) (cells labels numbers : List ℕ) (homes : List Home) (set : ℕ) → AreNumbered grid (length cells) numbers homes set → AreNumberedTo grid (length cells) cells labels numbers homes set 0
+numbered_none grid cells labels numbers homes set numbered =
+    let size = numbered.size in
+    let few = numbered.few in
+    let none = below-zero cells in
+    record { size = omega arith; rows = numbered.rows; row = λ k lt free. absurd (omega arith); are_homes = numbered.are_homes; few = omega arith }
+
+pub numbered_all : (grid : Grid) (cells labels numbers : List ℕ) (homes : List Home) (set cell : ℕ) → cell_count grid ≤ cell → cell ≤ cell_count grid → IsListing (cell_count grid) cells → cells ≡ set_at (cell_count grid) (length cells) set → AreSettled grid cells labels → AreNumberedTo grid (length cells) cells labels numbers homes set cell → AreNumbered grid (length cells) numbers homes (set + 1)
+numbered_all grid cells labels numbers homes set cell high low listing are settled numbered =
+    let n = cell_count grid in
+    let last : cell ≡ n = omega arith in
+    let size = numbered.size in
+    let few = numbered.few in
+    let all : below cell cells ≡ length cells = ap (λ (k : ℕ). below k cells) last ∙ below-all n cells (below_in n cells listing) in
+    record {
+      size = omega arith;
+      rows = below_more (λ (other : ℕ). HasRow grid (length cells) numbers homes other) set numbered.rows (record {
+        labels = labels;
+        settled = subst (λ (xs : List ℕ). AreSettled grid xs labels) are settled;
+        row = subst (λ (xs : List ℕ). IsNumberedRow grid xs labels numbers homes set n) are (subst (λ (k : ℕ). IsNumberedRow grid cells labels numbers homes set k) last numbered.row);
+      });
+      are_homes = numbered.are_homes;
+      few = omega arith;
+    }
+
+-- ---- numbers of regions say where the blank wanders
 
 -- ---- how many there are
 

@@ -1,6 +1,6 @@
 use Rattle.std.proofs.Common.{length, ap, ◌∙◌, arith}
 use Rattle.board.specs.Grids.{cell_count}
-use Rattle.database_build.proofs.SparseLemmas.{listed_long, listed_below, written_within, written_more, written_views, written_others}
+use Rattle.database_build.proofs.FoldLemmas.{listed_long, listed_below, written_within, written_more, written_views, written_others}
 use Rattle.database_build.proofs.folding.fill_bytes.Goals as goal
 
 pub sparse_place-sparse-requires-clause-below : goal.sparse_place-sparse-requires-clause-below

@@ -1,5 +1,5 @@
 use Rattle.std.proofs.Common.{◌≡◌, length}
-use Rattle.database_build.proofs.SparseLemmas.{AreWritten}
+use Rattle.database_build.proofs.FoldLemmas.{AreWritten}
 use Rattle.database_build.proofs.folding.fill_bytes.Given as goal
 
 -- the views of the places before this one have their bytes

@@ -1,5 +1,5 @@
 use Rattle.std.proofs.Common.{arith}
-use Rattle.database_build.proofs.SparseLemmas.{digits_none, digits_on, digits_fit}
+use Rattle.database_build.proofs.FoldLemmas.{digits_none, digits_on, digits_fit}
 use Rattle.database_build.proofs.folding.sparse_place.Goals as goal
 
 pub cells-init : goal.cells-init

@@ -1,6 +1,6 @@
 use Rattle.std.proofs.Common.{◌+◌, get_or}
 use Rattle.database_build.specs.Orders.{exchanged}
-use Rattle.database_build.proofs.OrderLoops.{map_step, exchanged_up, exchanged_down, exchanged_same}
+use Rattle.database_build.proofs.OrderTables.{map_step, exchanged_up, exchanged_down, exchanged_same}
 use Rattle.database_build.proofs.orders.exchange.Goals as goal
 use Rattle.database_build.proofs.orders.exchange.Goals.{then-other-position, else-other-position+then-other-position-2, else-other-position+else-other-position-2}
 

@@ -1,5 +1,5 @@
 use Rattle.std.proofs.Common.{◌+◌, ◌*◌, ap, ◌∙◌, sym, arith}
-use Rattle.database_build.proofs.OrderLoops.{factorial_small, factorial_some, factorial_next}
+use Rattle.database_build.proofs.OrderTables.{factorial_small, factorial_some, factorial_next}
 use Rattle.database_build.proofs.orders.factorial.Goals as goal
 
 pub overflow_mul-product : goal.overflow_mul-product

@@ -1,6 +1,6 @@
 use Rattle.std.proofs.Common.{refl, sym, arith}
 use Rattle.database_build.proofs.OrderLemmas.{order_below}
-use Rattle.database_build.proofs.OrderLoops.{IsOrderStep, order_stepped, order_made, order_of-nil}
+use Rattle.database_build.proofs.OrderTables.{IsOrderStep, order_stepped, order_made, order_of-nil}
 use Rattle.database_build.proofs.orders.order_of.Goals as goal
 
 pub tiles-init : goal.tiles-init

@@ -1,6 +1,6 @@
 use Rattle.std.proofs.Common.{◌+◌, get_or}
 use Rattle.pattern_index.specs.Ranks.{spread}
-use Rattle.database_build.proofs.OrderLoops.{map_step, spread_up, spread_same}
+use Rattle.database_build.proofs.OrderTables.{map_step, spread_up, spread_same}
 use Rattle.database_build.proofs.orders.spread_positions.Goals as goal
 use Rattle.database_build.proofs.orders.spread_positions.Goals.{then-digit-position, else-digit-position}
 

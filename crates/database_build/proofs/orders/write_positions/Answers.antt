@@ -1,5 +1,5 @@
 use Rattle.std.proofs.Common.{length, arith}
-use Rattle.database_build.proofs.OrderLoops.{written_none, written_small, written_step, written_all}
+use Rattle.database_build.proofs.OrderTables.{written_none, written_small, written_step, written_all}
 use Rattle.database_build.proofs.orders.write_positions.Goals as goal
 
 pub tiles-init : goal.tiles-init

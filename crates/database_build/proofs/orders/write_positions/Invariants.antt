@@ -1,4 +1,4 @@
-use Rattle.database_build.proofs.OrderLoops.{IsWritten}
+use Rattle.database_build.proofs.OrderTables.{IsWritten}
 use Rattle.database_build.proofs.orders.write_positions.Given as goal
 
 abbrev pub invariant-tiles : goal.invariant-tiles

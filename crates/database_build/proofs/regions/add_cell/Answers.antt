@@ -7,7 +7,7 @@ use Rattle.std.proofs.lemmas.List.{get_or_read}
 use Rattle.database_build.specs.declared.regions.Home.{Home}
 use Rattle.database_build.specs.Regions.{IsFree}
 use Rattle.database_build.specs.Numberings.{AreNumberedTo}
-use Rattle.database_build.proofs.NumberingLemmas.{with_region, with_new_region, label_region, when_pushed}
+use Rattle.database_build.proofs.RegionLemmas.{with_region, with_new_region, label_region, when_pushed}
 use Rattle.database_build.proofs.regions.add_cell.Goals as goal
 
 pub returns-then-stands_on : goal.returns-then-stands_on

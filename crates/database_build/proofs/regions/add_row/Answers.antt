@@ -1,5 +1,5 @@
 use Rattle.std.proofs.Common.{arith}
-use Rattle.database_build.proofs.NumberingLemmas.{numbered_none, numbered_all}
+use Rattle.database_build.proofs.RegionLemmas.{numbered_none, numbered_all}
 use Rattle.database_build.proofs.regions.add_row.Goals as goal
 
 pub cells-init : goal.cells-init

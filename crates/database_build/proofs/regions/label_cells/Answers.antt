@@ -1,6 +1,6 @@
 use Rattle.std.proofs.Common.{sym, arith}
 use Rattle.std.proofs.lemmas.Bool.{false≢true}
-use Rattle.database_build.proofs.LabelLemmas.{first_labels, all_settled}
+use Rattle.database_build.proofs.RegionLemmas.{first_labels, all_settled}
 use Rattle.database_build.proofs.regions.label_cells.Goals as goal
 
 pub rounds-init : goal.rounds-init

@@ -1,4 +1,4 @@
-use Rattle.database_build.proofs.LabelLemmas.{lowering_more, settled_more}
+use Rattle.database_build.proofs.RegionLemmas.{lowering_more, settled_more}
 use Rattle.database_build.proofs.regions.lower_labels.Goals as goal
 
 pub cells-preserved : goal.cells-preserved

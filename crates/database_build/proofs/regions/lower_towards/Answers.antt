@@ -1,7 +1,7 @@
 use Rattle.std.proofs.Common.{refl, sym, ◌∙◌, arith}
 use Rattle.std.proofs.lemmas.Bool.{false≢true}
 use Rattle.board.proofs.MoveLemmas.{cell_below}
-use Rattle.database_build.proofs.LabelLemmas.{lowered_labels}
+use Rattle.database_build.proofs.RegionLemmas.{lowered_labels}
 use Rattle.database_build.proofs.regions.lower_towards.Goals as goal
 
 pub bounds-labels-next : goal.bounds-labels-next

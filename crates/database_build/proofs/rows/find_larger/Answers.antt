@@ -1,7 +1,7 @@
 use Rattle.std.proofs.Common.{◌∙◌, ◌+◌, ◌-◌, ap, sym, subst, arith}
 use Rattle.std.specs.Prelude.{ℕ}
 use Rattle.database_build.specs.Sets.{choose}
-use Rattle.database_build.proofs.LargerLemmas.{AreFound, written_listing, written_more, found_all}
+use Rattle.database_build.proofs.RowLemmas.{AreFound, written_listing, written_more, found_all}
 use Rattle.database_build.proofs.rows.find_larger.Goals as goal
 
 pub place_with-place-requires-clause-listing : goal.place_with-place-requires-clause-listing

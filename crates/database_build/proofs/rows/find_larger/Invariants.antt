@@ -1,5 +1,5 @@
 use Rattle.std.proofs.Common.{◌≡◌, length}
-use Rattle.database_build.proofs.LargerLemmas.{AreFound}
+use Rattle.database_build.proofs.RowLemmas.{AreFound}
 use Rattle.database_build.proofs.rows.find_larger.Given as goal
 
 -- the sets before this one have their places

@@ -1,6 +1,6 @@
 use Rattle.std.proofs.Common.{sym, ◌∙◌, arith}
 use Rattle.std.proofs.lemmas.Bool.{false≢true}
-use Rattle.database_build.proofs.LargerLemmas.{with_wide, with_small}
+use Rattle.database_build.proofs.RowLemmas.{with_wide, with_small}
 use Rattle.database_build.proofs.rows.place_with.Goals as goal
 
 pub place-requires-clause-listing : goal.place-requires-clause-listing

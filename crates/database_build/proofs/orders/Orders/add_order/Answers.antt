@@ -1,7 +1,6 @@
 use Rattle.std.proofs.Common.{◌≡◌, map, refl, arith}
 use Rattle.database_build.specs.Orders.{order_of, positions_at, tile_of, exchanged}
-use Rattle.database_build.proofs.OrderLoops.{factorial_small}
-use Rattle.database_build.proofs.OrderTables.{tile_found, passed_found, passed_low, pushed}
+use Rattle.database_build.proofs.OrderTables.{factorial_small, tile_found, passed_found, passed_low, pushed}
 use Rattle.database_build.proofs.orders.Orders.add_order.Goals as goal
 
 pub positions-preserved : goal.positions-preserved
