@@ -1,19 +1,21 @@
--- The move back from a board that is expanded: what it leads to is no news, so it may be left out.
-use Rattle.std.proofs.Common.{true, false, ◌≡◌, ◌≢◌, ℕ, ◌+◌, ◌%◌, ◌<◌, ◌≤◌, [], ◌∷◌, Option, Some, None, refl, sym, ap, ◌∙◌, subst, inl, inr, ⊎_elim, arith}
-use Rattle.std.specs.Prelude.{⊤, IfSome, filter_map, fold, option_map}
+-- The board that is expanded: its move back, which may be left out, what its other moves offer, and the room that these need.
+use Rattle.std.proofs.Common.{true, false, ◌≡◌, ◌≢◌, ℕ, ◌+◌, ◌%◌, ◌<◌, ◌≤◌, [], ◌∷◌, Option, Some, None, refl, sym, ap, ◌∙◌, subst, inl, inr, ⊎_elim, arith, ◌⊎◌, zero, suc, Bool, eqb, cond, List, ◌++◌, length, get_or, set, ◌-◌}
+use Rattle.std.specs.Prelude.{⊤, IfSome, filter_map, fold, option_map, Any, slice_get, unwrap_or}
 use Rattle.std.specs.FinMap as map
-use Rattle.std.proofs.lemmas.Bool.{cases_Bool, cases_eq, cond-true, cond-false, eq-eqb, le-ltb, ne_eqb}
+use Rattle.std.proofs.lemmas.Bool.{cases_Bool, cases_eq, cond-true, cond-false, eq-eqb, le-ltb, ne_eqb, cases_lt, eqb-true, eqb-false}
+use Rattle.std.proofs.lemmas.List.{length-set, get_or_past}
+use Rattle.std.proofs.lemmas.Option.{slice_get-get_or, get_or_from_slice_get, slice_get_read, unwrap_or-slice_get}
 use Rattle.board.specs.declared.moves.Move.{Move}
 use Rattle.board.specs.declared.moves.Move.TheVariants.{U, L, R, D}
 use Rattle.board.specs.Equality.{move_eq, moves_Decide}
-use Rattle.board.specs.Keys.{key_of}
+use Rattle.board.specs.Keys.{key_of, HasKey}
 use Rattle.board.specs.Moves.{Moves, successor}
 use Rattle.board.specs.Neighbours.{opposite}
 use Rattle.board.specs.Positions.{Position, IsBoard}
 use Rattle.board.proofs.MoveLemmas.{taken_back}
 use Rattle.board.proofs.NeighbourLemmas.{successor_moves}
-use Rattle.closed_table.specs.Tables.{Table}
-use Rattle.offers.specs.Offers.{item_by}
+use Rattle.board.specs.Grids.{Grid}
+use Rattle.board.specs.declared.costs.TheConstants.{GREATEST_EXPANDED_COST}
 use Rattle.outcomes.specs.Outcomes.{Task}
 use Rattle.successor_sums.specs.Unpacked.{but}
 use Rattle.world_model.specs.declared.parts.Item.{Item}
@@ -24,14 +26,26 @@ use Rattle.world_model.specs.declared.steps.Refusal.{Refusal}
 use Rattle.world_model.specs.declared.steps.Refusal.TheVariants.{NoRoom}
 use Rattle.world_model.specs.Turns.{Becomes, Turn, Unless, turn}
 use Rattle.world_model.specs.WorkerSteps.{ExpandOnwardStep, ExpandStep, IsOverfull, WithMemory}
-use Rattle.world_model.specs.Workers.{WorkerState, Role, KnowsAs, IsNext}
+use Rattle.world_model.specs.Workers.{WorkerState, Role, KnowsAs, IsNext, Packet, HasNothingBelow}
 use Rattle.world_model.proofs.ExpandLemmas.{all_lower}
 use Rattle.world_model.proofs.ChangeLemmas.{with_insert}
-use Rattle.worker_core.specs.Expanding.{all_taken, taken, role_by}
-use Rattle.worker_core.specs.Roles.{WereReached}
-use Rattle.worker_core.proofs.ExpandLemmas.{in_four, one_first}
+use Rattle.world_model.specs.declared.limits.TheConstants.{PACKET_LIMIT}
+use Rattle.world_model.specs.Costs.{limit_of}
+use Rattle.open_buckets.specs.declared.open.TheConstants.{GREATEST_F}
+use Rattle.closed_table.specs.Tables.{Table}
+use Rattle.search_lists.specs.Lists.{Lists, HasMoreRoom}
+use Rattle.search_lists.specs.declared.lists.Next.{Next}
+use Rattle.search_lists.specs.Orders.{Guide, IsInOrder, IsLeastOpen}
+use Rattle.search_lists.proofs.OrderLemmas.{order_with_room}
+use Rattle.offers.specs.Offers.{item_by, Offers, IsOffered, AreOffered, OfEach, IsWithin}
+use Rattle.offers.specs.declared.offer.Offer.{Offer}
+use Rattle.offers.specs.Room.{goes, go, HasRoom}
+use Rattle.worker_core.specs.Expanding.{all_taken, taken, role_by, IsReady, stock, AddsUpBy, left_out_if}
+use Rattle.worker_core.specs.Roles.{WereReached, IsGuided}
+use Rattle.worker_core.proofs.ExpandLemmas.{in_four, one_first, is_next, all_add, if_some, put_there, put_elsewhere, guided_same}
+use Rattle.worker_core.proofs.GuideLemmas.{some_below}
 
--- ---- what is left out
+-- ---- the move back from a board that is expanded: what it leads to is no news, so it may be left out; what is left out
 
 -- What a move that is left out leads to is no news: a board that the worker owns, and knows at no more than it would be met at.
 abbrev IsNoNews : Role → WorkerState → Position → Known → Option Move → Type 0
@@ -43,14 +57,14 @@ module _ (role : Role) (b : Position) (cost : ℕ) (back : Move) (before : Posit
   abbrev items : Move → Option Item
   items = item_by role.task.rule b cost
 
-  abbrev item : Item
-  item = record { board = before; cost = cost + c; via = back }
+  abbrev item_back : Item
+  item_back = record { board = before; cost = cost + c; via = back }
 
   -- the worker knows the board at no more than it is met at
   abbrev IsLow : WorkerState → Type 0
   IsLow w = (old : Known) × (map.get w.known (key_of before) ≡ Some old) × (old.cost ≤ cost + c)
 
-  no_news : (known : Knowledge) (old : Known) → map.get known (key_of before) ≡ Some old → old.cost ≤ cost + c → relaxation known item ≡ known
+  no_news : (known : Knowledge) (old : Known) → map.get known (key_of before) ≡ Some old → old.cost ≤ cost + c → relaxation known item_back ≡ known
   no_news known old at low =
       let is : is_news (map.get known (key_of before)) (cost + c) ≡ false = ap (λ (o : Option Known). is_news o (cost + c)) at ∙ le-ltb (cost + c) old.cost low in
       cond-false _ _ _ is
@@ -177,3 +191,183 @@ module _ (task : Task) (hash : Position → ℕ) (workers me : ℕ) (worker : Wo
   alone_step answer worker' (inr (busy, inl out)) = inr (busy, inl out)
   alone_step answer worker' (inr (busy, inr (left, (b, known, next, rest)))) =
       inr (busy, inr (left, (b, known, next, subst (Leaves (turn worker answer worker')) (same_expansion b known next) rest)))
+
+-- ---- how many items each packet has after an expansion: one item
+
+-- the worker with an item more that is its own, or another's
+abbrev with_item : WorkerState → Item → ℕ → Bool → WorkerState
+with_item worker item owned mine = cond mine (record worker { known = relaxation worker.known item }) (record worker { unsent = set worker.unsent owned (unwrap_or (slice_get worker.unsent owned) [] ++ item ∷ []) })
+
+sent_by : (worker : WorkerState) (item : Item) (owned to : ℕ) (mine there : Bool) → eqb owned to ≡ there → owned < length worker.unsent → length (get_or (with_item worker item owned mine).unsent to []) ≡ length (get_or worker.unsent to []) + cond {A = ℕ} mine 0 (cond {A = ℕ} there 1 0)
+sent_by worker item owned to true there e within = omega arith
+sent_by worker item owned to false true e within =
+    let same : owned ≡ to = eqb-true owned to e in
+    let read = ap (λ (p : Packet). length (get_or (set worker.unsent owned (p ++ item ∷ [])) owned [])) (unwrap_or-slice_get worker.unsent owned []) in
+    subst (λ (k : ℕ). length (get_or (with_item worker item owned false).unsent k []) ≡ length (get_or worker.unsent k []) + 1) same (read ∙ put_there worker.unsent owned item within)
+sent_by worker item owned to false false e within =
+    let other : to ≢ owned = λ same. eqb-false owned to e (sym same) in
+    let read = ap (λ (p : Packet). length (get_or (set worker.unsent owned (p ++ item ∷ [])) to [])) (unwrap_or-slice_get worker.unsent owned []) in
+    let is = put_elsewhere worker.unsent owned to item other in
+    omega (arith, read, is)
+
+lists_by : (worker : WorkerState) (item : Item) (owned : ℕ) (mine : Bool) → length (with_item worker item owned mine).unsent ≡ length worker.unsent
+lists_by worker item owned true = refl
+lists_by worker item owned false = length-set worker.unsent owned (unwrap_or (slice_get worker.unsent owned) [] ++ item ∷ [])
+
+-- the packets are as many, and the one that the item goes to has one more
+pub after_one : (role : Role) (worker : WorkerState) (n : ℕ) (sum : Position → ℕ) (item : Option Item) (offer : Option Offer) → IsOffered sum role.owner item offer → IfSome offer (λ some. some.owner < n) → length worker.unsent ≡ n → (length (taken role worker item).unsent ≡ n) × ((to : ℕ) → length (get_or (taken role worker item).unsent to []) ≡ length (get_or worker.unsent to []) + goes role.me to offer)
+after_one role worker n sum None None offered within lists = (lists, λ to. omega arith)
+after_one role worker n sum None (Some offer) offered within lists = absurd offered
+after_one role worker n sum (Some item) None offered within lists = absurd offered
+after_one role worker n sum (Some item) (Some offer) offered within lists =
+    let owned = role.owner item.board in
+    let inside : owned < length worker.unsent = subst (λ (x : ℕ × ℕ). x.0 < x.1) (λ t. (offered.owned t, sym lists t)) within in (
+      lists_by worker item owned (eqb owned role.me) ∙ lists,
+      λ to.
+          sent_by worker item owned to (eqb owned role.me) (eqb owned to) refl inside
+          ∙ ap (λ (k : ℕ). length (get_or worker.unsent to []) + cond {A = ℕ} (eqb k role.me) 0 (cond {A = ℕ} (eqb k to) 1 0)) (sym offered.owned),
+    )
+
+-- ---- packets with too many
+
+full_below : (len : ℕ → ℕ) (n : ℕ) → ((to : ℕ) × (to < n) × (PACKET_LIMIT < len to)) ⊎ ((to : ℕ) → to < n → len to ≤ PACKET_LIMIT)
+full_below len zero = inr (λ to lt. absurd (omega (arith, lt)))
+full_below len (suc n) =
+    ⊎_elim
+    (λ some. inl (some.0, (let lt = some.1 in omega (arith, lt)), some.2))
+    (λ (all : (to : ℕ) → to < n → len to ≤ PACKET_LIMIT).
+    ⊎_elim
+    (λ (more : PACKET_LIMIT < len n). inl (n, (omega arith), more))
+    (λ (low : len n ≤ PACKET_LIMIT). inr (λ to lt. ⊎_elim (λ (is : to ≡ n). subst (λ (k : ℕ). len k ≤ PACKET_LIMIT) (sym is) low) (λ (other : to ≢ n). all to (omega (arith, lt, other))) (cases_eq to n)))
+    (cases_lt PACKET_LIMIT (len n)))
+    (full_below len n)
+
+any_at : (xs : List Packet) (to : ℕ) → to < length xs → PACKET_LIMIT < length (get_or xs to []) → Any (λ (p : Packet). PACKET_LIMIT < length p) xs
+any_at xs to lt more = (to, get_or xs to [], lt, get_or_from_slice_get xs to (get_or xs to []) (get_or xs to []) (slice_get-get_or xs to [] lt), more)
+
+at_any : (xs : List Packet) → Any (λ (p : Packet). PACKET_LIMIT < length p) xs → (to : ℕ) × (to < length xs) × (PACKET_LIMIT < length (get_or xs to []))
+at_any xs any =
+    let is : get_or xs any.0 [] ≡ any.1 = get_or_from_slice_get xs any.0 any.1 [] (slice_get_read xs (length xs) any.0 any.1 refl any.2 (sym any.3)) in
+    (any.0, any.2, subst (λ (p : Packet). PACKET_LIMIT < length p) (sym is) any.4)
+
+-- what has taken all offers has no packet with too many
+pub few_left : (me : ℕ) (grid : Grid) (lists : Lists) (unsent : List Packet) → IsReady me grid (stock lists unsent) [] → (to : ℕ) → length (get_or unsent to []) ≤ PACKET_LIMIT
+few_left me grid lists unsent ready to =
+    ⊎_elim
+    (λ (within : to < length unsent). let fits = ready.room to within in omega (arith, fits))
+    (λ (past : length unsent ≤ to). let none = ap length (get_or_past unsent to [] past) in omega (arith, none))
+    (cases_lt to (length unsent))
+
+-- ---- an expansion
+
+module _ (role : Role) (worker : WorkerState) (b : Position) (known : Known) (left_out : Option Move) (sum : Position → ℕ) (offers : Offers) (offered : AreOffered sum role.owner (but left_out (item_by role.task.rule b known.cost)) offers) (grid : Grid) (n : ℕ) (within : OfEach (IsWithin grid known.cost n) offers) (lists : length worker.unsent ≡ n) where
+  abbrev items_left : Move → Option Item
+  items_left = but left_out (item_by role.task.rule b known.cost)
+
+  abbrev expanded : WorkerState
+  expanded = taken role (taken role (taken role (taken role (with_closure worker b known) (items_left U)) (items_left L)) (items_left R)) (items_left D)
+
+  one_within : (offer : Option Offer) → IfSome offer (IsWithin grid known.cost n) → IfSome offer (λ some. some.owner < n)
+  one_within offer is = if_some (IsWithin grid known.cost n) (λ some. some.owner < n) (λ some in_it. in_it.owned) offer is
+
+  lengths : (length expanded.unsent ≡ n) × ((to : ℕ) → length (get_or expanded.unsent to []) ≡ length (get_or worker.unsent to []) + go role.me to offers)
+  lengths =
+      let start = with_closure worker b known in
+      let one = taken role start (items_left U) in
+      let two = taken role one (items_left L) in
+      let three = taken role two (items_left R) in
+      let up = after_one role start n sum (items_left U) offers.up offered.up (one_within offers.up within.0) lists in
+      let left = after_one role one n sum (items_left L) offers.left offered.left (one_within offers.left within.1) up.0 in
+      let right = after_one role two n sum (items_left R) offers.right offered.right (one_within offers.right within.2) left.0 in
+      let down = after_one role three n sum (items_left D) offers.down offered.down (one_within offers.down within.3) right.0 in
+      (down.0, λ to. let x = up.1 to in let y = left.1 to in let z = right.1 to in let v = down.1 to in omega (arith, x, y, z, v))
+
+  -- without room some packet gets too many
+  pub overfull : ¬ HasRoom role.me worker.unsent offers → IsOverfull (expansion_by (moves_but left_out) role worker b known)
+  overfull none =
+      subst
+      IsOverfull
+      (sym (in_four_by role worker b known left_out))
+      (⊎_elim
+      (λ some. any_at expanded.unsent some.0 some.1 some.2)
+      (λ (all : (to : ℕ) → to < length expanded.unsent → length (get_or expanded.unsent to []) ≤ PACKET_LIMIT).
+      absurd (none (λ to lt. let e = lengths.1 to in let m = lengths.0 in let low = all to (omega (arith, lt, m, lists)) in omega (arith, e, low))))
+      (full_below (λ to. length (get_or expanded.unsent to [])) (length expanded.unsent)))
+
+  -- with room none does
+  pub none_overfull : HasRoom role.me worker.unsent offers → ¬ IsOverfull (expansion_by (moves_but left_out) role worker b known)
+  none_overfull room full =
+      let some = at_any expanded.unsent (subst IsOverfull (in_four_by role worker b known left_out) full) in
+      let m = lengths.0 in
+      let lt = some.1 in
+      let e = lengths.1 some.0 in
+      let low = room some.0 (omega (arith, lt, m, lists)) in
+      let more = some.2 in
+      omega (arith, e, low, more)
+
+-- ---- the board that is expanded, and what its moves offer
+
+-- the board is to be expanded, and this is what its moves offer to so many workers
+pub record IsChosen (role : Role) (worker : WorkerState) (b : Position) (known : Known) (onward : Bool) (left_out : Option Move) (offers : Offers) (workers : ℕ) : Type 0 where
+  pub waits : ¬ HasNothingBelow role.task worker (limit_of worker.best)
+  pub at : IsNext role.task worker b known
+  pub left_out_is : left_out ≡ left_out_if onward known
+  pub offered : AreOffered role.task.sum role.owner (but left_out (item_by role.task.rule b known.cost)) offers
+  pub within : OfEach (IsWithin role.task.goal.grid known.cost workers) offers
+
+pub chosen : (task : Task) (guide : Guide) (lists : Lists) (is : IsGuided task guide lists) (worker : WorkerState) (same : lists.closed.known ≡ worker.known) (hash : Position → ℕ) (n workers me : ℕ) (all : n ≡ workers) (limit : ℕ) (limit_is : limit ≡ limit_of worker.best) (next : Next) (first : IsLeastOpen guide lists.closed next) (below : next.f < limit) (b : Position) (grid : Grid) (sides : grid ≡ task.goal.grid) (has : HasKey grid next.key b) (onward : Bool) (left_out : Option Move) (back : (known : Known) → known.cost ≡ next.cost → known.via ≡ next.via → left_out ≡ left_out_if onward known) (offers : Offers) (offered : AreOffered task.sum (λ p. hash p % n) (but left_out (item_by task.rule b next.cost)) offers) (within : OfEach (IsWithin b.grid next.cost n) offers) → IsChosen (role_by task hash workers me) worker b first.opens.0 onward left_out offers workers
+chosen task guide lists is worker same hash n workers me all limit limit_is next first below b grid sides has onward left_out back offers offered within = record {
+  waits = λ none. some_below task guide lists worker same is limit next first below (subst (HasNothingBelow task worker) (sym limit_is) none);
+  at = is_next task guide lists worker same is next first b (subst (λ (g : Grid). HasKey g next.key b) sides has);
+  left_out_is = back first.opens.0 first.opens.2 first.opens.3;
+  offered = subst (λ (x : ℕ × ℕ). AreOffered task.sum (λ p. hash p % x.0) (but left_out (item_by task.rule b x.1)) offers) (λ t. (all t, sym first.opens.2 t)) offered;
+  within = subst (λ (x : Grid × (ℕ × ℕ)). OfEach (IsWithin x.0 x.1.0 x.1.1) offers) (λ t. ((has.sides ∙ sides) t, (sym first.opens.2 t, all t))) within;
+}
+
+-- what is below the limit costs no more than a board that is expanded
+pub cost_low : (guide : Guide) (closed : Table) (next : Next) (limit : ℕ) (best : Option ℕ) → IsLeastOpen guide closed next → next.f < limit → limit ≡ limit_of best → next.cost ≤ GREATEST_EXPANDED_COST
+cost_low guide closed next limit best first below is =
+    let adds = first.adds in
+    let most = at_most best in
+    omega (arith, adds, below, is, most)
+  where
+    at_most : (best : Option ℕ) → limit_of best ≤ GREATEST_EXPANDED_COST + 1
+    at_most None = omega arith
+    at_most (Some cost) = omega arith
+
+-- what its cost leaves of its cost plus sum is its sum
+pub sum_there : (task : Task) (guide : Guide) (lists : Lists) → IsGuided task guide lists → (next : Next) → IsLeastOpen guide lists.closed next → (b : Position) (grid : Grid) → grid ≡ task.goal.grid → HasKey grid next.key b → next.f - next.cost ≡ task.sum b
+sum_there task guide lists is next first b grid sides has =
+    let sum = is.guides.sums b (has.board, has.sides ∙ sides) in
+    let key : guide.sum (key_of b) ≡ guide.sum next.key = ap guide.sum has.packed in
+    omega (arith, first.adds, sum, key)
+
+-- and no more than a board costs that is expanded
+pub sum_low : (next : Next) (limit : ℕ) (best : Option ℕ) → next.f < limit → limit ≡ limit_of best → next.f - next.cost ≤ GREATEST_EXPANDED_COST
+sum_low next limit best below is =
+    let most = at_most best in
+    omega (arith, below, is, most)
+  where
+    at_most : (best : Option ℕ) → limit_of best ≤ GREATEST_EXPANDED_COST + 1
+    at_most None = omega arith
+    at_most (Some cost) = omega arith
+
+-- so what is offered can wait
+pub all_low : (grid : Grid) (cost n : ℕ) (offers : Offers) → cost ≤ GREATEST_EXPANDED_COST → OfEach (IsWithin grid cost n) offers → OfEach (λ offer. offer.f ≤ GREATEST_F) offers
+all_low grid cost n offers low within =
+    (one offers.up within.0, one offers.left within.1, one offers.right within.2, one offers.down within.3)
+  where
+    one : (offer : Option Offer) → IfSome offer (IsWithin grid cost n) → IfSome offer (λ some. some.f ≤ GREATEST_F)
+    one offer is = if_some (IsWithin grid cost n) (λ some. some.f ≤ GREATEST_F) (λ some in_it. let high = in_it.low in omega (arith, low, high)) offer is
+
+-- the lists stay guided where the next board was found, and where places were made
+pub guided_by_next : (task : Task) (guide : Guide) (lists found : Lists) → IsGuided task guide lists → found.closed ≡ lists.closed → (IsInOrder guide lists → IsInOrder guide found) → IsGuided task guide found
+guided_by_next task guide lists found is closed order = guided_same task guide lists found is (ap (λ (t : Table). t.known) closed) (order is.order)
+
+pub guided_with_room : (task : Task) (guide : Guide) (old new : Lists) → IsGuided task guide old → HasMoreRoom old new → IsGuided task guide new
+guided_with_room task guide old new is more = guided_same task guide old new is more.known (order_with_room guide old new more is.order)
+
+-- what is offered adds up
+pub chosen_adds : (role : Role) (guide : Guide) (lists : Lists) (is : IsGuided role.task guide lists) (worker : WorkerState) (b : Position) (known : Known) (onward : Bool) (left_out : Option Move) (offers : Offers) (n : ℕ) → IsChosen role worker b known onward left_out offers n → known.cost ≤ GREATEST_EXPANDED_COST → OfEach (AddsUpBy guide) offers
+chosen_adds role guide lists is worker b known onward left_out offers n it low =
+    all_add role.task guide role.owner b known.cost n role.task.goal.grid is.guides it.at.opens.board low left_out offers it.offered it.within

@@ -1,10 +1,3 @@
-mod PacketLemmas
-mod CallLemmas
-mod GuideLemmas
-pub mod SettleLemmas
-mod TakeLemmas
-mod EntryLemmas
+pub mod GuideLemmas
 mod ExpandLemmas
 mod BackLemmas
-mod RoomLemmas
-mod ChosenLemmas

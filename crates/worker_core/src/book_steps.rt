@@ -80,7 +80,7 @@ impl<C: Counting> Worker<C> {
 
     /// Is granted expansions. Refusals: S11 the run is stopped, S1 no board may be expanded below
     /// the limit, S14 allowance is left, S2 all of the limit is granted.
-    #[tactic(auto, using(crate::proofs::ChosenLemmas::guided_by_next))]
+    #[tactic(auto, using(crate::proofs::BackLemmas::guided_by_next))]
     pub fn grant(&mut self, book: &mut Book<C>) -> Result<(), Refusal>
         requires counted { C.counts book.old.granted self.old.allowance.granted }
         ensures step { (role : Role) (guide : Guide) → IsGuided role.task guide self.old.lists
@@ -113,7 +113,7 @@ impl<C: Counting> Worker<C> {
 
     /// Rests: gives the purse back. Refusals: S11 the run is stopped, S12 the purse is empty, S10
     /// something is held or unsent, a better goal is known, or a board may be expanded.
-    #[tactic(auto, using(crate::proofs::ChosenLemmas::guided_by_next))]
+    #[tactic(auto, using(crate::proofs::BackLemmas::guided_by_next))]
     pub fn rest(&mut self, me: usize, goal: &Goal, book: &mut Book<C>) -> Result<Rested, Refusal>
         requires counted { C.counts book.old.credit self.old.purse }
         requires there { me < length book.old.floors }

@@ -26,7 +26,7 @@ pub(crate) fn new_packets(alloc: Global, workers: usize) -> Result<Vec<Items>, O
 }
 
 /// Takes out all items for one worker.
-#[tactic(auto, using(crate::proofs::PacketLemmas::packet_replaced))]
+#[tactic(auto, using(crate::proofs::GuideLemmas::packet_replaced))]
 pub(crate) fn take_packet(packets: &mut Vec<Items>, to: usize) -> Items
     requires { to < length packets.old.items }
     ensures items { result.items ≡ slice_index_or (packets_of packets.old.items) to [] }
@@ -36,7 +36,7 @@ pub(crate) fn take_packet(packets: &mut Vec<Items>, to: usize) -> Items
 }
 
 /// Puts items in the place of those for one worker.
-#[tactic(auto, using(crate::proofs::PacketLemmas::packet_replaced))]
+#[tactic(auto, using(crate::proofs::GuideLemmas::packet_replaced))]
 pub(crate) fn put_packet(packets: &mut Vec<Items>, to: usize, items: Items)
     requires { to < length packets.old.items }
     ensures { packets_of packets.new.items ≡ slice_set (packets_of packets.old.items) to items.items }

@@ -72,7 +72,7 @@ fn met_by(offer: Offer, via: Move) -> Met
 }
 
 // Puts an item at the end of the packet for one worker.
-#[tactic(auto, using(crate::proofs::PacketLemmas::packet_replaced))]
+#[tactic(auto, using(crate::proofs::GuideLemmas::packet_replaced))]
 fn put_item(packets: &mut Vec<Items>, to: usize, item: Item)
     requires there { to < length packets.old.items }
     requires room { length (slice_index_or (packets_of packets.old.items) to []) < PACKET_LIMIT }

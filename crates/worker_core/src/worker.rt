@@ -93,7 +93,7 @@ impl<C: Counting> Worker<C> {
     }
 
     /// What is to be sent to worker `to` next.
-    #[tactic(auto, using(crate::proofs::PacketLemmas::packet_for_read))]
+    #[tactic(auto, using(crate::proofs::GuideLemmas::packet_for_read))]
     pub fn unsent(&self, to: usize) -> &[Item]
         requires { to < length self.now.unsent.items }
         ensures value { result.now ≡ packet_for (state_of self.now) to }

@@ -2,7 +2,7 @@ use Rattle.std.proofs.Common.{◌≡◌, ◌≢◌, ◌≤◌, ◌∙◌, sym, s
 use Rattle.open_buckets.specs.declared.open.TheConstants.{GREATEST_F}
 use Rattle.search_lists.specs.Lists.{Lists}
 use Rattle.worker_core.specs.Expanding.{HasPlaces}
-use Rattle.worker_core.proofs.EntryLemmas.{entry_has, more_room, places_on, places_for_all, still_wanting, same_elsewhere}
+use Rattle.worker_core.proofs.ExpandLemmas.{entry_has, more_room, places_on, places_for_all, still_wanting, same_elsewhere}
 use Rattle.std.specs.Prelude.{OnErr, Result, Ok, Err}
 use Rattle.worker_core.proofs.expanding.make_places.Goals as goal
 

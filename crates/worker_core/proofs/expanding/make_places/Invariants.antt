@@ -4,7 +4,7 @@ use Rattle.open_buckets.specs.OpenLists.{places_at}
 use Rattle.offers.specs.Offers.{OfEach}
 use Rattle.search_lists.specs.Lists.{HasMoreRoom}
 use Rattle.worker_core.specs.Expanding.{HasAllPlaces}
-use Rattle.worker_core.proofs.EntryLemmas.{HavePlaces}
+use Rattle.worker_core.proofs.ExpandLemmas.{HavePlaces}
 use Rattle.worker_core.proofs.expanding.make_places.Given as goal
 
 -- for the entries so far there are places

@@ -1,4 +1,4 @@
-use Rattle.worker_core.proofs.SettleLemmas.{refused_settles}
+use Rattle.worker_core.proofs.GuideLemmas.{refused_settles}
 use Rattle.worker_core.proofs.laws.refused_settles_change_nothing.Goals as goal
 
 pub returns : goal.returns

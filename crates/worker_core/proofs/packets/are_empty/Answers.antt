@@ -2,7 +2,7 @@ use Rattle.std.proofs.Common.{rules, ◌≡◌, ◌≢◌, ℕ, ◌<◌, [], len
 use Rattle.std.proofs.lemmas.Bool.{cases_eq}
 use Rattle.std.proofs.lemmas.List.{length-map}
 use Rattle.worker_core.specs.Workers.{packets_of}
-use Rattle.worker_core.proofs.PacketLemmas.{nothing, packet_read}
+use Rattle.worker_core.proofs.GuideLemmas.{nothing, packet_read}
 use Rattle.worker_core.proofs.packets.are_empty.Goals as goal
 
 pub packets-preserved : goal.packets-preserved

@@ -5,7 +5,7 @@ use Rattle.lower_bound.specs.Bounds.{sum_of}
 use Rattle.lower_bound.specs.Tables.{parts_of}
 use Rattle.world_model.specs.Knowledge.{Knowledge}
 use Rattle.worker_core.specs.Roles.{AreTaskBoards, task_of}
-use Rattle.worker_core.proofs.TakeLemmas.{relaxed_boards}
+use Rattle.worker_core.proofs.ExpandLemmas.{relaxed_boards}
 use Rattle.search_lists.proofs.OrderLemmas.{order_with_room}
 use Rattle.worker_core.proofs.settling.relax_item.Goals as goal
 

@@ -1,6 +1,6 @@
 use Rattle.std.proofs.Common.{◌∷◌, ◌++◌, [], sym, ap, ◌∙◌}
 use Rattle.world_model.specs.Workers.{Packet}
-use Rattle.worker_core.proofs.PacketLemmas.{packet_replaced, packet_read}
+use Rattle.worker_core.proofs.GuideLemmas.{packet_replaced, packet_read}
 use Rattle.worker_core.proofs.taking.put_item.Goals as goal
 
 -- src/taking.rt:76:1

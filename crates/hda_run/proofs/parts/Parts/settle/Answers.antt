@@ -6,7 +6,7 @@ use Rattle.world_model.specs.WorkerSteps.{SettleStep}
 use Rattle.worker_core.specs.Roles.{guide_of, task_of}
 use Rattle.worker_core.specs.Settling.{SettleOrDrop}
 use Rattle.worker_core.specs.Workers.{state_of}
-use Rattle.worker_core.proofs.SettleLemmas.{own_settles}
+use Rattle.worker_core.proofs.GuideLemmas.{own_settles}
 use Rattle.hda_run.specs.Problems.{task_in}
 use Rattle.hda_run.specs.Worlds.{world_of}
 use Rattle.hda_run.proofs.PartsLemmas.{inside, outside, no_worker, is_worker, by_worker, some_unsent, role_is, set_guided, guided_for}

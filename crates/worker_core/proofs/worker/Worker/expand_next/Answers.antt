@@ -8,10 +8,8 @@ use Rattle.successor_sums.specs.Unpacked.{but}
 use Rattle.world_model.specs.Workers.{WorkerState}
 use Rattle.worker_core.specs.Expanding.{IsReady, stock, all_taken, in_turn}
 use Rattle.worker_core.specs.Workers.{state_of, packets_of}
-use Rattle.worker_core.proofs.BackLemmas.{in_four_by}
-use Rattle.worker_core.proofs.ExpandLemmas.{item_board_but, item_via_but, ready_closed, one_spent}
-use Rattle.worker_core.proofs.RoomLemmas.{few_left}
-use Rattle.worker_core.proofs.TakeLemmas.{guided_closed}
+use Rattle.worker_core.proofs.BackLemmas.{in_four_by, few_left}
+use Rattle.worker_core.proofs.ExpandLemmas.{item_board_but, item_via_but, ready_closed, one_spent, guided_closed}
 use Rattle.worker_core.proofs.worker.Worker.expand_next.Goals as goal
 
 pub take_all-requires-after_bounds : goal.take_all-requires-after_bounds

@@ -14,11 +14,9 @@ use Rattle.search_lists.specs.Lists.{Lists}
 use Rattle.worker_core.specs.Expanding.{IsReady, stock, in_turn, role_by}
 use Rattle.worker_core.specs.Roles.{IsGuided, task_of}
 use Rattle.worker_core.specs.Workers.{state_of, packets_of}
-use Rattle.worker_core.proofs.ChosenLemmas.{chosen, chosen_adds, cost_low, sum_there, sum_low, all_low, guided_by_next, guided_with_room}
+use Rattle.worker_core.proofs.BackLemmas.{chosen, chosen_adds, cost_low, sum_there, sum_low, all_low, guided_by_next, guided_with_room, overfull, none_overfull}
 use Rattle.worker_core.proofs.ExpandLemmas.{ready_for, restarted}
-use Rattle.worker_core.proofs.GuideLemmas.{none_below, some_below}
-use Rattle.worker_core.proofs.PacketLemmas.{Items}
-use Rattle.worker_core.proofs.RoomLemmas.{overfull, none_overfull}
+use Rattle.worker_core.proofs.GuideLemmas.{none_below, some_below, Items}
 use Rattle.worker_core.proofs.worker.Worker.expand_one.Goals as goal
 
 -- src/expanding.rt:66:13

@@ -12,9 +12,7 @@ use Rattle.world_model.specs.BookSteps.{AtBook, RestStep}
 use Rattle.world_model.proofs.CreditLemmas.{rests}
 use Rattle.quiescence.specs.Answers.{account}
 use Rattle.worker_core.specs.Workers.{state_of, with_book, packets_of}
-use Rattle.worker_core.proofs.CallLemmas.{rest_left}
-use Rattle.worker_core.proofs.GuideLemmas.{same_floor}
-use Rattle.worker_core.proofs.PacketLemmas.{Items, nothing}
+use Rattle.worker_core.proofs.GuideLemmas.{rest_left, same_floor, Items, nothing}
 use Rattle.worker_core.proofs.worker.Worker.rest.Goals as goal
 
 pub returns-then-knows_better-clause-step : goal.returns-then-knows_better-clause-step

@@ -1,7 +1,7 @@
 use Rattle.std.proofs.Common.{rules, ◌≡◌, ◌≢◌, ◌-◌, [], ◌∷◌, ◌++◌, length, refl, sym, ap, ◌∙◌, subst, inl, inr, arith}
 use Rattle.world_model.specs.Workers.{Packet, packet_for}
 use Rattle.worker_core.specs.Workers.{state_of, at_lane, packets_of}
-use Rattle.worker_core.proofs.PacketLemmas.{nothing, packet_at, packet_read, packet_back}
+use Rattle.worker_core.proofs.GuideLemmas.{nothing, packet_at, packet_read, packet_back}
 use Rattle.worker_core.proofs.worker.Worker.send.Goals as goal
 
 -- src/lane_steps.rt:29:13

@@ -4,7 +4,7 @@ use Rattle.worker_core.specs.Expanding.{role_by}
 use Rattle.worker_core.specs.Roles.{task_of}
 use Rattle.worker_core.specs.Settling.{IsForeign, IsOwn}
 use Rattle.worker_core.specs.Workers.{state_of}
-use Rattle.worker_core.proofs.SettleLemmas.{last_held, last_taken, drops, settles, settles_not}
+use Rattle.worker_core.proofs.GuideLemmas.{last_held, last_taken, drops, settles, settles_not}
 use Rattle.worker_core.proofs.worker.Worker.settle.Goals as goal
 
 -- a foreign item is dropped

@@ -3,7 +3,7 @@ use Rattle.std.proofs.lemmas.List.{length-map}
 use Rattle.board.specs.Grids.{Grid}
 use Rattle.board.specs.Keys.{HasKey}
 use Rattle.worker_core.specs.Workers.{state_of, packets_of}
-use Rattle.worker_core.proofs.TakeLemmas.{ready_own, ready_other, other_option, guided_met}
+use Rattle.worker_core.proofs.ExpandLemmas.{ready_own, ready_other, other_option, guided_met}
 use Rattle.worker_core.proofs.worker.Worker.take.Goals as goal
 
 -- src/taking.rt:49:13

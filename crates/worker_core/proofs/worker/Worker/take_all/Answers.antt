@@ -6,7 +6,7 @@ use Rattle.successor_sums.specs.ByMoves.{entries_of}
 use Rattle.world_model.specs.Workers.{WorkerState}
 use Rattle.worker_core.specs.Expanding.{IsReady, stock, AddsUpBy}
 use Rattle.worker_core.specs.Workers.{state_of, packets_of}
-use Rattle.worker_core.proofs.EntryLemmas.{entries_taken, entry_has, entry_offered, offered_in, ready_entries, taken_all}
+use Rattle.worker_core.proofs.ExpandLemmas.{entries_taken, entry_has, entry_offered, offered_in, ready_entries, taken_all}
 use Rattle.worker_core.proofs.worker.Worker.take_all.Goals as goal
 
 pub offers-init : goal.offers-init

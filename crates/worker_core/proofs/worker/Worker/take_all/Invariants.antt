@@ -12,7 +12,7 @@ use Rattle.world_model.specs.Workers.{Role}
 use Rattle.worker_core.specs.Expanding.{IsReady, stock, AddsUpBy, all_taken}
 use Rattle.worker_core.specs.Roles.{IsGuided}
 use Rattle.worker_core.specs.Workers.{state_of, packets_of}
-use Rattle.worker_core.proofs.EntryLemmas.{entries_taken, offered_in}
+use Rattle.worker_core.proofs.ExpandLemmas.{entries_taken, offered_in}
 use Rattle.worker_core.proofs.worker.Worker.take_all.Given as goal
 
 -- what is left of the entries can be taken, and leads to what all moves lead to
