@@ -31,7 +31,7 @@ use Rattle.world_model.proofs.OutcomeLemmas.{least_unique}
 use Rattle.thread_model.specs.Parts.{PartState, IsRole, Keeps}
 use Rattle.thread_model.specs.Joined.{AreParts, IsAt, Shared, role_in, world_with}
 use Rattle.thread_model.specs.Laws.{JoinedPartsAreSound}
-use Rattle.thread_model.proofs.JoinedQuiet.{worker_at_rest}
+use Rattle.thread_model.proofs.JoinedLemmas.{worker_at_rest}
 use Rattle.search_lists.specs.Orders.{Guide}
 use Rattle.worker_core.specs.declared.worker.Worker.{Worker}
 use Rattle.worker_core.specs.Roles.{guide_of, IsGuided}

@@ -1,21 +1,124 @@
--- A part that sends a packet, or takes one in, keeps what it keeps.
-use Rattle.std.proofs.Common.{◌≡◌, ◌≢◌, ◌⊎◌, ℕ, ◌+◌, ◌-◌, ◌<◌, ◌≤◌, List, [], ◌∷◌, ◌++◌, length, refl, sym, ap, ◌∙◌, subst, inl, inr, ⊎_elim, arith, Option, Some}
-use Rattle.std.specs.Prelude.{Contains, slice_get, slice_set, unwrap_or}
-use Rattle.std.proofs.lemmas.Bool.{cases_eq}
-use Rattle.std.proofs.lemmas.List.{length-set}
-use Rattle.std.proofs.lemmas.List.Elements.{Contains-append_left, Contains-push, Contains-push_cases}
+-- A part keeps what it keeps from its opening on, by packets sent and taken in, and by steps on the book.
+use Rattle.std.proofs.Common.{◌≡◌, ◌≢◌, ℕ, false, [], refl, sym, ap, ◌∙◌, subst, inl, ⊎_elim, arith, Option, Some, None, replicate, ◌⊎◌, ◌+◌, ◌-◌, ◌<◌, ◌≤◌, List, ◌∷◌, ◌++◌, length, inr, get_or}
+use Rattle.std.specs.Ordering.{nat_cmp}
+use Rattle.std.specs.FinMap as map
+use Rattle.std.proofs.lemmas.Bool.{true≢false, cases_eq, cases_lt}
+use Rattle.std.proofs.lemmas.List.{length-replicate, length-set}
+use Rattle.std.proofs.lemmas.List.Elements.{All-replicate, Contains-append_left, Contains-push, Contains-push_cases}
+use Rattle.std.specs.Prelude.{Contains, slice_get, slice_set, unwrap_or, All}
 use Rattle.board.specs.declared.moves.Move.{Move}
 use Rattle.board.specs.Positions.{Position}
-use Rattle.world_model.specs.declared.limits.TheConstants.{PACKET_LIMIT}
+use Rattle.board.specs.Keys.{key_of}
+use Rattle.outcomes.specs.Outcomes.{Task}
 use Rattle.world_model.specs.declared.parts.Item.{Item}
 use Rattle.world_model.specs.declared.parts.Known.{Known}
-use Rattle.world_model.specs.Shapes.{IsItemFor, IsPacketFor}
-use Rattle.world_model.specs.Workers.{Lane, Packet, Role, packet_for}
-use Rattle.world_model.proofs.ChangeLemmas.{get_set_same, get_set_other, at_set, none_in_empty, some_in, get_below}
+use Rattle.world_model.specs.Knowledge.{Knowledge}
+use Rattle.world_model.specs.Openings.{first_worker, idle_worker}
+use Rattle.world_model.specs.Shapes.{IsPacketFor, IsShapedWorker, IsItemFor}
+use Rattle.world_model.specs.Workers.{IsIdle, IsTaskBoard, KnowsAs, Role, WorkerState, Lane, Packet, packet_for}
+use Rattle.world_model.specs.Costs.{limit_of}
+use Rattle.world_model.proofs.ChangeLemmas.{at_replicate, none_in, none_in_empty, get_inserted, same_key, with_insert, get_set_same, get_set_other, at_set, some_in, get_below, is_empty}
+use Rattle.world_model.specs.declared.limits.TheConstants.{PACKET_LIMIT, CREDIT_DRAWN}
 use Rattle.world_model.proofs.ShapeKept.{shaped_same, shaped_sent, some_unsent}
-use Rattle.thread_model.specs.Changes.{with_packet}
-use Rattle.thread_model.specs.Laws.{ReceivingIsKept, SendingIsKept}
-use Rattle.thread_model.specs.Parts.{AreFor, CameAs, HasCome, HasOrigin, HasUnsent, IsAmong, IsSeenTo, Keeps, KnowsAtMost, LeadsBack, PartState, WasSent}
+use Rattle.world_model.specs.declared.steps.HaltCause.{HaltCause}
+use Rattle.world_model.specs.declared.steps.Refusal.{Refusal}
+use Rattle.world_model.specs.BookSteps.{AtBook}
+use Rattle.world_model.specs.Books.{BookState, grant_of}
+use Rattle.world_model.specs.Turns.{turn}
+use Rattle.world_model.proofs.CreditLemmas.{not_below_stable}
+use Rattle.world_model.proofs.StepCases.{Announces, Cases, Draws, Grants, Halts, Rests, announce_cases, draw_cases, grant_cases, halt_cases, rest_cases}
+use Rattle.thread_model.specs.Changes.{opening_part, with_packet, IsBookStep, with_worker}
+use Rattle.thread_model.specs.Laws.{OpeningsAreKept, ReceivingIsKept, SendingIsKept, BookStepsAreKept}
+use Rattle.thread_model.specs.Parts.{HasUnsent, IsAmong, IsRole, Keeps, KnowsAtMost, WasSent, AreFor, CameAs, HasCome, HasOrigin, IsSeenTo, LeadsBack, PartState}
+
+-- ---- a part with which a run begins keeps what each part keeps
+
+-- lanes with nothing in them have no item
+none_among : (n i : ℕ) (item : Item) → IsAmong (replicate n []) i item → ⊥
+none_among n i item among = none_in_empty among.0 among.1 (at_replicate n i [] among.0 among.2) among.3
+
+module _ (n : ℕ) (role : Role) (is : IsRole n role) where
+  no_items : (to : ℕ) → IsPacketFor role.task role.owner to []
+  no_items to = record { few = omega arith; items = λ item has. absurd (none_in item has) }
+
+  start_board : IsTaskBoard role.task role.task.start
+  start_board = (is.task.start, is.task.sides)
+
+  -- a worker with this table and purse, and with nothing held or unsent
+  module _ (table : Knowledge) (purse : ℕ) where
+    abbrev beginner : WorkerState
+    beginner = record (idle_worker n) { known = table; purse = purse }
+
+    none_unsent : (to : ℕ) (item : Item) → HasUnsent beginner to item → ⊥
+    none_unsent to item has = none_in_empty has.0 item (at_replicate n to [] has.0 has.1) has.2
+
+    -- where the table has at most the start, as its own, at 0 and not expanded
+    module _ (only : (key : ℕ) (known : Known) → map.get table key ≡ Some known → (key ≡ key_of role.task.start) × (role.owner role.task.start ≡ role.me) × (known.cost ≡ 0) × (known.expanded ≡ false)) where
+      beginner_shaped : IsShapedWorker n role beginner
+      beginner_shaped = record {
+        known = λ key known at. let h = only key known at in (role.task.start, start_board, sym h.0, h.1, omega (arith, h.2));
+        held = no_items role.me;
+        lists = length-replicate n [];
+        unsent = λ to packet at. subst (IsPacketFor role.task role.owner to) (sym (at_replicate n to [] packet at)) (no_items to);
+      }
+
+      known_start : (b : Position) (known : Known) → IsTaskBoard role.task b → KnowsAs beginner b known → (b ≡ role.task.start) × (known.cost ≡ 0)
+      known_start b known board knows = let h = only (key_of b) known knows in (same_key role.task b role.task.start board start_board h.0, h.2)
+
+      opening_keeps : (role.owner role.task.start ≡ role.me → KnowsAtMost beginner role.task.start 0) → (purse ≡ 0 → IsIdle role.task beginner (limit_of None) None) → Keeps n role (opening_part n beginner)
+      opening_keeps start idle = record {
+        shaped = beginner_shaped;
+        few_held = omega arith;
+        ends = (length-replicate n [], length-replicate n []);
+        sent = λ to lane at packet has. absurd (none_in_empty lane packet (at_replicate n to [] lane at) has);
+        start = start;
+        successors = λ b known board knows closed m b' c moves. absurd (true≢false (sym closed ∙ (only (key_of b) known knows).3));
+        origins = λ b known board knows. inl (inl (known_start b known board knows));
+        made = λ to item has. absurd (⊎_elim (λ (unsent : HasUnsent beginner to item). none_unsent to item unsent) (λ (went : WasSent (opening_part n beginner) to item). none_among n to item went) has);
+        held = λ item has. absurd (none_in item has);
+        arrived = λ item came mine. absurd (none_among n came.0 item came.1);
+        goal_kept = λ known knows. (only (key_of role.task.goal) known knows).3;
+        resting = idle;
+      }
+
+  -- the start's owner
+  module _ (via : Move) (own : role.owner role.task.start ≡ role.me) where
+    abbrev at_start : Known
+    at_start = record { cost = 0; expanded = false; via = via }
+
+    abbrev start_table : Knowledge
+    start_table = map.insert map.empty (key_of role.task.start) at_start
+
+    first_knows : (key : ℕ) (known : Known) → map.get start_table key ≡ Some known → (key ≡ key_of role.task.start) × (role.owner role.task.start ≡ role.me) × (known.cost ≡ 0) × (known.expanded ≡ false)
+    first_knows key known at =
+        ⊎_elim
+        (λ same. let none : ◌≡◌ {A = Option Known} None (Some known) = sym (map.get-empty nat_cmp key) ∙ sym same ∙ at in cc)
+        (λ new. let e : Some known ≡ Some at_start = sym at ∙ new.1 in let e' : known ≡ at_start = cc in (new.0, own, ap (λ (k : Known). k.cost) e', ap (λ (k : Known). k.expanded) e'))
+        (with_insert map.empty (key_of role.task.start) key at_start)
+
+    first_keeps : Keeps n role (opening_part n (first_worker n role.task via))
+    first_keeps = opening_keeps start_table 1 first_knows (λ mine. (at_start, get_inserted map.empty (key_of role.task.start) at_start, omega arith)) (λ empty. absurd (omega arith))
+
+  -- and the others
+  module _ (other : role.owner role.task.start ≢ role.me) where
+    idle_knows : (key : ℕ) (known : Known) → map.get (idle_worker n).known key ≡ Some known → ⊥
+    idle_knows key known at = let none : ◌≡◌ {A = Option Known} None (Some known) = sym (map.get-empty nat_cmp key) ∙ at in cc
+
+    idle_rests : IsIdle role.task (idle_worker n) (limit_of None) None
+    idle_rests = record {
+      holds_nothing = refl;
+      sends_nothing = All-replicate (λ packet. packet ≡ []) n [] refl;
+      no_board = λ b known at. absurd (idle_knows (key_of b) known at.knows);
+      no_better_goal = λ cost at. absurd (idle_knows (key_of role.task.goal) at.0 at.1);
+    }
+
+    idle_keeps : Keeps n role (opening_part n (idle_worker n))
+    idle_keeps = opening_keeps map.empty 0 (λ key known at. absurd (idle_knows key known at)) (λ mine. absurd (other mine)) (λ empty. idle_rests)
+
+pub openings_kept : OpeningsAreKept
+openings_kept n role is = (idle_keeps n role is, first_keeps n role is)
+
+-- ---- a part that sends a packet, or takes one in, keeps what it keeps
 
 -- lanes with a packet more at the end of one
 module _ (lanes : List Lane) (at : ℕ) (inside : at < length lanes) (packet : Packet) where
@@ -201,3 +304,82 @@ sending_kept n to role part part' is below keeps (some, rich, after) = subst (Ke
 
 pub receiving_kept : ReceivingIsKept
 receiving_kept n from role part part' is below keeps (packet, free, some, few, after) = subst (Keeps n role) (sym after) (receiver_keeps n from role part below keeps packet free few)
+
+-- ---- a part that takes a step on the book keeps what it keeps
+
+nothing_unsent : (xs : List Packet) → ¬ (¬ All (λ packet. packet ≡ []) xs) → All (λ packet. packet ≡ []) xs
+nothing_unsent xs not k d lt = is_empty (get_or xs k d) (λ some. not (λ all. some (all k d lt)))
+
+-- a worker that isn't known to have something to do has nothing to do
+idle_stable : (task : Task) (worker : WorkerState) (limit : ℕ) (best : Option ℕ) → ¬ (¬ IsIdle task worker limit best) → IsIdle task worker limit best
+idle_stable task worker limit best not = record {
+  holds_nothing = is_empty worker.held (λ some. not (λ idle. some idle.holds_nothing));
+  sends_nothing = nothing_unsent worker.unsent (λ some. not (λ idle. some idle.sends_nothing));
+  no_board = λ b known at. ⊎_elim (λ (lt : known.cost + task.sum b < limit). absurd (not (λ idle. let le = idle.no_board b known at in omega arith))) (λ (le : limit ≤ known.cost + task.sum b). le) (cases_lt (known.cost + task.sum b) limit);
+  no_better_goal = λ cost at. not_below_stable (Some cost) best (λ lower. not (λ idle. lower (idle.no_better_goal cost at)));
+}
+
+module _ (n : ℕ) (role : Role) (part : PartState) (keeps : Keeps n role part) where
+  -- another purse and allowance, and another copy of the best cost, where a worker with no purse has nothing to do
+  renewed_keeps : (purse allowance : ℕ) (best : Option ℕ) → (purse ≡ 0 → IsIdle role.task part.worker (limit_of best) best) → Keeps n role (with_worker part (record part.worker { purse = purse; allowance = allowance; best = best }))
+  renewed_keeps purse allowance best idle = record {
+    shaped = shaped_same n role (record part.worker { held = [] }) keeps.shaped (record part.worker { held = []; purse = purse; allowance = allowance; best = best }) refl refl refl;
+    few_held = keeps.few_held;
+    ends = keeps.ends;
+    sent = keeps.sent;
+    start = keeps.start;
+    successors = keeps.successors;
+    origins = keeps.origins;
+    made = keeps.made;
+    held = keeps.held;
+    arrived = keeps.arrived;
+    goal_kept = keeps.goal_kept;
+    resting = λ empty.
+        let rests = idle empty in
+        record {
+          holds_nothing = rests.holds_nothing;
+          sends_nothing = rests.sends_nothing;
+          no_board = λ b known at. rests.no_board b known (record { board = at.board; knows = at.knows; unexpanded = at.unexpanded; no_goal = at.no_goal });
+          no_better_goal = rests.no_better_goal;
+        };
+  }
+
+  module _ (book book' : BookState) (worker : WorkerState) (some : part.worker.purse ≢ 0) where
+    abbrev old : AtBook
+    old = record { worker = part.worker; book = book }
+
+    abbrev new : AtBook
+    new = record { worker = worker; book = book' }
+
+    abbrev After : WorkerState → Type 0
+    After x = Keeps n role (with_worker part x)
+
+    draw_keeps : Draws old new → After worker
+    draw_keeps step = subst After (sym (ap (λ (x : AtBook). x.worker) step.is)) (renewed_keeps (part.worker.purse + CREDIT_DRAWN) part.worker.allowance book.best (λ empty. absurd (omega arith)))
+
+    announce_keeps : Announces role old new → After worker
+    announce_keeps step = subst After (sym (ap (λ (x : AtBook). x.worker) step.is)) (renewed_keeps part.worker.purse part.worker.allowance (Some step.cost) (λ empty. absurd (some empty)))
+
+    grant_keeps : Grants role old new → After worker
+    grant_keeps step = subst After (sym (ap (λ (x : AtBook). x.worker) step.is)) (renewed_keeps part.worker.purse (part.worker.allowance + grant_of book) book.best (λ empty. absurd (some empty)))
+
+    rest_keeps : Rests role old new → After worker
+    rest_keeps step = subst After (sym (ap (λ (x : AtBook). x.worker) step.is)) (renewed_keeps 0 part.worker.allowance book.best (λ empty. idle_stable role.task part.worker (limit_of book.best) book.best step.idle))
+
+    halt_keeps : (cause : HaltCause) → Halts cause old new → After worker
+    halt_keeps cause step = subst After (sym (ap (λ (x : AtBook). x.worker) step.is)) (renewed_keeps part.worker.purse part.worker.allowance book.best (λ empty. absurd (some empty)))
+
+    -- a refused step leaves the worker, and what an accepted one keeps is given
+    by_cases : (answer : Option Refusal) (Accepted : Type 0) → (Accepted → After worker) → Cases (turn old answer new) Accepted → After worker
+    by_cases answer Accepted kept (inl out) = subst After (sym (ap (λ (x : AtBook). x.worker) out.1.1)) keeps
+    by_cases answer Accepted kept (inr done) = kept done.1
+
+    step_keeps : (answer : Option Refusal) → IsBookStep role (turn old answer new) → After worker
+    step_keeps answer (inl step) = by_cases answer (Draws old new) draw_keeps (draw_cases (turn old answer new) step)
+    step_keeps answer (inr (inl step)) = by_cases answer (Announces role old new) announce_keeps (announce_cases role (turn old answer new) step)
+    step_keeps answer (inr (inr (inl step))) = by_cases answer (Grants role old new) grant_keeps (grant_cases role (turn old answer new) step)
+    step_keeps answer (inr (inr (inr (inl step)))) = by_cases answer (Rests role old new) rest_keeps (rest_cases role (turn old answer new) step)
+    step_keeps answer (inr (inr (inr (inr (cause, step))))) = by_cases answer (Halts cause old new) (halt_keeps cause) (halt_cases cause (turn old answer new) step)
+
+pub book_steps_kept : BookStepsAreKept
+book_steps_kept n role part book book' answer worker is keeps some step = step_keeps n role part keeps book book' worker some answer step

@@ -1,12 +1,4 @@
 pub mod WorkerKept
-pub mod ExpandKept
-pub mod SettleKept
 pub mod LaneKept
-pub mod BookStepsKept
-pub mod OpeningKept
-pub mod OpeningParts
-pub mod JoinedShape
-pub mod JoinedSound
-pub mod JoinedQuiet
-pub mod StepParts
+pub mod JoinedLemmas
 pub mod RunParts

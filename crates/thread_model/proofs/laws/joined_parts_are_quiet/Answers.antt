@@ -1,4 +1,4 @@
-use Rattle.thread_model.proofs.JoinedQuiet.{joined_parts_quiet}
+use Rattle.thread_model.proofs.JoinedLemmas.{joined_parts_quiet}
 use Rattle.thread_model.proofs.laws.joined_parts_are_quiet.Goals as goal
 
 pub returns : goal.returns

@@ -1,4 +1,4 @@
-use Rattle.thread_model.proofs.JoinedSound.{joined_parts_sound}
+use Rattle.thread_model.proofs.JoinedLemmas.{joined_parts_sound}
 use Rattle.thread_model.proofs.laws.joined_parts_are_sound.Goals as goal
 
 pub returns : goal.returns

@@ -1,4 +1,4 @@
-use Rattle.thread_model.proofs.OpeningParts.{openings_of_parts}
+use Rattle.thread_model.proofs.JoinedLemmas.{openings_of_parts}
 use Rattle.thread_model.proofs.RunParts.{runs_of_parts, steps_of_parts}
 use Rattle.thread_model.proofs.laws.runs_are_of_parts.Goals as goal
 

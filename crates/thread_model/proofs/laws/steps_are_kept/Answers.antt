@@ -1,8 +1,6 @@
 use Rattle.thread_model.proofs.laws.steps_are_kept.Goals as goal
-use Rattle.thread_model.proofs.ExpandKept.{expanding_kept}
-use Rattle.thread_model.proofs.SettleKept.{settling_kept, dropping_kept}
-use Rattle.thread_model.proofs.LaneKept.{sending_kept, receiving_kept}
-use Rattle.thread_model.proofs.BookStepsKept.{book_steps_kept}
+use Rattle.thread_model.proofs.WorkerKept.{expanding_kept, settling_kept, dropping_kept}
+use Rattle.thread_model.proofs.LaneKept.{sending_kept, receiving_kept, book_steps_kept}
 
 pub returns : goal.returns
 returns c = record {
