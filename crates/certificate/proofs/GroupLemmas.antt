@@ -28,7 +28,7 @@ use Rattle.certificate.specs.Readings.{◌>>=◌, give, byte_within, byte_in, ar
 use Rattle.certificate.specs.Laws.{AreBytes}
 use Rattle.certificate.proofs.ReaderLemmas.{Law, Law-iff, Both, Law-seq, Known, Law-give, Law-field, field_from, fine, faulty, one_fails, AreBytes-rest}
 use Rattle.certificate.proofs.TextLemmas.{byte_law}
-use Rattle.certificate.proofs.BoardLemmas.{not_true}
+use Rattle.certificate.proofs.CostLemmas.{not_true}
 
 -- ---- the test of a group is what a group is
 

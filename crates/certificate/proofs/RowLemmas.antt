@@ -1,14 +1,16 @@
--- The text of rows, with the laws of its reader.
-use Rattle.std.proofs.Common.{◌≡◌, ⊎_elim, ℕ, zero, suc, ◌<◌, Bool, true, false, cond, List, [], ◌∷◌, ◌++◌, length, Option, Some, None, Err, refl, sym, ap, subst, ◌∙◌, append-nil, append_assoc, arith}
+-- The text of rows, with the laws of its reader, and boards that are rows.
+use Rattle.std.proofs.Common.{◌≡◌, ⊎_elim, ℕ, zero, suc, ◌<◌, Bool, true, false, cond, List, [], ◌∷◌, ◌++◌, length, Option, Some, None, Err, refl, sym, ap, subst, ◌∙◌, append-nil, append_assoc, arith, ◌≤◌, All, AllPairs}
 use Rattle.std.specs.Prelude.{IfSome, ◌↔◌}
 use Rattle.std.specs.List.{flat_map, AllByRecursion}
 use Rattle.std.proofs.lemmas.Bool.Decides.{Decides-ltb}
 use Rattle.std.proofs.lemmas.List.Concat.{flat_map-cons}
 use Rattle.std.proofs.lemmas.List.Elements.{recursion_from_All}
 use Rattle.board.specs.Grids.{Grid, IsShape, cell_count}
-use Rattle.board.specs.Positions.{Position}
+use Rattle.board.specs.Positions.{Position, IsBoard}
 use Rattle.board.specs.Keys.{key_of, Precedes}
 use Rattle.board.proofs.KeyLemmas.{packed_in_order, tiles_small}
+use Rattle.board.specs.declared.costs.TheConstants.{GREATEST_COST}
+use Rattle.board.specs.Laws.{KeysAreInOrder}
 use Rattle.certificate.specs.Fields.{SpellsBoard, SpellsNumber, SpellsRow}
 use Rattle.certificate.specs.declared.faults.FormatFault.{FormatFault}
 use Rattle.certificate.specs.declared.faults.FormatFault.TheVariants.{NotRising}
@@ -18,6 +20,8 @@ use Rattle.certificate.specs.Readings.{◌>>=◌, give, number, board, may_follo
 use Rattle.certificate.specs.Laws.{AreBytes}
 use Rattle.certificate.proofs.ReaderLemmas.{Law, Law-iff, Both, Law-seq, Known, Law-give, Law-as_one, as_one_from, fine, faulty, one_fails, AreBytes-rest}
 use Rattle.certificate.proofs.TextLemmas.{number_law, board_law}
+
+-- ---- the text of rows, with the laws of its reader
 
 abbrev pub IsBefore : Grid → Option Position → Type 0
 IsBefore grid before = IfSome before (IsBoardOf grid)
@@ -160,3 +164,25 @@ rows_before grid before (suc n) sides is bytes all fault from e =
   where
     never : (x : List (Position × ℕ)) (l : List ℕ) → fine x l ≡ faulty (List (Position × ℕ)) fault from → ⊥
     never x l e = absurd cc
+
+-- ---- boards that rise by key, each with a cost, are rows of a certificate
+
+-- they rise by their lists of tiles
+module _ (order : KeysAreInOrder) (grid : Grid) where
+  rise_after : (b : Position) (rows : List (Position × ℕ)) → IsBoard b → b.grid ≡ grid → All (λ row. key_of b < key_of row.0) rows → All (λ row. IsBoard row.0 × (row.0.grid ≡ grid)) rows → AllPairs (λ row later. key_of row.0 < key_of later.0) rows → RiseAfter (Some b) rows
+  rise_after b [] is sides first boards rising = tt
+  rise_after b (row ∷ rows) is sides first boards rising =
+      let here = boards 0 row (omega arith) in (
+        (order b row.0 is here.0 (sides ∙ sym here.1)).0 (first 0 row (omega arith)),
+        rise_after row.0 rows here.0 here.1 (λ k d in_range. rising 0 (suc k) d (omega arith) (omega (arith, in_range))) (λ k d in_range. boards (suc k) d (omega (arith, in_range))) (λ i j d before in_range. rising (suc i) (suc j) d (omega (arith, before)) (omega (arith, in_range))),
+      )
+
+  pub rise : (rows : List (Position × ℕ)) → All (λ row. IsBoard row.0 × (row.0.grid ≡ grid)) rows → AllPairs (λ row later. key_of row.0 < key_of later.0) rows → RiseAfter None rows
+  rise [] boards rising = tt
+  rise (row ∷ rows) boards rising =
+      let here = boards 0 row (omega arith) in
+      (tt, rise_after row.0 rows here.0 here.1 (λ k d in_range. rising 0 (suc k) d (omega arith) (omega (arith, in_range))) (λ k d in_range. boards (suc k) d (omega (arith, in_range))) (λ i j d before in_range. rising (suc i) (suc j) d (omega (arith, before)) (omega (arith, in_range))))
+
+-- each is a row that can be written
+pub rows_fit : (grid : Grid) (rows : List (Position × ℕ)) → All (λ row. IsBoard row.0 × (row.0.grid ≡ grid)) rows → All (λ row. row.1 ≤ GREATEST_COST) rows → AllByRecursion (IsRow grid) rows
+rows_fit grid rows boards low = recursion_from_All (IsRow grid) rows (λ k d in_range. record { board = record { board = (boards k d in_range).0; sides = (boards k d in_range).1 }; cost = low k d in_range })

@@ -26,8 +26,7 @@ use Rattle.byte_streams.specs.Streams.{SourceState, Change}
 use Rattle.byte_streams.specs.Source.{Takes}
 use Rattle.byte_streams.specs.Streams.{from_to}
 use Rattle.certificate.specs.Sources.{Finds, Stops, RefusesAt, Refuses, Reads, RefusesAtEnd}
-use Rattle.certificate.proofs.FieldLemmas.{if_begun, if_left, if_format, all_after, field_short, last_split, not_order}
-use Rattle.certificate.proofs.ReaderLemmas.{Law, fine, faulty, one_fails}
+use Rattle.certificate.proofs.ReaderLemmas.{if_begun, if_left, if_format, all_after, field_short, last_split, not_order, Law, fine, faulty, one_fails}
 use Rattle.certificate.proofs.TextLemmas.{letter_law, board_law, number_law, four_bytes}
 use Rattle.certificate.proofs.RowLemmas.{row_law, sides_of, IsBefore}
 use Rattle.certificate.proofs.GroupLemmas.{apart_pushed, first_group, group_law, none_apart, shape_of}

@@ -24,10 +24,8 @@ use Rattle.board.proofs.LetterLemmas.{letter_reads}
 use Rattle.certificate.specs.Spellings.{kind_of, weights_text, version_text, claim_text, opening_text, number_text, count_text, plan_text}
 use Rattle.certificate.specs.Readings.{give, version, version_in, claim, beginning, byte_within, byte_in, number, number_within, number_in, count, count_in, board, board_in, letter, letter_in, grid_of, opening, letters, plan, claimed}
 use Rattle.certificate.specs.Laws.{AreBytes}
-use Rattle.certificate.proofs.CostLemmas.{costs_law, costs_open, kind_high}
-use Rattle.certificate.proofs.FieldLemmas.{number_back, count_back}
-use Rattle.certificate.proofs.BoardLemmas.{board_back, board_found}
-use Rattle.certificate.proofs.ReaderLemmas.{Law, Opens, Law-iff, Opens-iff, Both, Law-seq, Opens-seq, Known, Law-give, Opens-give, Law-field, Opens-field}
+use Rattle.certificate.proofs.CostLemmas.{costs_law, costs_open, kind_high, board_back, board_found}
+use Rattle.certificate.proofs.ReaderLemmas.{number_back, count_back, Law, Opens, Law-iff, Opens-iff, Both, Law-seq, Opens-seq, Known, Law-give, Opens-give, Law-field, Opens-field}
 
 some_number : (m n : ℕ) → Some m ≡ Some n → m ≡ n
 some_number m n e = cc

@@ -43,7 +43,7 @@ use Rattle.certificate.specs.declared.certificate.Version.{Version}
 use Rattle.certificate.specs.declared.certificate.Version.TheVariants.{One, Two}
 use Rattle.certificate.specs.Certificates.{Statement, AreCostsOf, IsBoardOf, IsCertificate, IsWithinLimit, greatest}
 use Rattle.certificate.specs.Spellings.{spelling}
-use Rattle.certificate.proofs.RisingLemmas.{rise, rows_fit}
+use Rattle.certificate.proofs.RowLemmas.{rise, rows_fit}
 use Rattle.certificate.specs.declared.faults.ReadFault.{ReadFault}
 use Rattle.certificate.specs.Sources.{ReadsCertificate}
 use Rattle.certificate.proofs.CertificateLemmas.{read_takes}

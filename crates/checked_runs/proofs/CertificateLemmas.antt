@@ -13,7 +13,7 @@ use Rattle.lower_bound.specs.Tables.{Tables, IsTables}
 use Rattle.world_model.specs.Shapes.{IsTask}
 use Rattle.certificate.specs.declared.certificate.Version.TheVariants.{Two}
 use Rattle.certificate.specs.Certificates.{AreCostsOf, IsCertificate}
-use Rattle.certificate.proofs.RisingLemmas.{rise, rows_fit}
+use Rattle.certificate.proofs.RowLemmas.{rise, rows_fit}
 use Rattle.certificate_check.specs.Refusals.{sum_in, IsProved}
 use Rattle.certificate_check.proofs.RowLemmas.{proved_above}
 use Rattle.hda_run.specs.Problems.{Problem, task_in}

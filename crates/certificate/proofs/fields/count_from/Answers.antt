@@ -1,5 +1,5 @@
 use Rattle.std.proofs.Common.{rules}
-use Rattle.certificate.proofs.FieldLemmas.{count_back}
+use Rattle.certificate.proofs.ReaderLemmas.{count_back}
 use Rattle.certificate.proofs.fields.count_from.Goals as goal
 
 pub returns-clause-text : goal.returns-clause-text

@@ -1,6 +1,6 @@
 use Rattle.std.proofs.Common.{length, take, length-take, arith}
 use Rattle.byte_streams.specs.Streams.{change}
-use Rattle.certificate.proofs.FieldLemmas.{passed_due, ends_later}
+use Rattle.certificate.proofs.ReaderLemmas.{passed_due, ends_later}
 use Rattle.certificate.proofs.fields.fill.Goals as goal
 
 pub returns-in_err-text : goal.returns-in_err-text

@@ -1,5 +1,5 @@
 use Rattle.std.proofs.Common.{rules}
-use Rattle.certificate.proofs.FieldLemmas.{number_back}
+use Rattle.certificate.proofs.ReaderLemmas.{number_back}
 use Rattle.certificate.proofs.fields.number_from.Goals as goal
 
 pub returns-clause-text : goal.returns-clause-text

@@ -7,8 +7,8 @@ use Rattle.certificate.specs.Sources.{EndsEarly}
 use Rattle.certificate.specs.Readings.{board, board_in}
 use Rattle.certificate.specs.Fields.{SpellsBoard}
 use Rattle.certificate.specs.declared.faults.FormatFault.TheVariants.{OutOfRange}
-use Rattle.certificate.proofs.FieldLemmas.{passed, cut_short, refused, not_range}
-use Rattle.certificate.proofs.BoardLemmas.{no_board, room}
+use Rattle.certificate.proofs.ReaderLemmas.{passed, cut_short, refused, not_range}
+use Rattle.certificate.proofs.CostLemmas.{no_board, room}
 use Rattle.certificate.proofs.fields.read_board.Goals as goal
 
 pub returns-in_err-fill : goal.returns-in_err-fill

@@ -3,7 +3,7 @@ use Rattle.byte_streams.specs.Streams.{change}
 use Rattle.certificate.specs.Readings.{byte_within, byte_in}
 use Rattle.certificate.specs.Fields.{SpellsByte}
 use Rattle.certificate.specs.declared.faults.FormatFault.TheVariants.{OutOfRange}
-use Rattle.certificate.proofs.FieldLemmas.{passed, cut_short, refused, not_range, below_range, above_range}
+use Rattle.certificate.proofs.ReaderLemmas.{passed, cut_short, refused, not_range, below_range, above_range}
 use Rattle.certificate.proofs.fields.read_byte.Goals.{then-byte-low-via-then-byte-low, then-byte-low-via-else-byte-low+then-high-byte}
 use Rattle.certificate.proofs.fields.read_byte.Goals as goal
 

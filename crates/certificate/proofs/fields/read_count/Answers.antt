@@ -2,7 +2,7 @@ use Rattle.byte_streams.specs.Streams.{change}
 use Rattle.certificate.specs.Readings.{count, count_in}
 use Rattle.certificate.specs.Fields.{SpellsCount}
 use Rattle.certificate.specs.declared.faults.FormatFault.TheVariants.{OutOfRange}
-use Rattle.certificate.proofs.FieldLemmas.{passed, cut_short}
+use Rattle.certificate.proofs.ReaderLemmas.{passed, cut_short}
 use Rattle.certificate.proofs.fields.read_count.Goals as goal
 
 pub returns-in_err-fill : goal.returns-in_err-fill

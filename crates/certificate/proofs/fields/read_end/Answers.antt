@@ -1,5 +1,5 @@
 use Rattle.byte_streams.specs.Streams.{change}
-use Rattle.certificate.proofs.EndLemmas.{ended_there, not_ended, end_failed}
+use Rattle.certificate.proofs.ReaderLemmas.{ended_there, not_ended, end_failed}
 use Rattle.certificate.proofs.fields.read_end.Goals as goal
 
 pub returns-in-Ok-None : goal.returns-in-Ok-None

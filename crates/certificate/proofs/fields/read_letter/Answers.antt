@@ -5,7 +5,7 @@ use Rattle.board.proofs.LetterLemmas.{letter_reads}
 use Rattle.certificate.specs.Readings.{letter, letter_in}
 use Rattle.certificate.specs.Fields.{SpellsLetter}
 use Rattle.certificate.specs.declared.faults.FormatFault.TheVariants.{OutOfRange}
-use Rattle.certificate.proofs.FieldLemmas.{passed, cut_short, refused, found, not_range}
+use Rattle.certificate.proofs.ReaderLemmas.{passed, cut_short, refused, found, not_range}
 use Rattle.certificate.proofs.fields.read_letter.Goals as goal
 
 pub returns-in_err-byte : goal.returns-in_err-byte

@@ -3,7 +3,7 @@ use Rattle.byte_streams.specs.Streams.{change}
 use Rattle.certificate.specs.Readings.{number_within, number_in}
 use Rattle.certificate.specs.Fields.{SpellsNumberWithin}
 use Rattle.certificate.specs.declared.faults.FormatFault.TheVariants.{OutOfRange}
-use Rattle.certificate.proofs.FieldLemmas.{passed, cut_short, refused, not_range, number_too_high}
+use Rattle.certificate.proofs.ReaderLemmas.{passed, cut_short, refused, not_range, number_too_high}
 use Rattle.certificate.proofs.fields.read_number.Goals as goal
 
 pub returns-in_err-fill : goal.returns-in_err-fill

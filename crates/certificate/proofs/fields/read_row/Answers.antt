@@ -2,7 +2,7 @@ use Rattle.std.proofs.Common.{◌++◌, sym, ◌∙◌}
 use Rattle.byte_streams.specs.Streams.{change}
 use Rattle.certificate.specs.Readings.{row}
 use Rattle.certificate.specs.Fields.{SpellsRow}
-use Rattle.certificate.proofs.FieldLemmas.{passed}
+use Rattle.certificate.proofs.ReaderLemmas.{passed}
 use Rattle.certificate.proofs.TextLemmas.{board_law}
 use Rattle.certificate.proofs.RowLemmas.{sides_of, follows_from_test}
 use Rattle.certificate.proofs.SourceLemmas.{first_refuses, then_refuses, as_one_refuses, row_refuses, row_lacks_memory, found_after}

@@ -3,7 +3,7 @@ use Rattle.byte_streams.specs.Streams.{change}
 use Rattle.certificate.specs.Readings.{version, version_in}
 use Rattle.certificate.specs.Fields.{SpellsVersion}
 use Rattle.certificate.specs.declared.faults.FormatFault.TheVariants.{OtherMagic}
-use Rattle.certificate.proofs.FieldLemmas.{passed, cut_short, refused, found, not_magic}
+use Rattle.certificate.proofs.ReaderLemmas.{passed, cut_short, refused, found, not_magic}
 use Rattle.certificate.proofs.TextLemmas.{version_told}
 use Rattle.certificate.proofs.fields.read_version.Goals as goal
 

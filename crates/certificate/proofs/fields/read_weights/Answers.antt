@@ -6,7 +6,7 @@ use Rattle.certificate.specs.Sources.{EndsEarly}
 use Rattle.certificate.specs.Readings.{costs_of, weights_in}
 use Rattle.certificate.specs.Fields.{SpellsCosts}
 use Rattle.certificate.specs.declared.faults.FormatFault.TheVariants.{OutOfRange}
-use Rattle.certificate.proofs.FieldLemmas.{passed, cut_short, refused, not_range}
+use Rattle.certificate.proofs.ReaderLemmas.{passed, cut_short, refused, not_range}
 use Rattle.certificate.proofs.GroupLemmas.{tiles_room}
 use Rattle.certificate.proofs.fields.read_weights.Goals as goal
 

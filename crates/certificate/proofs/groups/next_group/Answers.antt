@@ -1,6 +1,6 @@
 use Rattle.std.proofs.Common.{sym, ◌∙◌, refl}
 use Rattle.std.proofs.lemmas.Bool.{false≢true}
-use Rattle.certificate.proofs.FieldLemmas.{not_flipped, not_flipped_back}
+use Rattle.certificate.proofs.ReaderLemmas.{not_flipped, not_flipped_back}
 use Rattle.certificate.proofs.GroupLemmas.{next_differs, next_same}
 use Rattle.certificate.proofs.groups.next_group.Goals as goal
 

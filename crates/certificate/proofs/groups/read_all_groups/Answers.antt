@@ -1,7 +1,7 @@
 use Rattle.byte_streams.specs.Streams.{change}
 use Rattle.certificate.specs.Fields.{SpellsAllGroups}
 use Rattle.certificate.specs.Readings.{all_groups}
-use Rattle.certificate.proofs.FieldLemmas.{passed}
+use Rattle.certificate.proofs.ReaderLemmas.{passed}
 use Rattle.certificate.proofs.TextLemmas.{byte_law}
 use Rattle.certificate.proofs.SourceLemmas.{first_refuses, then_refuses}
 use Rattle.certificate.proofs.groups.read_all_groups.Goals as goal

@@ -2,7 +2,7 @@ use Rattle.std.proofs.Common.{refl}
 use Rattle.byte_streams.specs.Streams.{change}
 use Rattle.certificate.specs.Fields.{SpellsGroup}
 use Rattle.certificate.specs.Readings.{group}
-use Rattle.certificate.proofs.FieldLemmas.{passed}
+use Rattle.certificate.proofs.ReaderLemmas.{passed}
 use Rattle.certificate.proofs.TextLemmas.{byte_law}
 use Rattle.certificate.proofs.GroupLemmas.{group_there}
 use Rattle.certificate.proofs.SourceLemmas.{first_refuses, reads_after}

@@ -11,7 +11,7 @@ use Rattle.pattern_index.specs.Splits.{AreApart, ShareNoTile}
 use Rattle.certificate.specs.Sources.{Refuses}
 use Rattle.certificate.specs.Spellings.{group_text}
 use Rattle.certificate.specs.Readings.{group, groups}
-use Rattle.certificate.proofs.FieldLemmas.{passed}
+use Rattle.certificate.proofs.ReaderLemmas.{passed}
 use Rattle.certificate.proofs.GroupLemmas.{apart_pushed}
 use Rattle.certificate.proofs.SourceLemmas.{groups_refuse, groups_lack_memory, groups_text_pushed}
 use Rattle.certificate.proofs.groups.read_groups.Goals as goal

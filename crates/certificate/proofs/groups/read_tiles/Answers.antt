@@ -6,7 +6,7 @@ use Rattle.certificate.specs.Sources.{EndsEarly}
 use Rattle.certificate.specs.Readings.{tiles, group_in}
 use Rattle.certificate.specs.Fields.{SpellsTiles}
 use Rattle.certificate.specs.declared.faults.FormatFault.TheVariants.{OutOfRange}
-use Rattle.certificate.proofs.FieldLemmas.{passed, cut_short, refused, not_range}
+use Rattle.certificate.proofs.ReaderLemmas.{passed, cut_short, refused, not_range}
 use Rattle.certificate.proofs.GroupLemmas.{no_group, tiles_room}
 use Rattle.certificate.proofs.groups.read_tiles.Goals as goal
 

@@ -4,10 +4,10 @@ use Rattle.certificate.specs.Spellings.{Spells}
 use Rattle.certificate.specs.Fields.{SpellsFront, SpellsAllRows}
 use Rattle.certificate.specs.Readings.{certificate}
 use Rattle.certificate.specs.Sources.{Finds}
-use Rattle.certificate.proofs.FieldLemmas.{passed_all}
+use Rattle.certificate.proofs.ReaderLemmas.{passed_all}
 use Rattle.certificate.proofs.CertificateLemmas.{front_law, all_rows_law}
 use Rattle.certificate.proofs.SourceLemmas.{first_refuses, then_refuses, before_end, then_at_end, end_refuses, found_as}
-use Rattle.certificate.proofs.PartLemmas.{whole_found}
+use Rattle.certificate.proofs.LawLemmas.{whole_found}
 use Rattle.certificate.proofs.reading.read_all.Goals as goal
 
 pub returns-in_err-parts : goal.returns-in_err-parts

@@ -1,7 +1,7 @@
 use Rattle.std.proofs.Common.{refl}
 use Rattle.byte_streams.specs.Streams.{change}
 use Rattle.certificate.specs.Readings.{all_rows}
-use Rattle.certificate.proofs.FieldLemmas.{passed}
+use Rattle.certificate.proofs.ReaderLemmas.{passed}
 use Rattle.certificate.proofs.TextLemmas.{count_law}
 use Rattle.certificate.proofs.CertificateLemmas.{proof_there}
 use Rattle.certificate.proofs.SourceLemmas.{first_refuses, reads_after}

@@ -2,7 +2,7 @@ use Rattle.std.proofs.Common.{[], refl, ◌++◌, sym, append-nil}
 use Rattle.byte_streams.specs.Streams.{change}
 use Rattle.certificate.specs.Fields.{SpellsBeginning}
 use Rattle.certificate.specs.Readings.{beginning}
-use Rattle.certificate.proofs.FieldLemmas.{passed}
+use Rattle.certificate.proofs.ReaderLemmas.{passed}
 use Rattle.certificate.proofs.TextLemmas.{version_law, beginning_there}
 use Rattle.certificate.proofs.SourceLemmas.{first_refuses, then_refuses, found_after}
 use Rattle.certificate.proofs.reading.read_beginning.Goals as goal

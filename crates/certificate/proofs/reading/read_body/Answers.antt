@@ -5,10 +5,10 @@ use Rattle.certificate.specs.Certificates.{cost_of, plan_of}
 use Rattle.certificate.specs.Fields.{SpellsBoard}
 use Rattle.certificate.specs.Readings.{board, body}
 use Rattle.certificate.specs.Sources.{Refuses, Finds}
-use Rattle.certificate.proofs.FieldLemmas.{passed}
+use Rattle.certificate.proofs.ReaderLemmas.{passed}
 use Rattle.certificate.proofs.TextLemmas.{board_law}
 use Rattle.certificate.proofs.SourceLemmas.{first_refuses, then_refuses, found_as}
-use Rattle.certificate.proofs.PartLemmas.{body_found}
+use Rattle.certificate.proofs.LawLemmas.{body_found}
 use Rattle.certificate.proofs.reading.read_body.Goals as goal
 
 pub returns-in_err-start : goal.returns-in_err-start

@@ -5,7 +5,7 @@ use Rattle.certificate.specs.Readings.{number, number_within, plan, claimed}
 use Rattle.certificate.specs.Sources.{Refuses, Finds}
 use Rattle.certificate.specs.declared.certificate.TheConstants.{GREATEST_BOUND}
 use Rattle.certificate.specs.declared.faults.ReadFault.{ReadFault}
-use Rattle.certificate.proofs.FieldLemmas.{passed}
+use Rattle.certificate.proofs.ReaderLemmas.{passed}
 use Rattle.certificate.proofs.TextLemmas.{number_law}
 use Rattle.certificate.proofs.SourceLemmas.{first_refuses, then_refuses}
 use Rattle.certificate.proofs.reading.read_claimed.Goals as goal

@@ -6,8 +6,7 @@ use Rattle.certificate.specs.Fields.{SpellsAllGroups, SpellsBody, SpellsFront}
 use Rattle.certificate.specs.Readings.{all_groups, body, front}
 use Rattle.certificate.specs.Sources.{Refuses, Finds}
 use Rattle.certificate.specs.declared.certificate.Parts.{Parts}
-use Rattle.certificate.proofs.FieldLemmas.{passed}
-use Rattle.certificate.proofs.ReaderLemmas.{Both}
+use Rattle.certificate.proofs.ReaderLemmas.{passed, Both}
 use Rattle.certificate.proofs.TextLemmas.{beginning_law, opening_law}
 use Rattle.certificate.proofs.GroupLemmas.{all_groups_law}
 use Rattle.certificate.proofs.CertificateLemmas.{CostsParts, at_most_one, front_there}

@@ -1,7 +1,7 @@
 use Rattle.std.proofs.Common.{arith}
 use Rattle.byte_streams.specs.Streams.{change}
 use Rattle.certificate.specs.Readings.{letters}
-use Rattle.certificate.proofs.FieldLemmas.{passed}
+use Rattle.certificate.proofs.ReaderLemmas.{passed}
 use Rattle.certificate.proofs.SourceLemmas.{letters_refuse, letters_lack_memory}
 use Rattle.certificate.proofs.reading.read_letters.Goals as goal
 

@@ -4,7 +4,7 @@ use Rattle.board.specs.Grids.{Grid}
 use Rattle.certificate.specs.Fields.{SpellsCosts, SpellsOpening}
 use Rattle.certificate.specs.Sources.{Reads}
 use Rattle.certificate.specs.Readings.{opening, grid_of, costs_of}
-use Rattle.certificate.proofs.FieldLemmas.{passed}
+use Rattle.certificate.proofs.ReaderLemmas.{passed}
 use Rattle.certificate.proofs.TextLemmas.{byte_law, opening_there, ColsParts, KindParts}
 use Rattle.certificate.proofs.SourceLemmas.{first_refuses, then_refuses, reads_after}
 use Rattle.certificate.proofs.reading.read_opening.Goals as goal

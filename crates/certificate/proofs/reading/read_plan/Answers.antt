@@ -1,7 +1,7 @@
 use Rattle.std.proofs.Common.{refl}
 use Rattle.byte_streams.specs.Streams.{change}
 use Rattle.certificate.specs.Readings.{plan}
-use Rattle.certificate.proofs.FieldLemmas.{passed}
+use Rattle.certificate.proofs.ReaderLemmas.{passed}
 use Rattle.certificate.proofs.TextLemmas.{number_law, plan_there}
 use Rattle.certificate.proofs.SourceLemmas.{first_refuses, reads_after}
 use Rattle.certificate.proofs.reading.read_plan.Goals as goal

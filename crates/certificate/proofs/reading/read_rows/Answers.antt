@@ -10,7 +10,7 @@ use Rattle.certificate.specs.Certificates.{IsBoardOf, IsRow, RiseAfter, Follows}
 use Rattle.certificate.specs.Sources.{Refuses}
 use Rattle.certificate.specs.Spellings.{row_text}
 use Rattle.certificate.specs.Readings.{row, rows}
-use Rattle.certificate.proofs.FieldLemmas.{passed}
+use Rattle.certificate.proofs.ReaderLemmas.{passed}
 use Rattle.certificate.proofs.SourceLemmas.{rows_refuse, last_of, last_is_board, last_pushed, rise_pushed, rows_pushed, text_pushed}
 use Rattle.certificate.proofs.reading.read_rows.Goals as goal
 

@@ -5,7 +5,7 @@ use Rattle.byte_streams.specs.Streams.{change}
 use Rattle.byte_streams.specs.Sink.{Writes}
 use Rattle.byte_streams.proofs.SinkLemmas.{Writes-after}
 use Rattle.certificate.specs.Spellings.{count_text, row_text, front_text}
-use Rattle.certificate.proofs.SinkLemmas.{writes_stop}
+use Rattle.certificate.proofs.ReaderLemmas.{writes_stop}
 use Rattle.certificate.proofs.writing.write_all.Goals as goal
 
 pub returns-in_err-write_front : goal.returns-in_err-write_front

@@ -6,7 +6,7 @@ use Rattle.byte_streams.proofs.SinkLemmas.{Writes-after}
 use Rattle.certificate.specs.declared.certificate.Version.{Version}
 use Rattle.certificate.specs.declared.certificate.Version.TheVariants.{Two}
 use Rattle.certificate.specs.Spellings.{claim_of, beginning_text}
-use Rattle.certificate.proofs.SinkLemmas.{writes_stop}
+use Rattle.certificate.proofs.ReaderLemmas.{writes_stop}
 use Rattle.certificate.proofs.writing.write_beginning.Goals as goal
 
 pub returns-in_err-put-in-Two : goal.returns-in_err-put-in-Two

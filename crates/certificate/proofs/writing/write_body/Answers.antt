@@ -7,7 +7,7 @@ use Rattle.byte_streams.specs.Sink.{WritesAll, FailsWriting, Writes}
 use Rattle.byte_streams.proofs.SinkLemmas.{Writes-after}
 use Rattle.certificate.specs.Certificates.{cost_of, plan_of, IsWithinLimit}
 use Rattle.certificate.specs.Spellings.{claimed_text}
-use Rattle.certificate.proofs.SinkLemmas.{writes_stop}
+use Rattle.certificate.proofs.ReaderLemmas.{writes_stop}
 use Rattle.certificate.proofs.writing.write_body.Goals as goal
 
 pub write_claim-requires : goal.write_claim-requires

@@ -6,7 +6,7 @@ use Rattle.board.specs.declared.moves.Move.{Move}
 use Rattle.certificate.specs.declared.certificate.Claim.{Claim}
 use Rattle.certificate.specs.Certificates.{cost_of, plan_of}
 use Rattle.certificate.specs.Spellings.{number_text, plan_text, claimed_text}
-use Rattle.certificate.proofs.SinkLemmas.{writes_stop}
+use Rattle.certificate.proofs.ReaderLemmas.{writes_stop}
 use Rattle.certificate.proofs.writing.write_claim.Goals as goal
 
 pub returns-in_err-write_number-in-Least : goal.returns-in_err-write_number-in-Least

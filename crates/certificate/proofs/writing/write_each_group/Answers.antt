@@ -2,7 +2,7 @@ use Rattle.std.proofs.Common.{◌+◌, ◌∙◌, ◌++◌, take, drop, sym, ap}
 use Rattle.std.specs.List.{flat_map}
 use Rattle.pattern_index.specs.Selections.{Selection}
 use Rattle.certificate.specs.Spellings.{group_text}
-use Rattle.certificate.proofs.SinkLemmas.{writes_within, groups_cut}
+use Rattle.certificate.proofs.ReaderLemmas.{writes_within, groups_cut}
 use Rattle.certificate.proofs.writing.write_each_group.Goals as goal
 
 pub returns-in_err-write_group : goal.returns-in_err-write_group

@@ -2,7 +2,7 @@ use Rattle.std.proofs.Common.{◌+◌, ◌∙◌, ◌++◌, ℕ, take, drop, sym
 use Rattle.std.specs.List.{flat_map}
 use Rattle.board.specs.Positions.{Position}
 use Rattle.certificate.specs.Spellings.{row_text}
-use Rattle.certificate.proofs.SinkLemmas.{writes_within, rows_cut}
+use Rattle.certificate.proofs.ReaderLemmas.{writes_within, rows_cut}
 use Rattle.certificate.proofs.writing.write_each_row.Goals as goal
 
 pub returns-in_err-write_row : goal.returns-in_err-write_row

@@ -6,7 +6,7 @@ use Rattle.byte_streams.specs.Streams.{change}
 use Rattle.byte_streams.specs.Sink.{WritesAll, FailsWriting}
 use Rattle.byte_streams.proofs.SinkLemmas.{Writes-after}
 use Rattle.certificate.specs.Spellings.{claim_of, beginning_text, opening_text, groups_text, body_text}
-use Rattle.certificate.proofs.SinkLemmas.{writes_stop}
+use Rattle.certificate.proofs.ReaderLemmas.{writes_stop}
 use Rattle.certificate.proofs.writing.write_front.Goals as goal
 
 pub write_groups-requires : goal.write_groups-requires

@@ -2,7 +2,7 @@ use Rattle.std.proofs.Common.{◌∷◌, [], List, ℕ, length, subst}
 use Rattle.byte_streams.specs.Streams.{change}
 use Rattle.byte_streams.specs.Sink.{WritesAll, FailsWriting, Writes}
 use Rattle.byte_streams.proofs.SinkLemmas.{Writes-after}
-use Rattle.certificate.proofs.SinkLemmas.{writes_stop}
+use Rattle.certificate.proofs.ReaderLemmas.{writes_stop}
 use Rattle.certificate.proofs.writing.write_group.Goals as goal
 
 pub returns-in_err-put : goal.returns-in_err-put

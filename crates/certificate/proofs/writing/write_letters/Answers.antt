@@ -3,7 +3,7 @@ use Rattle.byte_streams.specs.Streams.{change}
 use Rattle.byte_streams.specs.Sink.{FailsWriting}
 use Rattle.board.specs.declared.moves.Move.TheVariants.{U}
 use Rattle.board.specs.Letters.{letter_of}
-use Rattle.certificate.proofs.SinkLemmas.{writes_within, letters_cut}
+use Rattle.certificate.proofs.ReaderLemmas.{writes_within, letters_cut}
 use Rattle.certificate.proofs.writing.write_letters.Goals as goal
 
 pub returns-in_err-put : goal.returns-in_err-put

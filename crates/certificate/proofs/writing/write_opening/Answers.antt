@@ -4,7 +4,7 @@ use Rattle.byte_streams.specs.Sink.{Writes, WritesAll, FailsWriting}
 use Rattle.byte_streams.proofs.SinkLemmas.{Writes-after}
 use Rattle.board.specs.Grids.{Grid}
 use Rattle.certificate.specs.Spellings.{opening_text, kind_of, weights_text}
-use Rattle.certificate.proofs.SinkLemmas.{writes_stop}
+use Rattle.certificate.proofs.ReaderLemmas.{writes_stop}
 use Rattle.certificate.proofs.writing.write_opening.Goals as goal
 
 pub returns-in_err-put : goal.returns-in_err-put

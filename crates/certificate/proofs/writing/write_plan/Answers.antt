@@ -3,7 +3,7 @@ use Rattle.byte_streams.specs.Streams.{change}
 use Rattle.byte_streams.proofs.SinkLemmas.{Writes-after}
 use Rattle.board.specs.Letters.{letter_of}
 use Rattle.certificate.specs.Spellings.{number_text}
-use Rattle.certificate.proofs.SinkLemmas.{writes_stop}
+use Rattle.certificate.proofs.ReaderLemmas.{writes_stop}
 use Rattle.certificate.proofs.writing.write_plan.Goals as goal
 
 pub returns-in_err-write_number : goal.returns-in_err-write_number

@@ -1,6 +1,6 @@
 use Rattle.byte_streams.specs.Streams.{change}
 use Rattle.certificate.specs.Spellings.{number_text}
-use Rattle.certificate.proofs.SinkLemmas.{writes_stop}
+use Rattle.certificate.proofs.ReaderLemmas.{writes_stop}
 use Rattle.certificate.proofs.writing.write_row.Goals as goal
 
 pub returns-in_err-write_tiles : goal.returns-in_err-write_tiles

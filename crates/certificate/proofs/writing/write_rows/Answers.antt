@@ -3,7 +3,7 @@ use Rattle.std.specs.List.{flat_map}
 use Rattle.byte_streams.specs.Streams.{change}
 use Rattle.byte_streams.proofs.SinkLemmas.{Writes-after}
 use Rattle.certificate.specs.Spellings.{count_text, row_text}
-use Rattle.certificate.proofs.SinkLemmas.{writes_stop}
+use Rattle.certificate.proofs.ReaderLemmas.{writes_stop}
 use Rattle.certificate.proofs.writing.write_rows.Goals as goal
 
 pub returns-in_err-write_count : goal.returns-in_err-write_count
