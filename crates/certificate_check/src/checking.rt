@@ -4,8 +4,8 @@ ghost use Rattle.std.specs.Prelude.{◌≡◌, ◌↔◌, ℕ, IsOk, IsErrOf, On
 ghost use Rattle.board.specs.declared.moves.Move.{Move};
 ghost use Rattle.board.specs.Plans.{NothingBelow, IsLeast};
 ghost use Rattle.certificate_check.specs.declared.refusals.Refusal.{Refusal};
-ghost use Rattle.certificate_check.specs.Refusals.{IsProved, IsProvedUpToRows, IsFirstRefusal};
-ghost use Rattle.certificate_check.specs.Refusals.{IsFirstOpen, LeavesOpenAt};
+ghost use Rattle.certificate_check.specs.Refusals.{AreFit, ItsPlanLeads, IsProvedUpToRows};
+ghost use Rattle.certificate_check.specs.Refusals.{IsProved, IsFirstRefusal, IsFirstOpen, LeavesOpenAt};
 ghost use Rattle.certificate.specs.Certificates.{IsCertificate};
 
 use crate::groups::find_unfit;
@@ -32,6 +32,34 @@ pub(crate) fn check_up_to_rows(certificate: &Certificate, bound: &Bound) -> Resu
     if let Some(place) = find_unfit(certificate, bound) {
         return Err(Refusal::UnfitGroup(place));
     }
+    check_start(certificate, bound)
+}
+
+// The same, where the tables are known to be fit: they are not tested.
+pub(crate) fn check_fit_up_to_rows(certificate: &Certificate, bound: &Bound) -> Result<(), Refusal>
+    requires fit { AreFit certificate.now bound.now }
+    ensures up_to { OnOk result (IsProvedUpToRows certificate.now bound.now) }
+    ensures refused { IfErr result (IsFirstRefusal certificate.now bound.now) }
+    ensures certificate { IsCertificate certificate.now }
+    ensures shape { OnOk result (bound.now.split.grid ≡ certificate.now.grid) }
+{
+    let _ = certificate.shape();
+    match check_plan(certificate) {
+        Ok(()) => check_start(certificate, bound),
+        Err(refusal) => Err(refusal),
+    }
+}
+
+// What is looked at between the tables and the rows: that the start has a row or needs none, and
+// that the goal has none.
+fn check_start(certificate: &Certificate, bound: &Bound) -> Result<(), Refusal>
+    requires plan { ItsPlanLeads certificate.now }
+    requires fit { AreFit certificate.now bound.now }
+    ensures up_to { OnOk result (IsProvedUpToRows certificate.now bound.now) }
+    ensures refused { IfErr result (IsFirstRefusal certificate.now bound.now) }
+    ensures shape { OnOk result (bound.now.split.grid ≡ certificate.now.grid) }
+{
+    let _ = certificate.shape();
     if !is_start_proved(certificate, bound) {
         return Err(Refusal::StartUnproved);
     }

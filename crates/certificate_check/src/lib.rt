@@ -14,10 +14,10 @@ mod successors;
 ghost use Rattle.std.specs.Prelude.{◌≡◌, ◌↔◌, IsOk, IsErrOf, OnOk, IfOk, IsSome};
 ghost use Rattle.board.specs.Plans.{NothingBelow, IsLeast};
 ghost use Rattle.certificate_check.specs.declared.refusals.Refusal.{Refusal};
-ghost use Rattle.certificate_check.specs.Refusals.{IsProved, IsFirstRefusal};
+ghost use Rattle.certificate_check.specs.Refusals.{AreFit, IsProved, IsFirstRefusal};
 
 use certificate::Certificate;
-use checking::{check_up_to_rows, conclude};
+use checking::{check_fit_up_to_rows, check_up_to_rows, conclude};
 use lower_bound::Bound;
 use memory::OutOfMemory;
 use parallel::find_open_parallel;
@@ -87,4 +87,55 @@ pub fn check_parallel(
     }
     let first_open = find_open_parallel(rt, certificate, bound);
     Ok(conclude(certificate, bound, first_open))
+}
+
+/// The same answer as that of `check`, where the tables are known to be those of the certificate's
+/// groups, whole, and potentials for its goal and costs, as those are that `build_bound` makes for
+/// it. They are not tested, so the time doesn't grow with their sizes.
+pub fn check_fit(certificate: &Certificate, bound: &Bound) -> Result<(), Refusal>
+    requires fit { AreFit certificate.now bound.now }
+    ensures accepted { IsOk result ↔ IsProved certificate.now bound.now }
+    ensures below { OnOk result
+        (NothingBelow certificate.now.costs certificate.now.start certificate.now.goal
+        certificate.now.cost) }
+    ensures least { IsSome certificate.now.plan → OnOk result
+        (IsLeast certificate.now.costs certificate.now.start certificate.now.goal
+        certificate.now.cost) }
+    ensures refused { (refusal : Refusal) →
+        IsErrOf result refusal ↔ IsFirstRefusal certificate.now bound.now refusal }
+{
+    if let Err(refusal) = check_fit_up_to_rows(certificate, bound) {
+        return Err(refusal);
+    }
+    conclude(certificate, bound, find_open(certificate, bound, 0))
+}
+
+/// The same answer as that of `check_fit`, for which several threads look at the rows. It takes no
+/// memory itself, and answers `Ok` always, as the clause `answered` says.
+pub fn check_fit_parallel(
+    rt: &(impl Threads + Sync),
+    certificate: &Certificate,
+    bound: &Bound,
+) -> Result<Result<(), Refusal>, OutOfMemory>
+    requires fit { AreFit certificate.now bound.now }
+    ensures answered { IsOk result }
+    ensures accepted { IfOk result
+        (λ answer. IsOk answer ↔ IsProved certificate.now bound.now) }
+    ensures below { IfOk result (λ answer. OnOk answer
+        (NothingBelow certificate.now.costs certificate.now.start certificate.now.goal
+        certificate.now.cost)) }
+    ensures least { IsSome certificate.now.plan → IfOk result (λ answer. OnOk answer
+        (IsLeast certificate.now.costs certificate.now.start certificate.now.goal
+        certificate.now.cost)) }
+    ensures refused { IfOk result (λ answer. (refusal : Refusal) →
+        IsErrOf answer refusal ↔ IsFirstRefusal certificate.now bound.now refusal) }
+{
+    if let Err(refusal) = check_fit_up_to_rows(certificate, bound) {
+        return Ok(Err(refusal));
+    }
+    Ok(conclude(
+        certificate,
+        bound,
+        find_open_parallel(rt, certificate, bound),
+    ))
 }

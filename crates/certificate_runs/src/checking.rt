@@ -3,7 +3,7 @@
 ghost use Rattle.std.specs.Prelude.{◌≡◌, ◌↔◌, IfOk, IsOk, IsErrOf, OnOk, IsSome, string_bytes};
 ghost use Rattle.board.specs.Plans.{NothingBelow, IsLeast};
 ghost use Rattle.certificate_check.specs.declared.refusals.Refusal.{Refusal};
-ghost use Rattle.certificate_check.specs.Refusals.{IsProved, IsFirstRefusal};
+ghost use Rattle.certificate_check.specs.Refusals.{AreFit, IsProved, IsFirstRefusal};
 ghost use Rattle.byte_streams.specs.Streams.{change};
 ghost use Rattle.certificate_runs.specs.Checking.{IsJudgementBy, IsRefused, Checks};
 ghost use Rattle.certificate_runs.specs.Checking.{claim_data, PutsVerdict};
@@ -16,7 +16,7 @@ ghost use Rattle.certificate_runs.specs.Built.{AreBuiltFor};
 use crate::faults::CheckFault;
 use byte_streams::{Sink, Source};
 use certificate::{Certificate, Claim, ReadFault, read};
-use certificate_check::{Refusal, check, check_parallel};
+use certificate_check::{Refusal, check_fit, check_fit_parallel};
 use lower_bound::Bound;
 use memory::OutOfMemory;
 use reports::{NoReport, accepted_bound_report, accepted_report, refused_certificate_report};
@@ -82,7 +82,8 @@ fn build_for<R: Threads + Sync>(
     alloc: Global,
     certificate: &Certificate,
 ) -> Result<Bound, OutOfMemory>
-    ensures { IfOk result (AreBuiltFor certificate.now) }
+    ensures built { IfOk result (AreBuiltFor certificate.now) }
+    ensures fit { IfOk result (AreFit certificate.now) }
 {
     // What holds of every certificate, as that its boards are of one shape, is told by this call.
     let _ = certificate.shape();
@@ -97,6 +98,7 @@ fn judge<R: Threads + Sync>(
     certificate: &Certificate,
     bound: &Bound,
 ) -> Result<(String, u8), NoReport>
+    requires fit { AreFit certificate.now bound.now }
     ensures { IfOk result
         (λ verdict. IsJudgementBy bound.now certificate.now (verdict_output verdict)) }
 {
@@ -117,12 +119,14 @@ fn accept(alloc: Global, claim: &Claim) -> Result<String, NoReport>
     }
 }
 
-// What the checker says: by several threads where there are many rows, else in this one.
+// What the checker says: by several threads where there are many rows, else in this one. The tables
+// are fit as they were built, so they are not tested.
 fn check_certificate<R: Threads + Sync>(
     rt: &R,
     certificate: &Certificate,
     bound: &Bound,
 ) -> Result<(), Refusal>
+    requires fit { AreFit certificate.now bound.now }
     ensures accepted { IsOk result ↔ IsProved certificate.now bound.now }
     ensures below { OnOk result
         (NothingBelow certificate.now.costs certificate.now.start certificate.now.goal
@@ -134,9 +138,9 @@ fn check_certificate<R: Threads + Sync>(
         IsErrOf result refusal ↔ IsFirstRefusal certificate.now bound.now refusal }
 {
     if certificate.rows().len() < PARALLEL_ROWS {
-        return check(certificate, bound);
+        return check_fit(certificate, bound);
     }
-    check_parallel(rt, certificate, bound).unwrap()
+    check_fit_parallel(rt, certificate, bound).unwrap()
 }
 
 // The line that is written of a fault, and its status.

@@ -15,7 +15,7 @@ returns-in-Ok-judge g c =
     let read : Result Statement ReadFault = Ok c.in-Ok.certificate in
     let output : Output = record { text = c.as_str.result.now; status = c.in-Ok-judge.status } in
     let bound = c.in-Ok-build_for.bound in
-    let judgement : IsJudgement c.in-Ok.certificate output = (bound, c.in-Ok-build_for.ensures, subst (λ (text : List ℕ). IsJudgementBy bound c.in-Ok.certificate (record { text = text; status = c.in-Ok-judge.status })) (sym c.as_str.ensures.value) c.in-Ok-judge.ensures) in
+    let judgement : IsJudgement c.in-Ok.certificate output = (bound, c.in-Ok-build_for.ensures.built, subst (λ (text : List ℕ). IsJudgementBy bound c.in-Ok.certificate (record { text = text; status = c.in-Ok-judge.status })) (sym c.as_str.ensures.value) c.in-Ok-judge.ensures) in
     checked source sink read output c.put_verdict.result c.in-Ok.ensures judgement c.put_verdict.ensures
 
 pub returns-in-Ok-refuse : goal.returns-in-Ok-refuse
