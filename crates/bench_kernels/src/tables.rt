@@ -43,7 +43,7 @@ impl Task {
         match self.weights {
             0 => Some(Weights::unit(shape)),
             1 => Some(Weights::face(shape)),
-            seed => Weights::list(shape, drawn_weights(seed).get(..shape.cells() - 1)?).ok(),
+            seed => Weights::list(shape, drawn_weights(seed).get(1..shape.cells())?).ok(),
         }
     }
 
@@ -59,13 +59,11 @@ impl Task {
     }
 }
 
-// Weights of 1 to 255, by a seed.
-fn drawn_weights(seed: u64) -> [u8; 25]
-    ensures { length result ≡ 25 }
-{
+// Weights of 1 to 255 by tile, drawn by a seed.
+fn drawn_weights(seed: u64) -> [u8; 25] {
     let mut weights = [0; 25];
     let mut state = seed;
-    'tiles: for tile in 0..25 {
+    'tiles: for tile in 1..25 {
         state = next_state(state);
         weights[tile] = ((state >> 33) % 255 + 1) as u8;
     }
