@@ -1,9 +1,67 @@
 -- What the program leaves in an empty output, and what of its message in the error stream.
-use Rattle.std.proofs.Common.{◌≡◌, ℕ, List, ◌++◌, Option, None, Some}
+use Rattle.std.proofs.Common.{◌≡◌, ◌∙◌, Bool, List, [], ◌∷◌, Option, None, Some, inl, inr, sym, ap, subst, map, arith, codes, ℕ, ◌≢◌, Result, Ok, Err, refl, ◌⊎◌, ◌<◌, append-nil, string_bytes, ◌++◌}
 use Rattle.std.specs.Io.KnownBytes.{Appends}
-use Rattle.batch_runs.proofs.BatchLemmas.{outputs_true}
-use Rattle.setup_runs.specs.Solving.{rules_of}
+use Rattle.batch_runs.proofs.BatchLemmas.{run_true, outputs_true}
+use Rattle.setup_runs.specs.Solving.{rules_of, certifying_rules_of}
 use Rattle.batch_cli.specs.Laws.{MessagesAreBegun, OutputsTellTheTruth}
+use Rattle.std.specs.Prelude.{IfSome, IsSome}
+use Rattle.std.proofs.KnownBytes.{Appends-kept, Keeps-trans}
+use Rattle.clap.specs.Words.{Text, Row, Kinds, first_of}
+use Rattle.memory.specs.declared.OutOfMemory.{OutOfMemory}
+use Rattle.board.specs.Grids.{Grid}
+use Rattle.board.specs.CostRules.{CostRule}
+use Rattle.board.specs.Positions.{Position}
+use Rattle.board.specs.declared.moves.Move.{Move}
+use Rattle.board.specs.Plans.{Leads, IsLeast}
+use Rattle.pattern_index.specs.Splits.{Split}
+use Rattle.table_sets.specs.Built.{AreTrueTables, AreBuilt}
+use Rattle.byte_streams.specs.Streams.{SinkState, Change, SourceState, from_to}
+use Rattle.byte_streams.specs.Sink.{PutsNone, Flushes, Puts, Writes}
+use Rattle.byte_streams.specs.declared.sink.WriteFailed.{WriteFailed}
+use Rattle.option_texts.specs.Defaults.{default_groups}
+use Rattle.certificate.specs.Certificates.{Statement}
+use Rattle.certificate.specs.declared.faults.ReadFault.{ReadFault}
+use Rattle.certificate.specs.declared.faults.ReadFault.TheVariants.{Format, Failed, NoMemory as NoMemoryToRead}
+use Rattle.certificate.specs.Faults.{format_code}
+use Rattle.certificate.specs.Sources.{Tells}
+use Rattle.certificate.proofs.LawLemmas.{spelled_read}
+use Rattle.certificate_check.specs.Refusals.{refusal_code}
+use Rattle.batch_runs.specs.Setups.{SetupState}
+use Rattle.batch_runs.specs.Batches.{Rules, IsTruthful, AreAll, AreFirst}
+use Rattle.batch_runs.specs.Headline.{WritesTruth, BeginsTruth, IsTrueRun}
+use Rattle.batch_runs.specs.declared.batch.Summary.{Summary}
+use Rattle.batch_runs.specs.declared.faults.LinesFault.{LinesFault}
+use Rattle.certificate_runs.specs.declared.faults.CertifyFault.{CertifyFault}
+use Rattle.certificate_runs.specs.declared.faults.CheckFault.{CheckFault}
+use Rattle.certificate_runs.specs.declared.faults.UpgradeFault.{UpgradeFault}
+use Rattle.certificate_runs.specs.Rules.{ProofRules, ProvesTruly}
+use Rattle.certificate_runs.specs.Outputs.{Output}
+use Rattle.certificate_runs.specs.Certifying.{Replies}
+use Rattle.certificate_runs.specs.Checking.{Checks, IsVerdict}
+use Rattle.certificate_runs.specs.Headline.{WritesAnswer, WritesVerdict, IsRefusedBy, WritesUpgrade, IsTrueUpgrade}
+use Rattle.certificate_runs.proofs.HeadlineLemmas.{answer_true, check_true, upgrade_true}
+use Rattle.replay_runs.specs.Replays.{Jobs, Replays}
+use Rattle.replay_runs.specs.Openings.{setup_jobs}
+use Rattle.command_line.specs.declared.requests.Options.{Options}
+use Rattle.command_line.specs.declared.requests.Request.{Request}
+use Rattle.command_line.specs.declared.requests.Request.TheVariants.{Solve, Certify, Check, Upgrade, Replay, Help, Version}
+use Rattle.command_line.specs.Requests.{AreCostsSaid, AreGroupsSaid, AreOptions, AsksRun, AsksText, AreDefaults, WordsAsk, WordsFail}
+use Rattle.command_line.specs.declared.faults.NoRequest.{NoRequest}
+use Rattle.command_line.specs.declared.faults.NoRequest.TheVariants.{Usage, Goal, Costs, Groups, Memory}
+use Rattle.batch_cli.specs.Setups.{AreFit, IsFit, AreTablesFor, IsSetupOf, IsDefaultSetup}
+use Rattle.batch_cli.specs.declared.faults.BatchFault.{BatchFault}
+use Rattle.batch_cli.specs.declared.endings.Ending.{Ending}
+use Rattle.batch_cli.specs.declared.endings.Ending.TheVariants.{NoTexts, Refused, NoMemory, Ran, Answered, Shown, Faulted}
+use Rattle.batch_cli.specs.Endings.{status_of, HasNotBegun}
+use Rattle.batch_cli.specs.Programs.{ending_of, after_flush, FlushesBehind, IsUnused, Solves, Certifies, Judges, Rewrites, TakesSteps, Shows, EndsRun, EndsRequest, EndsBy}
+use Rattle.batch_cli.specs.declared.faults.BatchFault.TheVariants.{Write}
+use Rattle.batch_cli.specs.Faults.{of_lines, of_certify, of_check, of_upgrade}
+use Rattle.batch_cli.specs.Headline.{IsTrue, IsTrueOf, IsTrueBy, JudgesTruly, StatesTruth, UpgradesTruly, WritesReplay}
+use Rattle.option_texts.specs.declared.faults.GroupsFault.TheVariants as groups
+use Rattle.batch_runs.specs.declared.faults.LinesFault.TheVariants as lines
+use Rattle.certificate_runs.specs.declared.faults.CertifyFault.TheVariants as certify
+use Rattle.certificate_runs.specs.declared.faults.UpgradeFault.TheVariants as upgrade
+use Rattle.certificate_runs.specs.declared.faults.CheckFault.TheVariants as check
 
 pub outputs : OutputsTellTheTruth
 outputs source sink status input known empty well (setup, is, begun, written) =
@@ -18,3 +76,388 @@ pub begun : MessagesAreBegun
 begun errors ending status held known tells =
     let put : Appends (Some held) errors.after.contents tells.begun.sent = rw known at tells.begun.put in
     (tells.begun.sent, tells.begun.unsent, tells.begun.parts, appended errors.after.contents held tells.begun.sent put)
+
+-- ---- What words ask for, and that what the program writes is true.
+
+-- ---- what words ask for is fit, and without words it is the default
+
+-- groups that are said are of the shape that is said
+groups_sides : (grid : Grid) (text : Option Text) (split : Split) → AreGroupsSaid grid text split → split.grid ≡ grid
+groups_sides grid None split said = said.0
+groups_sides grid (Some text) split said = said.0
+
+-- so are the costs
+costs_sides : (grid : Grid) (text : Option Text) (rule : CostRule) → AreCostsSaid grid text rule → rule.grid ≡ grid
+costs_sides grid None rule said = ap (λ (r : CostRule). r.grid) said
+costs_sides grid (Some text) rule (inl unit) = ap (λ (r : CostRule). r.grid) unit.1
+costs_sides grid (Some text) rule (inr (inl face)) = ap (λ (r : CostRule). r.grid) face.1
+costs_sides grid (Some text) rule (inr (inr weights)) = ap (λ (r : CostRule). r.grid) weights.listed
+
+fit_options : (rows : List Row) (o : Options) → AreOptions rows o → AreFit o
+fit_options rows o options = record { costs = costs_sides o.goal.grid (first_of (codes "cost") rows) o.costs options.costs; sides = groups_sides o.goal.grid (first_of (codes "groups") rows) o.groups options.groups; some = options.workers.some; few = options.workers.few }
+
+fit_defaults : (o : Options) → AreDefaults o → AreFit o
+fit_defaults o defaults = record { costs = ap (λ (r : CostRule). r.grid) defaults.costs ∙ sym (ap (λ (b : Position). b.grid) defaults.goal); sides = defaults.groups.0; some = omega (arith, defaults.workers); few = omega (arith, defaults.workers) }
+
+fit_text : (faults : Kinds) (request : Request) → AsksText faults request → IsFit request
+fit_text faults (Solve o) never = absurd never
+fit_text faults (Certify o) never = absurd never
+fit_text faults Check never = tt
+fit_text faults Upgrade never = tt
+fit_text faults (Replay o) never = absurd never
+fit_text faults (Help text) asked = tt
+fit_text faults (Version text) asked = tt
+
+fit_run : (subcommand : Option (Text × List Row)) (request : Request) → AsksRun subcommand request → IsFit request
+fit_run None request never = absurd never
+fit_run (Some p) (Solve o) asked = fit_options p.1 o asked.1
+fit_run (Some p) (Certify o) asked = fit_options p.1 o asked.1
+fit_run (Some p) Check asked = tt
+fit_run (Some p) Upgrade asked = tt
+fit_run (Some p) (Replay o) asked = fit_options p.1 o asked.1
+fit_run (Some p) (Help text) asked = tt
+fit_run (Some p) (Version text) asked = tt
+
+-- what words ask for is fit
+pub fit_asked : (words : List Text) (request : Request) → WordsAsk words request → IsFit request
+fit_asked [] (Solve o) defaults = fit_defaults o defaults
+fit_asked [] (Certify o) never = absurd never
+fit_asked [] Check never = tt
+fit_asked [] Upgrade never = tt
+fit_asked [] (Replay o) never = absurd never
+fit_asked [] (Help text) never = tt
+fit_asked [] (Version text) never = tt
+fit_asked (word ∷ words) request (program, is, inl text) = fit_text _ request text
+fit_asked (word ∷ words) request (program, is, inr run) = fit_run _ request run.1
+
+-- the setup of the default options is a default setup
+pub default_setup : (o : Options) (setup : SetupState) → AreDefaults o → IsSetupOf o setup → IsDefaultSetup setup
+default_setup o setup defaults is =
+    let grid = ap (λ (b : Position). b.grid) defaults.goal in
+    let built : AreBuilt o.groups setup.rule setup.goal setup.tables = subst (λ (f : Bool). AreTablesFor f o.groups setup.rule setup.goal setup.tables) defaults.fold is.tables in
+    record {
+      goal = is.goal ∙ defaults.goal;
+      rule = is.rule ∙ defaults.costs;
+      groups = ap (λ (s : Split). map (λ g. g.tiles) s.groups) built.groups ∙ defaults.groups.1 ∙ ap default_groups grid;
+      tables = subst (λ (s : Split). AreTrueTables s.groups setup.rule setup.goal setup.tables.lookups) (sym built.groups) built.each;
+      whole = built.whole;
+      limit = is.limit ∙ defaults.limit;
+      workers = is.workers ∙ defaults.workers;
+      spread = is.spread ∙ defaults.spread;
+    }
+
+-- ---- how the program ends after a run and the flush behind it
+
+-- a flush writes nothing
+flush_none : (sink : Change SinkState) (flushed : Result (Unit {0}) WriteFailed) → Flushes sink flushed → PutsNone sink
+flush_none sink (Ok done) flush = flush.0
+flush_none sink (Err failed) flush = flush.0
+
+pub behind_none : (ran : Ending) (sink : Change SinkState) (ending : Ending) → FlushesBehind ran sink ending → PutsNone sink
+behind_none ran sink ending behind = flush_none sink behind.0 behind.1
+
+-- a flush changes the ending only to a fault with the status 3
+unchanged : (ran : Ending) (flushed : Result (Unit {0}) WriteFailed) → status_of (after_flush ran flushed) ≢ 3 → after_flush ran flushed ≡ ran
+unchanged ran (Ok done) other = refl
+unchanged NoTexts (Err failed) other = absurd (other refl)
+unchanged (Refused refusal) (Err failed) other = absurd (other refl)
+unchanged NoMemory (Err failed) other = absurd (other refl)
+unchanged (Ran counts) (Err failed) other = absurd (other refl)
+unchanged (Answered status) (Err failed) other = absurd (other refl)
+unchanged Shown (Err failed) other = absurd (other refl)
+unchanged (Faulted fault) (Err failed) other = refl
+
+-- so any other status is that of the run
+pub status_ran : (ran : Ending) (sink : Change SinkState) (ending : Ending) (status : ℕ) → FlushesBehind ran sink ending → status ≡ status_of ending → status ≢ 3 → status ≡ status_of ran
+status_ran ran sink ending status (flushed, flush, is) told other =
+    let after = told ∙ ap status_of is in
+    after ∙ ap status_of (unchanged ran flushed (λ e. other (after ∙ e)))
+
+-- nor does the program end as one that has not begun
+pub begun_flushed : (ran : Ending) (flushed : Result (Unit {0}) WriteFailed) → ¬ HasNotBegun ran → ¬ HasNotBegun (after_flush ran flushed)
+begun_flushed ran (Ok done) begun = begun
+begun_flushed NoTexts (Err failed) begun = λ idle. idle
+begun_flushed (Refused refusal) (Err failed) begun = λ idle. idle
+begun_flushed NoMemory (Err failed) begun = λ idle. idle
+begun_flushed (Ran counts) (Err failed) begun = λ idle. idle
+begun_flushed (Answered status) (Err failed) begun = λ idle. idle
+begun_flushed Shown (Err failed) begun = λ idle. idle
+begun_flushed (Faulted fault) (Err failed) begun = λ idle. idle
+
+pub begun_run : {A E : Type 0} (well : A → Ending) (early : E → BatchFault) (result : Result A E) → ((a : A) → ¬ HasNotBegun (well a)) → ¬ HasNotBegun (ending_of well early result)
+begun_run well early (Ok a) begun = begun a
+begun_run well early (Err fault) begun = λ idle. idle
+
+-- ---- what the program writes is true: what was written stays behind a flush
+
+BeginsTruth-kept : (rules : Rules) (source : Change SourceState) (a b c : SinkState) → BeginsTruth rules source (from_to a b) → PutsNone (from_to b c) → BeginsTruth rules source (from_to a c)
+BeginsTruth-kept rules source a b c some kept = record {
+  lines = some.lines;
+  output = some.output;
+  first = some.first;
+  begun = record { sent = some.begun.sent; unsent = some.begun.unsent; parts = some.begun.parts; put = Appends-kept a.contents b.contents c.contents some.begun.sent some.begun.put kept };
+  truth = some.truth;
+}
+
+WritesTruth-kept : (rules : Rules) (source : Change SourceState) (a b c : SinkState) (status : ℕ) → WritesTruth rules source (from_to a b) status → PutsNone (from_to b c) → WritesTruth rules source (from_to a c) status
+WritesTruth-kept rules source a b c status all kept = record { lines = all.lines; output = all.output; all = all.all; put = Appends-kept a.contents b.contents c.contents all.output all.put kept; truth = all.truth; settled = all.settled }
+
+WritesAnswer-kept : (split : Split) (rules : ProofRules) (source : Change SourceState) (a b c : SinkState) → WritesAnswer split rules source (from_to a b) → PutsNone (from_to b c) → WritesAnswer split rules source (from_to a c)
+WritesAnswer-kept split rules source a b c all kept = record { lines = all.lines; output = all.output; first = all.first; put = Appends-kept a.contents b.contents c.contents all.output all.put kept; answer = all.answer }
+
+WritesVerdict-kept : (a b c : SinkState) (input : List ℕ) → WritesVerdict (from_to a b) input → PutsNone (from_to b c) → WritesVerdict (from_to a c) input
+WritesVerdict-kept a b c input all kept = record { line = all.line; value = all.value; put = Appends-kept a.contents b.contents c.contents _ all.put kept; json = all.json; truth = all.truth }
+
+WritesUpgrade-kept : (a b c : SinkState) (status : ℕ) (input : List ℕ) → WritesUpgrade (from_to a b) status input → PutsNone (from_to b c) → WritesUpgrade (from_to a c) status input
+WritesUpgrade-kept a b c status input (inl (cert, read, put, is)) kept = inl (cert, read, Appends-kept a.contents b.contents c.contents _ put kept, is)
+WritesUpgrade-kept a b c status input (inr (fault, first, none, is)) kept = inr (fault, first, Keeps-trans a.contents b.contents c.contents none kept, is)
+
+WritesReplay-kept : (jobs : Jobs) (source : Change SourceState) (a b c : SinkState) (status : ℕ) → WritesReplay jobs source (from_to a b) status → PutsNone (from_to b c) → WritesReplay jobs source (from_to a c) status
+WritesReplay-kept jobs source a b c status (inl (lines, all, over, put, is)) kept = inl (lines, all, over, Appends-kept a.contents b.contents c.contents _ put kept, is)
+WritesReplay-kept jobs source a b c status (inr (inl (output, refuses, put, is))) kept = inr (inl (output, refuses, Appends-kept a.contents b.contents c.contents _ put kept, is))
+WritesReplay-kept jobs source a b c status (inr (inr (lines, id, replies, outcome, all, end, put, is))) kept = inr (inr (lines, id, replies, outcome, all, end, Appends-kept a.contents b.contents c.contents _ put kept, is))
+
+-- ---- boards
+
+AreFirst-all : (input : Option (List ℕ)) (lines : List (List ℕ)) → AreAll input lines → AreFirst input lines
+AreFirst-all None lines all = tt
+AreFirst-all (Some bytes) lines all = ([], all ∙ sym (append-nil lines))
+
+-- all is a beginning
+truth_begun : (rules : Rules) (source : Change SourceState) (sink : Change SinkState) (result : Result Summary LinesFault) → IsTrueRun rules source sink result → BeginsTruth rules source sink
+truth_begun rules source sink (Ok counts) all = record {
+  lines = all.lines;
+  output = all.output;
+  first = AreFirst-all source.before.left all.lines all.all;
+  begun = record { sent = all.output; unsent = []; parts = sym (append-nil all.output); put = all.put };
+  truth = all.truth;
+}
+truth_begun rules source sink (Err fault) some = some
+
+-- only a run that is reported whole ends well
+whole : (rules : Rules) (source : Change SourceState) (sink : Change SinkState) (result : Result Summary LinesFault) (status : ℕ) → status ≡ status_of (ending_of Ran of_lines result) → status < 2 → IsTrueRun rules source sink result → WritesTruth rules source sink status
+whole rules source sink (Ok counts) status told fine all = subst (WritesTruth rules source sink) (sym told) all
+whole rules source sink (Err lines.Read) status told fine some = absurd (omega (arith, told))
+whole rules source sink (Err lines.Write) status told fine some = absurd (omega (arith, told))
+whole rules source sink (Err (lines.Memory lacking)) status told fine some = absurd (omega (arith, told))
+
+truthful : (setup : SetupState) → IsTruthful (rules_of setup)
+truthful setup = λ b ending allowed. allowed.0
+
+truthful_certifying : (setup : SetupState) → ProvesTruly (certifying_rules_of setup)
+truthful_certifying setup b outcome allowed = allowed.0
+
+module _ (source : Change SourceState) (sink : Change SinkState) (ending : Ending) (status : ℕ) (told : status ≡ status_of ending) where
+  solved : (setup : SetupState) → EndsRun (Solves source setup) sink ending → BeginsTruth (rules_of setup) source sink × (status < 2 → WritesTruth (rules_of setup) source sink status)
+  solved setup ended =
+      let rules = rules_of setup in
+      let first = from_to sink.before ended.between in
+      let result = ended.run.0 in
+      let ran = run_true rules (truthful setup) source first result ended.run.1 in
+      let last = from_to ended.between sink.after in
+      let kept = behind_none ended.ran last ending ended.flush in (
+        BeginsTruth-kept rules source sink.before ended.between sink.after (truth_begun rules source first result ran) kept,
+        λ fine.
+            let is = status_ran ended.ran last ending status ended.flush told (λ three. omega (arith, fine, three)) ∙ ap status_of ended.run.2 in
+            WritesTruth-kept rules source sink.before ended.between sink.after status (whole rules source first result status is fine ran) kept,
+      )
+
+-- ---- a certificate
+
+answered : (split : Split) (rules : ProofRules) → ProvesTruly rules → (source : Change SourceState) (sink : Change SinkState) (result : Result ℕ CertifyFault) (status : ℕ) → status ≡ status_of (ending_of Answered of_certify result) → status < 2 → Replies split rules source sink result → WritesAnswer split rules source sink
+answered split rules truthful source sink (Ok n) status told fine replies = answer_true split rules truthful source sink (Ok n) replies
+answered split rules truthful source sink (Err certify.Read) status told fine replies = absurd (omega (arith, told))
+answered split rules truthful source sink (Err certify.Write) status told fine replies = absurd (omega (arith, told))
+answered split rules truthful source sink (Err (certify.Memory lacking)) status told fine replies = absurd (omega (arith, told))
+answered split rules truthful source sink (Err (certify.GroupsMemory wanting)) status told fine replies = absurd (omega (arith, told))
+answered split rules truthful source sink (Err certify.CertificateWrite) status told fine replies = absurd (omega (arith, told))
+
+module _ (source : Change SourceState) (sink : Change SinkState) (ending : Ending) (status : ℕ) (told : status ≡ status_of ending) where
+  certified : (setup : SetupState) → EndsRun (Certifies source setup) sink ending → status < 2 → WritesAnswer setup.tables.split (certifying_rules_of setup) source sink
+  certified setup ended fine =
+      let last = from_to ended.between sink.after in
+      let is = status_ran ended.ran last ending status ended.flush told (λ three. omega (arith, fine, three)) ∙ ap status_of ended.run.2 in
+      WritesAnswer-kept setup.tables.split (certifying_rules_of setup) source sink.before ended.between sink.after
+      (answered setup.tables.split (certifying_rules_of setup) (truthful_certifying setup) source (from_to sink.before ended.between) ended.run.0 status is fine ended.run.1)
+      (behind_none ended.ran last ending ended.flush)
+
+-- ---- a verdict
+
+-- what a verdict with this status says of the input
+abbrev Judged : ℕ → Change SinkState → List ℕ → Type 0
+Judged status sink input = WritesVerdict sink input × (status ≡ 0 → StatesTruth input) × (status ≡ 5 → (code : List ℕ) × IsRefusedBy input code)
+
+-- where a plan is stated, it leads, and its cost is the least
+stated_plan : (plan : Option (List Move)) (P : List Move → Type 0) (L : Type 0) → IfSome plan P → (IsSome plan → L) → IfSome plan (λ moves. P moves × L)
+stated_plan None P L leads least = tt
+stated_plan (Some moves) P L leads least = (leads, least refl)
+
+verdict_judged : (read : Result Statement ReadFault) (sink : Change SinkState) (input : List ℕ) (output : Output) (status : ℕ) → Tells read input → IsVerdict read output → status ≡ output.status → WritesVerdict sink input → Judged status sink input
+verdict_judged (Ok c) sink input output status tells (tables, built, inl accepted) is written = (
+  written,
+  λ zero. (c, spelled_read input c tells, accepted.below, stated_plan c.plan (λ plan. Leads c.costs c.start plan c.goal c.cost) (IsLeast c.costs c.start c.goal c.cost) accepted.proved.plan accepted.least),
+  λ five. let given = ap (λ (o : Output). o.status) accepted.written in absurd (omega (arith, is, five, given)),
+)
+verdict_judged (Ok c) sink input output status tells (tables, built, inr (refusal, first, refused)) is written = (
+  written,
+  λ zero. let given = ap (λ (o : Output). o.status) refused in absurd (omega (arith, is, zero, given)),
+  λ five. (refusal_code refusal, inr (c, tables, refusal, spelled_read input c tells, built, first, refl)),
+)
+verdict_judged (Err (Format fault)) sink input output status tells refused is written = (
+  written,
+  λ zero. let given = ap (λ (o : Output). o.status) refused in absurd (omega (arith, is, zero, given)),
+  λ five. (format_code fault, inl (fault, tells, refl)),
+)
+verdict_judged (Err Failed) sink input output status tells never is written = absurd never
+verdict_judged (Err (NoMemoryToRead refused)) sink input output status tells never is written = absurd never
+
+known : (input : Option (List ℕ)) (read : Result Statement ReadFault) (sink : Change SinkState) (output : Output) (status : ℕ) → IfSome input (Tells read) → IsVerdict read output → status ≡ output.status → IfSome input (WritesVerdict sink) → IfSome input (Judged status sink)
+known None read sink output status tells verdict is written = tt
+known (Some input) read sink output status tells verdict is written = verdict_judged read sink input output status tells verdict is written
+
+judged : (source : Change SourceState) (sink : Change SinkState) (result : Result ℕ CheckFault) (status : ℕ) → status ≡ status_of (ending_of Answered of_check result) → (status ≡ 0) ⊎ (status ≡ 5) → Checks source sink result → IfSome source.before.left (Judged status sink)
+judged source sink (Ok n) status told well checks =
+    let output = checks.2.0 in
+    known source.before.left checks.0 sink output status checks.1.tells checks.2.1 (told ∙ checks.2.3) (check_true source sink (Ok n) checks)
+judged source sink (Err check.CertificateRead) status told (inl zero) checks = absurd (omega (arith, told, zero))
+judged source sink (Err check.CertificateRead) status told (inr five) checks = absurd (omega (arith, told, five))
+judged source sink (Err (check.CertificateMemory refused)) status told (inl zero) checks = absurd (omega (arith, told, zero))
+judged source sink (Err (check.CertificateMemory refused)) status told (inr five) checks = absurd (omega (arith, told, five))
+judged source sink (Err check.Write) status told (inl zero) checks = absurd (omega (arith, told, zero))
+judged source sink (Err check.Write) status told (inr five) checks = absurd (omega (arith, told, five))
+judged source sink (Err (check.Memory lacking)) status told (inl zero) checks = absurd (omega (arith, told, zero))
+judged source sink (Err (check.Memory lacking)) status told (inr five) checks = absurd (omega (arith, told, five))
+
+Judged-kept : (input : Option (List ℕ)) (a b c : SinkState) (status : ℕ) → ((status ≡ 0) ⊎ (status ≡ 5) → IfSome input (Judged status (from_to a b))) → PutsNone (from_to b c) → IfSome input (JudgesTruly status (from_to a c))
+Judged-kept None a b c status all kept = tt
+Judged-kept (Some input) a b c status all kept = record {
+  verdict = λ well. WritesVerdict-kept a b c input (all well).0 kept;
+  accepted = λ zero. (all (inl zero)).1 zero;
+  refused = λ five. (all (inr five)).2 five;
+}
+
+other_than_3 : (status : ℕ) → (status ≡ 0) ⊎ (status ≡ 5) → status ≢ 3
+other_than_3 status (inl zero) three = absurd (omega (arith, zero, three))
+other_than_3 status (inr five) three = absurd (omega (arith, five, three))
+
+module _ (source : Change SourceState) (sink : Change SinkState) (ending : Ending) (status : ℕ) (told : status ≡ status_of ending) where
+  checked : EndsRun (Judges source) sink ending → IfSome source.before.left (JudgesTruly status sink)
+  checked ended =
+      let last = from_to ended.between sink.after in
+      Judged-kept source.before.left sink.before ended.between sink.after status
+      (λ well. judged source (from_to sink.before ended.between) ended.run.0 status (status_ran ended.ran last ending status ended.flush told (other_than_3 status well) ∙ ap status_of ended.run.2) well ended.run.1)
+      (behind_none ended.ran last ending ended.flush)
+
+-- ---- an upgrade
+
+upgraded_by : (source : Change SourceState) (sink : Change SinkState) (result : Result ℕ UpgradeFault) (status : ℕ) → status ≡ status_of (ending_of Answered of_upgrade result) → (status ≡ 0) ⊎ (status ≡ 5) → IsTrueUpgrade source sink result → IfSome source.before.left (WritesUpgrade sink status)
+upgraded_by source sink (Ok n) status told well truth = subst (λ (k : ℕ). IfSome source.before.left (WritesUpgrade sink k)) (sym told) truth
+upgraded_by source sink (Err upgrade.CertificateRead) status told (inl zero) truth = absurd (omega (arith, told, zero))
+upgraded_by source sink (Err upgrade.CertificateRead) status told (inr five) truth = absurd (omega (arith, told, five))
+upgraded_by source sink (Err (upgrade.CertificateMemory refused)) status told (inl zero) truth = absurd (omega (arith, told, zero))
+upgraded_by source sink (Err (upgrade.CertificateMemory refused)) status told (inr five) truth = absurd (omega (arith, told, five))
+upgraded_by source sink (Err upgrade.CertificateWrite) status told (inl zero) truth = absurd (omega (arith, told, zero))
+upgraded_by source sink (Err upgrade.CertificateWrite) status told (inr five) truth = absurd (omega (arith, told, five))
+
+Upgraded-kept : (input : Option (List ℕ)) (a b c : SinkState) (status : ℕ) → ((status ≡ 0) ⊎ (status ≡ 5) → IfSome input (WritesUpgrade (from_to a b) status)) → PutsNone (from_to b c) → IfSome input (UpgradesTruly status (from_to a c))
+Upgraded-kept None a b c status all kept = tt
+Upgraded-kept (Some input) a b c status all kept = λ well. WritesUpgrade-kept a b c status input (all well) kept
+
+module _ (source : Change SourceState) (sink : Change SinkState) (ending : Ending) (status : ℕ) (told : status ≡ status_of ending) where
+  rewritten : EndsRun (Rewrites source) sink ending → IfSome source.before.left (UpgradesTruly status sink)
+  rewritten ended =
+      let last = from_to ended.between sink.after in
+      let first = from_to sink.before ended.between in
+      Upgraded-kept source.before.left sink.before ended.between sink.after status
+      (λ well. upgraded_by source first ended.run.0 status (status_ran ended.ran last ending status ended.flush told (other_than_3 status well) ∙ ap status_of ended.run.2) well (upgrade_true source first ended.run.0 ended.run.1))
+      (behind_none ended.ran last ending ended.flush)
+
+-- ---- a replay, and a text
+
+stepped : (jobs : Jobs) (source : Change SourceState) (sink : Change SinkState) (result : Result ℕ LinesFault) (status : ℕ) → status ≡ status_of (ending_of Answered of_lines result) → status < 2 → Replays jobs source sink result → WritesReplay jobs source sink status
+stepped jobs source sink (Ok n) status told fine replays = subst (WritesReplay jobs source sink) (sym told) replays.0
+stepped jobs source sink (Err lines.Read) status told fine replays = absurd (omega (arith, told))
+stepped jobs source sink (Err lines.Write) status told fine replays = absurd (omega (arith, told))
+stepped jobs source sink (Err (lines.Memory lacking)) status told fine replays = absurd (omega (arith, told))
+
+put_text : (text : List ℕ) (sink : Change SinkState) (result : Result (Unit {0}) WriteFailed) (status : ℕ) → status ≡ status_of (ending_of (λ done. Shown) (λ failed. Write) result) → status ≡ 0 → Writes sink text result → Puts sink text
+put_text text sink (Ok done) status told zero writes = writes.0
+put_text text sink (Err failed) status told zero writes = absurd (omega (arith, told, zero))
+
+module _ (source : Change SourceState) (sink : Change SinkState) (ending : Ending) (status : ℕ) (told : status ≡ status_of ending) where
+  replayed : (setup : SetupState) → EndsRun (TakesSteps source setup) sink ending → status < 2 → WritesReplay (setup_jobs setup) source sink status
+  replayed setup ended fine =
+      let last = from_to ended.between sink.after in
+      let is = status_ran ended.ran last ending status ended.flush told (λ three. omega (arith, fine, three)) ∙ ap status_of ended.run.2 in
+      WritesReplay-kept (setup_jobs setup) source sink.before ended.between sink.after status
+      (stepped (setup_jobs setup) source (from_to sink.before ended.between) ended.run.0 status is fine ended.run.1)
+      (behind_none ended.ran last ending ended.flush)
+
+  shown : (text : List ℕ) → EndsRun (Shows text) sink ending → status ≡ 0 → Puts sink text
+  shown text ended zero =
+      let last = from_to ended.between sink.after in
+      let is = status_ran ended.ran last ending status ended.flush told (λ three. omega (arith, zero, three)) ∙ ap status_of ended.run.2 in
+      Appends-kept sink.before.contents ended.between.contents sink.after.contents text (put_text text (from_to sink.before ended.between) ended.run.0 status is zero ended.run.1) (behind_none ended.ran last ending ended.flush)
+
+  -- ---- what words ask for
+
+  request_true : (request : Request) → EndsRequest request source sink ending → IsTrueOf request status source sink ⊎ (OutOfMemory × (status ≡ 4) × IsUnused source sink)
+  request_true (Solve o) (inl (setup, is, run)) = let all = solved source sink ending status told setup run in inl (setup, is, all.0, all.1)
+  request_true (Solve o) (inr (lacking, unused, is)) = inr (lacking, told ∙ ap status_of is, unused)
+  request_true (Certify o) (inl (setup, is, run)) = inl (setup, is, certified source sink ending status told setup run)
+  request_true (Certify o) (inr (lacking, unused, is)) = inr (lacking, told ∙ ap status_of is, unused)
+  request_true Check run = inl (checked source sink ending status told run)
+  request_true Upgrade run = inl (rewritten source sink ending status told run)
+  request_true (Replay o) (inl (setup, is, run)) = inl (setup, is, replayed setup run)
+  request_true (Replay o) (inr (lacking, unused, is)) = inr (lacking, told ∙ ap status_of is, unused)
+  request_true (Help text) (unread, run) = inl (shown (string_bytes text) run)
+  request_true (Version text) (unread, run) = inl (shown (string_bytes text) run)
+
+  pub words_true : (words : List Text) → EndsBy words source sink ending → IsTrueBy words status source sink
+  words_true words (inl (request, asks, ends)) = inl (request, asks, request_true request ends)
+  words_true words (inr (refusal, fails, unused, is)) = inr (refusal, fails, told ∙ ap status_of is, unused)
+
+  -- ---- no words
+
+  -- a batch of a default setup was run, or memory was refused for its groups or tables
+  abbrev BatchOrNone : Type 0
+  BatchOrNone = ((¬ HasNotBegun ending) × IsTrue status source sink) ⊎ (HasNotBegun ending × OutOfMemory × (status ≡ 4))
+
+  solve_begun : (setup : SetupState) → EndsRun (Solves source setup) sink ending → ¬ HasNotBegun ending
+  solve_begun setup ended not_begun =
+      let ran : ¬ HasNotBegun ended.ran = λ early. begun_run Ran of_lines ended.run.0 (λ counts never. never) (subst HasNotBegun ended.run.2 early) in
+      begun_flushed ended.ran ended.flush.0 ran (subst HasNotBegun ended.flush.2 not_begun)
+
+  default_true : (request : Request) → WordsAsk [] request → EndsRequest request source sink ending → BatchOrNone
+  default_true (Solve o) defaults (inl (setup, is, run)) =
+      let all = solved source sink ending status told setup run in
+      inl (solve_begun setup run, (setup, default_setup o setup defaults is, all.0, all.1))
+  default_true (Solve o) defaults (inr (lacking, unused, is)) = inr (subst HasNotBegun (sym is) tt, lacking, told ∙ ap status_of is)
+  default_true (Certify o) never ends = absurd never
+  default_true Check never ends = absurd never
+  default_true Upgrade never ends = absurd never
+  default_true (Replay o) never ends = absurd never
+  default_true (Help text) never ends = absurd never
+  default_true (Version text) never ends = absurd never
+
+  default_refused : (refusal : NoRequest) → WordsFail [] refusal → ending ≡ Refused refusal → BatchOrNone
+  default_refused (Usage text) never is = absurd never
+  default_refused (Goal fault) never is = absurd never
+  default_refused (Costs fault) never is = absurd never
+  default_refused (Groups (groups.NoGroup fault)) never is = absurd never
+  default_refused (Groups (groups.NoPartition fault)) never is = absurd never
+  default_refused (Groups (groups.Memory lacking)) refused is = inr (subst HasNotBegun (sym is) tt, lacking, told ∙ ap status_of is)
+  default_refused Memory never is = absurd never
+
+  none_true : EndsBy [] source sink ending → BatchOrNone
+  none_true (inl (request, asks, ends)) = default_true request asks ends
+  none_true (inr (refusal, fails, unused, is)) = default_refused refusal fails is
+
+  -- the program's clause of a batch: what was done to the streams is told apart by whether the run has begun
+  pub batch_true : {Flushed Unread Unwritten : Type 0} → (words : List Text) → words ≡ [] → EndsBy words source sink ending → Flushed ⊎ HasNotBegun ending → (HasNotBegun ending → Unread × Unwritten) → (Flushed × IsTrue status source sink) ⊎ (OutOfMemory × (status ≡ 4) × Unread × Unwritten)
+  batch_true words none ends flushed unused = by_batch (none_true (subst (λ (w : List Text). EndsBy w source sink ending) none ends)) flushed unused
+    where
+      by_batch : {Flushed Unread Unwritten : Type 0} → BatchOrNone → Flushed ⊎ HasNotBegun ending → (HasNotBegun ending → Unread × Unwritten) → (Flushed × IsTrue status source sink) ⊎ (OutOfMemory × (status ≡ 4) × Unread × Unwritten)
+      by_batch (inl (begun, all)) (inl flushed) unused = inl (flushed, all)
+      by_batch (inl (begun, all)) (inr idle) unused = absurd (begun idle)
+      by_batch (inr (idle, lacking, four)) flushed unused = let kept = unused idle in inr (lacking, four, kept.0, kept.1)

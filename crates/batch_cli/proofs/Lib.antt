@@ -1,2 +1,1 @@
-pub mod TruthLemmas
 pub mod LawLemmas

@@ -1,3 +1,2 @@
 pub mod RefusalLemmas
 pub mod RowLemmas
-pub mod SuccessorLemmas

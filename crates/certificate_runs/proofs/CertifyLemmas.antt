@@ -22,12 +22,12 @@ use Rattle.database_build.specs.declared.table.TheConstants.{NO_VALUE}
 use Rattle.database_build.specs.Values.{IsPotential}
 use Rattle.database_build.specs.Tables.{Lookup, HoldsValues, value_in}
 use Rattle.database_build.specs.Folds.{Fold}
-use Rattle.database_build.proofs.PotentialLemmas.{potential_below, values_potential}
+use Rattle.database_build.proofs.FoldLemmas.{potential_below, values_potential}
 use Rattle.lower_bound.specs.declared.bound.TheConstants.{GREATEST_SUM}
 use Rattle.lower_bound.specs.Bounds.{Part, sum_of}
 use Rattle.lower_bound.specs.Folded.{AreFoldsOf, IsFoldedPotential, folded_parts, part_folded, value_for}
 use Rattle.lower_bound.specs.Tables.{Tables, IsTables, AreTablesOf, ArePotentials, AreWhole, part_of, parts_of}
-use Rattle.lower_bound.proofs.WholeLemmas.{each_lookup, table_grids, whole_each, whole_parts, all_folded_parts}
+use Rattle.lower_bound.proofs.PartLemmas.{each_lookup, table_grids, whole_each, whole_parts, all_folded_parts}
 use Rattle.byte_streams.specs.Streams.{SourceState, SinkState, Change}
 use Rattle.batch_lines.specs.Lines.{without_return}
 use Rattle.batch_lines.specs.Readings.{IsJudged}

@@ -1,9 +1,9 @@
 -- What was written for a line, or of a certificate, is true.
-use Rattle.std.proofs.Common.{ℕ, ◌≡◌, Option, None, Some, Vec, ap, ◌⊎◌, inl, inr, true, ◌<◌, ◌+◌, List, [], ◌∷◌, ◌++◌, All, length, refl, sym, ◌∙◌, arith, length-append, ◌≢◌, suc, ◌^◌, Bool, false, cond, Result, Ok, Err, subst, append-nil, get_or, not, slice_get}
+use Rattle.std.proofs.Common.{ℕ, ◌≡◌, List, Option, None, Some, Vec, inl, inr, Ok, Err, refl, sym, subst, arith, ap, ◌⊎◌, true, ◌<◌, ◌+◌, [], ◌∷◌, ◌++◌, All, length, ◌∙◌, length-append, ◌≢◌, suc, ◌^◌, Bool, false, cond, Result, append-nil, get_or, not, slice_get}
 use Rattle.std.specs.declared.alloc.Global.{Global}
 use Rattle.std.proofs.KnownBytes.{Consumes-trans, Appends-nil, Keeps-refl}
 use Rattle.std.proofs.lemmas.List.Elements.{All-nil, All-cons, All-append, recursion_from_All}
-use Rattle.std.specs.Prelude.{◌≤◌, IfSome, IsSome, codes, nat_lt}
+use Rattle.std.specs.Prelude.{◌↔◌, IsSome, ◌≤◌, IfSome, codes, nat_lt}
 use Rattle.std.specs.List.{AllByRecursion}
 use Rattle.std.proofs.lemmas.Bool.{ne_eqb}
 use Rattle.serde_json.specs.Data.{Data, null, boolean, number, string, array, object}
@@ -15,9 +15,8 @@ use Rattle.board.specs.CostRules.{CostRule}
 use Rattle.board.specs.Plans.{Leads, NothingBelow, IsLeast}
 use Rattle.outcomes.specs.declared.outcome.Cause.{Cause}
 use Rattle.outcomes.specs.declared.outcome.Ending.{Ending}
-use Rattle.outcomes.specs.declared.outcome.Ending.TheVariants.{Optimal, Unsolvable, Bounded}
+use Rattle.outcomes.specs.declared.outcome.Ending.TheVariants.{Bounded, Optimal, Unsolvable}
 use Rattle.outcomes.specs.declared.outcome.Outcome.{Outcome}
-use Rattle.outcomes.specs.declared.outcome.Outcome.TheVariants as outcome
 use Rattle.outcomes.specs.declared.outcome.Why.TheVariants.{Exhausted}
 use Rattle.outcomes.specs.Endings.{EndAnswers, without_rows}
 use Rattle.outcomes.specs.Outcomes.{Answers, Task}
@@ -29,9 +28,9 @@ use Rattle.byte_streams.specs.Sink.{Puts, PutsNone}
 use Rattle.batch_lines.specs.Readings.{TakesKnown, TakesNoLine, CountsKnown, Stops, IsJudged}
 use Rattle.batch_lines.specs.declared.lines.TheConstants.{INPUT_LIMIT, LINE_LIMIT}
 use Rattle.batch_lines.specs.declared.lines.LineKind.{LineKind}
-use Rattle.batch_lines.specs.declared.lines.LineKind.TheVariants.{PassedOver, Within, TooLong}
+use Rattle.batch_lines.specs.declared.lines.LineKind.TheVariants.{PassedOver, TooLong, Within}
 use Rattle.batch_lines.specs.Words.{entry_code}
-use Rattle.batch_lines.specs.Lines.{lines_of, onto_first, without_return, is_passed_over, kind_of}
+use Rattle.batch_lines.specs.Lines.{kind_of, without_return, lines_of, onto_first, is_passed_over}
 use Rattle.reports.specs.Reports.{outcome_data, refused_data, refused_certificate_data, report_text}
 use Rattle.reports.specs.Readings.{AreSmall, HasStatus, IsReport, IsSmall, SaysNumber}
 use Rattle.reports.specs.Readings.IsReport.{of_outcome, of_line, of_cost, of_bound, of_certificate}
@@ -45,15 +44,15 @@ use Rattle.certificate.specs.declared.faults.ReadFault.{ReadFault}
 use Rattle.certificate.specs.declared.faults.ReadFault.TheVariants.{Format, Failed, NoMemory}
 use Rattle.certificate.proofs.LawLemmas.{spelled_read}
 use Rattle.certificate_check.specs.Refusals.{ItsPlanLeads, refusal_code}
-use Rattle.batch_runs.specs.Batches.{AreRead, TakesSome, IsTooLong, Rules, IsTruthful, Answer, AnswersEntry, AnswersKind, AnswersLine, AnswersLines, AreAll, AreFirst, answer_text, answers_text}
+use Rattle.batch_runs.specs.Batches.{AnswersEntry, AnswersKind, AnswersLine, AreRead, TakesSome, IsTooLong, Rules, IsTruthful, Answer, AnswersLines, AreAll, AreFirst, answer_text, answers_text}
 use Rattle.batch_runs.proofs.BatchLemmas.{AreRead-more, AreFirst-read}
-use Rattle.batch_runs.specs.Batches.AnswersEntry.{by_fault, by_outcome, by_want}
-use Rattle.batch_runs.specs.Batches.Answer.{passed_over}
-use Rattle.batch_runs.specs.Meanings.{IsReply, Names, asks, questions}
+use Rattle.batch_runs.specs.Batches.AnswersEntry.{by_outcome, by_fault, by_want}
+use Rattle.batch_runs.specs.Batches.Answer.{answered, passed_over}
+use Rattle.batch_runs.specs.Meanings.{Names, IsReply, asks, questions}
 use Rattle.batch_runs.specs.Headline.{TellsTheTruth}
-use Rattle.batch_runs.proofs.TruthLemmas.{truth}
-use Rattle.certificate_runs.specs.Rules.{rows_of, MayReport, ProofRules, ProvesTruly, report_rules}
-use Rattle.certificate_runs.specs.Certifying.{IsPassedOver, IsUncertified, NeedsReport, IsCertificateOf, FindsFirst, PassesAll, RepliesTo, Replies, first_line}
+use Rattle.batch_runs.proofs.TruthLemmas.{same_name, truth}
+use Rattle.certificate_runs.specs.Rules.{ProofRules, report_rules, rows_of, MayReport, ProvesTruly}
+use Rattle.certificate_runs.specs.Certifying.{claim_status, IsPassedOver, IsUncertified, NeedsReport, IsCertificateOf, FindsFirst, PassesAll, RepliesTo, Replies, first_line}
 use Rattle.certificate_runs.specs.Outputs.{Output, IsUntouched}
 use Rattle.certificate_runs.specs.declared.faults.CertifyFault.{CertifyFault}
 use Rattle.certificate_runs.specs.declared.faults.CheckFault.{CheckFault}
@@ -63,6 +62,10 @@ use Rattle.certificate_runs.specs.Upgrading.{EndsUpgrade, Upgrades}
 use Rattle.certificate_runs.specs.Checking.{claim_data, IsJudgement, IsVerdict, Checks}
 use Rattle.certificate_runs.specs.Headline.{BoundsLackRows, CertifiesTruly, ClaimsTruly, AnswersFirst, WritesAnswer, IsTrueAnswer, IsRefusedBy, SaysOf, IsTrueVerdict, WritesVerdict, IsTrueCheck, WritesUpgrade, IsTrueUpgrade}
 use Rattle.certificate_runs.specs.Headline.AnswersFirst.{by_none, by_certificate, by_report}
+use Rattle.certificate_runs.specs.Laws.{CertificatesAreOfOutcomes, WantsAreOfRules, GroupsAreWantedForRows, SaidBoundsLackRows, OutcomesWithRowsAreCertified, ReportedBoundsLackRows, BoundsAreCertified, ClaimsAreOfEndings, LeastPlansAreCertified, StatusesTellClaims, OtherFaultsLeaveTheSink, OtherFaultsWriteNoVerdict, VerdictsAreOnWhatWasRead, WantsAreForVerdicts}
+use Rattle.outcomes.specs.declared.outcome.Outcome.TheVariants as outcome
+use Rattle.certificate_runs.specs.declared.faults.CertifyFault.TheVariants as certify
+use Rattle.certificate_runs.specs.declared.faults.CheckFault.TheVariants as check
 
 -- ---- outcomes without rows
 
@@ -441,3 +444,92 @@ module _ (sink : Change SinkState) (status : ℕ) where
 pub upgrade_true : (source : Change SourceState) (sink : Change SinkState) (result : Result ℕ UpgradeFault) → Upgrades source sink result → IsTrueUpgrade source sink result
 upgrade_true source sink (Ok status) (read, reads, ends) = upgrade_known sink status source.before.left read reads.tells ends
 upgrade_true source sink (Err fault) upgrades = tt
+
+-- ---- What faults leave.
+
+pub left : (rules : ProofRules) → OtherFaultsLeaveTheSink rules
+left rules split source sink certify.Read other others replies = replies.1.1
+left rules split source sink certify.Write other others replies = absurd (other refl)
+left rules split source sink (certify.Memory lacking) other others replies = replies.1.2
+left rules split source sink (certify.GroupsMemory wanting) other others replies = replies.1.2
+left rules split source sink certify.CertificateWrite other others replies = absurd (others refl)
+
+pub no_verdict : OtherFaultsWriteNoVerdict
+no_verdict source sink check.CertificateRead other checks = checks.2.1
+no_verdict source sink (check.CertificateMemory refused) other checks = checks.2.1
+no_verdict source sink check.Write other checks = absurd (other refl)
+no_verdict source sink (check.Memory lacking) other checks = checks.2.1
+
+pub certified : LeastPlansAreCertified
+certified id cost plan none = none
+
+pub bounds_certified : BoundsAreCertified
+bounds_certified id bound best cause alone = alone
+
+-- a line to be read whose board is reported as bounded
+entry_bounded : (rules : ProofRules) (line id : List ℕ) (bound : ℕ) (best : Option (ℕ × Vec Move Global)) (cause : Cause) → kind_of line ≡ Within → AnswersEntry (report_rules rules) (without_return line) (answered id (Bounded bound best cause)) → (b : Position) × Names rules.grid line id b × rules.allows b (Some (outcome.Bounded bound best cause None))
+entry_bounded rules line id bound best cause within (by_outcome name b ending entry (given, allowed, says, none) small) =
+    (b, (within, entry), subst (λ (o : Outcome). rules.allows b (Some o)) (lone_bound given bound best cause says none) allowed)
+
+-- only such a line is answered by an ending
+entry_answered : (rules : ProofRules) (line id : List ℕ) (ending : Ending) → AnswersLine (report_rules rules) line (answered id ending) → (kind_of line ≡ Within) × AnswersEntry (report_rules rules) (without_return line) (answered id ending)
+entry_answered rules line id ending is = by_kind (kind_of line) refl
+  where
+    answers_as : (kind : LineKind) → kind_of line ≡ kind → AnswersKind (report_rules rules) kind (without_return line) (answered id ending)
+    answers_as kind e = subst (λ (k : LineKind). AnswersKind (report_rules rules) k (without_return line) (answered id ending)) e is
+
+    by_kind : (kind : LineKind) → kind_of line ≡ kind → (kind_of line ≡ Within) × AnswersEntry (report_rules rules) (without_return line) (answered id ending)
+    by_kind PassedOver over = let told = answers_as PassedOver over in absurd (cc)
+    by_kind TooLong long = let told = answers_as TooLong long in absurd (cc)
+    by_kind Within within = (within, answers_as Within within)
+
+pub reported_lack : (rules : ProofRules) → ReportedBoundsLackRows rules
+reported_lack rules line id bound best cause is =
+    let answers = entry_answered rules line id (Bounded bound best cause) is in
+    entry_bounded rules line id bound best cause answers.0 answers.1
+
+-- of a board whose outcomes all have rows nothing is reported
+none_reported : (rules : ProofRules) (line id name : List ℕ) (b : Position) (ending : Ending) → Names rules.grid line id b → ((given : Outcome) → rules.allows b (Some given) → IsSome (rows_of given)) → ¬ AnswersEntry (report_rules rules) (without_return line) (answered name ending)
+none_reported rules line id name b ending names all (by_outcome other b' told entry (given, allowed, says, none) small) =
+    let same = same_name rules.grid line id other b b' names (names.0, entry) in
+    let has = subst (λ (rows : Option (List (Position × ℕ))). IsSome rows) none (all given (subst (λ (p : Position). rules.allows p (Some given)) same.1 allowed)) in
+    absurd (cc)
+
+pub all_certified : (rules : ProofRules) → OutcomesWithRowsAreCertified rules
+all_certified rules line id name b ending names all is =
+    none_reported rules line id name b ending names all (entry_answered rules line name ending is).1
+
+pub claims_of_endings : ClaimsAreOfEndings
+claims_of_endings = ((λ c cost plan claims. claims), (λ c why claims. claims), (λ c bound best cause claims. claims))
+
+pub statuses_tell : StatusesTellClaims
+statuses_tell c = by_plan c.plan refl
+  where
+    by_plan : (plan : Option (List Move)) → c.plan ≡ plan → ((claim_status c.plan ≡ 0) ↔ IsSome c.plan) × ((claim_status c.plan ≡ 1) ↔ (c.plan ≡ None))
+    by_plan (Some plan) is = subst (λ (o : Option (List Move)). ((claim_status o ≡ 0) ↔ IsSome o) × ((claim_status o ≡ 1) ↔ (o ≡ None))) (sym is) (((λ e. refl), (λ e. refl)), ((λ e. absurd (omega (arith, e))), (λ e. absurd (cc))))
+    by_plan None is = subst (λ (o : Option (List Move)). ((claim_status o ≡ 0) ↔ IsSome o) × ((claim_status o ≡ 1) ↔ (o ≡ None))) (sym is) (((λ e. absurd (omega (arith, e))), (λ e. absurd (cc))), ((λ e. refl), (λ e. refl)))
+
+pub on_what_was_read : VerdictsAreOnWhatWasRead
+on_what_was_read (Ok c) output verdict = inl (c, refl)
+on_what_was_read (Err (Format fault)) output verdict = inr (fault, refl)
+on_what_was_read (Err Failed) output verdict = absurd verdict
+on_what_was_read (Err (NoMemory refused)) output verdict = absurd verdict
+
+pub for_verdicts : WantsAreForVerdicts
+for_verdicts (Ok c) sink lacking ends = inl (c, refl)
+for_verdicts (Err (Format fault)) sink lacking ends = inr (fault, refl)
+for_verdicts (Err Failed) sink lacking ends = absurd ends.0
+for_verdicts (Err (NoMemory refused)) sink lacking ends = absurd ends.0
+
+-- what is certified is what an outcome says
+pub of_outcomes : (rules : ProofRules) → CertificatesAreOfOutcomes rules
+of_outcomes rules split bytes c (id, b, given, entry, allowed, claims, rows, of) = (id, b, given, entry, allowed, claims, rows)
+
+pub wants_of_rules : (rules : ProofRules) → WantsAreOfRules rules
+wants_of_rules rules b may = may
+
+pub groups_wanted : (rules : ProofRules) → GroupsAreWantedForRows rules
+groups_wanted rules line bytes wanting lacks = lacks.1
+
+pub bounds_lack : (rules : ProofRules) → SaidBoundsLackRows rules
+bounds_lack rules line output d lacks reply bounded = lacks d reply bounded

@@ -1,3 +1,2 @@
 pub mod CertifyLemmas
 pub mod HeadlineLemmas
-pub mod LawLemmas

@@ -1,3 +1,1 @@
-pub mod CertificateLemmas
 pub mod OutcomeLemmas
-pub mod TableLemmas

@@ -1,24 +1,44 @@
 -- Outcomes whose plans the checker gives back, and those that name no least plan.
-use Rattle.std.proofs.Common.{◌≡◌, ◌≢◌, ℕ, Vec, Result, Ok, Err, refl, ap, subst, inl, inr}
-use Rattle.std.specs.Prelude.{◌↔◌, IfSome}
+use Rattle.std.proofs.Common.{◌≡◌, ℕ, ◌<◌, ◌^◌, List, Vec, length, Some, refl, ◌≤◌, [], ◌∷◌, map, sym, ap, ◌∙◌, arith, ◌≢◌, Result, Ok, Err, subst, inl, inr}
+use Rattle.std.specs.Prelude.{All, ◌↔◌, IfSome}
 use Rattle.std.specs.Result.{IsErrOf}
 use Rattle.std.specs.declared.alloc.Global.{Global}
 use Rattle.board.specs.declared.moves.Move.{Move}
-use Rattle.board.specs.Positions.{Position}
+use Rattle.board.specs.Positions.{Position, IsBoard}
 use Rattle.outcomes.specs.declared.outcome.Outcome.{Outcome}
 use Rattle.outcomes.specs.declared.outcome.Outcome.TheVariants.{Optimal, Unsolvable, Bounded}
-use Rattle.lower_bound.specs.Tables.{Tables}
+use Rattle.lower_bound.specs.Tables.{Tables, IsTables, part_of}
 use Rattle.world_model.specs.Outcomes.{End, IsBoundOf, IsFollowedBack, AreRowsFor, IsGiven}
 use Rattle.world_model.specs.Worlds.{WorldState}
-use Rattle.certificate.specs.Certificates.{Statement}
+use Rattle.certificate.specs.Certificates.{AreCostsOf, IsCertificate, Statement}
 use Rattle.certificate_check.specs.declared.refusals.Refusal.{Refusal}
-use Rattle.hda_run.specs.Problems.{Problem}
+use Rattle.hda_run.specs.Problems.{Problem, task_in}
 use Rattle.thread_runs.specs.Solved.{IsSolved}
-use Rattle.checked_runs.specs.Certificates.{certificate_in}
+use Rattle.checked_runs.specs.Certificates.{certificate_in, AreAsGood}
 use Rattle.checked_runs.specs.Checked.{IsProvedWith, IsCheckedRun, IsRefusedRun}
-use Rattle.checked_runs.specs.Laws.{CheckedRunsAreRuns}
+use Rattle.checked_runs.specs.Laws.{BoundsAreAccepted, PlansAreAccepted, TablesFoldedFromAreAsGood, CheckedRunsAreRuns}
 use Rattle.checked_runs.specs.declared.faults.CheckedFault.{CheckedFault}
 use Rattle.checked_runs.specs.declared.faults.CheckedFault.TheVariants.{WorkerCount, Memory, Refused}
+use Rattle.std.specs.List.{AllByRecursion}
+use Rattle.std.proofs.lemmas.List.Elements.{recursion_from_All}
+use Rattle.std.proofs.lemmas.List.Sums.{sum_by-cons}
+use Rattle.pattern_index.specs.Views.{view_of}
+use Rattle.pattern_index.specs.Selections.{Selection, IsSelection}
+use Rattle.database_build.specs.Tables.{Lookup}
+use Rattle.database_build.specs.Folds.{Fold}
+use Rattle.lower_bound.specs.Bounds.{Part, sum_of}
+use Rattle.lower_bound.specs.Folded.{AreFolded, folded_parts, part_folded}
+use Rattle.lower_bound.proofs.PartLemmas.{each_lookup, table_grids, whole_parts, all_folded_parts}
+use Rattle.certificate_check.proofs.RowLemmas.{proved_above, folded_below}
+use Rattle.board.specs.Grids.{Grid}
+use Rattle.board.specs.CostRules.{CostRule}
+use Rattle.board.specs.Laws.{KeysAreInOrder}
+use Rattle.outcomes.specs.Outcomes.{Answers}
+use Rattle.pattern_index.specs.Splits.{Split}
+use Rattle.world_model.specs.Shapes.{IsTask}
+use Rattle.certificate.specs.declared.certificate.Version.TheVariants.{Two}
+use Rattle.certificate.proofs.RowLemmas.{rise, rows_fit}
+use Rattle.certificate_check.specs.Refusals.{sum_in, IsProved}
 
 module _ (p : Problem) (cost cost' : ℕ) (plan plan' : Vec Move Global) (rows rows' : Vec (Position × ℕ) Global)
     (same : certificate_in p cost plan.items rows.items ≡ certificate_in p cost' plan'.items rows'.items) where
@@ -89,3 +109,86 @@ module _ {S : Type 0} (hash_of : S → Position → ℕ) where
   -- what a checked run answers, or refuses, stands on a run
   pub run_behind : CheckedRunsAreRuns hash_of
   run_behind p owners n outcome tables refusal = (behind_checked p owners n outcome, behind_refused p owners n tables refusal)
+
+-- ---- Whole tables, and those that were folded from them.
+
+module _ (b : Position) (board : IsBoard b) where
+  -- a group of the board's grid
+  abbrev Fits : Selection → Type 0
+  Fits g = IsSelection g × (g.grid ≡ b.grid)
+
+  -- what folded tables say of a board adds up to no more than what the whole ones say
+  sum_low : (tables : List Lookup) (folds : List Fold) → AreFolded tables folds → AllByRecursion (λ table. Fits table.selection) tables → sum_of (folded_parts folds) b ≤ sum_of (map part_of tables) b
+  sum_low [] [] is fits = omega arith
+  sum_low [] (f ∷ folds) is fits = absurd is
+  sum_low (t ∷ tables) [] is fits = absurd is
+  sum_low (t ∷ tables) (f ∷ folds) is fits =
+      let first = folded_below t f b is.0 board fits.0.0 fits.0.1 in
+      let rest = sum_low tables folds is.1 fits.1 in
+      let before = sum_by-cons (λ (p : Part). p.value (view_of p.tiles b)) (part_folded f) (folded_parts folds) in
+      let after = sum_by-cons (λ (p : Part). p.value (view_of p.tiles b)) (part_of t) (map part_of tables) in
+      omega (arith, first, rest, before, after)
+
+pub folded_from : TablesFoldedFromAreAsGood
+folded_from p tables is whole sides potentials folded = record {
+  groups = sym folded.split;
+  whole = whole;
+  potentials = potentials;
+  sums = λ b board same.
+      let fit : All (λ table. IsSelection table.selection × (table.selection.grid ≡ b.grid)) tables.lookups = λ k d k_in. (
+        each_lookup (λ s. IsSelection s) tables is is.partition.groups k d k_in,
+        table_grids tables is k d k_in ∙ sides ∙ sym same,
+      ) in
+      let low = sum_low b board tables.lookups p.tables.folds (folded.each whole) (recursion_from_All (λ table. IsSelection table.selection × (table.selection.grid ≡ b.grid)) tables.lookups fit) in
+      let here = ap (λ (ps : List Part). sum_of ps b) (all_folded_parts p.tables folded.none_whole) in
+      let there = ap (λ (ps : List Part). sum_of ps b) (whole_parts tables whole) in
+      omega (arith, low, here, there);
+}
+
+-- ---- The certificate of a plan that answers a problem.
+
+-- these fields are those of it
+pub stated : (p : Problem) (shape : Grid) (costs : CostRule) (groups : Split) (start goal : Position) (cost : ℕ) (plan : List Move) (rows : List (Position × ℕ)) → shape ≡ p.goal.grid → costs ≡ p.rule → groups ≡ p.tables.split → start ≡ p.start → goal ≡ p.goal
+    → record { version = Two; grid = shape; costs = costs; groups = groups; start = start; goal = goal; cost = cost; plan = Some plan; rows = rows } ≡ certificate_in p cost plan rows
+stated p shape costs groups start goal cost plan rows e1 e2 e3 e4 e5 = λ i. record { version = Two; grid = e1 i; costs = e2 i; groups = e3 i; start = e4 i; goal = e5 i; cost = cost; plan = Some plan; rows = rows }
+
+-- certificates of equal plans are equal
+pub alike : (p : Problem) (cost cost' : ℕ) (plan plan' : List Move) (rows rows' : List (Position × ℕ)) → cost ≡ cost' → Some plan ≡ Some plan' → rows ≡ rows' → certificate_in p cost plan rows ≡ certificate_in p cost' plan' rows'
+alike p cost cost' plan plan' rows rows' e1 e2 e3 = λ i. record { version = Two; grid = p.goal.grid; costs = p.rule; groups = p.tables.split; start = p.start; goal = p.goal; cost = e1 i; plan = e2 i; rows = e3 i }
+
+module _ (p : Problem) (cost : ℕ) (plan : Vec Move Global) (rows : Vec (Position × ℕ) Global) (answers : Answers (task_in p) (Optimal cost plan rows)) (task : IsTask (task_in p)) where
+  -- it is one
+  pub certificate_is : KeysAreInOrder → IsTables p.tables → p.tables.split.grid ≡ p.goal.grid → AreCostsOf p.goal.grid p.rule → length rows.items < 2 ^ 64 → IsCertificate (certificate_in p cost plan.items rows.items)
+  certificate_is order tables sides costs few = record {
+    sides = task.goal.sides;
+    costs = costs;
+    groups = record { split = tables.partition; sides = sides };
+    start = record { board = task.start; sides = task.sides };
+    goal = record { board = task.goal; sides = refl };
+    claim = tt;
+    cost = answers.3;
+    plan = answers.4;
+    count = few;
+    rows = rows_fit p.goal.grid rows.items answers.2.boards answers.2.low;
+    rising = rise order p.goal.grid rows.items answers.2.boards answers.2.rising;
+  }
+
+  -- with tables that are as good as the problem's it proves its cost
+  pub proved_with : (tables : Tables) → AreAsGood p tables → IsProved (certificate_in p cost plan.items rows.items) tables
+  proved_with tables good = record {
+    plan = answers.0;
+    fit = record { groups = good.groups; whole = good.whole; potentials = good.potentials };
+    rows = proved_above p.rule rows.items (sum_in p.tables) (sum_in tables) p.start p.goal cost task.start task.sides answers.2.boards good.sums answers.2.proves;
+  }
+
+-- so it is accepted with them
+pub plans_accepted : PlansAreAccepted
+plans_accepted p tables cost plan rows task good answers = proved_with p cost plan rows answers task tables good
+
+-- and so is the certificate of a bound
+pub bounds_accepted : BoundsAreAccepted
+bounds_accepted p tables bound best cause rows task good answers = record {
+  plan = tt;
+  fit = record { groups = good.groups; whole = good.whole; potentials = good.potentials };
+  rows = proved_above p.rule rows.items (sum_in p.tables) (sum_in tables) p.start p.goal bound task.start task.sides answers.1.boards good.sums answers.1.proves;
+}

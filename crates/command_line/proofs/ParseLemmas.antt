@@ -1,5 +1,5 @@
 -- What a parse of the words says of a command, its matches, and what they ask for.
-use Rattle.std.proofs.Common.{◌≡◌, true, refl, Bool, false, ap, ap₂, ◌∙◌, List, [], Result, Ok, Err, IfOk, IfErr, inl, ℕ, Option, None, Some, sym, option_map, ◌≢◌, codes, ◌==◌, ◌⊎◌, ◌∷◌, inr, subst, map, length}
+use Rattle.std.proofs.Common.{◌≡◌, ℕ, List, Option, None, Some, sym, ap, subst, ◌∙◌, codes, true, refl, Bool, false, ap₂, [], Result, Ok, Err, IfOk, IfErr, inl, option_map, ◌≢◌, ◌==◌, ◌⊎◌, ◌∷◌, inr, map, length}
 use Rattle.std.specs.Prelude.{◌||◌, IfSome, IsTrue, ◌↔◌, is_some, unwrap_or, Box}
 use Rattle.std.specs.Result.{IsErrAnd}
 use Rattle.std.proofs.lemmas.Bool.{true≢false}
@@ -9,7 +9,7 @@ use Rattle.std.specs.Borrow.{Bor}
 use Rattle.std.specs.Str.Parse.{digits_value, without_leading_plus}
 use Rattle.std.specs.Box.{box_value}
 use Rattle.std.proofs.lemmas.Result.{IfOk-weaker, IfErr-weaker}
-use Rattle.clap.specs.Words.{is_simple, is_simple_and_free, App, Rule, AddsArg, AddsSubcommand, app_of, rule_of, with_rule, with_subcommand, Text, FailsBy, HasKind, HasMatchesOf, fault_of, kind_of, subcommand_of, subcommand_rows_of, ReadsOne, one_text, first_of, first_value, rows_of, Row, subcommand_name_of, Kinds}
+use Rattle.clap.specs.Words.{Text, Row, first_of, is_simple, is_simple_and_free, App, Rule, AddsArg, AddsSubcommand, app_of, rule_of, with_rule, with_subcommand, FailsBy, HasKind, HasMatchesOf, fault_of, kind_of, subcommand_of, subcommand_rows_of, ReadsOne, one_text, first_value, rows_of, subcommand_name_of, Kinds}
 use Rattle.clap.proofs.OnLiterals.{clap_on_literals}
 use Rattle.clap.specs.declared.builder.arg.Arg.{Arg}
 use Rattle.clap.specs.declared.builder.command.Command.{Command}
@@ -23,10 +23,25 @@ use Rattle.clap.specs.Simple.{subcommand_rows}
 use Rattle.clap.specs.declared.parser.matches.ArgMatches.TheViews.{out-ArgMatches, out-SubCommand}
 use Rattle.clap.specs.declared.parser.matches.SubCommand.{SubCommand}
 use Rattle.command_line.specs.Commands.{Choices, program_app, AreChoices, IsProgram}
-use Rattle.command_line.specs.Requests.{HasNumber, RunFails, AsksRun, AsksText, TextFails, WordsAsk, WordsFail}
-use Rattle.command_line.specs.declared.faults.NoRequest.TheVariants.{Memory}
+use Rattle.command_line.specs.Requests.{HasNumber, HasShape, IsGoalSaid, IsGoalFault, AreCostsSaid, IsCostsFault, AreGroupsSaid, IsGroupsFault, AreOptions, OptionsFail, RunFails, AsksRun, AsksText, TextFails, WordsAsk, WordsFail}
+use Rattle.command_line.specs.declared.faults.NoRequest.TheVariants.{Usage, Goal, Costs, Groups, Memory}
 use Rattle.command_line.specs.declared.requests.Request.{Request}
 use Rattle.command_line.specs.declared.faults.NoRequest.{NoRequest}
+use Rattle.board.specs.Grids.{Grid}
+use Rattle.board.specs.Positions.{Position}
+use Rattle.board.specs.CostRules.{CostRule}
+use Rattle.board.specs.declared.faults.TilesFault.{TilesFault}
+use Rattle.board.specs.declared.faults.WeightsFault.{WeightsFault}
+use Rattle.pattern_index.specs.Splits.{Split, IsSplit}
+use Rattle.option_texts.specs.Texts.{group_texts, AreGroupsOf}
+use Rattle.option_texts.specs.Faults.{IsFirstGroupsFault}
+use Rattle.option_texts.specs.Laws.{IsRefusal}
+use Rattle.option_texts.specs.declared.faults.GroupsFault.{GroupsFault}
+use Rattle.option_texts.proofs.TextLemmas.{one_goal, no_goal_fault}
+use Rattle.option_texts.proofs.CostLemmas.{one_rule, no_costs_fault}
+use Rattle.option_texts.proofs.LawLemmas.{no_groups_fault}
+use Rattle.command_line.specs.declared.requests.Options.{Options}
+use Rattle.command_line.specs.Laws.{IsWant}
 
 -- ---- the command is one of those whose parse clap's contracts give as a function of the words
 
@@ -150,3 +165,70 @@ run_asks f given some subcommand parse result asks =
 pub run_fails : {A : Type 0} → (f : A → Text) → (given : List A) → false ≡ (length given == 0) → (subcommand : Option (Text × List Row)) → (parse : (program : App) × IsProgram program × (fault_of program (map f given) ≡ []) × (subcommand ≡ subcommand_of program (map f given))) → (result : Result Request NoRequest) → IfErr result (RunFails subcommand) → IfErr result (WordsFail (map f given))
 run_fails f given some subcommand parse result fails =
     IfErr-weaker result _ _ (λ refusal run. words_fail f given some parse.0 parse.1 refusal (inr (parse.2, subst (λ (s : Option (Text × List Row)). RunFails s refusal) parse.3 run))) fails
+
+-- ---- What options say is one thing, and has no fault.
+
+some_text : (text text' : Text) → Some text ≡ Some text' → text ≡ text'
+some_text text text' e = cc
+
+one_number : (rows : List Row) (id : Text) (n m : ℕ) → HasNumber rows id n → HasNumber rows id m → m ≡ n
+one_number rows id n m first second =
+    let same : first.text ≡ second.text = some_text first.text second.text (sym first.given ∙ second.given) in
+    second.value ∙ ap (λ (t : Text). digits_value 10 (without_leading_plus t)) (sym same) ∙ sym first.value
+
+pub one_shape : (rows : List Row) (grid grid' : Grid) → HasShape rows grid → HasShape rows grid' → grid' ≡ grid
+one_shape rows grid grid' first second =
+    let tall : grid'.rows ≡ grid.rows = one_number rows (codes "rows") grid.rows grid'.rows first.tall second.tall in
+    let wide : grid'.cols ≡ grid.cols = one_number rows (codes "cols") grid.cols grid'.cols first.wide second.wide in
+    λ i. record { rows = tall i; cols = wide i }
+
+pub one_goal_said : (grid : Grid) (text : Option Text) (goal goal' : Position) → IsGoalSaid grid text goal → IsGoalSaid grid text goal' → goal' ≡ goal
+one_goal_said grid None goal goal' first second = second ∙ sym first
+one_goal_said grid (Some text) goal goal' first second = one_goal grid text goal goal' first second
+
+pub goal_no_fault : (grid : Grid) (text : Option Text) (goal : Position) (fault : TilesFault) → IsGoalSaid grid text goal → IsGoalFault grid text fault → ⊥
+goal_no_fault grid None goal fault said never = never
+goal_no_fault grid (Some text) goal fault said first = no_goal_fault grid text goal fault said first
+
+pub one_rule_said : (grid : Grid) (text : Option Text) (rule rule' : CostRule) → AreCostsSaid grid text rule → AreCostsSaid grid text rule' → rule' ≡ rule
+one_rule_said grid None rule rule' first second = second ∙ sym first
+one_rule_said grid (Some text) rule rule' first second = one_rule grid text rule rule' first second
+
+pub costs_no_fault : (grid : Grid) (text : Option Text) (rule : CostRule) (fault : WeightsFault) → AreCostsSaid grid text rule → IsCostsFault grid text fault → ⊥
+costs_no_fault grid None rule fault said never = never
+costs_no_fault grid (Some text) rule fault said first = no_costs_fault grid text rule fault said first
+
+groups_no_fault : (grid : Grid) (text : Option Text) (split : Split) (fault : GroupsFault) → IsSplit split → AreGroupsSaid grid text split → IsGroupsFault grid text fault → IsRefusal fault
+groups_no_fault grid None split fault sound said refused = refused
+groups_no_fault grid (Some text) split fault sound said first =
+    let is : AreGroupsOf split.grid (group_texts text) split.groups = subst (λ (g : Grid). AreGroupsOf g (group_texts text) split.groups) (sym said.0) said.1 in
+    no_groups_fault split (group_texts text) fault sound is (subst (λ (g : Grid). IsFirstGroupsFault g (group_texts text) fault) (sym said.0) first)
+
+pub options_no_fault : (rows : List Row) (o : Options) (refusal : NoRequest) → IsSplit o.groups → AreOptions rows o → OptionsFail rows refusal → IsWant refusal
+options_no_fault rows o (Usage text) sound said never = never
+options_no_fault rows o (Goal fault) sound said (grid, shape, first) =
+    let same = one_shape rows grid o.goal.grid shape said.shape in
+    goal_no_fault o.goal.grid (first_of (codes "goal") rows) o.goal fault said.goal (subst (λ (g : Grid). IsGoalFault g (first_of (codes "goal") rows) fault) (sym same) first)
+options_no_fault rows o (Costs fault) sound said (grid, shape, goal, goal_said, first) =
+    let same = one_shape rows grid o.goal.grid shape said.shape in
+    costs_no_fault o.goal.grid (first_of (codes "cost") rows) o.costs fault said.costs (subst (λ (g : Grid). IsCostsFault g (first_of (codes "cost") rows) fault) (sym same) first)
+options_no_fault rows o (Groups fault) sound said (grid, shape, goal, goal_said, rule, costs_said, first) =
+    let same = one_shape rows grid o.goal.grid shape said.shape in
+    groups_no_fault o.goal.grid (first_of (codes "groups") rows) o.groups fault sound said.groups (subst (λ (g : Grid). IsGroupsFault g (first_of (codes "groups") rows) fault) (sym same) first)
+options_no_fault rows o Memory sound said fails = tt
+
+-- ---- one after the other
+
+goal_first : (rows : List Row) (grid grid' : Grid) (goal : Position) (fault : TilesFault) → HasShape rows grid → HasShape rows grid' → IsGoalFault grid (first_of (codes "goal") rows) fault → IsGoalSaid grid' (first_of (codes "goal") rows) goal → ⊥
+goal_first rows grid grid' goal fault shape shape' first said =
+    goal_no_fault grid (first_of (codes "goal") rows) goal fault (subst (λ (g : Grid). IsGoalSaid g (first_of (codes "goal") rows) goal) (one_shape rows grid grid' shape shape') said) first
+
+pub goal_before_costs : (rows : List Row) (fault : TilesFault) (later : WeightsFault) → OptionsFail rows (Goal fault) → OptionsFail rows (Costs later) → ⊥
+goal_before_costs rows fault later (grid, shape, first) (grid', shape', goal, said, fails) = goal_first rows grid grid' goal fault shape shape' first said
+
+pub goal_before_groups : (rows : List Row) (fault : TilesFault) (later : GroupsFault) → OptionsFail rows (Goal fault) → OptionsFail rows (Groups later) → ⊥
+goal_before_groups rows fault later (grid, shape, first) (grid', shape', goal, said, rule, costs, fails) = goal_first rows grid grid' goal fault shape shape' first said
+
+pub costs_before_groups : (rows : List Row) (fault : WeightsFault) (later : GroupsFault) → OptionsFail rows (Costs fault) → OptionsFail rows (Groups later) → ⊥
+costs_before_groups rows fault later (grid, shape, goal, said, first) (grid', shape', goal', said', rule, costs, fails) =
+    costs_no_fault grid (first_of (codes "cost") rows) rule fault (subst (λ (g : Grid). AreCostsSaid g (first_of (codes "cost") rows) rule) (one_shape rows grid grid' shape shape') costs) first

@@ -1,2 +1,1 @@
-pub mod WholeLemmas
 pub mod PartLemmas

@@ -1,2 +1,1 @@
-pub mod EntryLemmas
 pub mod OfferLemmas

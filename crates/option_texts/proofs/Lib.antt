@@ -1,5 +1,3 @@
-mod TextLemmas
-pub mod GoalLemmas
+pub mod TextLemmas
 pub mod CostLemmas
-mod DefaultLemmas
 pub mod LawLemmas

@@ -1,3 +1,1 @@
 mod ReadLemmas
-mod ReplyLemmas
-mod EndLemmas

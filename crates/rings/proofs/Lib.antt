@@ -1,3 +1,2 @@
 pub mod EndLemmas
-pub mod RowLemmas
 pub mod GridLemmas

@@ -15,7 +15,7 @@ use Rattle.outcomes.specs.declared.outcome.Cause.TheVariants.{Limit}
 use Rattle.hda_run.specs.Worlds.{job_of}
 use Rattle.world_model.specs.Credit.{expansion_count}
 use Rattle.world_model.specs.declared.limits.TheConstants.{GREATEST_GRANT}
-use Rattle.world_ends.proofs.EndingLemmas.{ends_bounded}
+use Rattle.world_ends.proofs.PartLemmas.{ends_bounded}
 use Rattle.world_model.proofs.KeptLemmas.{causes_stop}
 use Rattle.batch_runs.specs.Setups.{SetupState, hash_by}
 use Rattle.setup_runs.specs.Laws.{job_by, BoundsAreNeverCut, LimitsAreTheSetups, LimitsAreNearlySpent}

@@ -1,3 +1,2 @@
 pub mod SolvingLemmas
-pub mod CertifyingLemmas
 pub mod LawLemmas

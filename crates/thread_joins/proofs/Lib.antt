@@ -1,3 +1,2 @@
 pub mod TakenLemmas
 pub mod WorldLemmas
-pub mod OutcomeLemmas

@@ -1,3 +1,2 @@
 -- Lemmas on parts.
 pub mod PartLemmas
-pub mod RingLemmas

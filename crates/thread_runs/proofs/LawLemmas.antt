@@ -10,7 +10,7 @@ use Rattle.outcomes.specs.Endings.{without_rows}
 use Rattle.world_model.specs.Outcomes.{IsGiven}
 use Rattle.world_model.specs.Worlds.{WorldState}
 use Rattle.world_ends.specs.Endings.{EndsIn}
-use Rattle.world_ends.proofs.EndingLemmas.{bounds_alone, rows_alone}
+use Rattle.world_ends.proofs.PartLemmas.{bounds_alone, rows_alone}
 use Rattle.thread_runs.specs.Solved.{IsOfWholeRun}
 use Rattle.thread_runs.specs.Laws.{HasItsRows, IsLimitCostOrMemory, WholeRunsSayWhy, WholeEndsSayWhy, OneSolvesAlone, OneEndsAlone, SolvedRunsEnd, LimitsAreKept, ThreadsAreAsAsked, EndsAreAsAsked}
 

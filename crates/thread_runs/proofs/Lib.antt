@@ -1,4 +1,3 @@
 -- Lemmas.
 pub mod OpeningLemmas
-pub mod WholeLemmas
 pub mod LawLemmas

@@ -1,3 +1,2 @@
 pub mod PartLemmas
 pub mod RowLemmas
-pub mod EndingLemmas

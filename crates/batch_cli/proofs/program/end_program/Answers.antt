@@ -1,5 +1,5 @@
 use Rattle.std.proofs.Common.{inl, inr, refl, map, string_bytes}
-use Rattle.batch_cli.proofs.TruthLemmas.{fit_asked}
+use Rattle.batch_cli.proofs.LawLemmas.{fit_asked}
 use Rattle.batch_cli.proofs.program.end_program.Goals as goal
 
 pub end_request-requires-after_bounds : goal.end_request-requires-after_bounds

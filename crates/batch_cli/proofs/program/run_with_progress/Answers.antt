@@ -1,6 +1,6 @@
 use Rattle.std.proofs.Common.{ap, map, string_bytes}
 use Rattle.byte_streams.specs.Streams.{change}
-use Rattle.batch_cli.proofs.TruthLemmas.{words_true, batch_true}
+use Rattle.batch_cli.proofs.LawLemmas.{words_true, batch_true}
 use Rattle.batch_cli.proofs.program.run_with_progress.Goals as goal
 
 pub returns-clause-truth : goal.returns-clause-truth

@@ -2,7 +2,7 @@ use Rattle.std.proofs.Common.{◌*◌, ◌≤◌, ◌∙◌, length, None, Some,
 use Rattle.rayon.specs.Lists.{range_start, range_end}
 use Rattle.rayon.proofs.ToStd.{nat_range-All}
 use Rattle.certificate_check.specs.declared.parallel.TheConstants.{BLOCK_ROWS}
-use Rattle.certificate_check.proofs.SuccessorLemmas.{blocks_before, closed_blocks, closed_by_blocks, begins_within, last_block}
+use Rattle.certificate_check.proofs.RowLemmas.{blocks_before, closed_blocks, closed_by_blocks, begins_within, last_block}
 use Rattle.certificate_check.proofs.parallel.closed_up_to.Goals as goal
 
 pub find_first-found-requires-clause-items : goal.find_first-found-requires-clause-items

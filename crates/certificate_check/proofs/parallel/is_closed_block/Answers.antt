@@ -1,5 +1,5 @@
 use Rattle.std.proofs.Common.{length, ap}
-use Rattle.certificate_check.proofs.SuccessorLemmas.{closed_block}
+use Rattle.certificate_check.proofs.RowLemmas.{closed_block}
 use Rattle.certificate_check.proofs.parallel.is_closed_block.Goals as goal
 
 pub returns : goal.returns

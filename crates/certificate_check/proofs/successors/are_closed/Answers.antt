@@ -1,6 +1,6 @@
 use Rattle.std.proofs.Common.{refl, sym, ◌∙◌, arith}
 use Rattle.std.proofs.lemmas.Bool.{true≢false}
-use Rattle.certificate_check.proofs.SuccessorLemmas.{closed_more, not_closed_there}
+use Rattle.certificate_check.proofs.RowLemmas.{closed_more, not_closed_there}
 use Rattle.certificate_check.proofs.successors.are_closed.Goals as goal
 
 pub returns-then-is_some : goal.returns-then-is_some

@@ -1,5 +1,5 @@
 use Rattle.std.proofs.Common.{is_some, ap, length, arith}
-use Rattle.certificate_check.proofs.SuccessorLemmas.{first_here, closed_more, all_closed}
+use Rattle.certificate_check.proofs.RowLemmas.{first_here, closed_more, all_closed}
 use Rattle.certificate_check.proofs.successors.find_open.Goals as goal
 
 pub returns-in-Some-clause-first : goal.returns-in-Some-clause-first

@@ -2,8 +2,7 @@ use Rattle.std.proofs.Common.{ℕ, List, sym, subst}
 use Rattle.std.specs.List.Sorted.{IsNonDecreasingBy}
 use Rattle.board.specs.Positions.{Position}
 use Rattle.certificate_check.specs.Lookups.{IsTold}
-use Rattle.certificate_check.proofs.RowLemmas.{row_key, keys_never_fall}
-use Rattle.certificate_check.proofs.SuccessorLemmas.{leaves_none, leaves_dear, leaves_by}
+use Rattle.certificate_check.proofs.RowLemmas.{row_key, keys_never_fall, leaves_none, leaves_dear, leaves_by}
 use Rattle.certificate_check.proofs.successors.leaves_open.Goals as goal
 
 pub returns-in_default : goal.returns-in_default

@@ -2,8 +2,7 @@ use Rattle.std.proofs.Common.{◌≡◌, Some, get_or, slice_get, length, refl, 
 use Rattle.std.proofs.lemmas.Bool.{true≢false}
 use Rattle.board.specs.Moves.{all_moves}
 use Rattle.board.specs.declared.moves.Move.TheVariants.{U}
-use Rattle.certificate_check.proofs.RowLemmas.{row_at, row_here_at}
-use Rattle.certificate_check.proofs.SuccessorLemmas.{number_at, number_low, one_move_more, row_again, told_at}
+use Rattle.certificate_check.proofs.RowLemmas.{row_at, row_here_at, number_at, number_low, one_move_more, row_again, told_at}
 use Rattle.certificate_check.proofs.successors.open_move.Goals as goal
 
 pub leaves_open-requires-clause-low : goal.leaves_open-requires-clause-low

@@ -1,4 +1,4 @@
-use Rattle.certificate_runs.proofs.LawLemmas.{certified, bounds_certified, claims_of_endings, statuses_tell}
+use Rattle.certificate_runs.proofs.HeadlineLemmas.{certified, bounds_certified, claims_of_endings, statuses_tell}
 use Rattle.certificate_runs.proofs.laws.least_plans_are_certified.Goals as goal
 
 pub returns : goal.returns

@@ -1,4 +1,4 @@
-use Rattle.certificate_runs.proofs.LawLemmas.{left}
+use Rattle.certificate_runs.proofs.HeadlineLemmas.{left}
 use Rattle.certificate_runs.proofs.laws.other_faults_leave_the_sink.Goals as goal
 
 pub returns : goal.returns

@@ -1,4 +1,4 @@
-use Rattle.certificate_runs.proofs.LawLemmas.{all_certified, reported_lack}
+use Rattle.certificate_runs.proofs.HeadlineLemmas.{all_certified, reported_lack}
 use Rattle.certificate_runs.proofs.laws.outcomes_with_rows_are_certified.Goals as goal
 
 pub returns : goal.returns

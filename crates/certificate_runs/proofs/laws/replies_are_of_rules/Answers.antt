@@ -1,4 +1,4 @@
-use Rattle.certificate_runs.proofs.LawLemmas.{of_outcomes, wants_of_rules, groups_wanted, bounds_lack}
+use Rattle.certificate_runs.proofs.HeadlineLemmas.{of_outcomes, wants_of_rules, groups_wanted, bounds_lack}
 use Rattle.certificate_runs.proofs.laws.replies_are_of_rules.Goals as goal
 
 pub returns : goal.returns

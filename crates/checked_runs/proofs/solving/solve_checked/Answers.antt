@@ -14,8 +14,7 @@ use Rattle.hda_run.specs.Worlds.{IsWorkerCount}
 use Rattle.checked_runs.specs.declared.faults.CheckedFault.{CheckedFault}
 use Rattle.checked_runs.specs.declared.faults.CheckedFault.TheVariants.{WorkerCount, Refused}
 use Rattle.checked_runs.specs.Certificates.{certificate_in}
-use Rattle.checked_runs.proofs.CertificateLemmas.{stated, alike, certificate_is, proved_with}
-use Rattle.checked_runs.proofs.OutcomeLemmas.{solved_again, nothing_claimed, one_refusal, no_fault, fault_alike, outcome_alike}
+use Rattle.checked_runs.proofs.OutcomeLemmas.{stated, alike, certificate_is, proved_with, solved_again, nothing_claimed, one_refusal, no_fault, fault_alike, outcome_alike}
 use Rattle.checked_runs.proofs.solving.solve_checked.Goals as goal
 
 pub returns-in_default : goal.returns-in_default

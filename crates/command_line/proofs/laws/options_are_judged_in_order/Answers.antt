@@ -1,4 +1,4 @@
-use Rattle.command_line.proofs.LawLemmas.{goal_before_costs, goal_before_groups, costs_before_groups}
+use Rattle.command_line.proofs.ParseLemmas.{goal_before_costs, goal_before_groups, costs_before_groups}
 use Rattle.command_line.proofs.laws.options_are_judged_in_order.Goals as goal
 
 pub returns-clause-costs : goal.returns-clause-costs

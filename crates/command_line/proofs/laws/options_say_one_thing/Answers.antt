@@ -1,4 +1,4 @@
-use Rattle.command_line.proofs.LawLemmas.{one_shape, one_goal_said, goal_no_fault, one_rule_said, costs_no_fault}
+use Rattle.command_line.proofs.ParseLemmas.{one_shape, one_goal_said, goal_no_fault, one_rule_said, costs_no_fault}
 use Rattle.command_line.proofs.laws.options_say_one_thing.Goals as goal
 
 pub returns-clause-shapes : goal.returns-clause-shapes

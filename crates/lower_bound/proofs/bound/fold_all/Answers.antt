@@ -1,7 +1,7 @@
 use Rattle.std.proofs.Common.{List, [], ◌∷◌, ◌++◌, sym, subst}
 use Rattle.database_build.specs.Folds.{Fold}
 use Rattle.lower_bound.specs.Folded.{AreFolded}
-use Rattle.lower_bound.proofs.WholeLemmas.{folded_more}
+use Rattle.lower_bound.proofs.PartLemmas.{folded_more}
 use Rattle.lower_bound.proofs.bound.fold_all.Goals as goal
 
 pub whole-preserved : goal.whole-preserved

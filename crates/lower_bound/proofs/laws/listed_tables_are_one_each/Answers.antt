@@ -1,4 +1,4 @@
-use Rattle.lower_bound.proofs.WholeLemmas.{listed_each}
+use Rattle.lower_bound.proofs.PartLemmas.{listed_each}
 use Rattle.lower_bound.proofs.laws.listed_tables_are_one_each.Goals as goal
 
 pub returns : goal.returns

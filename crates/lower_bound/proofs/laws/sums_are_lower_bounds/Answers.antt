@@ -1,4 +1,4 @@
-use Rattle.lower_bound.proofs.WholeLemmas.{sums_are_bounds, tables_are_bounds}
+use Rattle.lower_bound.proofs.PartLemmas.{sums_are_bounds, tables_are_bounds}
 use Rattle.lower_bound.proofs.laws.sums_are_lower_bounds.Goals as goal
 
 pub returns-clause-parts : goal.returns-clause-parts

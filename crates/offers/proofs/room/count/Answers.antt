@@ -1,5 +1,5 @@
 use Rattle.std.proofs.Common.{arith}
-use Rattle.offers.proofs.EntryLemmas.{sum_on}
+use Rattle.offers.proofs.OfferLemmas.{sum_on}
 use Rattle.offers.proofs.room.count.Goals as goal
 
 pub offers-preserved : goal.offers-preserved

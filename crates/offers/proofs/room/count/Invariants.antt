@@ -1,7 +1,7 @@
 use Rattle.std.proofs.Common.{◌≡◌, ◌+◌, ◌≤◌, drop}
 use Rattle.std.specs.Prelude.{sum_by}
 use Rattle.offers.specs.Room.{go}
-use Rattle.offers.proofs.EntryLemmas.{entry_goes}
+use Rattle.offers.proofs.OfferLemmas.{entry_goes}
 use Rattle.successor_sums.specs.ByMoves.{entries_of}
 use Rattle.offers.proofs.room.count.Given as goal
 

@@ -6,7 +6,7 @@ use Rattle.std.proofs.lemmas.List.Elements.{All-push}
 use Rattle.std.proofs.lemmas.List.FromFn.{map-range_with_len_more}
 use Rattle.pattern_index.specs.Selections.{Selection}
 use Rattle.option_texts.specs.Defaults.{default_tiles}
-use Rattle.option_texts.proofs.DefaultLemmas.{defaults_apart, groups_count, groups_few}
+use Rattle.option_texts.proofs.LawLemmas.{defaults_apart, groups_count, groups_few}
 use Rattle.option_texts.proofs.defaults.default_groups.Goals as goal
 
 pub groups-preserved : goal.groups-preserved

@@ -1,4 +1,4 @@
-use Rattle.option_texts.proofs.GoalLemmas.{one_goal, no_goal_fault}
+use Rattle.option_texts.proofs.TextLemmas.{one_goal, no_goal_fault}
 use Rattle.option_texts.proofs.laws.goals_say_one_thing.Goals as goal
 
 pub returns-clause-goals : goal.returns-clause-goals

@@ -2,7 +2,7 @@ use Rattle.std.proofs.Common.{List, ℕ, [], ◌∷◌, ◌++◌, refl, sym, sub
 use Rattle.board.specs.Grids.{Grid}
 use Rattle.byte_streams.specs.Streams.{change, from_to}
 use Rattle.batch_lines.specs.Words.{IsEntry, IsFirstEntryFault, entry_code}
-use Rattle.replay_runs.proofs.EndLemmas.{refused, refused_fault, refused_want, IsBegun, played}
+use Rattle.replay_runs.proofs.ReadLemmas.{refused, refused_fault, refused_want, IsBegun, played}
 use Rattle.replay_runs.proofs.board_line.replay_board.Goals as goal
 
 pub returns-in-Err-clause-replays : goal.returns-in-Err-clause-replays

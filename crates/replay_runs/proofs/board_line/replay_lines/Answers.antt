@@ -1,6 +1,6 @@
 use Rattle.std.proofs.Common.{refl, inl, codes}
 use Rattle.std.proofs.KnownBytes.{Appends-nil}
-use Rattle.replay_runs.proofs.EndLemmas.{refused, refused_long}
+use Rattle.replay_runs.proofs.ReadLemmas.{refused, refused_long}
 use Rattle.replay_runs.proofs.board_line.replay_lines.Goals as goal
 
 pub returns-in-Err-clause-replays : goal.returns-in-Err-clause-replays

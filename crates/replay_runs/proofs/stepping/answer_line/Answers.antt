@@ -1,6 +1,6 @@
 use Rattle.world_model.specs.Turns.{refusal_in}
 use Rattle.replay_runs.specs.Replies.Reply.{taken}
-use Rattle.replay_runs.proofs.ReplyLemmas.{step_said}
+use Rattle.replay_runs.proofs.ReadLemmas.{step_said}
 use Rattle.replay_runs.proofs.stepping.answer_line.Goals as goal
 
 pub returns-clause-reply : goal.returns-clause-reply

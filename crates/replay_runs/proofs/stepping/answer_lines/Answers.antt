@@ -2,7 +2,7 @@ use Rattle.std.proofs.Common.{Bool, refl, sym, ◌∙◌, inl, inr, subst}
 use Rattle.std.proofs.KnownBytes.{Appends-nil}
 use Rattle.byte_streams.specs.Streams.{change, from_to}
 use Rattle.replay_runs.specs.Replies.Reply.{passed_over}
-use Rattle.replay_runs.proofs.ReplyLemmas.{IsAnswering, IsOneMore, answering_begins, answering_on, answers_fail, over_said}
+use Rattle.replay_runs.proofs.ReadLemmas.{IsAnswering, IsOneMore, answering_begins, answering_on, answers_fail, over_said}
 use Rattle.replay_runs.proofs.stepping.answer_lines.Goals as goal
 
 pub lines-init : goal.lines-init

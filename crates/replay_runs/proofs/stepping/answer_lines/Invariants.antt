@@ -1,7 +1,7 @@
 use Rattle.std.proofs.Common.{◌≡◌, ◌⊎◌, ◌-◌, ◌+◌}
 use Rattle.byte_streams.specs.Streams.{change, from_to}
 use Rattle.batch_lines.specs.declared.lines.TheConstants.{INPUT_LIMIT}
-use Rattle.replay_runs.proofs.ReplyLemmas.{IsAnswering}
+use Rattle.replay_runs.proofs.ReadLemmas.{IsAnswering}
 use Rattle.replay_runs.proofs.stepping.answer_lines.Given as goal
 
 abbrev pub invariant-lines : goal.invariant-lines

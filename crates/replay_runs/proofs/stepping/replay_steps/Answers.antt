@@ -5,7 +5,7 @@ use Rattle.outcomes.specs.Endings.{without_rows}
 use Rattle.reports.specs.Readings.{AreSmall}
 use Rattle.reports.specs.Reports.{outcome_data, report_text}
 use Rattle.replay_runs.specs.Replies.{status_of}
-use Rattle.replay_runs.proofs.EndLemmas.{finishes, finishes_part}
+use Rattle.replay_runs.proofs.ReadLemmas.{finishes, finishes_part}
 use Rattle.replay_runs.proofs.stepping.replay_steps.Goals as goal
 
 pub returns-in_default-clause-replays : goal.returns-in_default-clause-replays

@@ -1,8 +1,7 @@
 use Rattle.std.proofs.Common.{rules, ℕ, arith, ◌≡◌, ◌++◌, ◌∷◌, [], ap, ◌∙◌, length}
 use Rattle.std.proofs.lemmas.List.{map-append, length-map}
 use Rattle.rings.specs.Rings.{Ring, SendingEnd, ReceivingEnd, IsRoomBetween, room_of, out_rings, sent_lanes, received_lanes, rings_of_outs, rings_of_ins, sent_rows, received_rows}
-use Rattle.rings.proofs.RowLemmas.{nil_row, all_nil_rows, as_wide, rows_more}
-use Rattle.rings.proofs.GridLemmas.{length_end, grid_more}
+use Rattle.rings.proofs.GridLemmas.{nil_row, all_nil_rows, as_wide, rows_more, length_end, grid_more}
 use Rattle.rings.proofs.rows.open_rings.Goals as goal
 
 pub rows-preserved : goal.rows-preserved

@@ -1,8 +1,7 @@
 use Rattle.std.proofs.Common.{rules, ℕ, arith, ◌≡◌, ◌<◌, ◌∷◌, ◌++◌, [], length, ap, sym, ◌∙◌}
 use Rattle.std.proofs.lemmas.List.{get_or-map}
 use Rattle.rings.specs.Rings.{Ring, SendingEnd, IsRoomBetween, room_of, in_rings, received_lanes, rings_of_ins}
-use Rattle.rings.proofs.GridLemmas.{length_end}
-use Rattle.rings.proofs.RowLemmas.{row_below, row_above, nil_pushed, nil_rows, each_pushed}
+use Rattle.rings.proofs.GridLemmas.{length_end, row_below, row_above, nil_pushed, nil_rows, each_pushed}
 use Rattle.rings.proofs.rows.open_row.Goals as goal
 
 pub workers-preserved : goal.workers-preserved

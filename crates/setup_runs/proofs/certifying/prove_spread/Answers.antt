@@ -1,4 +1,4 @@
-use Rattle.setup_runs.proofs.CertifyingLemmas.{may_prove}
+use Rattle.setup_runs.proofs.SolvingLemmas.{may_prove}
 use Rattle.setup_runs.proofs.certifying.prove_spread.Goals as goal
 
 pub returns : goal.returns

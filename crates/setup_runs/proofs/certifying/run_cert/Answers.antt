@@ -1,5 +1,5 @@
 use Rattle.std.proofs.Common.{refl}
-use Rattle.setup_runs.proofs.CertifyingLemmas.{certified_truthful}
+use Rattle.setup_runs.proofs.SolvingLemmas.{certified_truthful}
 use Rattle.setup_runs.proofs.certifying.run_cert.Goals as goal
 
 pub certify_first-requires-clause-rules : goal.certify_first-requires-clause-rules

@@ -1,4 +1,4 @@
-use Rattle.setup_runs.proofs.CertifyingLemmas.{certified_answered, parity_certified}
+use Rattle.setup_runs.proofs.SolvingLemmas.{certified_answered, parity_certified}
 use Rattle.setup_runs.proofs.laws.certified_ends_are_answered.Goals as goal
 
 pub returns : goal.returns

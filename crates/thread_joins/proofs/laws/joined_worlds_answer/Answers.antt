@@ -1,4 +1,4 @@
-use Rattle.thread_joins.proofs.OutcomeLemmas.{joined_answers, no_list_stops}
+use Rattle.thread_joins.proofs.WorldLemmas.{joined_answers, no_list_stops}
 use Rattle.thread_joins.proofs.laws.joined_worlds_answer.Goals as goal
 
 pub returns : goal.returns

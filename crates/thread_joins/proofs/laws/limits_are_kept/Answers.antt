@@ -1,4 +1,4 @@
-use Rattle.thread_joins.proofs.OutcomeLemmas.{limits_kept, limits_spent}
+use Rattle.thread_joins.proofs.WorldLemmas.{limits_kept, limits_spent}
 use Rattle.thread_joins.proofs.laws.limits_are_kept.Goals as goal
 
 pub returns : goal.returns

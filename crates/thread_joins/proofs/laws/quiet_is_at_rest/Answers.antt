@@ -1,4 +1,4 @@
-use Rattle.thread_joins.proofs.OutcomeLemmas.{no_credit, still}
+use Rattle.thread_joins.proofs.WorldLemmas.{no_credit, still}
 use Rattle.thread_joins.proofs.laws.quiet_is_at_rest.Goals as goal
 
 pub returns : goal.returns

@@ -1,6 +1,6 @@
 use Rattle.std.proofs.Common.{rules, sym}
 use Rattle.std.specs.Prelude.{IsTrue}
-use Rattle.thread_joins.proofs.OutcomeLemmas.{world_same}
+use Rattle.thread_joins.proofs.WorldLemmas.{world_same}
 use Rattle.thread_joins.proofs.outcome.outcome_if_kept.Goals as goal
 
 pub outcome_with-requires-after_bounds : goal.outcome_with-requires-after_bounds

@@ -9,7 +9,7 @@ use Rattle.world_model.specs.Workers.{WorkerState}
 use Rattle.worker_core.specs.Workers.{state_of}
 use Rattle.world_ends.specs.Parts.{states_of}
 use Rattle.thread_joins.specs.Worlds.{IsWorldOf}
-use Rattle.thread_joins.proofs.OutcomeLemmas.{joined_is, world_at}
+use Rattle.thread_joins.proofs.WorldLemmas.{joined_is, world_at}
 use Rattle.thread_joins.proofs.outcome.outcome_of_joined.Goals as goal
 
 pub outcome_if_kept-found-requires-clause-world : goal.outcome_if_kept-found-requires-clause-world

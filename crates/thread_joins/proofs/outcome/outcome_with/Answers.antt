@@ -6,8 +6,7 @@ use Rattle.world_model.specs.Books.{BookState}
 use Rattle.worker_core.specs.Roles.{guide_of}
 use Rattle.world_ends.specs.Parts.{AreGuided, HasParts, states_of}
 use Rattle.hda_run.specs.Problems.{task_in}
-use Rattle.thread_joins.proofs.WorldLemmas.{items_left, lowest_left}
-use Rattle.thread_joins.proofs.OutcomeLemmas.{same_task}
+use Rattle.thread_joins.proofs.WorldLemmas.{items_left, lowest_left, same_task}
 use Rattle.thread_joins.proofs.outcome.outcome_with.Goals as goal
 
 pub lowest_in_rows-lowest-requires-after_bounds : goal.lowest_in_rows-lowest-requires-after_bounds

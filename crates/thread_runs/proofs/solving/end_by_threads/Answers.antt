@@ -1,7 +1,7 @@
 use Rattle.std.proofs.Common.{IfSome}
 use Rattle.std.proofs.lemmas.Option.{IfSome_then}
 use Rattle.thread_joins.specs.Threads.{EndsByThreads}
-use Rattle.thread_runs.proofs.WholeLemmas.{ending_answers, ending_whole}
+use Rattle.thread_runs.proofs.OpeningLemmas.{ending_answers, ending_whole}
 use Rattle.thread_runs.proofs.solving.end_by_threads.Goals as goal
 
 pub returns-clause-answers : goal.returns-clause-answers

@@ -1,4 +1,4 @@
-use Rattle.thread_runs.proofs.WholeLemmas.{found_given, none_left, none_started}
+use Rattle.thread_runs.proofs.OpeningLemmas.{found_given, none_left, none_started}
 use Rattle.thread_runs.proofs.solving.found_by_threads.Goals as goal
 
 pub returns-in-Ok-clause-run : goal.returns-in-Ok-clause-run

@@ -1,7 +1,7 @@
 use Rattle.std.proofs.Common.{IfSome}
 use Rattle.std.proofs.lemmas.Option.{IfSome_then}
 use Rattle.thread_joins.specs.Threads.{IsByThreads}
-use Rattle.thread_runs.proofs.WholeLemmas.{outcome_answers, outcome_whole}
+use Rattle.thread_runs.proofs.OpeningLemmas.{outcome_answers, outcome_whole}
 use Rattle.thread_runs.proofs.solving.solve_by_threads.Goals as goal
 
 pub returns-clause-answers : goal.returns-clause-answers

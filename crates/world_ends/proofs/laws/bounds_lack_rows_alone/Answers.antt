@@ -1,4 +1,4 @@
-use Rattle.world_ends.proofs.EndingLemmas.{bounds_alone, bound_kept, rows_make_bound, ends_bounded, memory_ends}
+use Rattle.world_ends.proofs.PartLemmas.{bounds_alone, bound_kept, rows_make_bound, ends_bounded, memory_ends}
 use Rattle.world_ends.proofs.laws.bounds_lack_rows_alone.Goals as goal
 
 pub returns : goal.returns

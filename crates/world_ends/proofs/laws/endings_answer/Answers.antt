@@ -1,4 +1,4 @@
-use Rattle.world_ends.proofs.EndingLemmas.{ends_answer}
+use Rattle.world_ends.proofs.PartLemmas.{ends_answer}
 use Rattle.world_ends.proofs.laws.endings_answer.Goals as goal
 
 pub returns : goal.returns

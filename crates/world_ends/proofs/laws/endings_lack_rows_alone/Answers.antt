@@ -1,4 +1,4 @@
-use Rattle.world_ends.proofs.EndingLemmas.{rows_alone, bound_left, rows_make}
+use Rattle.world_ends.proofs.PartLemmas.{rows_alone, bound_left, rows_make}
 use Rattle.world_ends.proofs.laws.endings_lack_rows_alone.Goals as goal
 
 pub returns-clause-rows : goal.returns-clause-rows

@@ -5,7 +5,7 @@ use Rattle.world_model.specs.Outcomes.{IsGiven}
 use Rattle.world_model.specs.Workers.{WorkerState}
 use Rattle.world_ends.specs.Parts.{task_in, HasParts}
 use Rattle.world_ends.specs.Endings.{EndsWhole}
-use Rattle.world_ends.proofs.EndingLemmas.{rows_alone, bound_left, bound_rows, rows_lacking}
+use Rattle.world_ends.proofs.PartLemmas.{rows_alone, bound_left, bound_rows, rows_lacking}
 use Rattle.world_ends.proofs.outcome.outcome_of.Goals as goal
 
 pub returns-in-Ok-rows_for-clause-given : goal.returns-in-Ok-rows_for-clause-given

@@ -4,8 +4,7 @@ use Rattle.world_model.specs.Costs.{lesser}
 use Rattle.world_model.specs.Workers.{WorkerState}
 use Rattle.world_ends.specs.Parts.{task_in, states_of, known_in}
 use Rattle.world_ends.specs.Plans.{IsTraced}
-use Rattle.world_ends.proofs.PartLemmas.{items_are}
-use Rattle.world_ends.proofs.EndingLemmas.{cost_in, no_plan, no_goal, no_memory, plan_above, plan_least}
+use Rattle.world_ends.proofs.PartLemmas.{items_are, cost_in, no_plan, no_goal, no_memory, plan_above, plan_least}
 use Rattle.world_ends.proofs.outcome.whole_ending.Goals as goal
 
 -- src/outcome.rt:96:9

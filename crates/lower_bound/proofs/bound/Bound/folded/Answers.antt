@@ -6,7 +6,7 @@ use Rattle.lower_bound.specs.Held.{tables_in}
 use Rattle.lower_bound.specs.ByTile.{AreTablesByTile}
 use Rattle.lower_bound.specs.declared.bound.Held.{Held}
 use Rattle.lower_bound.specs.declared.bound.Held.TheVariants.{Whole, Folded}
-use Rattle.lower_bound.proofs.WholeLemmas.{folded_groups, whole_each, folded_each, folded_potentials}
+use Rattle.lower_bound.proofs.PartLemmas.{folded_groups, whole_each, folded_each, folded_potentials}
 use Rattle.lower_bound.proofs.bound.Bound.folded.Goals as goal
 use Rattle.lower_bound.proofs.bound.Bound.folded.Goals.{in-Whole+in_ok-folds-in-Whole, in-Folded}
 

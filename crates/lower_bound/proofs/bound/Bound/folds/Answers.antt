@@ -2,7 +2,7 @@ use Rattle.std.proofs.Common.{◌≡◌, sym, ap, ◌∙◌, refl, subst}
 use Rattle.lower_bound.specs.Tables.{Tables, IsTables}
 use Rattle.lower_bound.specs.Held.{tables_in}
 use Rattle.lower_bound.specs.declared.bound.Held.{Held}
-use Rattle.lower_bound.proofs.WholeLemmas.{folds_fit}
+use Rattle.lower_bound.proofs.PartLemmas.{folds_fit}
 use Rattle.lower_bound.proofs.bound.Bound.folds.Goals as goal
 
 pub returns-in-Folded-clause-grids : goal.returns-in-Folded-clause-grids

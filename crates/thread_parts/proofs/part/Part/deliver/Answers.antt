@@ -2,8 +2,7 @@ use Rattle.std.proofs.Common.{◌<◌, ◌≡◌, [], length, inl, inr, refl, sy
 use Rattle.std.proofs.lemmas.Result.{on_ok_weaker, on_err_weaker}
 use Rattle.thread_model.specs.Parts.{Keeps}
 use Rattle.thread_parts.specs.Parts.{part_state, role_of}
-use Rattle.thread_parts.proofs.RingLemmas.{answered, receives, none_received, in_kept, with_in, left_at, at_empty, deliver_by_ring, none_seen}
-use Rattle.thread_parts.proofs.PartLemmas.{in_count, holds_after}
+use Rattle.thread_parts.proofs.PartLemmas.{answered, receives, none_received, in_kept, with_in, left_at, at_empty, deliver_by_ring, none_seen, in_count, holds_after}
 use Rattle.worker_core.specs.Workers.{state_of}
 use Rattle.thread_parts.proofs.part.Part.deliver.Goals as goal
 

@@ -3,8 +3,7 @@ use Rattle.std.proofs.lemmas.Result.{on_ok_weaker, on_err_weaker}
 use Rattle.rings.specs.Rings.{SendingEnd}
 use Rattle.thread_model.specs.Parts.{Keeps}
 use Rattle.thread_parts.specs.Parts.{part_state, role_of}
-use Rattle.thread_parts.proofs.RingLemmas.{answered, sends, none_sent, out_kept, with_out, full_lane, at_full, send_by_ring}
-use Rattle.thread_parts.proofs.PartLemmas.{out_count, holds_after}
+use Rattle.thread_parts.proofs.PartLemmas.{answered, sends, none_sent, out_kept, with_out, full_lane, at_full, send_by_ring, out_count, holds_after}
 use Rattle.thread_parts.proofs.part.Part.send.Goals as goal
 
 pub returns-clause-step : goal.returns-clause-step
