@@ -1,12 +1,14 @@
 -- Sparse places: how large they are, that their digits are the cells, and what a tile that moves changes.
 use Rattle.std.proofs.Common.{◌≡◌, ◌≢◌, ℕ, zero, suc, ◌+◌, ◌-◌, ◌*◌, ◌/◌, ◌%◌, ◌^◌, ◌<◌, ◌≤◌, true, false, cond, eqb, List, [], ◌∷◌, map, length, drop, take, set, ◌++◌, get_or, add-one, refl, sym, ap, ◌∙◌, subst, ⊎_elim, arith}
-use Rattle.std.specs.Prelude.{slice_index, Contains, AllPairs}
+use Rattle.std.specs.Prelude.{slice_index, All, Contains, AllPairs}
+use Rattle.std.proofs.lemmas.List.Elements.{All-drop, recursion_from_All}
+use Rattle.std.proofs.lemmas.List.{length-drop, drop_all, drop_more, drop-map, length-map, append_assoc, append-nil, take_all, take_at, take_more_set, length-take-le, get_or-take, get_or_default}
 use Rattle.std.specs.List.{AllByRecursion}
 use Rattle.std.proofs.lemmas.Bool.{cond-false, cond-true, ne_eqb, eq-eqb, cases_eq, cases_Bool}
-use Rattle.std.proofs.lemmas.List.{drop_all, drop_more, drop-map, length-map, append_assoc, append-nil, take_all, take_at, take_more_set, length-take-le, get_or-take, get_or_default}
 use Rattle.std.proofs.lemmas.Nat.{div-mul-add, mod-mul-add, mod_below}
-use Rattle.std.proofs.Math.Nat.{mul_assoc, mul_comm, mul-le-mul_left, pow-le-pow_left, pow-le-pow_right, pow-zero, pow-succ', one-le-pow}
-use Rattle.pattern_index.specs.Sparse.{sparse_of, digits_in, stride_of, sparse_in}
+use Rattle.std.proofs.Math.Nat.{mul_assoc, mul_comm, mul-le-mul_left, pow-le-pow_left, pow-le-pow_right, pow-zero, pow-succ', one-le-pow, le-max_left}
+use Rattle.pattern_index.specs.Selections.{Selection}
+use Rattle.pattern_index.specs.Sparse.{sparse_of, digits_in, stride_of, sparse_in, digit_base, slot_in, slot_count_of}
 use Rattle.board.specs.Grids.{Grid, cell_count}
 use Rattle.pattern_index.specs.Views.{Sight, IsView}
 use Rattle.pattern_index.proofs.RankLemmas.{Other, Below, Differ, below_in}
@@ -17,6 +19,13 @@ use Rattle.pattern_index.proofs.PlaceLemmas.{place_listing}
 -- cells have up to nine digits of up to 25
 pub pow_low : (n k : ℕ) → n ≤ 25 → k ≤ 9 → n ^ k ≤ 3814697265625
 pow_low n k few short =
+    let left = pow-le-pow_left few k in
+    let right = pow-le-pow_right {n = 25} (omega arith) short in
+    omega (arith, left, right)
+
+-- and ten, with the blank's
+pub pow_ten : (n k : ℕ) → n ≤ 25 → k ≤ 10 → n ^ k ≤ 95367431640625
+pow_ten n k few short =
     let left = pow-le-pow_left few k in
     let right = pow-le-pow_right {n = 25} (omega arith) short in
     omega (arith, left, right)
@@ -118,6 +127,13 @@ sparse_small n xs few short below =
     let top = pow_low n (length xs) few short in
     omega (arith, low, top)
 
+-- and ten, with the blank's
+pub sparse_ten : (n : ℕ) (xs : List ℕ) → n ≤ 25 → length xs ≤ 10 → Below n xs → sparse_of n xs ≤ 95367431640625
+sparse_ten n xs few short below =
+    let low = sparse_below n xs below in
+    let top = pow_ten n (length xs) few short in
+    omega (arith, low, top)
+
 pub sparse_none : (n : ℕ) (f : ℕ → ℕ) (tiles : List ℕ) → 0 ≡ sparse_of n (map f (drop (length tiles) tiles))
 unfolding sparse_of
 sparse_none n f tiles = sym (ap (λ xs. sparse_of n (map f xs)) (drop_all (length tiles) tiles (omega arith)))
@@ -210,3 +226,55 @@ stride_low n (t ∷ tiles) tile some =
     (λ (is : eqb t tile ≡ true). let one = cond-true (eqb t tile) 1 (n * stride_of n tiles tile) is in omega (arith, one, power))
     (λ (other : eqb t tile ≡ false). let on = cond-false (eqb t tile) 1 (n * stride_of n tiles tile) other in omega (arith, on, more, next))
     (cases_Bool (eqb t tile))
+
+-- ---- the sparse place of some cells
+
+-- no digit is in
+pub digits_none : (n : ℕ) (cells : List ℕ) → 0 ≡ sparse_of n (drop (length cells) cells)
+unfolding sparse_of
+digits_none n cells = sym (ap (sparse_of n) (drop_all (length cells) cells (omega arith)))
+
+module _ (n : ℕ) (cells : List ℕ) (place sparse : ℕ) (some : 0 < place) (within : place ≤ length cells) (is : sparse ≡ sparse_of n (drop place cells)) where
+  -- one digit more, before those that are in
+  pub digits_on : sparse * n + slice_index cells (place - 1) ≡ sparse_of n (drop (place - 1) cells)
+  unfolding sparse_of
+  digits_on =
+      let follows : (place - 1) + 1 ≡ place = omega (arith, some) in
+      let split : drop (place - 1) cells ≡ slice_index cells (place - 1) ∷ drop place cells = drop_more cells (place - 1) 0 (omega (arith, some, within)) ∙ ap (λ k. slice_index cells (place - 1) ∷ drop k cells) follows in
+      let times : sparse * n ≡ n * sparse_of n (drop place cells) = ap (λ k. k * n) is ∙ mul_comm (sparse_of n (drop place cells)) n in
+      let whole : slice_index cells (place - 1) + n * sparse_of n (drop place cells) ≡ sparse_of n (drop (place - 1) cells) = sym (ap (sparse_of n) split) in
+      omega (arith, times, whole)
+
+  -- it is small
+  pub digits_fit : n ≤ 25 → length cells ≤ 10 → All (λ cell. cell < n) cells → sparse * n + slice_index cells (place - 1) ≤ 95367431640625
+  digits_fit few short below =
+      let rest = recursion_from_All (λ cell. cell < n) (drop (place - 1) cells) (All-drop (λ cell. cell < n) (place - 1) cells below) in
+      let long = length-drop (place - 1) cells in
+      let small = sparse_ten n (drop (place - 1) cells) few (omega (arith, long, short)) rest in
+      let on = digits_on in
+      omega (arith, small, on)
+
+-- ---- slots
+
+-- the cells of a view are digits of its slot
+pub slot_digits : (grid : Grid) (tiles : List ℕ) (v : Sight) → IsView grid tiles v → Below (digit_base grid) (v.blank ∷ v.cells)
+slot_digits grid tiles v view =
+    recursion_from_All (λ cell. cell < digit_base grid) (v.blank ∷ v.cells)
+    (λ k d low. let under = view.in_range k d low in let wide = le-max_left (cell_count grid) 16 in omega (arith, under, wide))
+
+pub slot_below : (g : Selection) (v : Sight) → IsView g.grid g.tiles v → slot_in g.grid v < slot_count_of g
+slot_below g v view = subst (λ k. slot_in g.grid v < digit_base g.grid ^ suc k) view.one_each (sparse_below (digit_base g.grid) (v.blank ∷ v.cells) (slot_digits g.grid g.tiles v view))
+
+pub slots_differ : (g : Selection) (v w : Sight) → IsView g.grid g.tiles v → IsView g.grid g.tiles w → slot_in g.grid v ≡ slot_in g.grid w → v ≡ w
+slots_differ g v w view other same = λ i. record { blank = get_or (one i) 0 0; cells = drop 1 (one i) }
+  where
+    one : v.blank ∷ v.cells ≡ w.blank ∷ w.cells
+    one =
+        sym (digits_back (digit_base g.grid) (v.blank ∷ v.cells) (slot_digits g.grid g.tiles v view))
+        ∙ (λ i. digits_in (digit_base g.grid) (suc ((view.one_each ∙ sym other.one_each) i)) (same i))
+        ∙ digits_back (digit_base g.grid) (w.blank ∷ w.cells) (slot_digits g.grid g.tiles w other)
+
+-- the slot by the sparse place of the tiles' cells
+pub slot-parts : (n blank : ℕ) (cells : List ℕ) → sparse_of n (blank ∷ cells) ≡ blank + n * sparse_of n cells
+unfolding sparse_of
+slot-parts n blank cells = refl

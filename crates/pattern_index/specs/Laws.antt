@@ -1,7 +1,7 @@
 -- The laws of the definitions. Each is the contract of a function that does nothing.
-use Rattle.std.specs.Prelude.{ℕ, zero, suc, ◌≡◌, ◌≢◌, ◌↔◌, ◌+◌, ◌-◌, ◌*◌, ◌/◌, ◌<◌, ◌≤◌, List, length, Some, Contains, slice_index}
+use Rattle.std.specs.Prelude.{ℕ, zero, suc, ◌≡◌, ◌≢◌, ◌↔◌, ◌+◌, ◌-◌, ◌*◌, ◌/◌, ◌^◌, ◌<◌, ◌≤◌, List, ◌∷◌, length, max, Some, Contains, slice_index}
 use Rattle.board.specs.declared.moves.Move.{Move}
-use Rattle.board.specs.Grids.{cell_count}
+use Rattle.board.specs.Grids.{Grid, cell_count}
 use Rattle.board.specs.Neighbours.{opposite}
 use Rattle.board.specs.Positions.{Position, IsBoard, blank_of}
 use Rattle.board.specs.CostRules.{CostRule}
@@ -10,7 +10,7 @@ use Rattle.board.specs.Moves.{Moves}
 use Rattle.pattern_index.specs.Ranks.{ways, IsListing, rank_of}
 use Rattle.pattern_index.specs.Views.{Sight, IsView, Abstraction, ViewMoves, ViewLeads, view_of, view_at}
 use Rattle.pattern_index.specs.Selections.{Selection, IsSelection, IsGroup, rank_in, size_of, place_in, folded_size_of, sight_successor}
-use Rattle.pattern_index.specs.Sparse.{sparse_in, sparse_size_of, stride_of}
+use Rattle.pattern_index.specs.Sparse.{slot_count_of, slot_in, sparse_in, sparse_of, sparse_size_of, stride_of}
 
 -- n!, the numbers from 1 to n multiplied
 abbrev pub factorial : ℕ → ℕ
@@ -71,6 +71,22 @@ SparsePlacesAreBelow = (g : Selection) (v : Sight) → IsView g.grid g.tiles v �
 abbrev pub SparsePlacesDiffer : Type 0
 SparsePlacesDiffer =
     (g : Selection) (v w : Sight) → IsView g.grid g.tiles v → IsView g.grid g.tiles w → (sparse_in g.grid v ≡ sparse_in g.grid w) ↔ (v.cells ≡ w.cells)
+
+-- the digits of a slot are cells, the blank's as the lowest, to the base of 16 or, on more cells, of their count
+abbrev pub SlotsAreDigits : Type 0
+SlotsAreDigits = (grid : Grid) (v : Sight) → slot_in grid v ≡ sparse_of (max (cell_count grid) 16) (v.blank ∷ v.cells)
+
+-- there are as many slots as numbers of that many digits
+abbrev pub SlotsAreCounted : Type 0
+SlotsAreCounted = (g : Selection) → slot_count_of g ≡ max (cell_count g.grid) 16 ^ suc (length g.tiles)
+
+-- the slot of a group's view is below the count of slots
+abbrev pub SlotsAreBelow : Type 0
+SlotsAreBelow = (g : Selection) (v : Sight) → IsView g.grid g.tiles v → slot_in g.grid v < slot_count_of g
+
+-- views of a group with one slot are one view
+abbrev pub SlotsDiffer : Type 0
+SlotsDiffer = (g : Selection) (v w : Sight) → IsView g.grid g.tiles v → IsView g.grid g.tiles w → slot_in g.grid v ≡ slot_in g.grid w → v ≡ w
 
 -- where one tile of a group moves, the sparse place gains its new cell times its stride, and loses its old cell times that
 abbrev pub SparsePlacesMove : Type 0

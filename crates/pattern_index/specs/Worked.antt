@@ -7,6 +7,7 @@ use Rattle.board.specs.Worked.{grid_of, two_by_three}
 use Rattle.pattern_index.specs.declared.group.TheConstants.{MAX_SIZE}
 use Rattle.pattern_index.specs.Views.{Sight, Abstraction, ViewLeads, view_of}
 use Rattle.pattern_index.specs.Selections.{Selection, size_of, rank_in, sight_successor}
+use Rattle.pattern_index.specs.Sparse.{slot_count_of, slot_in}
 
 abbrev pub sight : ℕ → List ℕ → Sight
 sight blank cells = record { blank = blank; cells = cells }
@@ -23,6 +24,16 @@ ViewRanks =
     × (rank_in (grid_of 2 3) (sight 2 (0 ∷ 5 ∷ [])) ≡ 43)
     × (rank_in (grid_of 3 3) (sight 0 (8 ∷ [])) ≡ 7)
     × (rank_in (grid_of 3 3) (sight 8 (0 ∷ [])) ≡ 64)
+
+-- the digits of a slot are cells, the blank's as the lowest: of four bits up to 16 cells, and to the base of 25
+abbrev pub ViewSlots : Type 0
+ViewSlots =
+    (slot_in (grid_of 2 2) (sight 3 (2 ∷ [])) ≡ 35)
+    × (slot_in (grid_of 3 3) (sight 8 (0 ∷ 5 ∷ [])) ≡ 1288)
+    × (slot_in (grid_of 4 4) (sight 15 (1 ∷ 2 ∷ [])) ≡ 543)
+    × (slot_in (grid_of 5 5) (sight 24 (1 ∷ 2 ∷ [])) ≡ 1299)
+    × (slot_count_of (group_of (grid_of 4 4) (1 ∷ 2 ∷ 3 ∷ 4 ∷ 5 ∷ [])) ≡ 16777216)
+    × (slot_count_of (group_of (grid_of 5 5) (1 ∷ 2 ∷ 3 ∷ 4 ∷ [])) ≡ 9765625)
 
 -- sizes of groups, of which the fourth is within the greatest size and the last is above it
 abbrev pub GroupSizes : Type 0

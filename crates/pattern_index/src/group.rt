@@ -13,13 +13,16 @@ ghost use Rattle.pattern_index.specs.Selections.{size_of, rank_in, abstraction_o
 ghost use Rattle.pattern_index.specs.Selections.{folded_size_of, place_in};
 ghost use Rattle.pattern_index.specs.Selections.{sight_successor};
 ghost use Rattle.pattern_index.specs.Sparse.{digits_in, sparse_in, sparse_size_of, stride_of};
+ghost use Rattle.pattern_index.specs.Sparse.{slot_in, slot_count_of};
 ghost use Rattle.pattern_index.specs.Laws.{factorial};
 ghost use Rattle.pattern_index.specs.Faults.{IsFirstFault};
 ghost use Rattle.pattern_index.specs.declared.faults.GroupFault.{GroupFault};
 
 use crate::cells::{rank_cells, rank_numbers, rank_tiles, rank_tiles_twice};
 use crate::faults::GroupFault;
-use crate::sparse::{are_different, count_numbers, sparse_tiles, stride_of, write_digits};
+use crate::sparse::{
+    are_different, count_numbers, digit_base, sparse_place, sparse_tiles, stride_of, write_digits,
+};
 use crate::view::View;
 use board::{Board, Move, Shape, Weights};
 use std::marker::Model;
@@ -236,6 +239,35 @@ impl Group {
         ensures { result ≡ stride_of (cell_count self.now.grid) self.now.tiles tile }
     {
         stride_of(self.shape().cells(), self.tiles(), tile)
+    }
+
+    /// How many numbers have a digit for the blank and for each tile: 16^(k + 1) for k tiles on up to
+    /// 16 cells, and N^(k + 1) on N cells more. All slots are below it.
+    pub fn slot_count(&self) -> usize
+        ensures { result ≡ slot_count_of self.now }
+    {
+        count_numbers(digit_base(self.shape()), self.tiles().len() + 1)
+    }
+
+    /// The slot of a view: the number that has the blank's cell as its lowest digit, and those of the
+    /// tiles as the next ones.
+    pub fn slot(&self, view: &View) -> usize
+        requires { IsView self.now.grid self.now.tiles view.now }
+        ensures value { result ≡ slot_in self.now.grid view.now }
+        ensures below { result < slot_count_of self.now }
+    {
+        sparse_place(digit_base(self.shape()), view.cells())
+    }
+
+    /// The slot of what it sees of a board, by the cell of each of the board's numbers (`cells_of`):
+    /// as `slot` of the view, without making one.
+    pub fn slot_at(&self, cells: &[u8; 25]) -> usize
+        requires { IsView self.now.grid self.now.tiles (view_at self.now.tiles cells.now) }
+        ensures value { result ≡ slot_in self.now.grid (view_at self.now.tiles cells.now) }
+        ensures below { result < slot_count_of self.now }
+    {
+        let base = digit_base(self.shape());
+        sparse_tiles(base, self.tiles(), cells) * base + cells[0] as usize
     }
 
     /// The place of the views that have a sparse place: the rank of its digits. None where two of

@@ -6,6 +6,7 @@ ghost use Rattle.pattern_index.specs.Laws.{RanksFill, RanksAreInOrder, GroupsAre
 ghost use Rattle.pattern_index.specs.Laws.{ViewRanksAreBelow, ViewRanksDiffer, ViewRanksFill};
 ghost use Rattle.pattern_index.specs.Laws.{PlacesAreBelow, PlacesDiffer};
 ghost use Rattle.pattern_index.specs.Laws.{SparsePlacesAreBelow, SparsePlacesDiffer, SparsePlacesMove};
+ghost use Rattle.pattern_index.specs.Laws.{SlotsAreBelow, SlotsAreCounted, SlotsAreDigits, SlotsDiffer};
 ghost use Rattle.pattern_index.specs.Laws.{BoardsHaveViews, MovesAreViewMoves};
 ghost use Rattle.pattern_index.specs.Laws.{SuccessorsAreViewMoves, ViewMovesKeepViews};
 ghost use Rattle.pattern_index.specs.Laws.{ViewMovesAreTakenBack};
@@ -53,6 +54,15 @@ pub fn sparse_places_are_numbers()
     ensures below { SparsePlacesAreBelow }
     ensures differ { SparsePlacesDiffer }
     ensures moved { SparsePlacesMove }
+{}
+
+/// The slot of a view has its cells as digits, it is below the count of slots, and no two views share
+/// one.
+pub fn views_have_slots()
+    ensures digits { SlotsAreDigits }
+    ensures count { SlotsAreCounted }
+    ensures below { SlotsAreBelow }
+    ensures differ { SlotsDiffer }
 {}
 
 /// What a group sees of a board, its abstraction, is a view.

@@ -1,7 +1,34 @@
 //! Sparse places: cells as the digits of a number.
 
 ghost use Rattle.std.specs.Prelude.{ℕ, ◌≡◌, ◌≢◌, ◌↔◌, ◌*◌, ◌^◌, ◌<◌, ◌≤◌, length, map, slice_index, All, AllPairs, IsTrue};
-ghost use Rattle.pattern_index.specs.Sparse.{sparse_of, digits_in, stride_of};
+ghost use Rattle.pattern_index.specs.Sparse.{sparse_of, digits_in, stride_of, digit_base};
+
+use board::Shape;
+
+/// The base in which cells are digits of a slot: 16 where they are no more, so that a digit has four
+/// bits, else the count of cells.
+pub fn digit_base(shape: Shape) -> usize
+    ensures value { result ≡ digit_base shape }
+    ensures high { result ≤ 25 }
+{
+    shape.cells().max(16)
+}
+
+/// The number that has these cells, each below a base, as its digits, the first as the lowest.
+pub fn sparse_place(base: usize, cells: &[u8]) -> usize
+    requires few { base ≤ 25 }
+    requires short { length cells.now ≤ 10 }
+    requires below { All (λ cell. cell < base) cells.now }
+    ensures { result ≡ sparse_of base cells.now }
+{
+    let mut sparse = 0;
+    let mut place = cells.len();
+    'cells: while place > 0 {
+        place -= 1;
+        sparse = sparse * base + cells[place] as usize;
+    }
+    sparse
+}
 
 // The number that has the cells of some tiles as its digits, by a list of the cell of each number.
 pub(crate) fn sparse_tiles(count: usize, tiles: &[u8], cells: &[u8; 25]) -> usize
@@ -83,7 +110,7 @@ pub(crate) fn stride_of(count: usize, tiles: &[u8], tile: u8) -> usize
 // The count to the power of a number of digits.
 pub(crate) fn count_numbers(count: usize, digits: usize) -> usize
     requires few { count ≤ 25 }
-    requires short { digits ≤ 9 }
+    requires short { digits ≤ 10 }
     ensures { result ≡ count ^ digits }
 {
     let mut numbers = 1;

@@ -1,11 +1,16 @@
 //! Worked rows that the definitions meet: each is the contract of a function that does nothing.
 
-ghost use Rattle.pattern_index.specs.Worked.{ViewRanks, GroupSizes, OblongView};
+ghost use Rattle.pattern_index.specs.Worked.{ViewRanks, ViewSlots, GroupSizes, OblongView};
 ghost use Rattle.pattern_index.specs.Worked.{FourViewMoves, OneViewPlan};
 
 /// The ranks of six views.
 pub fn view_ranks()
     ensures { ViewRanks }
+{}
+
+/// The slots of four views, and how many two groups have.
+pub fn view_slots()
+    ensures { ViewSlots }
 {}
 
 /// The sizes of five groups, and the greatest size between them.

@@ -1,6 +1,6 @@
 use Rattle.std.proofs.Common.{◌+◌, ◌^◌, sym, ap, ◌∙◌, arith}
 use Rattle.std.proofs.Math.Nat.{pow-zero}
-use Rattle.pattern_index.proofs.SparseLemmas.{power_more, pow_low}
+use Rattle.pattern_index.proofs.SparseLemmas.{power_more, pow_ten}
 use Rattle.pattern_index.proofs.sparse.count_numbers.Goals as goal
 
 pub digits-init : goal.digits-init
@@ -9,7 +9,7 @@ digits-init c = sym (pow-zero c.args.count)
 pub overflow_mul-numbers : goal.overflow_mul-numbers
 overflow_mul-numbers c =
     let next = power_more c.args.count c.digits.numbers c.digits.counter c.digits.invariant in
-    let top = pow_low c.args.count (c.digits.counter + 1) c.requires.few (omega (arith, c.requires.short, c.digits-test.true)) in
+    let top = pow_ten c.args.count (c.digits.counter + 1) c.requires.few (omega (arith, c.requires.short, c.digits-test.true)) in
     omega (arith, next, top)
 
 pub digits-preserved : goal.digits-preserved
