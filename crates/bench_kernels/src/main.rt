@@ -9,6 +9,14 @@
 //!     bench_kernels rank SIDE TILES RANKS    ranks of views of a group of the first tiles
 //!     bench_kernels table ROWS COLS COUNT..  tables: the first group has the first tiles, and each
 //!                                            takes the next
+//!     bench_kernels weighed WEIGHTS GOAL ROWS COLS COUNT..
+//!                                            the same for other weights and goals: 0 for the usual
+//!                                            ones, 1 for face cost, else what they are drawn by
+//!     bench_kernels folded ..                the same, folded
+//!     bench_kernels group WEIGHTS GOAL ROWS COLS TILE..
+//!                                            the table of the group with these tiles
+//!     bench_kernels built .., built-folded ..
+//!                                            tables that are built and not read
 //!     bench_kernels sums SIDE BOARDS ROUNDS COUNT..
 //!                                            expansions of random boards, with the sums of tables
 //!                                            of random values, of groups as above
@@ -35,7 +43,7 @@ use std::io::{self, ErrorKind, Print};
 use std::process::ExitCode;
 use steps::walk_from_goal;
 use sums::{drawn_keys, expand_all};
-use tables::{Task, fold_of, summary_of, table_of};
+use tables::{Summary, Task, fold_of, fold_summary, frame_for, table_of, table_summary};
 use words::{Asked, Part, SMALL, read_part, read_words};
 
 fn print_steps(rt: &impl Print, shape: Shape, steps: u32) -> io::Result<()> {
@@ -53,8 +61,7 @@ fn print_ranks(rt: &impl Print, group: &Group, ranks: u32) -> io::Result<()> {
 }
 
 // Prints what the values of a table come to.
-fn print_values(rt: &impl Print, values: &[u16]) -> io::Result<()> {
-    let summary = summary_of(values);
+fn print_summary(rt: &impl Print, summary: Summary) -> io::Result<()> {
     let views = summary.views;
     let highest = summary.highest;
     let sum = summary.sum;
@@ -65,11 +72,18 @@ fn print_values(rt: &impl Print, values: &[u16]) -> io::Result<()> {
 // All tables are kept to the end, as a search would keep them.
 fn print_tables(rt: &(impl Print + AllocGlobal), groups: &[Group], task: Task) -> io::Result<()> {
     let mut tables: Vec<Table> = Vec::new(rt.alloc());
+    let mut last = None;
     for group in groups {
-        let Some(table) = table_of(rt.alloc(), group, task) else {
+        let Some(frame) = frame_for(rt.alloc(), last, group) else {
             return Err(ErrorKind::OutOfMemory.into());
         };
-        print_values(rt, table.values())?;
+        let Some(table) = table_of(rt.alloc(), &frame, group, task) else {
+            return Err(ErrorKind::OutOfMemory.into());
+        };
+        last = Some(frame);
+        if task.is_read {
+            print_summary(rt, table_summary(&table))?;
+        }
         tables.push(table)?;
     }
     Ok(())
@@ -78,11 +92,18 @@ fn print_tables(rt: &(impl Print + AllocGlobal), groups: &[Group], task: Task) -
 // So are folded ones.
 fn print_folds(rt: &(impl Print + AllocGlobal), groups: &[Group], task: Task) -> io::Result<()> {
     let mut folds: Vec<Folded> = Vec::new(rt.alloc());
+    let mut last = None;
     for group in groups {
-        let Some(fold) = fold_of(rt.alloc(), group, task) else {
+        let Some(frame) = frame_for(rt.alloc(), last, group) else {
             return Err(ErrorKind::OutOfMemory.into());
         };
-        print_values(rt, fold.values())?;
+        let Some(fold) = fold_of(rt.alloc(), &frame, group, task) else {
+            return Err(ErrorKind::OutOfMemory.into());
+        };
+        last = Some(frame);
+        if task.is_read {
+            print_summary(rt, fold_summary(&fold))?;
+        }
         folds.push(fold)?;
     }
     Ok(())

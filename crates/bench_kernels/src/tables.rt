@@ -1,15 +1,19 @@
 //! Tables, and what they come to.
 
 ghost use Rattle.std.specs.Prelude.{◌≡◌, length, IfSome};
+ghost use Rattle.pattern_index.specs.Selections.{size_of};
+ghost use Rattle.database_build.specs.Frames.{Fits};
 
 use crate::states::next_state;
 use crate::sums::shuffled;
 use board::{Board, Shape, Weights};
-use database_build::{Folded, NO_VALUE, Table, build, build_folded};
+use database_build::{Folded, Frame, NO_VALUE, Table, build_folded_in, build_in};
 use pattern_index::Group;
 use std::alloc::Global;
 
-/// What a table's values come to.
+/// What the values of a table come to: their count, the highest of those that stand for a cost,
+/// their sum, and a number into which all of them are mixed in order (FNV-1a with a value in place
+/// of a byte).
 #[derive(Clone, Copy)]
 pub struct Summary {
     pub views: usize,
@@ -18,13 +22,36 @@ pub struct Summary {
     pub check: u64,
 }
 
-/// What tables are built for: a number for the weights and one for the goal.
+impl Summary {
+    // Of no values.
+    fn empty() -> Self {
+        Summary {
+            views: 0,
+            highest: 0,
+            sum: 0,
+            check: 14695981039346656037,
+        }
+    }
+
+    // Adds a value to all but the count.
+    fn add(&mut self, value: u16) {
+        if value < NO_VALUE && value > self.highest {
+            self.highest = value;
+        }
+        self.sum = self.sum.wrapping_add(value as u64);
+        self.check = (self.check ^ value as u64).wrapping_mul(1099511628211);
+    }
+}
+
+/// What tables are built for: a number for the weights and one for the goal, and whether all their
+/// values are read then.
 #[derive(Clone, Copy)]
 pub struct Task {
     /// 0 for unit cost, 1 for face cost, or what weights are drawn by.
     pub weights: u64,
     /// 0 for the goal of the shape, or what another one is drawn by.
     pub goal: u64,
+    pub is_read: bool,
 }
 
 impl Task {
@@ -33,6 +60,7 @@ impl Task {
         Task {
             weights: 0,
             goal: 0,
+            is_read: true,
         }
     }
 
@@ -71,36 +99,67 @@ fn drawn_weights(seed: u64) -> [u8; 25] {
 }
 
 /// The table of a group, or None where the task makes none, or finds no memory.
-pub fn table_of(alloc: Global, group: &Group, task: Task) -> Option<Table> {
+pub fn table_of(alloc: Global, frame: &Frame, group: &Group, task: Task) -> Option<Table>
+    requires { Fits frame.now group.now }
+{
     let shape = group.shape();
-    build(alloc, group, &task.goal(shape)?, &task.weights(shape)?).ok()
+    build_in(
+        alloc,
+        frame,
+        group,
+        &task.goal(shape)?,
+        &task.weights(shape)?,
+    )
+    .ok()
 }
 
 /// The folded table of a group, or None as `table_of` answers it.
-pub fn fold_of(alloc: Global, group: &Group, task: Task) -> Option<Folded> {
+pub fn fold_of(alloc: Global, frame: &Frame, group: &Group, task: Task) -> Option<Folded>
+    requires { Fits frame.now group.now }
+{
     let shape = group.shape();
-    build_folded(alloc, group, &task.goal(shape)?, &task.weights(shape)?).ok()
+    build_folded_in(
+        alloc,
+        frame,
+        group,
+        &task.goal(shape)?,
+        &task.weights(shape)?,
+    )
+    .ok()
 }
 
-/// The count of values, the highest of those that stand for a cost, their sum, and a number into
-/// which all of them are mixed in order (FNV-1a with a value in place of a byte).
-pub fn summary_of(values: &[u16]) -> Summary
-    ensures { result.views ≡ length values.now }
+/// The frame of a group: the one that is given, if it fits, else a new one; None without memory.
+pub fn frame_for(alloc: Global, last: Option<Frame>, group: &Group) -> Option<Frame>
+    ensures { IfSome result (λ frame. Fits frame group.now) }
 {
-    let mut highest = 0;
-    let mut sum: u64 = 0;
-    let mut check: u64 = 14695981039346656037;
-    for value in values {
-        if *value < NO_VALUE && *value > highest {
-            highest = *value;
+    if let Some(frame) = last {
+        if frame.fits(group) {
+            return Some(frame);
         }
-        sum = sum.wrapping_add(*value as u64);
-        check = (check ^ *value as u64).wrapping_mul(1099511628211);
     }
-    Summary {
-        views: values.len(),
-        highest,
-        sum,
-        check,
+    Frame::new(alloc, group).ok()
+}
+
+/// What the values of a table come to, by rank.
+pub fn table_summary(table: &Table) -> Summary
+    ensures { result.views ≡ size_of table.now.selection }
+{
+    let mut summary = Summary::empty();
+    'ranks: for rank in 0..table.group().size() {
+        summary.add(table.entry(rank));
     }
+    summary.views = table.group().size();
+    summary
+}
+
+/// What the values of a folded table come to, by the places of the tiles.
+pub fn fold_summary(fold: &Folded) -> Summary
+    ensures { result.views ≡ length fold.now.least }
+{
+    let mut summary = Summary::empty();
+    'values: for value in fold.values() {
+        summary.add(*value);
+    }
+    summary.views = fold.values().len();
+    summary
 }

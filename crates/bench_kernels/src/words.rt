@@ -96,13 +96,28 @@ pub fn read_part(alloc: Global, name: &str, numbers: &[usize]) -> Option<Part> {
         }
         ("weighed", [weights, goal, rows, cols, counts @ ..]) => {
             let shape = shape_of(*rows, *cols)?;
-            let task = task_of(*weights, *goal);
+            let task = task_of(*weights, *goal, true);
             Some(Part::Tables(read_groups(alloc, shape, counts)?, task))
         }
         ("folded", [weights, goal, rows, cols, counts @ ..]) => {
             let shape = shape_of(*rows, *cols)?;
-            let task = task_of(*weights, *goal);
+            let task = task_of(*weights, *goal, true);
             Some(Part::Folds(read_groups(alloc, shape, counts)?, task))
+        }
+        ("built", [weights, goal, rows, cols, counts @ ..]) => {
+            let shape = shape_of(*rows, *cols)?;
+            let task = task_of(*weights, *goal, false);
+            Some(Part::Tables(read_groups(alloc, shape, counts)?, task))
+        }
+        ("built-folded", [weights, goal, rows, cols, counts @ ..]) => {
+            let shape = shape_of(*rows, *cols)?;
+            let task = task_of(*weights, *goal, false);
+            Some(Part::Folds(read_groups(alloc, shape, counts)?, task))
+        }
+        ("group", [weights, goal, rows, cols, tiles @ ..]) => {
+            let shape = shape_of(*rows, *cols)?;
+            let task = task_of(*weights, *goal, true);
+            Some(Part::Tables(group_of(alloc, shape, tiles)?, task))
         }
         ("sums", [side, boards, rounds, counts @ ..]) => {
             let shape = shape_of(*side, *side)?;
@@ -117,16 +132,30 @@ pub fn read_part(alloc: Global, name: &str, numbers: &[usize]) -> Option<Part> {
 }
 
 // The task of these numbers.
-fn task_of(weights: usize, goal: usize) -> Task {
+fn task_of(weights: usize, goal: usize, is_read: bool) -> Task {
     Task {
         weights: weights as u64,
         goal: goal as u64,
+        is_read,
     }
 }
 
 // The shape with these sides.
 fn shape_of(rows: usize, cols: usize) -> Option<Shape> {
     Shape::new(u8::try_from(rows).ok()?, u8::try_from(cols).ok()?).ok()
+}
+
+// The group of these tiles alone.
+fn group_of(alloc: Global, shape: Shape, tiles: &[usize]) -> Option<Vec<Group>>
+    ensures { IfSome result (λ groups. All (λ g. g.grid ≡ shape) groups.items) }
+{
+    let mut numbers = Vec::new(alloc);
+    'tiles: for tile in tiles {
+        numbers.push(u8::try_from(*tile).ok()?).ok()?;
+    }
+    let mut groups = Vec::new(alloc);
+    groups.push(Group::new(shape, &numbers).ok()?).ok()?;
+    Some(groups)
 }
 
 // Groups of these counts of tiles: the first has the first tiles, and each takes the next.

@@ -338,7 +338,8 @@ fn tell_whole(tables: &[Table])
     ensures { All HasSmallEntries tables.now }
 {
     'tables: for place in 0..tables.len() {
-        tell_values(tables[place].values());
+        // That no value is greater is told by this call.
+        let _ = tables[place].group();
     }
 }
 

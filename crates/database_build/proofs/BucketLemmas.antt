@@ -13,12 +13,12 @@ use Rattle.database_build.specs.Searches.{IsLowered}
 use Rattle.database_build.specs.declared.search.Search.{Search}
 use Rattle.database_build.specs.declared.table.TheConstants.{NO_VALUE}
 
-get_set_same : {X : Type 0} (xs : List X) (i : ℕ) (x : X) → i < length xs → slice_get (set xs i x) i ≡ Some x
+pub get_set_same : {X : Type 0} (xs : List X) (i : ℕ) (x : X) → i < length xs → slice_get (set xs i x) i ≡ Some x
 get_set_same [] i x i_in = absurd (omega arith)
 get_set_same (y ∷ ys) zero x i_in = refl
 get_set_same (y ∷ ys) (suc i) x i_in = get_set_same ys i x (omega arith)
 
-get_set_other : {X : Type 0} (xs : List X) (i j : ℕ) (x : X) → j ≢ i → slice_get (set xs i x) j ≡ slice_get xs j
+pub get_set_other : {X : Type 0} (xs : List X) (i j : ℕ) (x : X) → j ≢ i → slice_get (set xs i x) j ≡ slice_get xs j
 get_set_other [] i j x ne = refl
 get_set_other (y ∷ ys) zero zero x ne = absurd (ne refl)
 get_set_other (y ∷ ys) zero (suc j) x ne = refl

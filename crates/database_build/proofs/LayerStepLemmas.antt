@@ -21,8 +21,7 @@ use Rattle.database_build.specs.declared.layers.Layers.{Layers}
 use Rattle.database_build.specs.declared.node_sets.NodeSet.{NodeSet}
 use Rattle.database_build.specs.declared.table.TheConstants.{NO_VALUE}
 use Rattle.database_build.proofs.OrderLemmas.{order_below}
-use Rattle.database_build.proofs.OrderTables.{length-positions_at}
-use Rattle.database_build.proofs.MovedLemmas.{moved_start, moved_end}
+use Rattle.database_build.proofs.OrderTables.{length-positions_at, moved_start, moved_end}
 use Rattle.database_build.proofs.NodeSetLemmas.{same_added, both_added, none_added}
 
 -- ---- sets of nodes

@@ -1,7 +1,6 @@
 pub mod BucketLemmas
 pub mod OrderLemmas
 pub mod OrderTables
-pub mod MovedLemmas
 pub mod SetLemmas
 pub mod RegionLemmas
 pub mod EdgeLemmas
@@ -12,7 +11,7 @@ pub mod NodeSetLemmas
 pub mod ReachLemmas
 pub mod LayerStepLemmas
 pub mod LayerLemmas
-pub mod GroupGraphLemmas
-pub mod PotentialLemmas
-pub mod LeastLemmas
 pub mod FoldLemmas
+pub mod SlotLemmas
+pub mod EntryLemmas
+pub mod FrameLemmas

@@ -1,22 +1,23 @@
 -- What the loops over orders keep.
-use Rattle.std.proofs.Common.{◌≡◌, ◌≢◌, ℕ, zero, suc, ◌+◌, ◌-◌, ◌*◌, ◌/◌, ◌%◌, ◌<◌, ◌≤◌, List, [], ◌∷◌, ◌++◌, length, get_or, map, take, drop, set, refl, sym, ap, ◌∙◌, subst, add-one, arith, eqb, ⊎_elim}
-use Rattle.std.proofs.lemmas.List.{take_more, take_all, take_at, take_more_set, length-take-le, length-append, length-drop, length-map, length_push, get_or_default, append_assoc, get_or_append_left, get_or-append-add, get_or_read}
+use Rattle.std.proofs.Common.{◌≡◌, ◌≢◌, ℕ, suc, ◌+◌, ◌-◌, ◌*◌, ◌<◌, ◌≤◌, List, [], ◌∷◌, length, get_or, map, refl, sym, ap, ◌∙◌, subst, arith, zero, ◌/◌, ◌%◌, ◌++◌, take, drop, set, add-one, eqb, ⊎_elim}
+use Rattle.std.proofs.lemmas.List.{length-map, take_more, take_all, take_at, take_more_set, length-take-le, length-append, length-drop, length_push, get_or_default, append_assoc, get_or_append_left, get_or-append-add, get_or_read}
 use Rattle.std.proofs.lemmas.List.Edits.{map_over_more}
 use Rattle.std.proofs.lemmas.Bool.Decides.{nat_tests}
-use Rattle.std.proofs.lemmas.Nat.{mod_below, mul-add-lt}
+use Rattle.std.proofs.lemmas.Nat.{mod_below, mul-add-lt, div-mul-add, mod-mul-add}
 use Rattle.std.proofs.Math.Nat.{mul-le-mul_right, mod-eq_of_lt, mul_comm}
 use Rattle.std.specs.List.{All, position_or_len, range_with_len}
 use Rattle.pattern_index.specs.Laws.{factorial}
-use Rattle.pattern_index.specs.Ranks.{spread}
+use Rattle.pattern_index.specs.Ranks.{IsListing, spread}
 use Rattle.pattern_index.proofs.CellLemmas.{split_digit}
-use Rattle.database_build.specs.Orders.{below, order_after, order_of, positions_at, exchanged, tile_of}
-use Rattle.database_build.proofs.OrderLemmas.{order_with, order_below, positions_are, below_full, below_absent, in_or_out, tile_is}
+use Rattle.database_build.specs.Orders.{order_of, positions_at, exchanged, moved_position, moved_order, below, order_after, tile_of}
+use Rattle.database_build.proofs.OrderLemmas.{positions_are, positions_back, order_with, order_below, below_full, below_absent, in_or_out, tile_is}
 use Rattle.std.specs.Prelude.{Contains}
 use Rattle.std.proofs.lemmas.List.FromFn.{map-range_with_len_more, length-range_with_len, get_or-map-range_with_len}
 use Rattle.std.proofs.lemmas.Bool.{cases_lt}
-use Rattle.pattern_index.proofs.RankLemmas.{below_in, differ_in}
+use Rattle.pattern_index.proofs.RankLemmas.{Below, Differ, Other, below_in, differ_in, listing_from}
 use Rattle.database_build.specs.declared.orders.Orders.{Orders}
-use Rattle.database_build.specs.Graphs.{IsOrders}
+use Rattle.database_build.specs.Graphs.{HasPasses, AreMoves, IsOrders}
+use Rattle.database_build.specs.declared.orders.TheConstants.{MOST_MOVED}
 
 pub factorial_some : (n : ℕ) → 1 ≤ factorial n
 factorial_some zero = omega arith
@@ -237,7 +238,7 @@ kept_more count made o o' kept number size tiles passes =
       passes = passes_more.1;
     }
 
-pub kept_all : (count made : ℕ) (o : Orders) → made ≡ factorial count → HasOrders count made o → IsOrders count o
+pub kept_all : (count made : ℕ) (o : Orders) → made ≡ factorial count → HasOrders count made o → HasPasses count o
 kept_all count made o all kept =
     let at : HasOrders count (factorial count) o = subst (λ m. HasOrders count m o) all kept in
     record {
@@ -267,7 +268,7 @@ tile_low n order position low within =
     (λ (absent : ¬ Contains xs position). let same = below_absent position xs absent in absurd (omega arith))
     (in_or_out position xs)
 
-pub tile_read : (count : ℕ) (o : Orders) (order position result : ℕ) → IsOrders count o → order < factorial count → position < count → result ≡ get_or o.tiles.items (order * count + position) result → result < count
+pub tile_read : (count : ℕ) (o : Orders) (order position result : ℕ) → HasPasses count o → order < factorial count → position < count → result ≡ get_or o.tiles.items (order * count + position) result → result < count
 tile_read count o order position result orders low within read =
     let m = mul-add-lt order count position (factorial count) low within in
     let turned = mul_comm count (factorial count) in
@@ -277,9 +278,151 @@ tile_read count o order position result orders low within read =
     omega arith
 
 -- the order after an exchange, as it is read
-pub pass_read : (count : ℕ) (o : Orders) (order position : ℕ) → IsOrders count o → order < factorial count → suc position < count → (order * (count - 1) + position < length o.passes.items) × ((result : ℕ) → result ≡ get_or o.passes.items (order * (count - 1) + position) result → result ≡ order_of (map (exchanged position) (positions_at count order)))
+pub pass_read : (count : ℕ) (o : Orders) (order position : ℕ) → HasPasses count o → order < factorial count → suc position < count → (order * (count - 1) + position < length o.passes.items) × ((result : ℕ) → result ≡ get_or o.passes.items (order * (count - 1) + position) result → result ≡ order_of (map (exchanged position) (positions_at count order)))
 pass_read count o order position orders low within =
     let m = mul-add-lt order (count - 1) position (factorial count) low (omega arith) in
     let turned = mul_comm (count - 1) (factorial count) in
     let lt : order * (count - 1) + position < length o.passes.items = omega (arith, orders.passes_length) in
     (lt, λ result read. get_or_read o.passes.items (order * (count - 1) + position) result lt read 0 ∙ orders.passes order position low within)
+
+-- ---- the moves, for few tiles
+
+pub moved_low : (count order from to : ℕ) → moved_order count order from to < factorial count
+moved_low count order from to =
+    subst (λ k. moved_order count order from to < factorial k) (length-map (positions_at count order) (moved_position from to) ∙ length-positions_at count order)
+    (order_below (map (moved_position from to) (positions_at count order)))
+
+-- what is kept for the pairs of positions before one
+pub record HaveMoves (count made : ℕ) (moves : List ℕ) : Type 0 where
+  pub size : length moves ≡ made * factorial count
+  pub are : (pair order : ℕ) → pair < made → order < factorial count → get_or moves (pair * factorial count + order) 0 ≡ moved_order count order (pair / count) (pair % count)
+
+-- the moves of one pair more are put at the end
+pub moves_more : (count from to : ℕ) (old new : List ℕ) → to < count → HaveMoves count (from * count + to) old → new ≡ old ++ map (λ order. moved_order count order from to) (range_with_len 0 (factorial count)) → HaveMoves count (from * count + (to + 1)) new
+moves_more count from to old new within kept is =
+    let first : from ≡ (from * count + to) / count = sym (div-mul-add from count to within) in
+    let second : to ≡ (from * count + to) % count = sym (mod-mul-add from count to within) in
+    let more = table_more (λ pair order. moved_order count order (pair / count) (pair % count)) (factorial count) (from * count + to) old new kept.size kept.are
+    (is ∙ (λ i. old ++ map (λ order. moved_order count order (first i) (second i)) (range_with_len 0 (factorial count)))) in
+    let made : HaveMoves count (from * count + to + 1) new = record { size = more.0; are = more.1 } in
+    subst (λ m. HaveMoves count m new) (next (from * count) to) made
+  where
+    next : (a b : ℕ) → a + b + 1 ≡ a + (b + 1)
+    next a b = omega arith
+
+-- all of them
+pub moves_all : (count from : ℕ) (moves : List ℕ) → from ≡ count → HaveMoves count (from * count) moves → AreMoves count moves
+moves_all count from moves all kept =
+    let at : HaveMoves count (count * count) moves = subst (λ m. HaveMoves count (m * count) moves) all kept in
+    record {
+      size = at.size;
+      are = λ order from to low from_low to_low.
+          at.are (from * count + to) order (let m = mul-add-lt from count to count from_low to_low in omega arith) low
+          ∙ (λ i. moved_order count order (div-mul-add from count to to_low i) (mod-mul-add from count to to_low i));
+    }
+
+-- the order after a move, as it is read
+pub move_read : (count order from to result : ℕ) (o : Orders) → IsOrders count o → count ≤ MOST_MOVED → order < factorial count → from < count → to < count → result ≡ get_or o.moves.items ((from * count + to) * o.size + order) result → result < factorial count
+move_read count order from to result o orders few low from_low to_low read =
+    let moves = orders.moves few in
+    let pair = mul-add-lt from count to count from_low to_low in
+    let place = mul-add-lt (from * count + to) (factorial count) order (count * count) (omega arith) low in
+    let turned = mul_comm (factorial count) (count * count) in
+    let sized : result ≡ get_or o.moves.items ((from * count + to) * factorial count + order) result = read ∙ ap (λ k. get_or o.moves.items ((from * count + to) * k + order) result) orders.passes.size in
+    let is = get_or_read o.moves.items ((from * count + to) * factorial count + order) result (omega (arith, moves.size)) sized 0 ∙ moves.are order from to low from_low to_low in
+    let small = moved_low count order from to in
+    omega arith
+
+-- ---- Tiles that are exchanged with their neighbours one after another.
+
+-- a tile that has not moved
+moved_none : (from p : ℕ) → moved_position from from p ≡ p
+moved_none from p = grind (arith, nat_tests)
+
+-- one place further up
+moved_up : (from at p : ℕ) → from ≤ at → exchanged at (moved_position from at p) ≡ moved_position from (at + 1) p
+moved_up from at p le = grind (arith, nat_tests)
+
+-- one place further down
+moved_down : (from at p : ℕ) → at < from → exchanged at (moved_position from (at + 1) p) ≡ moved_position from at p
+moved_down from at p lt = grind (arith, nat_tests)
+
+exchanged_differ : (at x y : ℕ) → x ≢ y → exchanged at x ≢ exchanged at y
+exchanged_differ at x y ne = grind (arith, nat_tests)
+
+exchanged_low : (n at x : ℕ) → suc at < n → x < n → exchanged at x < n
+exchanged_low n at x within lt = grind (arith, nat_tests)
+
+map_twice : (f g h : ℕ → ℕ) → ((x : ℕ) → f (g x) ≡ h x) → (xs : List ℕ) → map f (map g xs) ≡ map h xs
+map_twice f g h same [] = refl
+map_twice f g h same (x ∷ xs) = λ i. same x i ∷ map_twice f g h same xs i
+
+map_none : (f : ℕ → ℕ) → ((x : ℕ) → f x ≡ x) → (xs : List ℕ) → map f xs ≡ xs
+map_none f same [] = refl
+map_none f same (x ∷ xs) = λ i. same x i ∷ map_none f same xs i
+
+map_below : (n at : ℕ) (xs : List ℕ) → suc at < n → Below n xs → Below n (map (exchanged at) xs)
+map_below n at [] within below = tt
+map_below n at (x ∷ xs) within below = (exchanged_low n at x within below.0, map_below n at xs within below.1)
+
+map_other : (at x : ℕ) (xs : List ℕ) → Other x xs → Other (exchanged at x) (map (exchanged at) xs)
+map_other at x [] other = tt
+map_other at x (y ∷ ys) other = (exchanged_differ at x y other.0, map_other at x ys other.1)
+
+map_differ : (at : ℕ) (xs : List ℕ) → Differ xs → Differ (map (exchanged at) xs)
+map_differ at [] differ = tt
+map_differ at (x ∷ xs) differ = (map_other at x xs differ.0, map_differ at xs differ.1)
+
+exchanged_listing : (n at : ℕ) (xs : List ℕ) → suc at < n → IsListing n xs → IsListing n (map (exchanged at) xs)
+exchanged_listing n at xs within listing = listing_from n (map (exchanged at) xs) (map_below n at xs within (below_in n xs listing)) (map_differ at xs (differ_in n xs listing))
+
+-- the tile at a position has come to another: the positions are a list of the order
+pub record IsMoved (count order from at current : ℕ) : Type 0 where
+  pub place : at < count
+  pub low : current < factorial count
+  pub listing : IsListing count (map (moved_position from at) (positions_at count order))
+  pub is : current ≡ order_of (map (moved_position from at) (positions_at count order))
+
+pub moved_start : (count order from : ℕ) → order < factorial count → from < count → IsMoved count order from from order
+moved_start count order from low place =
+    let positions = positions_are count order low in
+    let same : map (moved_position from from) (positions_at count order) ≡ positions_at count order = map_none (moved_position from from) (moved_none from) (positions_at count order) in
+    record {
+      place = place;
+      low = low;
+      listing = subst (λ xs. IsListing count xs) (sym same) positions.0;
+      is = sym positions.2 ∙ ap order_of (sym same);
+    }
+
+-- the positions of the order on the way
+on_way : (count order from at current : ℕ) → IsMoved count order from at current → positions_at count current ≡ map (moved_position from at) (positions_at count order)
+on_way count order from at current moved =
+    let ys : List ℕ = map (moved_position from at) (positions_at count order) in
+    let size : length ys ≡ count = length-map (positions_at count order) (moved_position from at) ∙ length-positions_at count order in
+    (λ i. positions_at (sym size i) (moved.is i)) ∙ positions_back ys (subst (λ n. IsListing n ys) (sym size) moved.listing)
+
+-- an exchange on the way
+passed : (count order from at other next current : ℕ) → suc next < count → other < count → ((p : ℕ) → exchanged next (moved_position from at p) ≡ moved_position from other p) → IsMoved count order from at current → IsMoved count order from other (order_of (map (exchanged next) (positions_at count current)))
+passed count order from at other next current within place turned moved =
+    let twice : map (exchanged next) (map (moved_position from at) (positions_at count order)) ≡ map (moved_position from other) (positions_at count order) = map_twice (exchanged next) (moved_position from at) (moved_position from other) turned (positions_at count order) in
+    record {
+      place = place;
+      low = passed_low count current next;
+      listing = subst (λ xs. IsListing count xs) twice (exchanged_listing count next (map (moved_position from at) (positions_at count order)) within moved.listing);
+      is = ap order_of (ap (map (exchanged next)) (on_way count order from at current moved) ∙ twice);
+    }
+
+pub passed_up : (count order from at current result : ℕ) (o : Orders) → HasPasses count o → from ≤ at → at + 1 < count → IsMoved count order from at current → result ≡ get_or o.passes.items (current * (count - 1) + at) result → IsMoved count order from (at + 1) result
+passed_up count order from at current result o orders le within moved read =
+    let is = (pass_read count o current at orders moved.low (omega arith)).1 result read in
+    subst (λ r. IsMoved count order from (at + 1) r) (sym is) (passed count order from at (at + 1) at current (omega arith) within (λ p. moved_up from at p le) moved)
+
+pub passed_down : (count order from at next current result : ℕ) (o : Orders) → HasPasses count o → at ≡ next + 1 → at ≤ from → IsMoved count order from at current → result ≡ get_or o.passes.items (current * (count - 1) + next) result → IsMoved count order from next result
+passed_down count order from at next current result o orders above le moved read =
+    let place = moved.place in
+    let here : IsMoved count order from (next + 1) current = subst (λ k. IsMoved count order from k current) above moved in
+    let is = (pass_read count o current next orders moved.low (omega arith)).1 result read in
+    subst (λ r. IsMoved count order from next r) (sym is) (passed count order from (next + 1) next next current (omega arith) (omega arith) (λ p. moved_down from next p (omega arith)) here)
+
+pub moved_end : (count order from at to current : ℕ) → at ≡ to → IsMoved count order from at current → current ≡ moved_order count order from to
+moved_end count order from at to current same moved = moved.is ∙ ap (λ k. order_of (map (moved_position from k) (positions_at count order))) same

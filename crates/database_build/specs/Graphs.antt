@@ -7,12 +7,13 @@ use Rattle.pattern_index.specs.Views.{Sight, IsView, Abstraction, ViewMoves, Vie
 use Rattle.database_build.specs.Orders.{order_of, positions_at, tile_of, exchanged, moved_order}
 use Rattle.database_build.specs.Regions.{region_in, HasEdge}
 use Rattle.database_build.specs.declared.orders.Orders.{Orders}
+use Rattle.database_build.specs.declared.orders.TheConstants.{MOST_MOVED}
 use Rattle.database_build.specs.declared.edges.Edge.{Edge}
 use Rattle.database_build.specs.declared.edges.Edges.{Edges}
 use Rattle.database_build.specs.declared.regions.Regions.{Regions}
 
 -- what is kept for each order of `count` tiles: the tile at each position, and the order after two are exchanged
-pub record IsOrders (count : ℕ) (o : Orders) : Type 0 where
+pub record HasPasses (count : ℕ) (o : Orders) : Type 0 where
   pub number : o.count ≡ count
   pub some : 0 < count
   pub short : count ≤ 9
@@ -21,6 +22,16 @@ pub record IsOrders (count : ℕ) (o : Orders) : Type 0 where
   pub tiles : (order position : ℕ) → order < factorial count → position < count → slice_index o.tiles.items (order * count + position) ≡ tile_of count order position
   pub passes_length : length o.passes.items ≡ factorial count * (count - 1)
   pub passes : (order position : ℕ) → order < factorial count → suc position < count → slice_index o.passes.items (order * (count - 1) + position) ≡ order_of (map (exchanged position) (positions_at count order))
+
+-- the order after the tile at a position has come to another, by both positions and then by order
+pub record AreMoves (count : ℕ) (moves : List ℕ) : Type 0 where
+  pub size : length moves ≡ count * count * factorial count
+  pub are : (order from to : ℕ) → order < factorial count → from < count → to < count → slice_index moves ((from * count + to) * factorial count + order) ≡ moved_order count order from to
+
+-- that, and for few tiles their moves
+pub record IsOrders (count : ℕ) (o : Orders) : Type 0 where
+  pub passes : HasPasses count o
+  pub moves : count ≤ MOST_MOVED → AreMoves count o.moves.items
 
 -- the node of a view
 abbrev pub node_in : Regions → Sight → ℕ

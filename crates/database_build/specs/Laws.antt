@@ -1,13 +1,15 @@
 -- The laws of the definitions. Each is the contract of a function that does nothing.
-use Rattle.std.specs.Prelude.{ℕ, ◌≡◌, ◌≤◌, List}
+use Rattle.std.specs.Prelude.{ℕ, ◌≡◌, ◌*◌, ◌^◌, ◌≤◌, List, length, min}
 use Rattle.board.specs.declared.moves.Move.{Move}
 use Rattle.board.specs.Positions.{Position, IsBoard}
 use Rattle.board.specs.CostRules.{CostRule}
 use Rattle.pattern_index.specs.Views.{Sight, IsView, Abstraction, ViewLeads, view_of}
-use Rattle.pattern_index.specs.Selections.{IsSelection}
+use Rattle.pattern_index.specs.Selections.{Selection, IsSelection, folded_size_of}
 use Rattle.database_build.specs.Values.{IsValue, IsPotential}
 use Rattle.database_build.specs.Tables.{Lookup, HoldsValues, value_in}
 use Rattle.database_build.specs.Folds.{Fold, IsFoldedValue, IsFoldOf, folded_in}
+use Rattle.database_build.specs.SmallValues.{most_bytes}
+use Rattle.database_build.specs.Frames.{GroupSize, Fits}
 
 -- a view has one value
 abbrev pub ValuesAreDetermined : Type 0
@@ -54,3 +56,11 @@ FoldedValuesAreReached =
 -- a view has one folded value in a table
 abbrev pub FoldedValuesAreDetermined : Type 0
 FoldedValuesAreDetermined = (table : Lookup) (v : Sight) (n k : ℕ) → IsFoldedValue table v n → IsFoldedValue table v k → n ≡ k
+
+-- the bytes of a folded table are at most those of six digits of 16, and four for each value
+abbrev pub BytesAreFew : Type 0
+BytesAreFew = (g : Selection) → most_bytes g ≡ min (16 ^ 6) (4 * folded_size_of g)
+
+-- what fits a group fits each other one of the same grid with as many tiles
+abbrev pub FramesFitAll : Type 0
+FramesFitAll = (size : GroupSize) (g h : Selection) → Fits size g → h.grid ≡ g.grid → length h.tiles ≡ length g.tiles → Fits size h

@@ -1,5 +1,5 @@
 -- How a search goes on layer by layer, where each tile costs the same.
-use Rattle.std.specs.Prelude.{ℕ, zero, suc, ◌≡◌, ◌≢◌, ◌⊎◌, ◌+◌, ◌*◌, ◌/◌, ◌%◌, ◌<◌, ◌≤◌, List, length, replicate, slice_index}
+use Rattle.std.specs.Prelude.{ℕ, zero, suc, ◌≡◌, ◌≢◌, ◌+◌, ◌*◌, ◌/◌, ◌%◌, ◌<◌, List, length, replicate, slice_index}
 use Rattle.pattern_index.specs.Laws.{factorial}
 use Rattle.database_build.specs.Orders.{moved_order}
 use Rattle.database_build.specs.Regions.{HasEdge}

@@ -12,9 +12,12 @@ pub mod Regions
 pub mod Labels
 pub mod Numberings
 pub mod Edges
+pub mod Entries
 pub mod Graphs
 pub mod Rows
 pub mod Searches
 pub mod NodeSets
 pub mod Layers
 pub mod Laws
+pub mod Slots
+pub mod Frames

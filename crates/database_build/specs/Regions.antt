@@ -56,6 +56,14 @@ pub record IsRegions (grid : Grid) (count : ℕ) (r : Regions) : Type 0 where
   pub choices : IsChoices r.choices
   pub regions : HasRegions r
 
+-- the regions have the same fields
+pub record AreSameRegions (r r' : Regions) : Type 0 where
+  pub shape : r'.shape ≡ r.shape
+  pub count : r'.count ≡ r.count
+  pub choices : r'.choices ≡ r.choices
+  pub numbers : r'.numbers.items ≡ r.numbers.items
+  pub homes : r'.homes.items ≡ r.homes.items
+
 -- ---- edges
 
 -- the blank, on a free cell, is a neighbour of a tile that stands on another

@@ -2,12 +2,15 @@
 
 ghost use Rattle.std.specs.Prelude.{◌≡◌, IfOk};
 ghost use Rattle.database_build.specs.Tables.{HoldsValues};
+ghost use Rattle.database_build.specs.Frames.{Fits};
 ghost use Rattle.database_build.specs.Folds.{IsTrueFold};
 
+use crate::entries::keep_values;
 use crate::finding::find_values;
 use crate::folding::Folded;
+use crate::frame::Frame;
 use crate::orders::factorial;
-use crate::rows::{rank_least, rank_values};
+use crate::rows::rank_least;
 use crate::table::Table;
 use board::{Board, Weights};
 use memory::OutOfMemory;
@@ -27,10 +30,45 @@ pub fn build(
     ensures group { IfOk result (λ t. t.selection ≡ group.now) }
     ensures values { IfOk result (λ t. HoldsValues t weights.now goal.now) }
 {
-    let found = find_values(alloc, group, goal, weights)?;
-    let orders = factorial(group.tiles().len());
-    let values = rank_values(alloc, group, &found.regions, orders, &found.values)?;
-    Ok(Table::of_group(group, values))
+    let frame = Frame::new(alloc, group)?;
+    build_of(alloc, frame, group, goal, weights)
+}
+
+/// The same, in a frame that is made already.
+pub fn build_in(
+    alloc: Global,
+    frame: &Frame,
+    group: &Group,
+    goal: &Board,
+    weights: &Weights,
+) -> Result<Table, OutOfMemory>
+    requires fits { Fits frame.now group.now }
+    requires grid { goal.now.grid ≡ group.now.grid }
+    requires weights { weights.now.grid ≡ group.now.grid }
+    ensures group { IfOk result (λ t. t.selection ≡ group.now) }
+    ensures values { IfOk result (λ t. HoldsValues t weights.now goal.now) }
+{
+    let frame = frame.copy(alloc)?;
+    build_of(alloc, frame, group, goal, weights)
+}
+
+// The same, in a frame of its own.
+fn build_of(
+    alloc: Global,
+    frame: Frame,
+    group: &Group,
+    goal: &Board,
+    weights: &Weights,
+) -> Result<Table, OutOfMemory>
+    requires fits { Fits frame group.now }
+    requires grid { goal.now.grid ≡ group.now.grid }
+    requires weights { weights.now.grid ≡ group.now.grid }
+    ensures group { IfOk result (λ t. t.selection ≡ group.now) }
+    ensures values { IfOk result (λ t. HoldsValues t weights.now goal.now) }
+{
+    let found = find_values(alloc, frame, group, goal, weights)?;
+    let entries = keep_values(alloc, group, &found.regions, &found.values)?;
+    Ok(Table::of_group(group, entries))
 }
 
 /// That table, folded (`fold`), without the whole one: the values of nodes are folded at once.
@@ -45,7 +83,43 @@ pub fn build_folded(
     ensures group { IfOk result (λ fold. fold.selection ≡ group.now) }
     ensures values { IfOk result (IsTrueFold weights.now goal.now) }
 {
-    let found = find_values(alloc, group, goal, weights)?;
+    let frame = Frame::new(alloc, group)?;
+    fold_of(alloc, frame, group, goal, weights)
+}
+
+/// The same, in a frame that is made already.
+pub fn build_folded_in(
+    alloc: Global,
+    frame: &Frame,
+    group: &Group,
+    goal: &Board,
+    weights: &Weights,
+) -> Result<Folded, OutOfMemory>
+    requires fits { Fits frame.now group.now }
+    requires grid { goal.now.grid ≡ group.now.grid }
+    requires weights { weights.now.grid ≡ group.now.grid }
+    ensures group { IfOk result (λ fold. fold.selection ≡ group.now) }
+    ensures values { IfOk result (IsTrueFold weights.now goal.now) }
+{
+    let frame = frame.copy(alloc)?;
+    fold_of(alloc, frame, group, goal, weights)
+}
+
+// The same, in a frame of its own.
+fn fold_of(
+    alloc: Global,
+    frame: Frame,
+    group: &Group,
+    goal: &Board,
+    weights: &Weights,
+) -> Result<Folded, OutOfMemory>
+    requires fits { Fits frame group.now }
+    requires grid { goal.now.grid ≡ group.now.grid }
+    requires weights { weights.now.grid ≡ group.now.grid }
+    ensures group { IfOk result (λ fold. fold.selection ≡ group.now) }
+    ensures values { IfOk result (IsTrueFold weights.now goal.now) }
+{
+    let found = find_values(alloc, frame, group, goal, weights)?;
     let orders = factorial(group.tiles().len());
     let least = rank_least(alloc, group, &found.regions, orders, &found.values)?;
     Folded::of_group(alloc, group, least)

@@ -12,7 +12,7 @@ ghost use Rattle.database_build.specs.Edges.{IsRising, IsStep, IsStepEdge, HasFo
 use crate::orders::count_below;
 use crate::regions::{Regions, stands_on};
 use board::Move;
-use memory::{OutOfMemory, push};
+use memory::{OutOfMemory, copy_of, push};
 use std::alloc::Global;
 
 // A tile goes to where the blank is: its positions among the tiles by cell, before and after, and the
@@ -51,6 +51,17 @@ impl Edges {
         let end = edges.edges.len() as u32;
         push(&mut edges.starts, end)?;
         Ok(edges)
+    }
+
+    // The same once more.
+    pub(crate) fn copy(&self, alloc: Global) -> Result<Self, OutOfMemory>
+        ensures starts { IfOk result (λ copy. copy.starts.items ≡ self.now.starts.items) }
+        ensures edges { IfOk result (λ copy. copy.edges.items ≡ self.now.edges.items) }
+    {
+        Ok(Edges {
+            starts: copy_of(alloc, &self.starts)?,
+            edges: copy_of(alloc, &self.edges)?,
+        })
     }
 }
 

@@ -1,8 +1,10 @@
 //! The values of nodes: by layers where each tile costs the same, else by buckets.
 
 ghost use Rattle.std.specs.Prelude.{ℕ, ◌≡◌, ◌<◌, ◌↔◌, length, replicate, Some, IfOk};
+ghost use Rattle.database_build.specs.Frames.{Fits};
 ghost use Rattle.database_build.specs.Searches.{AreFound};
 
+use crate::frame::Frame;
 use crate::graph::Graph;
 use crate::layers::find_by_layers;
 use crate::regions::Regions;
@@ -22,15 +24,17 @@ pub(crate) struct Found {
 // The values of the nodes of a group's views for a goal.
 pub(crate) fn find_values(
     alloc: Global,
+    frame: Frame,
     group: &Group,
     goal: &Board,
     weights: &Weights,
 ) -> Result<Found, OutOfMemory>
+    requires fits { Fits frame group.now }
     requires grid { goal.now.grid ≡ group.now.grid }
     requires weights { weights.now.grid ≡ group.now.grid }
     ensures { IfOk result (AreFound group.now weights.now goal.now) }
 {
-    let graph = Graph::new(alloc, group, weights)?;
+    let graph = Graph::new(frame, group, weights);
     let start = graph.node_of(group, goal);
     let count = group.tiles().len();
     match same_of(&graph.costs[..count]) {

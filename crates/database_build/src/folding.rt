@@ -13,7 +13,7 @@ ghost use Rattle.database_build.specs.SmallValues.{AreBytesOf, HasBytes, HasNoVi
 
 use crate::table::{NO_VALUE, Table};
 use memory::{OutOfMemory, filled};
-use pattern_index::{Group, View, list_cells};
+use pattern_index::{Group, View, list_cells, sparse_place};
 use std::alloc::Global;
 use std::marker::Model;
 
@@ -202,22 +202,6 @@ fn fill_bytes(group: &Group, least: &[u16], bytes: &mut [u8])
     }
 }
 
-// The number that has these cells, each below a count, as its digits, the first as the lowest.
-fn sparse_place(count: usize, cells: &[u8]) -> usize
-    requires few { count ≤ 25 }
-    requires short { length cells.now ≤ 9 }
-    requires below { All (λ cell. cell < count) cells.now }
-    ensures { result ≡ sparse_of count cells.now }
-{
-    let mut sparse = 0;
-    let mut place = cells.len();
-    'cells: while place > 0 {
-        place -= 1;
-        sparse = sparse * count + cells[place] as usize;
-    }
-    sparse
-}
-
 // The strides of the numbers in a group's sparse places.
 fn find_strides(group: &Group) -> [usize; 25]
     ensures { AreStridesOf group.now result }
@@ -256,11 +240,10 @@ fn lower_all(table: &Table, least: &mut [u16])
         (record { selection = table.now.selection; least = least.new }) }
 {
     let group = *table.group();
-    let values = table.values();
     'ranks: for rank in 0..group.size() {
         let view = group.unrank(rank);
         let place = group.place(&view);
-        let value = values[rank];
+        let value = table.value(&view);
         if value < least[place] {
             least[place] = value;
         }

@@ -1,18 +1,19 @@
 //! The graph that a search goes over: the nodes of a group's views, and the edges between them.
 
-ghost use Rattle.std.specs.Prelude.{ℕ, ◌≡◌, ◌<◌, ◌≤◌, length, slice_index, map, All, IfOk};
+ghost use Rattle.std.specs.Prelude.{ℕ, ◌≡◌, ◌<◌, ◌≤◌, length, slice_index, map, All};
 ghost use Rattle.pattern_index.specs.Views.{IsView, view_of};
+ghost use Rattle.pattern_index.specs.Selections.{IsSelection};
 ghost use Rattle.database_build.specs.Regions.{IsRegions};
 ghost use Rattle.database_build.specs.Graphs.{node_in, node_count, AreWeightsOf};
+ghost use Rattle.database_build.specs.Frames.{Fits};
 ghost use Rattle.database_build.specs.Searches.{IsGraphOf, IsSoundGraph};
 
 use crate::edges::Edges;
+use crate::frame::Frame;
 use crate::orders::{Orders, order_of};
 use crate::regions::Regions;
 use board::{Board, Weights};
-use memory::OutOfMemory;
 use pattern_index::{Group, cells_of};
-use std::alloc::Global;
 
 // The nodes of a group's views and the edges between them, and what it costs to move each tile, by
 // its place among the group's.
@@ -25,23 +26,21 @@ pub(crate) struct Graph {
 }
 
 impl Graph {
-    pub(crate) fn new(alloc: Global, group: &Group, weights: &Weights) -> Result<Self, OutOfMemory>
-        requires { weights.now.grid ≡ group.now.grid }
-        ensures graph { IfOk result (IsGraphOf group.now weights.now) }
-        ensures sound { IfOk result IsSoundGraph }
-        ensures costs { IfOk result (λ graph. (place : ℕ) → place < length group.now.tiles
-            → 1 ≤ slice_index graph.costs place) }
+    // That of a group, in a frame that fits it.
+    pub(crate) fn new(frame: Frame, group: &Group, weights: &Weights) -> Self
+        requires fits { Fits frame group.now }
+        requires weights { weights.now.grid ≡ group.now.grid }
+        ensures graph { IsGraphOf group.now weights.now result }
+        ensures sound { IsSoundGraph result }
+        ensures costs { (place : ℕ) → place < length group.now.tiles
+            → 1 ≤ slice_index result.costs place }
     {
-        let count = group.tiles().len();
-        let regions = Regions::new(alloc, group.shape(), count)?;
-        let edges = Edges::new(alloc, &regions)?;
-        let orders = Orders::new(alloc, count)?;
-        Ok(Graph {
-            regions,
-            edges,
-            orders,
+        Graph {
+            regions: frame.regions,
+            edges: frame.edges,
+            orders: frame.orders,
             costs: costs_of(group, weights),
-        })
+        }
     }
 
     // The node of what a group sees of a board.
@@ -65,6 +64,7 @@ impl Graph {
 // What it costs to move each tile of a group, by its place among them.
 fn costs_of(group: &Group, weights: &Weights) -> [u8; 9]
     requires { weights.now.grid ≡ group.now.grid }
+    ensures group { IsSelection group.now }
     ensures length { length result ≡ 9 }
     ensures costs { AreWeightsOf weights.now group.now.tiles result }
     ensures some { (place : ℕ) → place < length group.now.tiles → 1 ≤ slice_index result place }

@@ -4,7 +4,7 @@ ghost use Rattle.std.specs.Prelude.{◌≡◌, ◌^◌};
 ghost use Rattle.database_build.specs.Laws.{ValuesAreDetermined, ValuesArePotentials};
 ghost use Rattle.database_build.specs.Laws.{PotentialsAreLowerBounds};
 ghost use Rattle.database_build.specs.Laws.{FoldedValuesAreLow, FoldedValuesAreReached};
-ghost use Rattle.database_build.specs.Laws.{FoldedValuesAreDetermined};
+ghost use Rattle.database_build.specs.Laws.{BytesAreFew, FoldedValuesAreDetermined, FramesFitAll};
 
 use crate::folding::{BYTES_A_VALUE, MOST_BYTES};
 use crate::table::NO_VALUE;
@@ -19,9 +19,10 @@ pub fn most_bytes_are_those_of_six_tiles()
     ensures { MOST_BYTES ≡ 16 ^ 6 }
 {}
 
-/// A group has at most four bytes for each of its values.
+/// A group has at most four bytes for each of its values, within that.
 pub fn bytes_a_value_are_four()
-    ensures { BYTES_A_VALUE ≡ 4 }
+    ensures value { BYTES_A_VALUE ≡ 4 }
+    ensures few { BytesAreFew }
 {}
 
 /// A view has one value.
@@ -45,4 +46,9 @@ pub fn folded_values_are_least()
     ensures low { FoldedValuesAreLow }
     ensures reached { FoldedValuesAreReached }
     ensures one { FoldedValuesAreDetermined }
+{}
+
+/// A frame that fits a group fits each other one of its shape with as many tiles.
+pub fn frames_fit_all()
+    ensures { FramesFitAll }
 {}

@@ -8,9 +8,11 @@
 mod buckets;
 mod building;
 mod edges;
+mod entries;
 mod faults;
 mod finding;
 mod folding;
+mod frame;
 mod graph;
 pub mod laws;
 mod layers;
@@ -21,10 +23,12 @@ mod regions;
 mod rows;
 mod search;
 mod sets;
+mod slots;
 mod table;
 
-pub use building::{build, build_folded};
+pub use building::{build, build_folded, build_folded_in, build_in};
 pub use faults::TableFault;
 pub use folding::{BYTES_A_VALUE, Folded, MOST_BYTES, fold};
+pub use frame::Frame;
 pub use potential::is_potential;
 pub use table::{NO_VALUE, Table};

@@ -5,9 +5,9 @@ ghost use Rattle.std.specs.List.{position_or_len, range_with_len};
 ghost use Rattle.pattern_index.specs.Laws.{factorial};
 ghost use Rattle.pattern_index.specs.Ranks.{spread};
 ghost use Rattle.database_build.specs.Orders.{below, order_of, positions_at, tile_of, exchanged, moved_order};
-ghost use Rattle.database_build.specs.Graphs.{IsOrders};
+ghost use Rattle.database_build.specs.Graphs.{AreMoves, HasPasses, IsOrders};
 
-use memory::{OutOfMemory, push};
+use memory::{OutOfMemory, copy_of, push};
 use std::alloc::Global;
 
 // The numbers from 1 to this one multiplied.
@@ -54,7 +54,7 @@ pub(crate) fn order_of(cells: &[u8]) -> usize
 }
 
 // Writes for each tile how many tiles stand on smaller cells, by their order.
-fn write_positions(order: usize, positions: &mut [u8])
+pub(crate) fn write_positions(order: usize, positions: &mut [u8])
     requires few { length positions.old ≤ 9 }
     requires below { order < factorial (length positions.old) }
     ensures { positions.new ≡ positions_at (length positions.old) order }
@@ -80,6 +80,9 @@ fn spread_positions(positions: &mut [u8], digit: u8)
     }
 }
 
+// For up to this many tiles all moves of orders are kept: 7 * 7 * 7! numbers.
+const MOST_MOVED: usize = 7;
+
 // What is kept for each order of some count of tiles.
 #[derive(Drop)]
 pub(crate) struct Orders {
@@ -89,6 +92,9 @@ pub(crate) struct Orders {
     tiles: Vec<u8>,
     // The order after the tiles at a position and at the next one are exchanged, by order.
     passes: Vec<u32>,
+    // The order after the tile at a position has come to another, by both and then by order; nothing
+    // where there are more than `MOST_MOVED` tiles.
+    moves: Vec<u32>,
 }
 
 impl Orders {
@@ -102,11 +108,28 @@ impl Orders {
             size: factorial(count),
             tiles: Vec::new(alloc),
             passes: Vec::new(alloc),
+            moves: Vec::new(alloc),
         };
         'orders: for order in 0..orders.size {
             orders.add_order(order)?;
         }
+        if count <= MOST_MOVED {
+            orders.moves = find_moves(alloc, &orders)?;
+        }
         Ok(orders)
+    }
+
+    // The same once more.
+    pub(crate) fn copy(&self, alloc: Global) -> Result<Self, OutOfMemory>
+        ensures { (count : ℕ) → IsOrders count self.now → IfOk result (IsOrders count) }
+    {
+        Ok(Orders {
+            count: self.count,
+            size: self.size,
+            tiles: copy_of(alloc, &self.tiles)?,
+            passes: copy_of(alloc, &self.passes)?,
+            moves: copy_of(alloc, &self.moves)?,
+        })
     }
 
     // Adds what is kept for one order more.
@@ -166,6 +189,21 @@ impl Orders {
         ensures value { result ≡ moved_order self.now.count order from to }
         ensures below { result < factorial self.now.count }
     {
+        if self.count <= MOST_MOVED {
+            return self.moves[(from * self.count + to) * self.size + order] as usize;
+        }
+        self.passed(order, from, to)
+    }
+
+    // The same, by one exchange after another.
+    fn passed(&self, order: usize, from: usize, to: usize) -> usize
+        requires orders { HasPasses self.now.count self.now }
+        requires order { order < factorial self.now.count }
+        requires from { from < self.now.count }
+        requires to { to < self.now.count }
+        ensures value { result ≡ moved_order self.now.count order from to }
+        ensures below { result < factorial self.now.count }
+    {
         let mut order = order;
         let mut at = from;
         'up: while at < to {
@@ -178,6 +216,41 @@ impl Orders {
         }
         order
     }
+}
+
+// The order after the tile at a position has come to another, for all positions and orders.
+fn find_moves(alloc: Global, orders: &Orders) -> Result<Vec<u32>, OutOfMemory>
+    requires orders { HasPasses orders.now.count orders.now }
+    requires few { orders.now.count ≤ MOST_MOVED }
+    ensures { IfOk result (λ moves. AreMoves orders.now.count moves.items) }
+{
+    let mut moves = Vec::new(alloc);
+    'from: for from in 0..orders.count {
+        'to: for to in 0..orders.count {
+            add_moves(orders, from, to, &mut moves)?;
+        }
+    }
+    Ok(moves)
+}
+
+// Puts them at the end for one pair of positions.
+fn add_moves(
+    orders: &Orders,
+    from: usize,
+    to: usize,
+    moves: &mut Vec<u32>,
+) -> Result<(), OutOfMemory>
+    requires orders { HasPasses orders.now.count orders.now }
+    requires from { from < orders.now.count }
+    requires to { to < orders.now.count }
+    ensures { OnOk result (moves.new.items ≡ moves.old.items
+        ++ map (λ order. moved_order orders.now.count order from to)
+        (range_with_len 0 (factorial orders.now.count))) }
+{
+    'orders: for order in 0..orders.size {
+        push(moves, orders.passed(order, from, to) as u32)?;
+    }
+    Ok(())
 }
 
 // The place of the tile at a position.

@@ -61,7 +61,7 @@ fn falls_slowly(table: &Table, weights: &Weights, rank: usize) -> bool
     ensures { IsTrue result ↔ FallsSlowlyAt table.now weights.now rank }
 {
     let view = table.group().unrank(rank);
-    let value = table.values()[rank];
+    let value = table.value(&view);
     'moves: for direction in Move::ALL {
         if !falls_to(table, weights, &view, value, direction) {
             return false;

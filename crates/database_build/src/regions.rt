@@ -6,14 +6,14 @@ ghost use Rattle.std.specs.Prelude.{false, length, IfOk, IsTrue, Contains};
 ghost use Rattle.board.specs.Grids.{cell_count};
 ghost use Rattle.pattern_index.specs.Ranks.{ways, IsListing};
 ghost use Rattle.pattern_index.specs.declared.group.TheConstants.{MAX_SIZE};
-ghost use Rattle.database_build.specs.Regions.{IsRegions, IsPlaced, IsFree, region_in};
+ghost use Rattle.database_build.specs.Regions.{AreSameRegions, IsRegions, IsPlaced, IsFree, region_in};
 ghost use Rattle.database_build.specs.Sets.{choose, set_at, IsChoices};
 ghost use Rattle.database_build.specs.Numberings.{AreNumbered, AreNumberedTo};
 ghost use Rattle.database_build.specs.Labels.{AreLabels, AreSettled, IsLowering, IsSettled, IsSettledTowards};
 
 use crate::sets::Choices;
 use board::{Move, Shape};
-use memory::{OutOfMemory, push};
+use memory::{OutOfMemory, copy_of, push};
 use std::alloc::Global;
 
 // The region of a cell on which a tile stands.
@@ -59,6 +59,19 @@ impl Regions {
             choices,
             numbers,
             homes,
+        })
+    }
+
+    // The same once more.
+    pub(crate) fn copy(&self, alloc: Global) -> Result<Self, OutOfMemory>
+        ensures { IfOk result (AreSameRegions self.now) }
+    {
+        Ok(Regions {
+            shape: self.shape,
+            count: self.count,
+            choices: self.choices,
+            numbers: copy_of(alloc, &self.numbers)?,
+            homes: copy_of(alloc, &self.homes)?,
         })
     }
 

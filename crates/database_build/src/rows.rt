@@ -151,7 +151,7 @@ fn least_value(regions: &Regions, orders: usize, nodes: &[u16], cells: &[u8]) ->
 }
 
 // Marks the cells of a list.
-fn mark_cells(cells: &[u8]) -> [bool; 25]
+pub(crate) fn mark_cells(cells: &[u8]) -> [bool; 25]
     requires { IsListing 25 cells.now }
     ensures size { length result ≡ 25 }
     ensures marks { AreMarksOf cells.now result }

@@ -1,11 +1,13 @@
 //! Tables: a number for each view of a group.
 
-ghost use Rattle.std.specs.Prelude.{ℕ, ◌≡◌, ◌≢◌, ◌↔◌, length, IsOk, IsErrOf, IfOk};
-ghost use Rattle.pattern_index.specs.Views.{IsView};
+ghost use Rattle.std.specs.Prelude.{ℕ, ◌≡◌, ◌≢◌, ◌↔◌, ◌<◌, ◌≤◌, length, slice_index, IsOk, IsErrOf, IfOk};
+ghost use Rattle.pattern_index.specs.Views.{IsView, view_at};
 ghost use Rattle.pattern_index.specs.Selections.{IsSelection, size_of};
+ghost use Rattle.database_build.specs.Entries.{HasEntries, values_in, widened};
 ghost use Rattle.database_build.specs.Tables.{value_in};
 ghost use Rattle.database_build.specs.declared.faults.TableFault.{TableFault};
 
+use crate::entries::Entries;
 use crate::faults::TableFault;
 use pattern_index::{Group, View};
 use std::marker::Model;
@@ -18,30 +20,32 @@ pub const NO_VALUE: u16 = 65_535;
 #[derive(Debug, Drop)]
 pub struct Table {
     group: Group,
-    values: Vec<u16>,
+    entries: Entries,
 }
 
 impl Model for Table {
-    ghost use Rattle.std.specs.Prelude.{◌≡◌, length};
-    ghost use Rattle.pattern_index.specs.Selections.{size_of};
     ghost use Rattle.database_build.specs.Tables.{Lookup};
+    ghost use Rattle.database_build.specs.Entries.{HasEntries, values_in};
 
     ghost Value = { Lookup };
 
-    ghost view = { λ t. record { selection = t.group; values = t.values.items } };
+    ghost view = { λ t. record { selection = t.group; values = values_in t.group t.entries } };
 
-    ghost invariant = { λ t. length t.values.items ≡ size_of t.group };
+    ghost invariant = { λ t. HasEntries t.group t.entries };
 }
 
 impl Table {
-    // The table of as many values as the group has views.
-    pub(crate) fn of_group(group: &Group, values: Vec<u16>) -> Self
-        requires { length values.items ≡ size_of group.now }
-        ensures { result ≡ record { selection = group.now; values = values.items } }
+    // The table of a group with these entries.
+    pub(crate) fn of_group(group: &Group, entries: Entries) -> Self
+        requires { HasEntries group.now entries }
+        ensures { result ≡ record {
+          selection = group.now;
+          values = values_in group.now entries;
+        } }
     {
         Table {
             group: *group,
-            values,
+            entries,
         }
     }
 
@@ -57,14 +61,16 @@ impl Table {
         if values.len() != group.size() {
             return Err(TableFault::WrongCount);
         }
-        Ok(Table::of_group(group, values))
+        Ok(Table::of_group(group, Entries::Ranked(values)))
     }
 
     /// Its group, which has as many views as the table has values.
     pub fn group(&self) -> &Group
         ensures value { result.now ≡ self.now.selection }
         ensures size { length self.now.values ≡ size_of self.now.selection }
+        ensures high { (rank : ℕ) → slice_index self.now.values rank ≤ NO_VALUE }
     {
+        self.tell_values();
         &self.group
     }
 
@@ -73,13 +79,68 @@ impl Table {
         requires { IsView self.now.selection.grid self.now.selection.tiles view.now }
         ensures { result ≡ value_in self.now view.now }
     {
-        self.values[self.group.rank(view)]
+        match &self.entries {
+            Entries::Ranked(values) => values[self.group.rank(view)],
+            Entries::Bytes(bytes) => widened(bytes[self.group.slot(view)]),
+            Entries::Words(words) => words[self.group.slot(view)],
+        }
     }
 
-    /// The values of all views, by rank.
-    pub fn values(&self) -> &[u16]
-        ensures { result.now ≡ self.now.values }
+    /// The value of what its group sees of a board, by the cell of each of the board's numbers
+    /// (`cells_of`): as `value` of the view, without making one.
+    pub fn value_at(&self, cells: &[u8; 25]) -> u16
+        requires { IsView self.now.selection.grid self.now.selection.tiles
+            (view_at self.now.selection.tiles cells.now) }
+        ensures { result ≡ value_in self.now (view_at self.now.selection.tiles cells.now) }
     {
-        &self.values
+        match &self.entries {
+            Entries::Ranked(values) => values[self.group.rank_at(cells)],
+            Entries::Bytes(bytes) => widened(bytes[self.group.slot_at(cells)]),
+            Entries::Words(words) => words[self.group.slot_at(cells)],
+        }
     }
+
+    /// The value of the view with a rank.
+    pub fn entry(&self, rank: usize) -> u16
+        requires { rank < size_of self.now.selection }
+        ensures { result ≡ slice_index self.now.values rank }
+    {
+        self.value(&self.group.unrank(rank))
+    }
+
+    // Each value is at most `NO_VALUE`.
+    fn tell_values(&self)
+        ensures { (rank : ℕ) → slice_index self.now.values rank ≤ NO_VALUE }
+    {
+        match &self.entries {
+            Entries::Ranked(values) => tell_words(values),
+            Entries::Bytes(bytes) => tell_bytes(bytes),
+            Entries::Words(words) => tell_words(words),
+        }
+    }
+}
+
+// The value that a byte stands for.
+fn widened(byte: u8) -> u16
+    ensures { result ≡ widened byte }
+{
+    if byte == u8::MAX {
+        NO_VALUE
+    } else {
+        u16::from(byte)
+    }
+}
+
+// Numbers of 16 bits are at most the greatest value.
+fn tell_words(words: &[u16])
+    ensures { (place : ℕ) → slice_index words.now place ≤ NO_VALUE }
+{
+    let _ = words;
+}
+
+// So are bytes.
+fn tell_bytes(bytes: &[u8])
+    ensures { (place : ℕ) → slice_index bytes.now place ≤ NO_VALUE }
+{
+    let _ = bytes;
 }

@@ -361,9 +361,3 @@ module _ (g : Selection) (selection : IsSelection g) (cells : List ℕ) (r : Suc
 -- one table that has the tile, with a large value, is enough
 pub large : (folds : List Fold) (before after : List ℕ) (tile table : ℕ) (fold : Fold) → table < length folds → fold ≡ get_or folds table fold → ((d : Fold) → Contains (get_or folds table d).selection.tiles tile) → IsLarge before after fold → SomeIsLarge folds before after tile
 large folds before after tile table fold within at has some = (table, within, λ d. (has d, subst (λ (f : Fold). IsLarge before after f) (at ∙ get_or_default folds table fold d within) some))
-
--- ---- ranks in tables, one after the other
-
--- the first tables have a value at their rank
-abbrev pub AreFirstRanks : List Lookup → List ℕ → ℕ → Type 0
-AreFirstRanks lookups ranks count = (i : ℕ) (d : Lookup) → i < count → slice_index ranks i < length (get_or lookups i d).values

@@ -27,12 +27,11 @@ use Rattle.database_build.specs.Folds.{Fold, folded_in}
 use Rattle.lower_bound.specs.Bounds.{Part, sum_of}
 use Rattle.lower_bound.specs.Folded.{AreAsBefore, IsBefore, value_by, value_for}
 use Rattle.lower_bound.specs.Tables.{Tables, IsTables, AreWhole, parts_of}
-use Rattle.lower_bound.proofs.WholeLemmas.{tables_sum, folds_sum, each_apart, each_lookup, each_fold, few_folds, table_grids, fold_grids, whole_parts, all_folded_parts}
-use Rattle.lower_bound.proofs.PartLemmas.{value_stays}
+use Rattle.lower_bound.proofs.PartLemmas.{tables_sum, folds_sum, each_apart, each_lookup, each_fold, few_folds, table_grids, fold_grids, whole_parts, all_folded_parts, value_stays}
 use Rattle.lower_bound.specs.declared.bound.TheConstants.{GREATEST_SUM}
 use Rattle.successor_sums.specs.ByMoves.{FourOf, IsBehind, OfFour, before, entries_of, four_by, of_move, IsListed, first_of, four_from, four_in, with_move}
 use Rattle.successor_sums.specs.declared.by_moves.ByMoves.TheInside.{Inside}
-use Rattle.successor_sums.specs.Ranks.{sum_at, sum_by_cells}
+use Rattle.successor_sums.specs.Whole.{sum_by_cells}
 use Rattle.successor_sums.specs.Exits.{IsToldOf}
 use Rattle.successor_sums.specs.Unpacked.{told_of, is_left_out, but, cells_after, AreCellsOf, IsNextTo, IsReached, IsSmall, IsSumOf, IsSummed, AreSummed, SeesViews, with_sum}
 use Rattle.successor_sums.specs.declared.unpacked.Successor.{Successor}
@@ -314,20 +313,6 @@ put_listed {A = A} inside m x false listed behind =
     (record { moves = length-set inside.moves inside.count m ∙ listed.moves; items = length-set inside.items inside.count x ∙ listed.items; few = omega (arith, none, few); order = made ∙ listed.order ∙ sym (ap entries_of four) }, four ∙ sym put.2)
 
 -- ---- the sum of a board, by the cell of each number
-
--- the values at the ranks of views are those of the views
-pub sum_at-views : (lookups : List Lookup) (ranks : List ℕ) (view : Lookup → Sight) → take (length lookups) ranks ≡ map (λ table. rank_in table.selection.grid (view table)) lookups → sum_at lookups ranks ≡ sum_by (λ table. value_in table (view table)) lookups
-sum_at-views [] ranks view are = refl
-sum_at-views (table ∷ lookups) [] view are = absurd (none are)
-  where
-    none : {x : ℕ} {xs : List ℕ} → ◌≡◌ {A = List ℕ} [] (x ∷ xs) → ⊥
-    none e = let long = ap length e in omega arith
-sum_at-views (table ∷ lookups) (rank ∷ ranks) view are =
-    let first : rank ≡ rank_in table.selection.grid (view table) = ap (λ (xs : List ℕ). get_or xs 0 0) are in
-    let rest = sum_at-views lookups ranks view (ap (drop 1) are) in
-    let one = sum_by-cons (λ (t : Lookup). value_in t (view t)) table lookups in
-    let value : slice_index table.values rank ≡ value_in table (view table) = ap (slice_index table.values) first in
-    omega arith
 
 -- what a group sees of a board
 seen_at : (b : Position) (cells tiles : List ℕ) → IsBoard b → AreCellsOf b cells → IsGroup b.grid tiles → view_at tiles cells ≡ view_of tiles b

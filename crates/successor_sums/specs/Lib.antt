@@ -1,5 +1,5 @@
 pub mod ByMoves
 pub mod Exits
 pub mod Laws
-pub mod Ranks
+pub mod Whole
 pub mod Unpacked

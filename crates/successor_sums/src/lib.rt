@@ -7,8 +7,8 @@
 mod by_moves;
 mod exits;
 pub mod laws;
-mod ranks;
 mod unpacked;
+mod whole;
 
 pub use by_moves::{ByMoves, MOVES};
 pub use unpacked::{Successor, UnpackedBoard, no_successors};

@@ -16,7 +16,7 @@ ghost use Rattle.lower_bound.specs.Bounds.{sum_of};
 ghost use Rattle.lower_bound.specs.Folded.{value_by, AreViews};
 ghost use Rattle.lower_bound.specs.ByTile.{AreTablesByTile};
 ghost use Rattle.lower_bound.specs.Tables.{ArePotentials, parts_of};
-ghost use Rattle.successor_sums.specs.Ranks.{AreRanks, AreRanksOf, sum_at, sum_by_cells};
+ghost use Rattle.successor_sums.specs.Whole.{sum_by_cells};
 ghost use Rattle.successor_sums.specs.Unpacked.{successors_of, is_left_out, successors_but};
 ghost use Rattle.successor_sums.specs.Unpacked.{IsReached, IsSmall, cells_after, with_sum, told_by};
 ghost use Rattle.pattern_index.specs.Sparse.{sparse_in};
@@ -25,7 +25,7 @@ ghost use Rattle.successor_sums.specs.ByMoves.{OfFour, entries_of, nothing};
 
 use crate::by_moves::{ByMoves, MOVES};
 use crate::exits::{find_exits, tell};
-use crate::ranks::{FEW_TABLES, MOST_TABLES, sum_ranks, write_ranks};
+use crate::whole::{MOST_TABLES, sum_at_cells};
 use board::{Board, Move, Shape, Weights};
 use database_build::{Folded, Table};
 use lower_bound::{Bound, GREATEST_SUM, Parts, TableList, sum_after};
@@ -47,6 +47,9 @@ pub struct Successor {
     /// Its sum.
     pub sum: u32,
 }
+
+// As many folded tables as bounds mostly have: the default groups of each shape are no more.
+const FEW_TABLES: usize = 6;
 
 // What stands where nothing was reached.
 const NO_SUCCESSOR: Successor = Successor {
@@ -181,9 +184,8 @@ impl UnpackedBoard {
     /// The same, but for one move that is left out, if any is: of that nothing is told. Where the
     /// board's own sum is known, folded tables are read less often.
     ///
-    /// All ranks in up to six whole tables are made before a value is read, so that the reads, each
-    /// of which may miss the cache, go on side by side. Of folded tables, where the board's own sum
-    /// is known, only that of the tile that is moved is read, for what it said and what it says.
+    /// Of folded tables, where the board's own sum is known, only that of the tile that is moved is
+    /// read, for what it said and what it says.
     pub fn successors_but(
         &self,
         left_out: Option<Move>,
@@ -293,19 +295,6 @@ fn move_on(cells: &mut [u8; 25], reached: &Successor)
     cells[reached.tile as usize] = blank;
 }
 
-// What whole tables say of a board, by the cell of each number, added up.
-fn sum_at_cells(tables: &[Table], cells: &[u8; 25]) -> u32
-    requires few { length tables.now ≤ MOST_TABLES }
-    requires views { All (λ table. IsView table.selection.grid table.selection.tiles
-        (view_at table.selection.tiles cells.now)) tables.now }
-    ensures value { result ≡ sum_by_cells tables.now cells.now }
-    ensures high { result ≤ GREATEST_SUM }
-{
-    let mut ranks = [0; MOST_TABLES];
-    write_ranks(tables, cells, &mut ranks);
-    sum_ranks(tables, &ranks)
-}
-
 // Adds the sums of the first successors, so many, by whole tables.
 fn add_whole_sums(
     tables: &[Table],
@@ -319,49 +308,11 @@ fn add_whole_sums(
         → SeesViews tables.now cells.now (slice_index_or reached.old i d) }
     ensures { IsSummed (sum_by_cells tables.now) cells.now count reached.old reached.new }
 {
-    if tables.len() <= FEW_TABLES {
-        add_few_sums(tables, cells, count, reached);
-        return;
-    }
     'reached: for i in 0..count {
         let mut after = *cells;
         move_on(&mut after, &reached[i]);
         reached[i].sum = sum_at_cells(tables, &after);
     }
-}
-
-// The same by few tables: all ranks are made before the first value is read.
-fn add_few_sums(tables: &[Table], cells: &[u8; 25], count: usize, reached: &mut [Successor; MOVES])
-    requires few { length tables.now ≤ FEW_TABLES }
-    requires count { count ≤ MOVES }
-    requires views { (i : ℕ) (d : Successor) → i < count
-        → SeesViews tables.now cells.now (slice_index_or reached.old i d) }
-    ensures { IsSummed (sum_by_cells tables.now) cells.now count reached.old reached.new }
-{
-    let mut ranks = [[0; FEW_TABLES]; MOVES];
-    'ranks: for i in 0..count {
-        find_ranks(tables, cells, &reached[i], &mut ranks[i]);
-    }
-    'values: for i in 0..count {
-        reached[i].sum = sum_ranks(tables, &ranks[i]);
-    }
-}
-
-// Writes the ranks of what the groups see of a successor.
-fn find_ranks(
-    tables: &[Table],
-    cells: &[u8; 25],
-    reached: &Successor,
-    ranks: &mut [u32; FEW_TABLES],
-)
-    requires few { length tables.now ≤ FEW_TABLES }
-    requires views { SeesViews tables.now cells.now reached.now }
-    ensures ranks { AreRanksOf tables.now (cells_after cells.now reached.now) ranks.new }
-    ensures all { length ranks.new ≡ FEW_TABLES }
-{
-    let mut after = *cells;
-    move_on(&mut after, reached);
-    write_ranks(tables, &after, ranks);
 }
 
 // Adds the sums of the first successors, so many, by folded tables: from the board's own sum, where

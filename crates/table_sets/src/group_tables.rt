@@ -1,13 +1,14 @@
 //! What may be kept of a group's table: the table itself, or what it was folded to.
 
-ghost use Rattle.std.specs.Prelude.{◌≡◌, IfOk};
+ghost use Rattle.std.specs.Prelude.{◌≡◌, All, IfNone, IfOk, IfSome};
 ghost use Rattle.board.specs.Positions.{Position};
 ghost use Rattle.board.specs.CostRules.{CostRule};
 ghost use Rattle.pattern_index.specs.Selections.{Selection};
+ghost use Rattle.database_build.specs.Frames.{Fits};
 
 use board::{Board, Weights};
-use database_build::{Folded, Table, build, build_folded};
-use memory::OutOfMemory;
+use database_build::{Folded, Frame, Table, build, build_folded, build_folded_in, build_in};
+use memory::{OutOfMemory, push};
 use pattern_index::Group;
 use std::alloc::Global;
 
@@ -15,9 +16,10 @@ use std::alloc::Global;
 pub(crate) trait GroupTable: Drop {
     ghost is_true: { CostRule → Position → Selection → Self → Type 0 };
 
-    // That of a group for a goal and weights.
+    // That of a group for a goal and weights, in one of these frames where one fits it.
     fn build_for(
         alloc: Global,
+        frames: &[Frame],
         group: &Group,
         goal: &Board,
         weights: &Weights,
@@ -34,11 +36,15 @@ impl GroupTable for Table {
 
     fn build_for(
         alloc: Global,
+        frames: &[Frame],
         group: &Group,
         goal: &Board,
         weights: &Weights,
     ) -> Result<Table, OutOfMemory> {
-        build(alloc, group, goal, weights)
+        let Some(frame) = frame_of(frames, group) else {
+            return build(alloc, group, goal, weights);
+        };
+        build_in(alloc, frame, group, goal, weights)
     }
 }
 
@@ -49,10 +55,49 @@ impl GroupTable for Folded {
 
     fn build_for(
         alloc: Global,
+        frames: &[Frame],
         group: &Group,
         goal: &Board,
         weights: &Weights,
     ) -> Result<Folded, OutOfMemory> {
-        build_folded(alloc, group, goal, weights)
+        let Some(frame) = frame_of(frames, group) else {
+            return build_folded(alloc, group, goal, weights);
+        };
+        build_folded_in(alloc, frame, group, goal, weights)
     }
+}
+
+// One of these frames that fits a group.
+fn frame_of<'a>(frames: &'a [Frame], group: &Group) -> Option<&'a Frame>
+    ensures fits { IfSome result (λ frame. Fits frame.now group.now) }
+    ensures none { IfNone result (All (λ frame. ¬ Fits frame group.now) frames.now) }
+{
+    'frames: for frame in frames {
+        if frame.fits(group) {
+            return Some(frame);
+        }
+    }
+    None
+}
+
+// A frame for each size of which there are several of these groups.
+pub(crate) fn shared_frames(alloc: Global, groups: &[Group]) -> Result<Vec<Frame>, OutOfMemory> {
+    let mut frames = Vec::new(alloc);
+    'groups: for place in 0..groups.len() {
+        let group = &groups[place];
+        if frame_of(&frames, group).is_none() && is_shared(&groups[place + 1..], group) {
+            push(&mut frames, Frame::new(alloc, group)?)?;
+        }
+    }
+    Ok(frames)
+}
+
+// Whether another of these groups has as many tiles.
+fn is_shared(groups: &[Group], group: &Group) -> bool {
+    'groups: for other in groups {
+        if other.tiles().len() == group.tiles().len() {
+            return true;
+        }
+    }
+    false
 }

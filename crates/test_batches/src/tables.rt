@@ -3,7 +3,7 @@
 ghost use Rattle.std.specs.Prelude.{◌≡◌};
 
 use board::{Board, Shape, Weights};
-use database_build::Folded;
+use database_build::{Folded, Table};
 use lower_bound::{Bound, TableList};
 use option_texts::default_groups;
 use std::alloc::Global;
@@ -33,11 +33,19 @@ fn values_of_all_views(rt: HostRuntime) -> Result<(), Fail> {
         };
         let mut sums = [0; 3];
         for (sum, table) in sums.iter_mut().zip(tables) {
-            *sum = sum_of(table.values());
+            *sum = sum_of_table(table);
         }
         assert_eq!(rt; sums, wanted);
     }
     Ok(())
+}
+
+fn sum_of_table(table: &Table) -> u64 {
+    let mut sum: u64 = 0;
+    for rank in 0..table.group().size() {
+        sum = sum.wrapping_add(u64::from(table.entry(rank)));
+    }
+    sum
 }
 
 fn sum_of(values: &[u16]) -> u64 {

@@ -129,7 +129,14 @@ fn values_of_one_tile(rt: HostRuntime) -> Result<(), Fail> {
     let unit = Weights::unit(shape);
     let group = Group::new(shape, &[1])?;
     let built = build(rt.alloc(), &group, &goal, &unit)?;
-    assert!(rt; built.values() == TILE_ONE.as_slice() && *built.group() == group);
+    assert!(rt; *built.group() == group);
+    for (rank, value) in TILE_ONE.iter().enumerate() {
+        let view = group.unrank(rank);
+        assert!(rt;
+            built.entry(rank) == *value && built.value(&view) == *value,
+            "rank {rank}"
+        );
+    }
     for (row, potential) in POTENTIALS.iter().enumerate() {
         let (values, is_one) = *potential;
         let table = Table::from_values(&group, Vec::from_slice(rt.alloc(), &values)?)?;

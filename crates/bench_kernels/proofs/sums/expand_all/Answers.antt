@@ -1,9 +1,8 @@
-use Rattle.std.proofs.Common.{◌∙◌, ap, sym, subst}
+use Rattle.std.proofs.Common.{◌∙◌, ap, sym, subst, get_or}
 use Rattle.board.specs.Grids.{Grid}
 use Rattle.board.specs.Positions.{Position}
 use Rattle.board.specs.Keys.{HasKey}
 use Rattle.pattern_index.specs.Splits.{Split}
-use Rattle.std.proofs.Common.{get_or}
 use Rattle.bench_kernels.proofs.sums.expand_all.Goals as goal
 
 pub of_key-board-requires : goal.of_key-board-requires

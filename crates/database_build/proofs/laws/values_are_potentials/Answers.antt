@@ -1,4 +1,4 @@
-use Rattle.database_build.proofs.PotentialLemmas.{values_potential}
+use Rattle.database_build.proofs.FoldLemmas.{values_potential}
 use Rattle.database_build.proofs.laws.values_are_potentials.Goals as goal
 
 pub returns : goal.returns

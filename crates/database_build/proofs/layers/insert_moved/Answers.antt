@@ -9,14 +9,14 @@ pub overflow_mul-order : goal.overflow_mul-order
 overflow_mul-order c =
     let clear = cleared c.bits.left c.bits-test.true (omega arith) in
     let below = c.requires.bits (64 * c.args.place + trailing_zeros w64 c.bits.left) (order_here c.args.place c.args.bits c.bits.left (trailing_zeros w64 c.bits.left) _ clear c.bits.invariant.rest) in
-    let small = factorial_small c.args.orders.now.count c.requires.orders.short in
+    let small = factorial_small c.args.orders.now.count c.requires.orders.passes.short in
     omega arith
 
 pub overflow_add-order : goal.overflow_add-order
 overflow_add-order c =
     let clear = cleared c.bits.left c.bits-test.true (omega arith) in
     let below = c.requires.bits (64 * c.args.place + trailing_zeros w64 c.bits.left) (order_here c.args.place c.args.bits c.bits.left (trailing_zeros w64 c.bits.left) _ clear c.bits.invariant.rest) in
-    let small = factorial_small c.args.orders.now.count c.requires.orders.short in
+    let small = factorial_small c.args.orders.now.count c.requires.orders.passes.short in
     omega arith
 
 pub moved-moved-requires-clause-order : goal.moved-moved-requires-clause-order

@@ -26,14 +26,14 @@ insert_moved-requires-clause-from c =
     let g = c.args.graph.now in
     let ends = ends_at g c.args.region c.index.result.now c.index-2.result.now c.requires.sound c.requires.region c.index.ensures c.index-2.ensures in
     let edge = edge_at g c.args.region c.index.result.now c.index-2.result.now c.edges.at c.index-in-edges.result.now c.requires.sound c.requires.region c.requires.next.some ends c.edges.auto.at c.edges-test.true c.index-in-edges.ensures in
-    omega (arith, edge.from, c.requires.sound.orders.number)
+    omega (arith, edge.from, c.requires.sound.orders.passes.number)
 
 pub insert_moved-requires-clause-to : goal.insert_moved-requires-clause-to
 insert_moved-requires-clause-to c =
     let g = c.args.graph.now in
     let ends = ends_at g c.args.region c.index.result.now c.index-2.result.now c.requires.sound c.requires.region c.index.ensures c.index-2.ensures in
     let edge = edge_at g c.args.region c.index.result.now c.index-2.result.now c.edges.at c.index-in-edges.result.now c.requires.sound c.requires.region c.requires.next.some ends c.edges.auto.at c.edges-test.true c.index-in-edges.ensures in
-    omega (arith, edge.to, c.requires.sound.orders.number)
+    omega (arith, edge.to, c.requires.sound.orders.passes.number)
 
 pub insert_moved-requires-clause-inside : goal.insert_moved-requires-clause-inside
 insert_moved-requires-clause-inside c =
@@ -51,7 +51,7 @@ edges-preserved c =
     leading_more g c.args.region c.args.place c.args.bits c.index.result.now c.index-2.result.now c.edges.at c.index-in-edges.result.now c.args.next.now c.edges.next c.if-edge.next ends c.edges.auto.at edge c.edges.invariant
     (elim c.if-edge.branch [
       | then-edge w ↦ subst (λ (t : NodeSet). IsUnion _ c.edges.next t) (sym w.next-is) (all_moved g c.args.place c.args.bits e c.edges.next w.insert_all.new.self w.if-edge.true edge.from c.requires.bits w.insert_all.ensures)
-      | else-edge w ↦ subst (λ (t : NodeSet). IsUnion _ c.edges.next t) (sym w.next-is) (some_moved g g.orders.count c.args.place c.args.bits e c.edges.next w.insert_moved.new.next c.requires.sound.orders.number w.insert_moved.ensures)
+      | else-edge w ↦ subst (λ (t : NodeSet). IsUnion _ c.edges.next t) (sym w.next-is) (some_moved g g.orders.count c.args.place c.args.bits e c.edges.next w.insert_moved.new.next c.requires.sound.orders.passes.number w.insert_moved.ensures)
     ])
 
 pub returns-clause-union : goal.returns-clause-union

@@ -1,4 +1,4 @@
-use Rattle.database_build.proofs.PotentialLemmas.{potential_of_group}
+use Rattle.database_build.proofs.FoldLemmas.{potential_of_group}
 use Rattle.database_build.proofs.potential.is_potential.Goals as goal
 
 pub returns : goal.returns

@@ -1,6 +1,6 @@
 use Rattle.std.proofs.Common.{◌∙◌, sym, arith}
 use Rattle.std.proofs.lemmas.Bool.{false≢true}
-use Rattle.database_build.proofs.LeastLemmas.{least_none, least_pass, least_more, least_all, nodes_fit, blank_free, blank_within, blank_fits, blank_node}
+use Rattle.database_build.proofs.FillLemmas.{least_none, least_pass, least_more, least_all, nodes_fit, blank_free, blank_within, blank_fits, blank_node}
 use Rattle.database_build.proofs.rows.least_value.Goals as goal
 
 pub blanks-init : goal.blanks-init

@@ -1,4 +1,4 @@
-use Rattle.database_build.proofs.LeastLemmas.{IsLeastTo}
+use Rattle.database_build.proofs.FillLemmas.{IsLeastTo}
 use Rattle.database_build.proofs.rows.least_value.Given as goal
 
 -- the free cells before this one were looked at

@@ -1,5 +1,5 @@
 use Rattle.std.proofs.Common.{◌+◌, List, ℕ, refl, sym, subst, arith}
-use Rattle.database_build.proofs.LeastLemmas.{AreLeast, places_none, list_placed, array_long, list_more, all_places}
+use Rattle.database_build.proofs.FillLemmas.{AreLeast, places_none, list_placed, array_long, list_more, all_places}
 use Rattle.database_build.proofs.rows.rank_least.Goals as goal
 
 pub places-init : goal.places-init

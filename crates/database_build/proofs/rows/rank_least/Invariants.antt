@@ -1,5 +1,5 @@
 use Rattle.std.proofs.Common.{◌≡◌, length}
-use Rattle.database_build.proofs.LeastLemmas.{AreLeast}
+use Rattle.database_build.proofs.FillLemmas.{AreLeast}
 use Rattle.database_build.proofs.rows.rank_least.Given as goal
 
 -- the places before this one have their least values

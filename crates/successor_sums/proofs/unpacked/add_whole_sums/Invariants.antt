@@ -1,5 +1,5 @@
 use Rattle.std.proofs.Common.{◌≡◌, ◌<◌, ◌≤◌, ℕ, length, get_or}
-use Rattle.successor_sums.specs.Ranks.{sum_by_cells}
+use Rattle.successor_sums.specs.Whole.{sum_by_cells}
 use Rattle.lower_bound.specs.declared.bound.TheConstants.{GREATEST_SUM}
 use Rattle.successor_sums.specs.Unpacked.{told_by}
 use Rattle.successor_sums.specs.declared.unpacked.Successor.{Successor}

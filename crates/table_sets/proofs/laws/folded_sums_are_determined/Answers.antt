@@ -1,4 +1,4 @@
-use Rattle.table_sets.proofs.SumLemmas.{folded_sums_agree}
+use Rattle.table_sets.proofs.BuiltLemmas.{folded_sums_agree}
 use Rattle.table_sets.proofs.laws.folded_sums_are_determined.Goals as goal
 
 pub returns : goal.returns

@@ -1,4 +1,4 @@
-use Rattle.table_sets.proofs.SumLemmas.{sums_agree}
+use Rattle.table_sets.proofs.BuiltLemmas.{sums_agree}
 use Rattle.table_sets.proofs.laws.sums_are_determined.Goals as goal
 
 pub returns : goal.returns

@@ -19,7 +19,7 @@ pub write_values-requires : goal.write_values-requires
 write_values-requires c =
     let l = c.args.self.now in
     let has = fresh_are l c.args.region c.args.place c.word.result c.word-2.result c.word.ensures c.word-2.ensures (omega arith) in
-    let at : c.args.region * c.size.result + 64 * c.args.place ≡ c.args.region * factorial l.graph.regions.count + 64 * c.args.place = ap (λ n. c.args.region * n + 64 * c.args.place) (c.size.ensures ∙ c.requires.layers.sound.orders.size) in
+    let at : c.args.region * c.size.result + 64 * c.args.place ≡ c.args.region * factorial l.graph.regions.count + 64 * c.args.place = ap (λ n. c.args.region * n + 64 * c.args.place) (c.size.ensures ∙ c.requires.layers.sound.orders.passes.size) in
     λ bit here. subst (λ (xs : List ℕ). c.args.region * c.size.result + 64 * c.args.place + bit < length xs) (sym c.deref_mut.ensures.value) (value_within l c.args.region c.args.place (bit_and c.word.result (bit_not w64 c.word-2.result)) c.requires.layers c.requires.region c.requires.place has (c.args.region * c.size.result + 64 * c.args.place) bit at here)
 
 pub insert_next-requires-clause-bits : goal.insert_next-requires-clause-bits
@@ -32,7 +32,7 @@ pub returns-clause-passed : goal.returns-clause-passed
 returns-clause-passed c =
     let l = c.args.self.now in
     let has = fresh_are l c.args.region c.args.place c.word.result c.word-2.result c.word.ensures c.word-2.ensures (omega arith) in
-    let at : c.args.region * c.size.result + 64 * c.args.place ≡ c.args.region * factorial l.graph.regions.count + 64 * c.args.place = ap (λ n. c.args.region * n + 64 * c.args.place) (c.size.ensures ∙ c.requires.layers.sound.orders.size) in
+    let at : c.args.region * c.size.result + 64 * c.args.place ≡ c.args.region * factorial l.graph.regions.count + 64 * c.args.place = ap (λ n. c.args.region * n + 64 * c.args.place) (c.size.ensures ∙ c.requires.layers.sound.orders.passes.size) in
     let written = subst (λ (xs : List ℕ). IsWritten (c.args.region * c.size.result + 64 * c.args.place) (bit_and c.word.result (bit_not w64 c.word-2.result)) c.args.cost xs c.write_values.new.values) c.deref_mut.ensures.value c.write_values.ensures in
     let items : (with_items l.values c.write_values.new.values).items ≡ c.write_values.new.values = with_items_is l.values c.write_values.new.values (let ok = l.values.ok in omega (arith, written.size)) in
     let after : Layers = record { graph = l.graph; values = with_items l.values c.write_values.new.values; seen = c.insert_all.new.self; now = l.now; next = c.insert_next.new.next } in

@@ -1,24 +1,7 @@
-use Rattle.std.proofs.Common.{◌-◌, arith}
-use Rattle.database_build.proofs.MovedLemmas.{moved_start, passed_up, passed_down}
+use Rattle.database_build.proofs.OrderTables.{move_read}
 use Rattle.database_build.proofs.orders.Orders.moved.Goals as goal
 
-pub up-init : goal.up-init
-up-init c = record {
-  moved = moved_start c.args.self.now.count c.args.order c.args.from c.requires.order c.requires.from;
-  above = omega arith;
-  short = λ lt. absurd (omega arith);
-}
-
-pub up-preserved : goal.up-preserved
-up-preserved c = record {
-  moved = passed_up c.args.self.now.count c.args.order c.args.from c.up.at c.up.order c.index.result.now c.args.self.now c.requires.orders c.up.invariant.above (omega arith) c.up.invariant.moved c.index.ensures;
-  above = omega arith;
-  short = λ lt. omega arith;
-}
-
-pub down-preserved : goal.down-preserved
-down-preserved c = record {
-  moved = passed_down c.args.self.now.count c.args.order c.args.from c.down.at (c.down.at - 1) c.down.order c.index-in-down.result.now c.args.self.now c.requires.orders (omega arith) (omega arith) c.down.invariant.moved c.index-in-down.ensures;
-  above = omega arith;
-  short = λ lt. omega arith;
-}
+pub returns-then-self-le-MOST_MOVED-clause-below :
+    goal.returns-then-self-le-MOST_MOVED-clause-below
+returns-then-self-le-MOST_MOVED-clause-below c =
+    move_read c.args.self.now.count c.args.order c.args.from c.args.to c.index.result.now c.args.self.now c.requires.orders c.if-self-le-MOST_MOVED.true c.requires.order c.requires.from c.requires.to c.index.ensures

@@ -1,10 +1,6 @@
-use Rattle.std.proofs.Common.{arith}
-use Rattle.database_build.proofs.OrderTables.{kept_more, kept_all}
+use Rattle.database_build.proofs.OrderTables.{kept_more}
 use Rattle.database_build.proofs.orders.Orders.new.Goals as goal
 
 pub orders-preserved : goal.orders-preserved
 orders-preserved c =
     kept_more c.args.count c.orders.order c.orders.orders c.add_order.new.self c.orders.invariant c.in_ok-add_order.ensures.count c.in_ok-add_order.ensures.size c.in_ok-add_order.ensures.tiles c.in_ok-add_order.ensures.passes
-
-pub returns : goal.returns
-returns c = kept_all c.args.count c.orders.order c.orders.orders (omega arith) c.orders.invariant

@@ -9,8 +9,8 @@ pub returns : goal.returns
 returns c =
     let e = c.args.edge.now in
     let order = c.args.order in
-    let number = c.requires.fits.sound.orders.number in
-    let size = c.size.ensures ∙ c.requires.fits.sound.orders.size in
+    let number = c.requires.fits.sound.orders.passes.number in
+    let size = c.size.ensures ∙ c.requires.fits.sound.orders.passes.size in
     let moved = c.moved-moved.ensures.value ∙ ap (λ n. moved_order n order e.from e.to) number in
     let tile = c.tile-tile.ensures.value ∙ ap (λ n. tile_of n order e.from) number in
     on_ok_weaker c.lower.result

@@ -5,7 +5,7 @@ use Rattle.database_build.specs.Tables.{Lookup}
 use Rattle.database_build.specs.Folds.{Fold}
 use Rattle.lower_bound.specs.Folded.{AreViews, value_by}
 use Rattle.lower_bound.specs.Tables.{parts_of}
-use Rattle.successor_sums.specs.Ranks.{sum_by_cells}
+use Rattle.successor_sums.specs.Whole.{sum_by_cells}
 use Rattle.successor_sums.specs.Unpacked.{AreCellsOf, IsNextTo, IsSumOf, IsSummed, SeesViews}
 use Rattle.successor_sums.proofs.SumLemmas.{fold_views_at, folded_sums, folds_apart, folds_few, known_sum, next_to, sees_whole, summed_is, whole_sums}
 use Rattle.successor_sums.proofs.unpacked.UnpackedBoard.add_sums.Goals as goal

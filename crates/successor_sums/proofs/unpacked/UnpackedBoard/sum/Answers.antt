@@ -7,8 +7,8 @@ use Rattle.database_build.specs.Folds.{Fold}
 use Rattle.lower_bound.specs.Bounds.{sum_of}
 use Rattle.lower_bound.specs.Folded.{value_by}
 use Rattle.lower_bound.specs.Tables.{parts_of}
-use Rattle.lower_bound.proofs.WholeLemmas.{nothing_below}
-use Rattle.successor_sums.specs.Ranks.{sum_by_cells}
+use Rattle.lower_bound.proofs.PartLemmas.{nothing_below}
+use Rattle.successor_sums.specs.Whole.{sum_by_cells}
 use Rattle.successor_sums.specs.Unpacked.{board_in}
 use Rattle.successor_sums.proofs.SumLemmas.{views_at, fold_views_at, folded_sum, sum-mapped, whole_sum}
 use Rattle.successor_sums.proofs.unpacked.UnpackedBoard.sum.Goals as goal

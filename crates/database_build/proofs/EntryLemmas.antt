@@ -1,0 +1,248 @@
+-- What a table keeps of views, and how it is read.
+use Rattle.std.proofs.Common.{◌≡◌, ℕ, suc, ◌<◌, ◌≤◌, Vec, Global, true, false, List, ◌∷◌, eqb, length, get_or, map, take, drop, ◌++◌, sym, ap, ◌∙◌, subst, ⊎_elim, arith, ◌*◌}
+use Rattle.std.specs.Prelude.{◌⊎◌, ◌-◌, ◌^◌, zero, Option, min, slice_index, slice_get, unwrap_or}
+use Rattle.std.proofs.Math.Nat.{le-max_left, min-eq_left, min-eq_right, mul-le-mul_left, mul_comm, pow-le-pow_left, pow-succ', pow-zero}
+use Rattle.std.proofs.lemmas.Nat.{mul-add-lt}
+use Rattle.std.specs.List.{range_with_len}
+use Rattle.std.proofs.lemmas.Bool.{cases_lt, cases_Bool, cond-true, cond-false, ne_eqb}
+use Rattle.std.proofs.lemmas.List.{get_or-map, get_or_read, get_or_past, take_at}
+use Rattle.std.proofs.lemmas.Option.{unwrap_or-slice_get}
+use Rattle.std.proofs.lemmas.List.FromFn.{get_or-map-range_with_len, length-map-range_with_len}
+use Rattle.board.specs.Grids.{cell_count}
+use Rattle.pattern_index.specs.Laws.{factorial}
+use Rattle.pattern_index.specs.Ranks.{ways, list_at, IsListing}
+use Rattle.pattern_index.specs.Views.{Sight, IsView}
+use Rattle.pattern_index.specs.Selections.{Selection, size_of, rank_in}
+use Rattle.pattern_index.specs.Sparse.{digit_base, slot_count_of, slot_in, sparse_of}
+use Rattle.pattern_index.proofs.PlaceLemmas.{place_listing}
+use Rattle.pattern_index.proofs.RankLemmas.{below_in, differ_in}
+use Rattle.pattern_index.proofs.SightLemmas.{sight_below, listing}
+use Rattle.pattern_index.proofs.SparseLemmas.{slot_below}
+use Rattle.database_build.specs.Entries.{HasEntries, by_rank, slot_of_rank, values_in, widened}
+use Rattle.database_build.specs.Graphs.{node_in, node_count}
+use Rattle.database_build.specs.Orders.{order_of}
+use Rattle.database_build.specs.Regions.{IsFree, IsPlaced, IsRegions, region_in}
+use Rattle.database_build.specs.Sets.{choose, set_place}
+use Rattle.database_build.specs.Slots.{AreFilledTo, placement_of}
+use Rattle.database_build.specs.Tables.{Lookup, value_in}
+use Rattle.database_build.specs.declared.entries.Entries.{Entries}
+use Rattle.database_build.specs.declared.entries.Entries.TheVariants.{Ranked, Bytes, Words}
+use Rattle.database_build.specs.declared.regions.Regions.{Regions}
+use Rattle.database_build.specs.declared.table.TheConstants.{NO_VALUE}
+use Rattle.database_build.proofs.FillLemmas.{list_back, blank_out}
+use Rattle.database_build.proofs.OrderLemmas.{below-all, below_low, order_below}
+use Rattle.database_build.proofs.SetLemmas.{place_below}
+
+-- ---- values of views by rank
+
+-- there is one for each view
+pub length-by_rank : (g : Selection) (at_slot : ℕ → ℕ) → length (by_rank g at_slot) ≡ size_of g
+unfolding by_rank
+length-by_rank g at_slot = length-map-range_with_len (λ rank. at_slot (slot_of_rank g rank)) 0 (size_of g)
+
+-- the cells of a view differ, so there are no more than the grid has
+view_room : (g : Selection) (v : Sight) → IsView g.grid g.tiles v → suc (length v.cells) ≤ cell_count g.grid
+view_room g v view =
+    let is = listing g.grid g.tiles v view in
+    let n = cell_count g.grid in
+    let all = below-all n (v.blank ∷ v.cells) (below_in n (v.blank ∷ v.cells) is) in
+    let low = below_low n (v.blank ∷ v.cells) (differ_in n (v.blank ∷ v.cells) is) in
+    omega (arith, all, low)
+
+-- the slot of a view's rank is that of the view
+slot_back : (g : Selection) (v : Sight) → IsView g.grid g.tiles v → slot_of_rank g (rank_in g.grid v) ≡ slot_in g.grid v
+slot_back g v view =
+    let long : suc (length g.tiles) ≡ suc (length v.cells) = ap suc (sym view.one_each) in
+    ap (λ k. sparse_of (digit_base g.grid) (list_at (cell_count g.grid) k (rank_in g.grid v))) long
+    ∙ ap (sparse_of (digit_base g.grid)) (list_back (cell_count g.grid) (v.blank ∷ v.cells) (listing g.grid g.tiles v view) (view_room g v view))
+
+-- a view has what stands at its slot
+pub by_rank_at : (g : Selection) (at_slot : ℕ → ℕ) (v : Sight) → IsView g.grid g.tiles v → slice_index (by_rank g at_slot) (rank_in g.grid v) ≡ at_slot (slot_in g.grid v)
+unfolding by_rank
+by_rank_at g at_slot v view =
+    get_or-map-range_with_len (λ rank. at_slot (slot_of_rank g rank)) 0 (size_of g) (rank_in g.grid v) (rank_in g.grid v) 0 (sight_below g.grid g.tiles v view) (omega arith)
+    ∙ ap at_slot (slot_back g v view)
+
+-- ---- the values of a table
+
+-- there is one for each view
+pub values_size : (g : Selection) (entries : Entries) → HasEntries g entries → length (values_in g entries) ≡ size_of g
+values_size g (Ranked values) has = has
+values_size g (Bytes bytes) has = length-by_rank g (λ slot. widened (slice_index bytes.items slot))
+values_size g (Words words) has = length-by_rank g (slice_index words.items)
+
+-- what a byte stands for is at most NO_VALUE
+widened_high : (byte : ℕ) → byte ≤ NO_VALUE → widened byte ≤ NO_VALUE
+widened_high byte low =
+    ⊎_elim
+    (λ (is : eqb byte 255 ≡ true). let e : widened byte ≡ NO_VALUE = cond-true (eqb byte 255) NO_VALUE byte is in omega (arith, e))
+    (λ (other : eqb byte 255 ≡ false). let e : widened byte ≡ byte = cond-false (eqb byte 255) NO_VALUE byte other in omega (arith, e, low))
+    (cases_Bool (eqb byte 255))
+
+-- a value for which a byte can stand is what that byte stands for
+widened_back : (value : ℕ) → (value < 255) ⊎ (value ≡ NO_VALUE) → widened (min value 255) ≡ value
+widened_back value small =
+    ⊎_elim
+    (λ (low : value < 255).
+    let e : min value 255 ≡ value = min-eq_left (omega (arith, low)) in
+    ap widened e ∙ cond-false (eqb value 255) NO_VALUE value (ne_eqb value 255 (λ h. absurd (omega (arith, h, low)))))
+    (λ (none : value ≡ NO_VALUE).
+    let e : min value 255 ≡ 255 = min-eq_right (omega (arith, none)) in
+    ap widened e ∙ sym none)
+    small
+
+-- where no slot has more, no view has
+by_rank_high : (g : Selection) (at_slot : ℕ → ℕ) → ((slot : ℕ) → at_slot slot ≤ NO_VALUE) → (rank : ℕ) → slice_index (by_rank g at_slot) rank ≤ NO_VALUE
+unfolding by_rank
+by_rank_high g at_slot high rank =
+    ⊎_elim
+    (λ (low : rank < size_of g).
+    let is = get_or-map-range_with_len (λ k. at_slot (slot_of_rank g k)) 0 (size_of g) rank rank 0 low (omega arith) in
+    let h = high (slot_of_rank g rank) in
+    omega (arith, is, h))
+    (λ (past : size_of g ≤ rank).
+    let all = length-map-range_with_len (λ k. at_slot (slot_of_rank g k)) 0 (size_of g) in
+    let is = get_or_past (map (λ k. at_slot (slot_of_rank g k)) (range_with_len 0 (size_of g))) rank 0 (omega (arith, all, past)) in
+    omega (arith, is))
+    (cases_lt rank (size_of g))
+
+module _ (table : Lookup) (g : Selection) (entries : Entries) (is : record { selection = g; values = values_in g entries } ≡ table) (has : HasEntries g entries) where
+  -- a table has one for each view
+  pub table_size : length table.values ≡ size_of table.selection
+  table_size = subst (λ (t : Lookup). length t.values ≡ size_of t.selection) is (values_size g entries has)
+
+  -- the values of bytes
+  pub bytes_high : (bytes : Vec ℕ Global) → entries ≡ Bytes bytes → ((slot : ℕ) → slice_index bytes.items slot ≤ NO_VALUE) → (rank : ℕ) → slice_index table.values rank ≤ NO_VALUE
+  bytes_high bytes kept high =
+      subst (λ (t : Lookup). (rank : ℕ) → slice_index t.values rank ≤ NO_VALUE) is
+      (subst (λ (e : Entries). (rank : ℕ) → slice_index (values_in g e) rank ≤ NO_VALUE) (sym kept)
+      (by_rank_high g (λ slot. widened (slice_index bytes.items slot)) (λ slot. widened_high (slice_index bytes.items slot) (high slot))))
+
+  -- and those of words
+  pub words_high : (words : Vec ℕ Global) → entries ≡ Words words → ((slot : ℕ) → slice_index words.items slot ≤ NO_VALUE) → (rank : ℕ) → slice_index table.values rank ≤ NO_VALUE
+  words_high words kept high =
+      subst (λ (t : Lookup). (rank : ℕ) → slice_index t.values rank ≤ NO_VALUE) is
+      (subst (λ (e : Entries). (rank : ℕ) → slice_index (values_in g e) rank ≤ NO_VALUE) (sym kept) (by_rank_high g (slice_index words.items) high))
+
+  module _ (v : Sight) (view : IsView table.selection.grid table.selection.tiles v) (slot : ℕ) (there : slot ≡ slot_in g.grid v) where
+    -- a view of the table is one of the group, and has a slot
+    of_group : IsView g.grid g.tiles v
+    of_group = subst (λ (t : Lookup). IsView t.selection.grid t.selection.tiles v) (sym is) view
+
+    within : slot < slot_count_of g
+    within = let low = slot_below g v of_group in omega (arith, low, there)
+
+    -- what is read of bytes is the view's value
+    pub byte_read : (bytes : Vec ℕ Global) (byte value : ℕ) → entries ≡ Bytes bytes → byte ≡ get_or bytes.items slot byte → value ≡ widened byte → value ≡ value_in table v
+    byte_read bytes byte value kept read wide =
+        let all : length bytes.items ≡ slot_count_of g = subst (HasEntries g) kept has in
+        let low = within in
+        let at : byte ≡ slice_index bytes.items slot = get_or_read bytes.items slot byte (omega (arith, low, all)) read 0 in
+        wide ∙ ap widened at ∙ ap (λ k. widened (slice_index bytes.items k)) there
+        ∙ sym (by_rank_at g (λ k. widened (slice_index bytes.items k)) v of_group)
+        ∙ ap (λ (e : Entries). slice_index (values_in g e) (rank_in g.grid v)) (sym kept)
+        ∙ ap (λ (t : Lookup). value_in t v) is
+
+    -- and so is what is read of words
+    pub word_read : (words : Vec ℕ Global) (value : ℕ) → entries ≡ Words words → value ≡ get_or words.items slot value → value ≡ value_in table v
+    word_read words value kept read =
+        let all : length words.items ≡ slot_count_of g = subst (HasEntries g) kept has in
+        let low = within in
+        let at : value ≡ slice_index words.items slot = get_or_read words.items slot value (omega (arith, low, all)) read 0 in
+        at ∙ ap (slice_index words.items) there
+        ∙ sym (by_rank_at g (slice_index words.items) v of_group)
+        ∙ ap (λ (e : Entries). slice_index (values_in g e) (rank_in g.grid v)) (sym kept)
+        ∙ ap (λ (t : Lookup). value_in t v) is
+
+-- ---- slots that are filled
+
+-- elements at places, of which there may be none, that are the same are the same with the default
+same_index : (xs ys : List ℕ) (i j : ℕ) → slice_get xs i ≡ slice_get ys j → slice_index xs i ≡ slice_index ys j
+same_index xs ys i j same = sym (unwrap_or-slice_get xs i 0) ∙ ap (λ (o : Option ℕ). unwrap_or o 0) same ∙ unwrap_or-slice_get ys j 0
+
+-- different cells can't be listed in more ways than any
+ways_low : (n r : ℕ) → ways n r ≤ n ^ r
+unfolding ways
+ways_low n zero = omega (arith, pow-zero n)
+ways_low n (suc r) =
+    let rest = ways_low (n - 1) r in
+    let up : (n - 1) ^ r ≤ n ^ r = pow-le-pow_left (omega arith) r in
+    let m : n * ways (n - 1) r ≤ n * n ^ r = mul-le-mul_left n (omega (arith, rest, up)) in
+    let e = pow-succ' n r in
+    omega (arith, m, e)
+
+-- nodes are no more than slots
+pub nodes_low : (g : Selection) (r : Regions) → IsRegions g.grid (length g.tiles) r → node_count r ≤ slot_count_of g
+nodes_low g r regions =
+    let few = regions.regions.few in
+    let same : ways (cell_count r.shape) (suc r.count) ≡ ways (cell_count g.grid) (suc (length g.tiles)) = (λ i. ways (cell_count (regions.shape i)) (suc (regions.tiles i))) in
+    let low = ways_low (cell_count g.grid) (suc (length g.tiles)) in
+    let wide : cell_count g.grid ^ suc (length g.tiles) ≤ digit_base g.grid ^ suc (length g.tiles) = pow-le-pow_left (le-max_left (cell_count g.grid) 16) (suc (length g.tiles)) in
+    omega (arith, few, same, low, wide)
+
+-- a vector whose elements were all written
+pub all_written : {A : Type 0} (len : ℕ) (new was items : List A) → len ≡ length items → was ≡ items → length new ≡ length was → take len (new ++ drop (length new) items) ≡ new
+all_written len new was items long is all = take_at new (drop (length new) items) len (all ∙ ap length is ∙ sym long)
+
+module _ (g : Selection) (r : Regions) (regions : IsRegions g.grid (length g.tiles) r) (v : Sight) (view : IsView g.grid g.tiles v) where
+  -- the tiles of a view stand on different cells
+  view_placed : IsPlaced r.shape r.count v.cells
+  view_placed = record {
+    listing = subst (λ n. IsListing n v.cells) (sym (ap cell_count regions.shape)) (place_listing g.grid g.tiles v view);
+    one_each = view.one_each ∙ sym regions.tiles;
+  }
+
+  -- and the blank on another
+  view_free : IsFree r.shape v.cells v.blank
+  view_free = record {
+    inside = subst (λ n. v.blank < n) (sym (ap cell_count regions.shape)) (view.in_range 0 v.blank (omega arith));
+    free = blank_out (cell_count g.grid) v.blank v.cells (listing g.grid g.tiles v view);
+  }
+
+  -- there are as many placements as orders of all sets
+  view_before : placement_of r v.cells < choose (cell_count r.shape) r.count * factorial r.count
+  view_before =
+      let placed = view_placed in
+      let n = cell_count r.shape in
+      let set : set_place v.cells < choose n r.count = subst (λ k. set_place v.cells < choose n k) placed.one_each (place_below n v.cells placed.listing) in
+      let order : order_of v.cells < factorial r.count = subst (λ k. order_of v.cells < factorial k) placed.one_each (order_below v.cells) in
+      let m = mul-add-lt (set_place v.cells) (factorial r.count) (order_of v.cells) (choose n r.count) set order in
+      let c = mul_comm (factorial r.count) (choose n r.count) in
+      omega (arith, m, c)
+
+  -- where all are filled in, a view has the value of its node
+  pub slots_all : {A : Type 0} (nodes slots : List A) → AreFilledTo r nodes (choose (cell_count r.shape) r.count * factorial r.count) slots → slice_get slots (slot_in g.grid v) ≡ slice_get nodes (node_in r v)
+  slots_all nodes slots filled =
+      ap (λ grid. slice_get slots (sparse_of (digit_base grid) (v.blank ∷ v.cells))) (sym regions.shape)
+      ∙ filled.values v.cells v.blank view_placed view_free view_before
+
+  -- the node of a view is one of the regions'
+  view_node : node_in r v < node_count r
+  view_node =
+      let placed = view_placed in
+      let order : order_of v.cells < factorial r.count = subst (λ k. order_of v.cells < factorial k) placed.one_each (order_below v.cells) in
+      let m = mul-add-lt (region_in r v.cells v.blank) (factorial r.count) (order_of v.cells) (length r.homes.items) (regions.regions.inside v.cells v.blank placed view_free) order in
+      let c = mul_comm (factorial r.count) (length r.homes.items) in
+      omega (arith, m, c)
+
+  module _ (nodes : List ℕ) where
+    -- words at slots are the values of nodes
+    pub words_kept : (words : List ℕ) → slice_get words (slot_in g.grid v) ≡ slice_get nodes (node_in r v) → slice_index (by_rank g (slice_index words)) (rank_in g.grid v) ≡ slice_index nodes (node_in r v)
+    words_kept words is = by_rank_at g (slice_index words) v view ∙ same_index words nodes (slot_in g.grid v) (node_in r v) is
+
+    -- bytes at slots stand for the values of nodes, where one can for each
+    pub bytes_kept :
+        (narrow bytes : List ℕ)
+        → length nodes ≡ node_count r
+        → ((k d : ℕ) → k < length nodes → (get_or nodes k d < 255) ⊎ (get_or nodes k d ≡ NO_VALUE))
+        → narrow ≡ map (λ value. min value 255) nodes
+        → slice_get bytes (slot_in g.grid v) ≡ slice_get narrow (node_in r v)
+        → slice_index (by_rank g (λ slot. widened (slice_index bytes slot))) (rank_in g.grid v) ≡ slice_index nodes (node_in r v)
+    bytes_kept narrow bytes nodes_are small narrowed is =
+        let low : node_in r v < length nodes = (let n = view_node in omega (arith, n, nodes_are)) in
+        by_rank_at g (λ slot. widened (slice_index bytes slot)) v view
+        ∙ ap widened
+        (same_index bytes narrow (slot_in g.grid v) (node_in r v) is
+        ∙ ap (λ (xs : List ℕ). slice_index xs (node_in r v)) narrowed
+        ∙ get_or-map (λ value. min value 255) nodes (node_in r v) 0 0 low)
+        ∙ widened_back (slice_index nodes (node_in r v)) (small (node_in r v) 0 low)

@@ -1,0 +1,139 @@
+//! Values of views, by slot.
+
+ghost use Rattle.std.specs.Prelude.{suc, ◌≡◌, ◌+◌, ◌*◌, ◌<◌, ◌≤◌, ◌^◌, ◌++◌, All, IfOk, OnOk, length, map, slice_index};
+ghost use Rattle.board.specs.Grids.{cell_count};
+ghost use Rattle.pattern_index.specs.Laws.{factorial};
+ghost use Rattle.pattern_index.specs.Sparse.{digit_base, sparse_of};
+ghost use Rattle.database_build.specs.Graphs.{node_count};
+ghost use Rattle.database_build.specs.Marks.{AreMarksOf};
+ghost use Rattle.database_build.specs.Orders.{order_of, positions_at};
+ghost use Rattle.database_build.specs.Regions.{IsRegions, IsPlaced};
+ghost use Rattle.database_build.specs.Sets.{choose, set_place};
+ghost use Rattle.database_build.specs.Slots.{AreFilledTo, AreFilledUpTo, ArePositions};
+
+use crate::orders::{factorial, write_positions};
+use crate::regions::Regions;
+use crate::rows::mark_cells;
+use memory::{OutOfMemory, push};
+use pattern_index::{digit_base, sparse_place};
+use std::alloc::Global;
+
+// The positions of all tiles in each order: on how many smaller cells others stand.
+pub(crate) fn find_positions(alloc: Global, count: usize) -> Result<Vec<u8>, OutOfMemory>
+    requires { count ≤ 9 }
+    ensures { IfOk result (λ all. ArePositions count all.items) }
+{
+    let mut all = Vec::new(alloc);
+    'orders: for order in 0..factorial(count) {
+        add_positions(count, order, &mut all)?;
+    }
+    Ok(all)
+}
+
+// Puts the positions of all tiles in an order at the end.
+fn add_positions(count: usize, order: usize, all: &mut Vec<u8>) -> Result<(), OutOfMemory>
+    requires count { count ≤ 9 }
+    requires order { order < factorial count }
+    ensures { OnOk result (all.new.items ≡ all.old.items ++ positions_at count order) }
+{
+    let mut positions = [0; 9];
+    write_positions(order, &mut positions[..count]);
+    'tiles: for tile in 0..count {
+        push(all, positions[tile])?;
+    }
+    Ok(())
+}
+
+// Writes what each view has at its slot, where what nodes have is given.
+pub(crate) fn write_slots<T: Copy>(
+    regions: &Regions,
+    positions: &[u8],
+    nodes: &[T],
+    slots: &mut [T],
+)
+    requires regions { IsRegions regions.now.shape regions.now.count regions.now }
+    requires positions { ArePositions regions.now.count positions.now }
+    requires nodes { length nodes.now ≡ node_count regions.now }
+    requires slots { length slots.old ≡ digit_base regions.now.shape ^ suc regions.now.count }
+    ensures { AreFilledTo regions.now nodes.now
+        (choose (cell_count regions.now.shape) regions.now.count * factorial regions.now.count)
+        slots.new }
+{
+    let sets = regions.choices.count(regions.shape.cells(), regions.count);
+    'sets: for set in 0..sets {
+        write_set(regions, positions, set, nodes, slots);
+    }
+}
+
+// The same for the views with tiles on the cells of a set, where it is done for those of smaller sets.
+fn write_set<T: Copy>(regions: &Regions, positions: &[u8], set: usize, nodes: &[T], slots: &mut [T])
+    requires regions { IsRegions regions.now.shape regions.now.count regions.now }
+    requires positions { ArePositions regions.now.count positions.now }
+    requires nodes { length nodes.now ≡ node_count regions.now }
+    requires set { set < choose (cell_count regions.now.shape) regions.now.count }
+    requires filled { AreFilledTo regions.now nodes.now (set * factorial regions.now.count)
+        slots.old }
+    ensures { AreFilledTo regions.now nodes.now ((set + 1) * factorial regions.now.count)
+        slots.new }
+{
+    let count = regions.count;
+    let mut cells = [0; 9];
+    regions
+        .choices
+        .write_set(regions.shape.cells(), set, &mut cells[..count]);
+    let marks = mark_cells(&cells[..count]);
+    'orders: for order in 0..factorial(count) {
+        let mut placed = [0; 9];
+        place_tiles(
+            &cells[..count],
+            &positions[order * count..order * count + count],
+            &mut placed[..count],
+        );
+        write_blanks(regions, &placed[..count], set, order, &marks, nodes, slots);
+    }
+}
+
+// Writes on which cell each tile stands, by its position among the cells.
+fn place_tiles(cells: &[u8], positions: &[u8], placed: &mut [u8])
+    requires same { length placed.old ≡ length positions.now }
+    requires within { All (λ position. position < length cells.now) positions.now }
+    ensures { placed.new ≡ map (slice_index cells.now) positions.now }
+{
+    'tiles: for tile in 0..placed.len() {
+        placed[tile] = cells[positions[tile] as usize];
+    }
+}
+
+// The same for the views with the tiles on these cells, where it is done for the placements before.
+fn write_blanks<T: Copy>(
+    regions: &Regions,
+    cells: &[u8],
+    set: usize,
+    order: usize,
+    marks: &[bool; 25],
+    nodes: &[T],
+    slots: &mut [T],
+)
+    requires regions { IsRegions regions.now.shape regions.now.count regions.now }
+    requires placed { IsPlaced regions.now.shape regions.now.count cells.now }
+    requires set { set ≡ set_place cells.now }
+    requires order { order ≡ order_of cells.now }
+    requires marks { AreMarksOf cells.now marks.now }
+    requires nodes { length nodes.now ≡ node_count regions.now }
+    requires filled { AreFilledTo regions.now nodes.now
+        (set * factorial regions.now.count + order) slots.old }
+    ensures { AreFilledTo regions.now nodes.now
+        (set * factorial regions.now.count + order + 1) slots.new }
+{
+    let count = regions.shape.cells();
+    let base = digit_base(regions.shape);
+    let first = base * sparse_place(base, cells);
+    let orders = factorial(cells.len());
+    'blanks: for blank in 0..count {
+        if marks[blank] {
+            continue;
+        }
+        let region = regions.numbers[set * count + blank] as usize;
+        slots[first + blank] = nodes[region * orders + order];
+    }
+}
