@@ -104,8 +104,16 @@ fn main() -> ExitCode {
     };
     let weights = weights_of(shape.cells(), *weights);
     let goal = goal_of(shape.cells(), *goal);
-    let tiles: Vec<u8> = (1..shape.cells() as u8).collect();
-    let is_folded = words[1] == "folded";
+    let is_group = words[1] == "group";
+    let tiles: Vec<u8> = if is_group {
+        counts.iter().map(|tile| *tile as u8).collect()
+    } else {
+        (1..shape.cells() as u8).collect()
+    };
+    let whole = [tiles.len() as u64];
+    let counts = if is_group { whole.as_slice() } else { counts };
+    let is_folded = words[1].ends_with("folded");
+    let is_read = !words[1].starts_with("built");
     let mut left = tiles.as_slice();
     let mut frames: Vec<(usize, Frame)> = Vec::new();
     let mut tables = Vec::new();
@@ -123,7 +131,9 @@ fn main() -> ExitCode {
             let values = frame.values(taken, &goal, &weights);
             if is_folded { frame.folded(&values) } else { frame.whole(&values) }
         };
-        println!("{}", summary_of(&values));
+        if is_read {
+            println!("{}", summary_of(&values));
+        }
         tables.push(values);
         left = rest;
     }
