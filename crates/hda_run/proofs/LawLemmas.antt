@@ -30,7 +30,7 @@ use Rattle.world_model.specs.Steps.{IsRun, Next}
 use Rattle.world_model.specs.Turns.{turn}
 use Rattle.world_model.proofs.ChangeLemmas.{cons_cases, none_in_empty}
 use Rattle.world_ends.specs.Endings.{EndsIn}
-use Rattle.world_ends.proofs.EndingLemmas.{ends_bounded}
+use Rattle.world_ends.proofs.PartLemmas.{ends_bounded}
 use Rattle.hda_run.specs.Alone.{AreLast, IsRunAlone, HaltsNowhere, IsHalt}
 use Rattle.hda_run.specs.Headline.{TellsTruth, IsTrueOfBest}
 use Rattle.hda_run.specs.Problems.{Problem, task_in}

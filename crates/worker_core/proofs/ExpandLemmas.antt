@@ -36,7 +36,7 @@ use Rattle.search_lists.specs.declared.lists.Next.{Next}
 use Rattle.offers.specs.declared.offer.Offer.{Offer}
 use Rattle.offers.specs.Offers.{IsOfferOf, IsOffered, AreOffered, OfEach, Offers, item_by, IsWithin}
 use Rattle.offers.specs.Room.{goes, HasRoom}
-use Rattle.offers.proofs.EntryLemmas.{entry_is, entries_give, of_one}
+use Rattle.offers.proofs.OfferLemmas.{entry_is, entries_give, of_one}
 use Rattle.worker_core.specs.Expanding.{IsReady, stock, OfAll, taken, AddsUpBy, all_go, all_taken, in_turn, HasPlaces}
 use Rattle.worker_core.specs.Roles.{IsGuided, AreTaskBoards, IsGuideOf, task_of}
 use Rattle.worker_core.proofs.GuideLemmas.{none_below}

@@ -1,5 +1,4 @@
-use Rattle.std.proofs.Common.{◌≡◌, ◌≤◌}
-use Rattle.std.proofs.Common.{ℕ, ◌≢◌}
+use Rattle.std.proofs.Common.{◌≡◌, ◌≤◌, ℕ, ◌≢◌}
 use Rattle.open_buckets.specs.OpenLists.{places_at}
 use Rattle.offers.specs.Offers.{OfEach}
 use Rattle.search_lists.specs.Lists.{HasMoreRoom}
