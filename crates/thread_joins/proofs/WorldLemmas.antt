@@ -51,7 +51,7 @@ use Rattle.board.specs.CostRules.{CostRule}
 use Rattle.board.specs.Rows.{IsLowerBound}
 use Rattle.outcomes.specs.declared.outcome.Want.TheVariants.{Stated}
 use Rattle.lower_bound.specs.Tables.{Tables}
-use Rattle.world_model.proofs.KeptLemmas.{kept_quiet}
+use Rattle.world_model.proofs.KeptLemmas.{kept_quiet as kept_is_quiet}
 use Rattle.hda_run.specs.Worlds.{job_of}
 use Rattle.thread_joins.specs.Threads.{IsJoined}
 use Rattle.thread_joins.specs.Laws.{BoardsHaveOwners, JoinedWorldsAnswer, LimitsAreKept, LimitsAreSpent, NoListStopsThreads, QuietHasNoCredit, QuietIsStill}
@@ -578,7 +578,7 @@ still job w joined quiet to item under_way = none_under_way w (joined.at_quiet q
 pub joined_answers : JoinedWorldsAnswer
 joined_answers job w outcome joined kept bound given =
     let below : IsLowerBound w.task.rule w.task.sum w.task.goal = subst (λ (t : Task). IsLowerBound t.rule t.sum t.goal) (sym joined.task) bound in
-    subst (λ (t : Task). Answers t outcome) joined.task (outcomes_answer w outcome joined.shaped joined.sound (kept_quiet w kept) below given)
+    subst (λ (t : Task). Answers t outcome) joined.task (outcomes_answer w outcome joined.shaped joined.sound (kept_is_quiet w kept) below given)
 
 pub no_list_stops : NoListStopsThreads
 no_list_stops job w joined = joined.no_list
