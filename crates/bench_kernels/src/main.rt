@@ -35,7 +35,6 @@ mod words;
 
 use board::Shape;
 use containers::search;
-use database_build::{Folded, Table};
 use lower_bound::Bound;
 use pattern_index::Group;
 use ranks::sum_of_ranks;
@@ -43,7 +42,7 @@ use std::io::{self, ErrorKind, Print};
 use std::process::ExitCode;
 use steps::walk_from_goal;
 use sums::{drawn_keys, expand_all};
-use tables::{Summary, Task, fold_of, fold_summary, frame_for, table_of, table_summary};
+use tables::{Made, Summary, Task, frame_for};
 use words::{Asked, Part, SMALL, read_part, read_words};
 
 fn print_steps(rt: &impl Print, shape: Shape, steps: u32) -> io::Result<()> {
@@ -71,40 +70,20 @@ fn print_summary(rt: &impl Print, summary: Summary) -> io::Result<()> {
 
 // All tables are kept to the end, as a search would keep them.
 fn print_tables(rt: &(impl Print + AllocGlobal), groups: &[Group], task: Task) -> io::Result<()> {
-    let mut tables: Vec<Table> = Vec::new(rt.alloc());
+    let mut tables: Vec<Made> = Vec::new(rt.alloc());
     let mut last = None;
     for group in groups {
         let Some(frame) = frame_for(rt.alloc(), last, group) else {
             return Err(ErrorKind::OutOfMemory.into());
         };
-        let Some(table) = table_of(rt.alloc(), &frame, group, task) else {
+        let Some(table) = Made::new(rt.alloc(), &frame, group, task) else {
             return Err(ErrorKind::OutOfMemory.into());
         };
         last = Some(frame);
         if task.is_read {
-            print_summary(rt, table_summary(&table))?;
+            print_summary(rt, table.summary())?;
         }
         tables.push(table)?;
-    }
-    Ok(())
-}
-
-// So are folded ones.
-fn print_folds(rt: &(impl Print + AllocGlobal), groups: &[Group], task: Task) -> io::Result<()> {
-    let mut folds: Vec<Folded> = Vec::new(rt.alloc());
-    let mut last = None;
-    for group in groups {
-        let Some(frame) = frame_for(rt.alloc(), last, group) else {
-            return Err(ErrorKind::OutOfMemory.into());
-        };
-        let Some(fold) = fold_of(rt.alloc(), &frame, group, task) else {
-            return Err(ErrorKind::OutOfMemory.into());
-        };
-        last = Some(frame);
-        if task.is_read {
-            print_summary(rt, fold_summary(&fold))?;
-        }
-        folds.push(fold)?;
     }
     Ok(())
 }
@@ -138,7 +117,6 @@ fn print_part(rt: &(impl Print + AllocGlobal), part: &Part) -> io::Result<()> {
         Part::Steps(shape, steps) => print_steps(rt, *shape, *steps),
         Part::Ranks(group, ranks) => print_ranks(rt, group, *ranks),
         Part::Tables(groups, task) => print_tables(rt, groups, *task),
-        Part::Folds(groups, task) => print_folds(rt, groups, *task),
         Part::Sums(bound, boards, rounds) => print_sums(rt, bound, *boards, *rounds),
         Part::Containers(count) => print_search(rt, *count),
     }

@@ -43,14 +43,15 @@ impl Summary {
     }
 }
 
-/// What tables are built for: a number for the weights and one for the goal, and whether all their
-/// values are read then.
+/// What tables are built for: a number for the weights and one for the goal, whether they are folded,
+/// and whether all their values are read then.
 #[derive(Clone, Copy)]
 pub struct Task {
     /// 0 for unit cost, 1 for face cost, or what weights are drawn by.
     pub weights: u64,
     /// 0 for the goal of the shape, or what another one is drawn by.
     pub goal: u64,
+    pub is_folded: bool,
     pub is_read: bool,
 }
 
@@ -60,7 +61,16 @@ impl Task {
         Task {
             weights: 0,
             goal: 0,
+            is_folded: false,
             is_read: true,
+        }
+    }
+
+    /// The same for folded tables.
+    pub fn folded(self) -> Self {
+        Task {
+            is_folded: true,
+            ..self
         }
     }
 
@@ -98,34 +108,36 @@ fn drawn_weights(seed: u64) -> [u8; 25] {
     weights
 }
 
-/// The table of a group, or None where the task makes none, or finds no memory.
-pub fn table_of(alloc: Global, frame: &Frame, group: &Group, task: Task) -> Option<Table>
-    requires { Fits frame.now group.now }
-{
-    let shape = group.shape();
-    build_in(
-        alloc,
-        frame,
-        group,
-        &task.goal(shape)?,
-        &task.weights(shape)?,
-    )
-    .ok()
+/// A table of either kind.
+#[derive(Drop)]
+pub enum Made {
+    Whole(Table),
+    Folded(Folded),
 }
 
-/// The folded table of a group, or None as `table_of` answers it.
-pub fn fold_of(alloc: Global, frame: &Frame, group: &Group, task: Task) -> Option<Folded>
-    requires { Fits frame.now group.now }
-{
-    let shape = group.shape();
-    build_folded_in(
-        alloc,
-        frame,
-        group,
-        &task.goal(shape)?,
-        &task.weights(shape)?,
-    )
-    .ok()
+impl Made {
+    /// The table of a group, or None where the task makes none, or finds no memory.
+    pub fn new(alloc: Global, frame: &Frame, group: &Group, task: Task) -> Option<Self>
+        requires { Fits frame.now group.now }
+    {
+        let shape = group.shape();
+        let goal = task.goal(shape)?;
+        let weights = task.weights(shape)?;
+        if task.is_folded {
+            let fold = build_folded_in(alloc, frame, group, &goal, &weights).ok()?;
+            return Some(Made::Folded(fold));
+        }
+        let table = build_in(alloc, frame, group, &goal, &weights).ok()?;
+        Some(Made::Whole(table))
+    }
+
+    /// What its values come to.
+    pub fn summary(&self) -> Summary {
+        match self {
+            Made::Whole(table) => table_summary(table),
+            Made::Folded(fold) => fold_summary(fold),
+        }
+    }
 }
 
 /// The frame of a group: the one that is given, if it fits, else a new one; None without memory.
@@ -140,8 +152,8 @@ pub fn frame_for(alloc: Global, last: Option<Frame>, group: &Group) -> Option<Fr
     Frame::new(alloc, group).ok()
 }
 
-/// What the values of a table come to, by rank.
-pub fn table_summary(table: &Table) -> Summary
+// What the values of a table come to, by rank.
+fn table_summary(table: &Table) -> Summary
     ensures { result.views ≡ size_of table.now.selection }
 {
     let mut summary = Summary::empty();
@@ -152,14 +164,14 @@ pub fn table_summary(table: &Table) -> Summary
     summary
 }
 
-/// What the values of a folded table come to, by the places of the tiles.
-pub fn fold_summary(fold: &Folded) -> Summary
+// What the values of a folded table come to, by the places of the tiles.
+fn fold_summary(fold: &Folded) -> Summary
     ensures { result.views ≡ length fold.now.least }
 {
     let mut summary = Summary::empty();
-    'values: for value in fold.values() {
-        summary.add(*value);
+    'places: for place in 0..fold.size() {
+        summary.add(fold.entry(place));
     }
-    summary.views = fold.values().len();
+    summary.views = fold.size();
     summary
 }

@@ -36,8 +36,6 @@ pub enum Part {
     Ranks(Group, u32),
     /// The tables of these groups for a task.
     Tables(Vec<Group>, Task),
-    /// Their folded tables.
-    Folds(Vec<Group>, Task),
     /// A count of boards, and how often each is expanded, with the sums of a bound.
     Sums(Bound, u32, u32),
     /// A search until this many boards are known.
@@ -101,8 +99,8 @@ pub fn read_part(alloc: Global, name: &str, numbers: &[usize]) -> Option<Part> {
         }
         ("folded", [weights, goal, rows, cols, counts @ ..]) => {
             let shape = shape_of(*rows, *cols)?;
-            let task = task_of(*weights, *goal, true);
-            Some(Part::Folds(read_groups(alloc, shape, counts)?, task))
+            let task = task_of(*weights, *goal, true).folded();
+            Some(Part::Tables(read_groups(alloc, shape, counts)?, task))
         }
         ("built", [weights, goal, rows, cols, counts @ ..]) => {
             let shape = shape_of(*rows, *cols)?;
@@ -111,8 +109,8 @@ pub fn read_part(alloc: Global, name: &str, numbers: &[usize]) -> Option<Part> {
         }
         ("built-folded", [weights, goal, rows, cols, counts @ ..]) => {
             let shape = shape_of(*rows, *cols)?;
-            let task = task_of(*weights, *goal, false);
-            Some(Part::Folds(read_groups(alloc, shape, counts)?, task))
+            let task = task_of(*weights, *goal, false).folded();
+            Some(Part::Tables(read_groups(alloc, shape, counts)?, task))
         }
         ("group", [weights, goal, rows, cols, tiles @ ..]) => {
             let shape = shape_of(*rows, *cols)?;
@@ -136,6 +134,7 @@ fn task_of(weights: usize, goal: usize, is_read: bool) -> Task {
     Task {
         weights: weights as u64,
         goal: goal as u64,
+        is_folded: false,
         is_read,
     }
 }

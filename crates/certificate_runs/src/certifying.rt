@@ -338,7 +338,7 @@ fn tell_whole(tables: &[Table])
     ensures { All HasSmallEntries tables.now }
 {
     'tables: for place in 0..tables.len() {
-        // That no value is greater is told by this call.
+        // (that no value is greater is among what the call promises)
         let _ = tables[place].group();
     }
 }
@@ -348,15 +348,8 @@ fn tell_folded(folds: &[Folded])
     ensures { All HasSmallFolds folds.now }
 {
     'tables: for place in 0..folds.len() {
-        tell_values(folds[place].values());
+        let _ = folds[place].group();
     }
-}
-
-// Numbers of 16 bits are at most the greatest value.
-fn tell_values(values: &[u16])
-    ensures { (rank : ℕ) → slice_index values.now rank ≤ NO_VALUE }
-{
-    let _ = values;
 }
 
 // Writes a reply, passes it on, and answers its status.

@@ -1,37 +1,43 @@
 -- What a table keeps of views, and how it is read.
-use Rattle.std.proofs.Common.{◌≡◌, ℕ, suc, ◌<◌, ◌≤◌, Vec, Global, true, false, List, ◌∷◌, eqb, length, get_or, map, take, drop, ◌++◌, sym, ap, ◌∙◌, subst, ⊎_elim, arith, ◌*◌}
-use Rattle.std.specs.Prelude.{◌⊎◌, ◌-◌, ◌^◌, zero, Option, min, slice_index, slice_get, unwrap_or}
-use Rattle.std.proofs.Math.Nat.{le-max_left, min-eq_left, min-eq_right, mul-le-mul_left, mul_comm, pow-le-pow_left, pow-succ', pow-zero}
+use Rattle.std.proofs.Common.{◌≡◌, ℕ, suc, ◌<◌, ◌≤◌, Vec, Global, true, false, List, ◌∷◌, eqb, length, get_or, map, take, drop, replicate, ◌++◌, sym, ap, ◌∙◌, subst, ⊎_elim, arith, ◌+◌, ◌*◌}
+use Rattle.std.specs.Prelude.{◌⊎◌, ◌-◌, ◌^◌, zero, Option, Some, min, slice_index, slice_get, unwrap_or}
+use Rattle.std.proofs.Math.Nat.{le-max_left, min-eq_left, min-eq_right, min-le_left, mul-le-mul_left, mul_comm, pow-le-pow_left, pow-succ', pow-zero}
 use Rattle.std.proofs.lemmas.Nat.{mul-add-lt}
 use Rattle.std.specs.List.{range_with_len}
 use Rattle.std.proofs.lemmas.Bool.{cases_lt, cases_Bool, cond-true, cond-false, ne_eqb}
-use Rattle.std.proofs.lemmas.List.{get_or-map, get_or_read, get_or_past, take_at}
-use Rattle.std.proofs.lemmas.Option.{unwrap_or-slice_get}
+use Rattle.std.proofs.lemmas.List.{get_or-map, get_or_read, get_or_past, get_or-replicate, length-replicate, length-take-le, take_at}
+use Rattle.std.proofs.lemmas.Option.{get_or_from_slice_get, slice_get_within, unwrap_or-slice_get}
 use Rattle.std.proofs.lemmas.List.FromFn.{get_or-map-range_with_len, length-map-range_with_len}
 use Rattle.board.specs.Grids.{cell_count}
 use Rattle.pattern_index.specs.Laws.{factorial}
 use Rattle.pattern_index.specs.Ranks.{ways, list_at, IsListing}
 use Rattle.pattern_index.specs.Views.{Sight, IsView}
-use Rattle.pattern_index.specs.Selections.{Selection, size_of, rank_in}
-use Rattle.pattern_index.specs.Sparse.{digit_base, slot_count_of, slot_in, sparse_of}
-use Rattle.pattern_index.proofs.PlaceLemmas.{place_listing}
-use Rattle.pattern_index.proofs.RankLemmas.{below_in, differ_in}
+use Rattle.pattern_index.specs.Selections.{Selection, IsSelection, folded_size_of, place_in, size_of, rank_in}
+use Rattle.pattern_index.specs.Sparse.{digit_base, slot_count_of, slot_in, sparse_in, sparse_of, sparse_size_of}
+use Rattle.pattern_index.proofs.GroupLemmas.{cells_high, groups_small}
+use Rattle.pattern_index.proofs.PlaceLemmas.{place_listing, place_below as view_place_below}
+use Rattle.pattern_index.proofs.RankLemmas.{below_in, differ_in, length-list_at, list_at_below, list_at_differ, listing_from}
 use Rattle.pattern_index.proofs.SightLemmas.{sight_below, listing}
 use Rattle.pattern_index.proofs.SparseLemmas.{slot_below}
 use Rattle.database_build.specs.Entries.{HasEntries, by_rank, slot_of_rank, values_in, widened}
+use Rattle.database_build.specs.FoldEntries.{by_place, most_places}
 use Rattle.database_build.specs.Graphs.{node_in, node_count}
 use Rattle.database_build.specs.Orders.{order_of}
+use Rattle.database_build.specs.Placements.{placement_count, placement_in}
 use Rattle.database_build.specs.Regions.{IsFree, IsPlaced, IsRegions, region_in}
 use Rattle.database_build.specs.Sets.{choose, set_place}
 use Rattle.database_build.specs.Slots.{AreFilledTo, placement_of}
 use Rattle.database_build.specs.Tables.{Lookup, value_in}
 use Rattle.database_build.specs.declared.entries.Entries.{Entries}
 use Rattle.database_build.specs.declared.entries.Entries.TheVariants.{Ranked, Bytes, Words}
+use Rattle.database_build.specs.declared.folding.TheConstants.{MOST_PLACES, PLACES_A_VALUE}
 use Rattle.database_build.specs.declared.regions.Regions.{Regions}
 use Rattle.database_build.specs.declared.table.TheConstants.{NO_VALUE}
+use Rattle.database_build.proofs.FoldLemmas.{by_place_at}
 use Rattle.database_build.proofs.FillLemmas.{list_back, blank_out}
 use Rattle.database_build.proofs.OrderLemmas.{below-all, below_low, order_below}
-use Rattle.database_build.proofs.SetLemmas.{place_below}
+use Rattle.database_build.proofs.RowLemmas.{listing_wide}
+use Rattle.database_build.proofs.SetLemmas.{choose_ways, place_below}
 
 -- ---- values of views by rank
 
@@ -184,6 +190,30 @@ nodes_low g r regions =
 pub all_written : {A : Type 0} (len : ℕ) (new was items : List A) → len ≡ length items → was ≡ items → length new ≡ length was → take len (new ++ drop (length new) items) ≡ new
 all_written len new was items long is all = take_at new (drop (length new) items) len (all ∙ ap length is ∙ sym long)
 
+-- what a byte that was kept for a value stands for
+byte_back :
+    (values narrow bytes : List ℕ) (i j : ℕ)
+    → j < length values
+    → ((k d : ℕ) → k < length values → (get_or values k d < 255) ⊎ (get_or values k d ≡ NO_VALUE))
+    → narrow ≡ map (λ value. min value 255) values
+    → slice_get bytes i ≡ slice_get narrow j
+    → widened (slice_index bytes i) ≡ slice_index values j
+byte_back values narrow bytes i j low small narrowed is =
+    ap widened
+    (same_index bytes narrow i j is
+    ∙ ap (λ (xs : List ℕ). slice_index xs j) narrowed
+    ∙ get_or-map (λ value. min value 255) values j 0 0 low)
+    ∙ widened_back (slice_index values j) (small j 0 low)
+
+-- the number of a placement is below how many there are
+placement_below : (n count : ℕ) (cells : List ℕ) → IsListing n cells → length cells ≡ count → placement_in count cells < placement_count n count
+placement_below n count cells is long =
+    let set : set_place cells < choose n count = subst (λ k. set_place cells < choose n k) long (place_below n cells is) in
+    let order : order_of cells < factorial count = subst (λ k. order_of cells < factorial k) long (order_below cells) in
+    let m = mul-add-lt (set_place cells) (factorial count) (order_of cells) (choose n count) set order in
+    let c = mul_comm (factorial count) (choose n count) in
+    omega (arith, m, c)
+
 module _ (g : Selection) (r : Regions) (regions : IsRegions g.grid (length g.tiles) r) (v : Sight) (view : IsView g.grid g.tiles v) where
   -- the tiles of a view stand on different cells
   view_placed : IsPlaced r.shape r.count v.cells
@@ -201,14 +231,7 @@ module _ (g : Selection) (r : Regions) (regions : IsRegions g.grid (length g.til
 
   -- there are as many placements as orders of all sets
   view_before : placement_of r v.cells < choose (cell_count r.shape) r.count * factorial r.count
-  view_before =
-      let placed = view_placed in
-      let n = cell_count r.shape in
-      let set : set_place v.cells < choose n r.count = subst (λ k. set_place v.cells < choose n k) placed.one_each (place_below n v.cells placed.listing) in
-      let order : order_of v.cells < factorial r.count = subst (λ k. order_of v.cells < factorial k) placed.one_each (order_below v.cells) in
-      let m = mul-add-lt (set_place v.cells) (factorial r.count) (order_of v.cells) (choose n r.count) set order in
-      let c = mul_comm (factorial r.count) (choose n r.count) in
-      omega (arith, m, c)
+  view_before = placement_below (cell_count r.shape) r.count v.cells view_placed.listing view_placed.one_each
 
   -- where all are filled in, a view has the value of its node
   pub slots_all : {A : Type 0} (nodes slots : List A) → AreFilledTo r nodes (choose (cell_count r.shape) r.count * factorial r.count) slots → slice_get slots (slot_in g.grid v) ≡ slice_get nodes (node_in r v)
@@ -240,9 +263,108 @@ module _ (g : Selection) (r : Regions) (regions : IsRegions g.grid (length g.til
         → slice_index (by_rank g (λ slot. widened (slice_index bytes slot))) (rank_in g.grid v) ≡ slice_index nodes (node_in r v)
     bytes_kept narrow bytes nodes_are small narrowed is =
         let low : node_in r v < length nodes = (let n = view_node in omega (arith, n, nodes_are)) in
-        by_rank_at g (λ slot. widened (slice_index bytes slot)) v view
-        ∙ ap widened
-        (same_index bytes narrow (slot_in g.grid v) (node_in r v) is
-        ∙ ap (λ (xs : List ℕ). slice_index xs (node_in r v)) narrowed
-        ∙ get_or-map (λ value. min value 255) nodes (node_in r v) 0 0 low)
-        ∙ widened_back (slice_index nodes (node_in r v)) (small (node_in r v) 0 low)
+        by_rank_at g (λ slot. widened (slice_index bytes slot)) v view ∙ byte_back nodes narrow bytes (slot_in g.grid v) (node_in r v) low small narrowed is
+
+-- ---- what a folded table keeps
+
+-- what stands in a list of copies is what was copied
+pub replicated : {A : Type 0} (n i : ℕ) (a x : A) → slice_get (replicate n a) i ≡ Some x → x ≡ a
+replicated n i a x is =
+    let low = slice_get_within (replicate n a) i x is in
+    sym (get_or_from_slice_get (replicate n a) i x a is) ∙ get_or-replicate n i a a (let all = length-replicate n a in omega (arith, all, low))
+
+-- there are as many placements as places
+pub least_long : (g : Selection) (least : List ℕ) → length least ≡ placement_count (cell_count g.grid) (length g.tiles) → length least ≡ folded_size_of g
+least_long g least are = are ∙ choose_ways (cell_count g.grid) (length g.tiles)
+
+-- and no more than sparse places
+pub least_few : (g : Selection) (least : List ℕ) → length least ≡ placement_count (cell_count g.grid) (length g.tiles) → ¬ (most_places g < sparse_size_of g) → length least ≤ 2 ^ 27
+least_few g least are few =
+    let fits : sparse_size_of g ≤ most_places g = ⊎_elim (λ (more : most_places g < sparse_size_of g). absurd (few more)) (λ (fits : sparse_size_of g ≤ most_places g). fits) (cases_lt (most_places g) (sparse_size_of g)) in
+    let all = least_long g least are in
+    let low = ways_low (cell_count g.grid) (length g.tiles) in
+    let top = min-le_left MOST_PLACES (PLACES_A_VALUE * folded_size_of g) in
+    omega (arith, fits, all, low, top)
+
+module _ (g : Selection) (v : Sight) (view : IsView g.grid g.tiles v) where
+  -- the cells of its tiles are those of its place
+  place_back : list_at (cell_count g.grid) (length g.tiles) (place_in g.grid v) ≡ v.cells
+  place_back =
+      ap (λ k. list_at (cell_count g.grid) k (place_in g.grid v)) (sym view.one_each)
+      ∙ list_back (cell_count g.grid) v.cells (place_listing g.grid g.tiles v view) (let room = view_room g v view in omega (arith, room))
+
+  -- it is a placement of the tiles
+  pub tiles_placed : IsPlaced g.grid (length g.tiles) v.cells
+  tiles_placed = record { listing = place_listing g.grid g.tiles v view; one_each = view.one_each }
+
+  module _ (least : List ℕ) where
+    -- words at sparse places are the values of placements
+    pub words_least :
+        (words : List ℕ)
+        → slice_get words (sparse_in g.grid v) ≡ slice_get least (placement_in (length g.tiles) v.cells)
+        → slice_index (by_place g (slice_index words)) (place_in g.grid v) ≡ slice_index least (placement_in (length g.tiles) v.cells)
+    words_least words is = by_place_at g (slice_index words) v view ∙ same_index words least (sparse_in g.grid v) (placement_in (length g.tiles) v.cells) is
+
+    -- bytes at sparse places stand for them, where one can for each
+    pub bytes_least :
+        (narrow bytes : List ℕ)
+        → length least ≡ placement_count (cell_count g.grid) (length g.tiles)
+        → ((k d : ℕ) → k < length least → (get_or least k d < 255) ⊎ (get_or least k d ≡ NO_VALUE))
+        → narrow ≡ map (λ value. min value 255) least
+        → slice_get bytes (sparse_in g.grid v) ≡ slice_get narrow (placement_in (length g.tiles) v.cells)
+        → slice_index (by_place g (λ sparse. widened (slice_index bytes sparse))) (place_in g.grid v) ≡ slice_index least (placement_in (length g.tiles) v.cells)
+    bytes_least narrow bytes are small narrowed is =
+        let low : placement_in (length g.tiles) v.cells < length least = (let below = placement_below (cell_count g.grid) (length g.tiles) v.cells tiles_placed.listing tiles_placed.one_each in omega (arith, below, are)) in
+        by_place_at g (λ sparse. widened (slice_index bytes sparse)) v view
+        ∙ byte_back least narrow bytes (sparse_in g.grid v) (placement_in (length g.tiles) v.cells) low small narrowed is
+
+-- ---- folded values by place
+
+-- what the tiles have on the cells of a place
+abbrev pub at_place : Selection → List ℕ → ℕ → ℕ
+at_place g least place = slice_index least (placement_in (length g.tiles) (list_at (cell_count g.grid) (length g.tiles) place))
+
+-- the values of all places are those of all views
+pub places_all : (g : Selection) (least items : List ℕ) (place : ℕ) → place ≡ folded_size_of g → items ≡ map (at_place g least) (range_with_len 0 place) → (v : Sight) → IsView g.grid g.tiles v → slice_index items (place_in g.grid v) ≡ slice_index least (placement_in (length g.tiles) v.cells)
+places_all g least items place end are v view =
+    ap (λ (xs : List ℕ). slice_index xs (place_in g.grid v)) are
+    ∙ get_or-map-range_with_len (at_place g least) 0 place (place_in g.grid v) (place_in g.grid v) 0 (let low = view_place_below g.grid g.tiles v view in omega (arith, low, end)) (omega arith)
+    ∙ ap (λ (xs : List ℕ). slice_index least (placement_in (length g.tiles) xs)) (place_back g v view)
+
+module _ (g : Selection) (group : IsSelection g) (place : ℕ) (low : place < folded_size_of g) (cells count : ℕ) (array list : List ℕ)
+    (counted : cells ≡ cell_count g.grid) (tiles : count ≡ length g.tiles) (all : length array ≡ 9) (is : list ≡ list_at cells (length (take count array)) place) where
+  -- the cells that are written over the first of an array are those of the place
+  pub cells_read : take count (list ++ drop count array) ≡ list_at (cell_count g.grid) (length g.tiles) place
+  cells_read =
+      let small = groups_small g group in
+      let short = small.0 in
+      let room = small.1 in
+      let taken = length-take-le count array (omega (arith, short, tiles, all)) in
+      let there : list ≡ list_at (cell_count g.grid) (length g.tiles) place = is ∙ (λ i. list_at (counted i) ((taken ∙ tiles) i) place) in
+      take_at list (drop count array) count (ap length there ∙ length-list_at (cell_count g.grid) (length g.tiles) place (omega (arith, room)) ∙ sym tiles) ∙ there
+
+  place_listed : IsListing (cell_count g.grid) (list_at (cell_count g.grid) (length g.tiles) place)
+  place_listed =
+      let room = (groups_small g group).1 in
+      listing_from (cell_count g.grid) (list_at (cell_count g.grid) (length g.tiles) place) (list_at_below (cell_count g.grid) (length g.tiles) place (omega (arith, room)) low) (list_at_differ (cell_count g.grid) (length g.tiles) place)
+
+  -- they are of 25
+  pub cells_wide : IsListing 25 (take count (list ++ drop count array))
+  cells_wide = subst (IsListing 25) (sym cells_read) (listing_wide (cell_count g.grid) 25 (list_at (cell_count g.grid) (length g.tiles) place) (cells_high g.grid group.sides) place_listed)
+
+  module _ (least : List ℕ) (set orders order : ℕ) (set_is : set ≡ set_place (take count (list ++ drop count array))) (orders_are : orders ≡ factorial count) (order_is : order ≡ order_of (take count (list ++ drop count array))) where
+    number_is : set * orders + order ≡ placement_in (length g.tiles) (list_at (cell_count g.grid) (length g.tiles) place)
+    number_is = λ i. (set_is ∙ ap set_place cells_read) i * (orders_are ∙ ap factorial tiles) i + (order_is ∙ ap order_of cells_read) i
+
+    -- the value is among those that are given
+    pub number_within : length least ≡ placement_count (cell_count g.grid) (length g.tiles) → set * orders + order < length least
+    number_within are =
+        let room = (groups_small g group).1 in
+        let long = length-list_at (cell_count g.grid) (length g.tiles) place (omega (arith, room)) in
+        let below = placement_below (cell_count g.grid) (length g.tiles) (list_at (cell_count g.grid) (length g.tiles) place) place_listed long in
+        let e = number_is in
+        omega (arith, below, e, are)
+
+    -- and that of the place
+    pub value_there : slice_index least (set * orders + order) ≡ at_place g least place
+    value_there = ap (slice_index least) number_is

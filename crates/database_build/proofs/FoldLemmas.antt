@@ -1,248 +1,252 @@
--- How the bytes of views are written at their sparse places, folded values, and the test for a potential.
-use Rattle.std.proofs.Common.{◌≡◌, ℕ, ◌+◌, ◌<◌, ◌≤◌, List, [], ◌∷◌, refl, sym, ap, ◌∙◌, subst, ⊎_elim, arith, Option, None, Bool, true, false, not, get_or, lit<, ◌≢◌, ◌^◌, ◌++◌, length, take, drop, set, ◌⊎◌, replicate, inl, inr}
-use Rattle.std.specs.Prelude.{Some, slice_index, IsTrue, ◌↔◌, All, AllPairs, min, slice_get}
-use Rattle.std.proofs.lemmas.Bool.{cases_lt, false≢true, cases_eq}
-use Rattle.std.proofs.lemmas.List.{length-append, length-drop, length-set, length-take-le, take_at, get_or-set_same, get_or-set_other, length-replicate, get_or-replicate}
-use Rattle.std.proofs.lemmas.Option.{slice_get-get_or, get_or_from_slice_get, slice_get_within}
+-- What a folded table keeps and how it is read, folded values, and the test for a potential.
+use Rattle.std.proofs.Common.{◌≡◌, ℕ, ◌+◌, ◌<◌, ◌≤◌, List, [], ◌∷◌, refl, sym, ap, ◌∙◌, subst, ⊎_elim, arith, Option, None, Bool, true, false, not, eqb, get_or, lit<, ◌^◌, length, replicate, take, Vec, Global}
+use Rattle.std.specs.Prelude.{Some, IfNone, slice_index, IsTrue, ◌↔◌, ◌⊎◌, All, slice_get}
+use Rattle.std.proofs.lemmas.Bool.{cases_Bool, cases_lt, cond-false, cond-true, false≢true}
+use Rattle.std.proofs.lemmas.List.{get_or_past}
+use Rattle.std.proofs.lemmas.List.Elements.{All-from_recursion}
+use Rattle.std.proofs.lemmas.List.FromFn.{get_or-map-range_with_len, length-map-range_with_len}
+use Rattle.std.proofs.lemmas.Option.{slice_get-get_or, get_or_from_slice_get}
 use Rattle.board.specs.Grids.{Grid, cell_count}
-use Rattle.pattern_index.specs.Ranks.{rank_of, list_at}
-use Rattle.pattern_index.specs.Views.{Sight, IsView, Abstraction, ViewMoves, ViewLeads, view_of}
-use Rattle.pattern_index.specs.Selections.{Selection, IsGroup, IsSelection, size_of, rank_in, abstraction_of, sight_successor, folded_size_of, place_in}
-use Rattle.pattern_index.specs.Sparse.{sparse_of, digits_in, sparse_in, sparse_size_of}
-use Rattle.pattern_index.proofs.GroupLemmas.{groups_small}
-use Rattle.pattern_index.proofs.PlaceLemmas.{place_below, place_listing, same_cells}
-use Rattle.pattern_index.proofs.RankLemmas.{Below, Differ, below_in, differ_in, listing_from, length-list_at, list_at_below, list_at_differ, rank_of-list_at, rank_differs}
-use Rattle.pattern_index.proofs.SparseLemmas.{sparse_below, digits_back, view_digits}
-use Rattle.database_build.specs.SmallValues.{HasNoView}
-use Rattle.pattern_index.proofs.SightLemmas.{sight_below, sight_from_rank}
-use Rattle.database_build.specs.Tables.{Lookup, HoldsValues, value_in}
-use Rattle.database_build.specs.Folds.{IsFoldOf, IsFoldedValue}
 use Rattle.board.specs.declared.moves.Move.{Move}
 use Rattle.board.specs.declared.moves.Move.TheVariants.{U, L, R, D}
 use Rattle.board.specs.Positions.{Position, IsBoard}
 use Rattle.board.specs.CostRules.{CostRule}
 use Rattle.board.specs.Moves.{all_moves}
+use Rattle.pattern_index.specs.Ranks.{list_at}
+use Rattle.pattern_index.specs.Views.{Sight, IsView, Abstraction, ViewMoves, ViewLeads, view_of}
+use Rattle.pattern_index.specs.Selections.{Selection, IsGroup, IsSelection, size_of, rank_in, abstraction_of, sight_successor, folded_size_of, place_in}
+use Rattle.pattern_index.specs.Sparse.{sparse_of, sparse_in, sparse_size_of}
 use Rattle.pattern_index.specs.Equality.{selection_eq, selections_Decide}
+use Rattle.pattern_index.proofs.GroupLemmas.{groups_small, room_taken}
+use Rattle.pattern_index.proofs.PlaceLemmas.{place_below, place_listing}
+use Rattle.pattern_index.proofs.RankLemmas.{Below, below_in, differ_in, length-list_at, list_at_below}
+use Rattle.pattern_index.proofs.SightLemmas.{sight_below, sight_from_rank}
+use Rattle.pattern_index.proofs.SparseLemmas.{sparse_below}
 use Rattle.pattern_index.proofs.ViewMoveLemmas.{successor_of_sight, moved_view, blank_inside, board_view}
-use Rattle.database_build.specs.Values.{IsPotential}
-use Rattle.database_build.specs.declared.table.TheConstants.{NO_VALUE}
+use Rattle.database_build.specs.Entries.{widened}
 use Rattle.database_build.specs.Falls.{FallsTo, FallsSlowlyAt}
+use Rattle.database_build.specs.FoldEntries.{ArePlaces, HasLeast, HasNoView, by_place, least_in, most_places, sparse_of_place}
+use Rattle.database_build.specs.Folds.{Fold, IsFoldedValue, folded_in}
+use Rattle.database_build.specs.Tables.{Lookup, HoldsValues, value_in}
+use Rattle.database_build.specs.Values.{IsPotential}
+use Rattle.database_build.specs.declared.entries.Entries.{Entries}
+use Rattle.database_build.specs.declared.entries.Entries.TheVariants.{Ranked, Bytes, Words}
+use Rattle.database_build.specs.declared.table.TheConstants.{NO_VALUE}
+use Rattle.database_build.proofs.FillLemmas.{list_back}
+use Rattle.database_build.proofs.OrderLemmas.{below-all, below_low}
 
--- ---- the bytes of all views
+-- ---- folded values by place
 
--- the views of the places before this one have their bytes, and where no view is stands 255
-pub record AreWritten (g : Selection) (least : List ℕ) (place : ℕ) (bytes : List ℕ) : Type 0 where
-  pub size : length bytes ≡ sparse_size_of g
-  pub views : (v : Sight) → IsView g.grid g.tiles v → place_in g.grid v < place → slice_index bytes (sparse_in g.grid v) ≡ min (slice_index least (place_in g.grid v)) 255
-  pub others : (sparse : ℕ) → sparse < length bytes → HasNoView g sparse → slice_index bytes sparse ≡ 255
+-- there is one for each place
+pub length-by_place : (g : Selection) (at_sparse : ℕ → ℕ) → length (by_place g at_sparse) ≡ folded_size_of g
+unfolding by_place
+length-by_place g at_sparse = length-map-range_with_len (λ place. at_sparse (sparse_of_place g place)) 0 (folded_size_of g)
+
+-- a place has what stands at its sparse place
+pub by_place_entry : (g : Selection) (at_sparse : ℕ → ℕ) (place : ℕ) → place < folded_size_of g → slice_index (by_place g at_sparse) place ≡ at_sparse (sparse_of_place g place)
+unfolding by_place
+by_place_entry g at_sparse place low = get_or-map-range_with_len (λ k. at_sparse (sparse_of_place g k)) 0 (folded_size_of g) place place 0 low (omega arith)
+
+-- the cells of a view differ, so there are no more than the grid has
+cells_room : (g : Selection) (v : Sight) → IsView g.grid g.tiles v → length v.cells ≤ cell_count g.grid
+cells_room g v view =
+    let is = place_listing g.grid g.tiles v view in
+    let n = cell_count g.grid in
+    let all = below-all n v.cells (below_in n v.cells is) in
+    let low = below_low n v.cells (differ_in n v.cells is) in
+    omega (arith, all, low)
+
+-- the sparse place of a view's place is that of the view
+place_back : (g : Selection) (v : Sight) → IsView g.grid g.tiles v → sparse_of_place g (place_in g.grid v) ≡ sparse_in g.grid v
+place_back g v view =
+    ap (λ k. sparse_of (cell_count g.grid) (list_at (cell_count g.grid) k (place_in g.grid v))) (sym view.one_each)
+    ∙ ap (sparse_of (cell_count g.grid)) (list_back (cell_count g.grid) v.cells (place_listing g.grid g.tiles v view) (cells_room g v view))
+
+-- a view has what stands at its sparse place
+pub by_place_at : (g : Selection) (at_sparse : ℕ → ℕ) (v : Sight) → IsView g.grid g.tiles v → slice_index (by_place g at_sparse) (place_in g.grid v) ≡ at_sparse (sparse_in g.grid v)
+by_place_at g at_sparse v view = by_place_entry g at_sparse (place_in g.grid v) (place_below g.grid g.tiles v view) ∙ ap at_sparse (place_back g v view)
+
+-- where no sparse place has more, no place has
+by_place_high : (g : Selection) (at_sparse : ℕ → ℕ) → ((sparse : ℕ) → at_sparse sparse ≤ NO_VALUE) → (place : ℕ) → slice_index (by_place g at_sparse) place ≤ NO_VALUE
+by_place_high g at_sparse high place =
+    ⊎_elim
+    (λ (low : place < folded_size_of g). let is = by_place_entry g at_sparse place low in let h = high (sparse_of_place g place) in omega (arith, is, h))
+    (λ (past : folded_size_of g ≤ place).
+    let all = length-by_place g at_sparse in
+    let is = get_or_past (by_place g at_sparse) place 0 (omega (arith, all, past)) in
+    omega (arith, is))
+    (cases_lt place (folded_size_of g))
 
 -- the sparse place of a view is below the size
-view_below : (g : Selection) (v : Sight) → IsView g.grid g.tiles v → sparse_in g.grid v < sparse_size_of g
+pub view_below : (g : Selection) (v : Sight) → IsView g.grid g.tiles v → sparse_in g.grid v < sparse_size_of g
 view_below g v view =
     subst (λ k. sparse_in g.grid v < cell_count g.grid ^ k) view.one_each (sparse_below (cell_count g.grid) v.cells (below_in (cell_count g.grid) v.cells (place_listing g.grid g.tiles v view)))
 
-module _ (g : Selection) (selection : IsSelection g) (place : ℕ) (low : place < folded_size_of g) where
-  -- the cells of a place
-  abbrev at : List ℕ
-  at = list_at (cell_count g.grid) (length g.tiles) place
+-- ---- what a folded table keeps
 
-  room : length g.tiles ≤ cell_count g.grid
-  room = let h = (groups_small g selection).1 in omega (arith, h)
+-- what a byte stands for is at most NO_VALUE
+byte_high : (byte : ℕ) → byte ≤ NO_VALUE → widened byte ≤ NO_VALUE
+byte_high byte low =
+    ⊎_elim
+    (λ (is : eqb byte 255 ≡ true). let e : widened byte ≡ NO_VALUE = cond-true (eqb byte 255) NO_VALUE byte is in omega (arith, e))
+    (λ (other : eqb byte 255 ≡ false). let e : widened byte ≡ byte = cond-false (eqb byte 255) NO_VALUE byte other in omega (arith, e, low))
+    (cases_Bool (eqb byte 255))
 
-  below : Below (cell_count g.grid) at
-  below = list_at_below (cell_count g.grid) (length g.tiles) place room low
+-- there is a value for each place
+pub least_size : (g : Selection) (entries : Entries) → HasLeast g entries → length (least_in g entries) ≡ folded_size_of g
+least_size g (Ranked least) has = has.1
+least_size g (Bytes bytes) has = length-by_place g (λ sparse. widened (slice_index bytes.items sparse))
+least_size g (Words words) has = length-by_place g (slice_index words.items)
 
-  differ : Differ at
-  differ = list_at_differ (cell_count g.grid) (length g.tiles) place
+-- what stands at an index that is in
+indexed : (xs : List ℕ) (i x : ℕ) → i < length xs → x ≡ get_or xs i x → slice_get xs i ≡ Some x
+indexed xs i x within read = slice_get-get_or xs i x within ∙ ap (λ (n : ℕ). Some n) (sym read)
 
-  long : length at ≡ length g.tiles
-  long = length-list_at (cell_count g.grid) (length g.tiles) place room
+-- a value is what the entry at a sparse place says, and where no view has that sparse place it says that there is none
+pub record IsRead (g : Selection) (entries : Entries) (sparse value : ℕ) : Type 0 where
+  pub at_sparse : ℕ → ℕ
+  pub kept : least_in g entries ≡ by_place g at_sparse
+  pub is : value ≡ at_sparse sparse
+  pub others : HasNoView g sparse → value ≡ NO_VALUE
 
-  rank : rank_of (cell_count g.grid) at ≡ place
-  rank = rank_of-list_at (cell_count g.grid) (length g.tiles) place room low
+module _ (g : Selection) (entries : Entries) (has : HasLeast g entries) (items : List ℕ) where
+  -- there is a byte for each sparse place
+  pub bytes_size : (bytes : Vec ℕ Global) → entries ≡ Bytes bytes → items ≡ bytes.items → length items ≡ sparse_size_of g
+  bytes_size bytes kept all = let are : ArePlaces g 255 bytes.items = subst (HasLeast g) kept has in ap length all ∙ are.size
 
-  digits : digits_in (cell_count g.grid) (length g.tiles) (sparse_of (cell_count g.grid) at) ≡ at
-  digits = ap (λ k. digits_in (cell_count g.grid) k (sparse_of (cell_count g.grid) at)) (sym long) ∙ digits_back (cell_count g.grid) at below
+  -- or a word
+  pub words_size : (words : Vec ℕ Global) → entries ≡ Words words → items ≡ words.items → length items ≡ sparse_size_of g
+  words_size words kept all = let are : ArePlaces g NO_VALUE words.items = subst (HasLeast g) kept has in ap length all ∙ are.size
 
-  -- a view with this sparse place has these cells
-  view_there : (v : Sight) → IsView g.grid g.tiles v → sparse_in g.grid v ≡ sparse_of (cell_count g.grid) at → place_in g.grid v ≡ place
-  view_there v view same = ap (rank_of (cell_count g.grid)) (sym (view_digits g.grid g.tiles v (sparse_of (cell_count g.grid) at) view same) ∙ digits) ∙ rank
+  module _ (sparse : ℕ) (low : sparse < sparse_size_of g) where
+    -- a byte that is read
+    pub byte_read : (bytes : Vec ℕ Global) (byte value : ℕ) → entries ≡ Bytes bytes → items ≡ bytes.items → byte ≡ get_or items sparse byte → value ≡ widened byte → IsRead g entries sparse value
+    byte_read bytes byte value kept all read wide =
+        let are : ArePlaces g 255 bytes.items = subst (HasLeast g) kept has in
+        let there : slice_get bytes.items sparse ≡ Some byte = indexed bytes.items sparse byte (omega (arith, low, are.size)) (read ∙ ap (λ (xs : List ℕ). get_or xs sparse byte) all) in
+        record {
+          at_sparse = λ k. widened (slice_index bytes.items k);
+          kept = ap (least_in g) kept;
+          is = wide ∙ ap widened (sym (get_or_from_slice_get bytes.items sparse byte 0 there));
+          others = λ none. wide ∙ ap widened (are.others sparse byte none there);
+        }
 
-  -- a view with this place has these cells
-  view_here : (v : Sight) → IsView g.grid g.tiles v → place_in g.grid v ≡ place → v.cells ≡ at
-  view_here v view same =
-      let is = place_listing g.grid g.tiles v view in
-      rank_differs (cell_count g.grid) v.cells at (below_in (cell_count g.grid) v.cells is) (differ_in (cell_count g.grid) v.cells is) below differ (view.one_each ∙ sym long) (same ∙ sym rank)
+    -- a word that is read
+    pub word_read : (words : Vec ℕ Global) (value : ℕ) → entries ≡ Words words → items ≡ words.items → value ≡ get_or items sparse value → IsRead g entries sparse value
+    word_read words value kept all read =
+        let are : ArePlaces g NO_VALUE words.items = subst (HasLeast g) kept has in
+        let there : slice_get words.items sparse ≡ Some value = indexed words.items sparse value (omega (arith, low, are.size)) (read ∙ ap (λ (xs : List ℕ). get_or xs sparse value) all) in
+        record {
+          at_sparse = slice_index words.items;
+          kept = ap (least_in g) kept;
+          is = sym (get_or_from_slice_get words.items sparse value 0 there);
+          others = λ none. are.others sparse value none there;
+        }
 
-  -- there is a view
-  some_view : HasNoView g (sparse_of (cell_count g.grid) at) → ⊥
-  some_view none = none (subst (λ (xs : List ℕ). AllPairs (λ x y. x ≢ y) xs) (sym digits) (listing_from (cell_count g.grid) at below differ).different)
+module _ (fold : Fold) (g : Selection) (entries : Entries) (is : record { selection = g; least = least_in g entries } ≡ fold) (has : HasLeast g entries) where
+  -- a folded table has a value for each place
+  pub fold_size : length fold.least ≡ folded_size_of fold.selection
+  fold_size = subst (λ (f : Fold). length f.least ≡ folded_size_of f.selection) is (least_size g entries has)
 
-  within : sparse_of (cell_count g.grid) at < sparse_size_of g
-  within = subst (λ k. sparse_of (cell_count g.grid) at < cell_count g.grid ^ k) long (sparse_below (cell_count g.grid) at below)
+  -- the values of bytes
+  pub bytes_high : (bytes : Vec ℕ Global) → entries ≡ Bytes bytes → ((sparse : ℕ) → slice_index bytes.items sparse ≤ NO_VALUE) → (place : ℕ) → slice_index fold.least place ≤ NO_VALUE
+  bytes_high bytes kept high =
+      subst (λ (f : Fold). (place : ℕ) → slice_index f.least place ≤ NO_VALUE) is
+      (subst (λ (e : Entries). (place : ℕ) → slice_index (least_in g e) place ≤ NO_VALUE) (sym kept)
+      (by_place_high g (λ sparse. widened (slice_index bytes.items sparse)) (λ sparse. byte_high (slice_index bytes.items sparse) (high sparse))))
 
-  -- the cells that are written over the first of an array
-  module _ (cells count : ℕ) (array list : List ℕ) (counted : cells ≡ cell_count g.grid) (tiles : count ≡ length g.tiles) (all : length array ≡ 9) (is : list ≡ list_at cells (length (take count array)) place) where
-    few : count ≤ 9
-    few = let h = (groups_small g selection).0 in omega (arith, h, tiles)
+  -- and those of words
+  pub words_high : (words : Vec ℕ Global) → entries ≡ Words words → ((sparse : ℕ) → slice_index words.items sparse ≤ NO_VALUE) → (place : ℕ) → slice_index fold.least place ≤ NO_VALUE
+  words_high words kept high =
+      subst (λ (f : Fold). (place : ℕ) → slice_index f.least place ≤ NO_VALUE) is
+      (subst (λ (e : Entries). (place : ℕ) → slice_index (least_in g e) place ≤ NO_VALUE) (sym kept) (by_place_high g (slice_index words.items) high))
 
-    same : list ≡ at
-    same = is ∙ (λ i. list_at (counted i) ((length-take-le count array (let h = few in omega (arith, h, all)) ∙ tiles) i) place)
+  -- what is read at a view's sparse place is its folded value
+  pub view_read : (v : Sight) (sparse value : ℕ) → IsView fold.selection.grid fold.selection.tiles v → sparse ≡ sparse_in g.grid v → IsRead g entries sparse value → value ≡ folded_in fold v
+  view_read v sparse value view there read =
+      let of_group : IsView g.grid g.tiles v = subst (λ (f : Fold). IsView f.selection.grid f.selection.tiles v) (sym is) view in
+      read.is ∙ ap read.at_sparse there ∙ sym (by_place_at g read.at_sparse v of_group)
+      ∙ ap (λ (xs : List ℕ). slice_index xs (place_in g.grid v)) (sym read.kept)
+      ∙ ap (λ (f : Fold). folded_in f v) is
 
-    one_each : length list ≡ count
-    one_each = ap length same ∙ long ∙ sym tiles
+  -- there is an entry at a view's sparse place
+  pub view_within : (v : Sight) (sparse : ℕ) → IsView fold.selection.grid fold.selection.tiles v → sparse ≡ sparse_in g.grid v → sparse < sparse_size_of g
+  view_within v sparse view there =
+      let low = view_below g v (subst (λ (f : Fold). IsView f.selection.grid f.selection.tiles v) (sym is) view) in
+      omega (arith, low, there)
 
-    listed : take count (list ++ drop count array) ≡ at
-    listed = take_at list (drop count array) count one_each ∙ same
+  module _ (sparse : ℕ) where
+    -- the table's grid is the group's
+    by_group : (v : Sight) → sparse_in fold.selection.grid v ≡ sparse → sparse ≡ sparse_in g.grid v
+    by_group v there = sym there ∙ ap (λ (f : Fold). sparse_in f.selection.grid v) (sym is)
 
-    pub listed_long : length (list ++ drop count array) ≡ 9
-    listed_long = let h = few in let e = one_each in let a = length-append list (drop count array) in let d = length-drop count array in omega (arith, h, e, a, d, all)
+    -- no view has a sparse place past the end
+    pub none_past :
+        (answer : Option ℕ)
+        → answer ≡ None
+        → sparse_size_of g ≤ sparse
+        → IfNone answer ((v : Sight) → IsView fold.selection.grid fold.selection.tiles v → sparse_in fold.selection.grid v ≡ sparse → (folded_in fold v ≡ NO_VALUE) ⊎ (most_places fold.selection < sparse_size_of fold.selection))
+    none_past answer none past =
+        subst
+        (λ (o : Option ℕ). IfNone o ((v : Sight) → IsView fold.selection.grid fold.selection.tiles v → sparse_in fold.selection.grid v ≡ sparse → (folded_in fold v ≡ NO_VALUE) ⊎ (most_places fold.selection < sparse_size_of fold.selection)))
+        (sym none) (λ v view there. let low = view_within v sparse view (by_group v there) in absurd (omega (arith, low, past)))
 
-    pub listed_below : All (λ cell. cell < cells) (take count (list ++ drop count array))
-    listed_below =
-        subst (λ (xs : List ℕ). All (λ cell. cell < cells) xs) (sym listed)
-        (subst (λ n. All (λ cell. cell < n) at) (sym counted) (listing_from (cell_count g.grid) at below differ).in_range)
+    -- what is read at a sparse place is the folded value of all views that have it
+    module _ (value : ℕ) (read : IsRead g entries sparse value) where
+      pub sparse_read : (v : Sight) → IsView fold.selection.grid fold.selection.tiles v → sparse_in fold.selection.grid v ≡ sparse → value ≡ folded_in fold v
+      sparse_read v view there = view_read v sparse value view (by_group v there) read
 
-    -- the byte of one place more
-    module _ (least bytes : List ℕ) (sparse byte : ℕ) (sparse_is : sparse ≡ sparse_of cells (take count (list ++ drop count array))) (byte_is : byte ≡ min (slice_index least place) 255) (written : AreWritten g least place bytes) where
-      there : sparse ≡ sparse_of (cell_count g.grid) at
-      there = sparse_is ∙ (λ i. sparse_of (counted i) (listed i))
+      -- and no value, where no view has it
+      pub no_view_read : HasNoView fold.selection sparse → value ≡ NO_VALUE
+      no_view_read none = read.others (subst (λ (f : Fold). HasNoView f.selection sparse) (sym is) none)
 
-      pub written_within : sparse < length bytes
-      written_within = let size = written.size in let h = within in let e = there in omega (arith, size, h, e)
+  -- the cells that have a place
+  module _ (selection : IsSelection g) (place : ℕ) (low : place < folded_size_of fold.selection) (grid : Grid) (cells : ℕ) (tiles list : List ℕ) (shape : grid ≡ g.grid) (counted : cells ≡ cell_count grid) (group : tiles ≡ g.tiles) (listed : list ≡ list_at cells (length {A = ℕ} (take (length tiles) (replicate 9 0))) place) where
+    low_in : place < folded_size_of g
+    low_in = subst (λ (f : Fold). place < folded_size_of f.selection) (sym is) low
 
-      all_bytes : length (set bytes sparse byte) ≡ length bytes
-      all_bytes = length-set bytes sparse byte
+    few : length g.tiles ≤ 9
+    few = (groups_small g selection).0
 
-      here : slice_index (set bytes sparse byte) sparse ≡ byte
-      here = get_or-set_same bytes sparse byte 0 written_within
+    room : length g.tiles ≤ cell_count g.grid
+    room = let h = (groups_small g selection).1 in omega (arith, h)
 
-      pub written_more : AreWritten g least (place + 1) (set bytes sparse byte)
-      written_more = record {
-        size = all_bytes ∙ written.size;
-        views = λ v view lt.
-            ⊎_elim
-            (λ (before : place_in g.grid v < place).
-            get_or-set_other bytes sparse (sparse_in g.grid v) byte 0 (λ e. let h = view_there v view (e ∙ there) in absurd (omega (arith, h, before))) ∙ written.views v view before)
-            (λ (after : place ≤ place_in g.grid v).
-            let h : place_in g.grid v ≡ place = omega (arith, lt, after) in
-            let e : sparse_in g.grid v ≡ sparse = ap (sparse_of (cell_count g.grid)) (view_here v view h) ∙ sym there in
-            ap (slice_index (set bytes sparse byte)) e ∙ here ∙ byte_is ∙ ap (λ k. min (slice_index least k) 255) (sym h))
-            (cases_lt (place_in g.grid v) place);
-        others = λ k k_in none.
-            get_or-set_other bytes sparse k byte 0 (λ e. some_view (subst (HasNoView g) (e ∙ there) none)) ∙ written.others k (let all = all_bytes in omega (arith, k_in, all)) none;
-      }
+    all_cells : cells ≡ cell_count g.grid
+    all_cells = counted ∙ ap cell_count shape
 
--- all views have their bytes
-module _ (g : Selection) (least bytes : List ℕ) (place : ℕ) (end : folded_size_of g ≤ place) (written : AreWritten g least place bytes) where
-  pub written_views : (v : Sight) → IsView g.grid g.tiles v → slice_get bytes (sparse_in g.grid v) ≡ Some (min (slice_index least (place_in g.grid v)) 255)
-  written_views v view =
-      let low = view_below g v view in
-      let before = place_below g.grid g.tiles v view in
-      slice_get-get_or bytes (sparse_in g.grid v) 0 (omega (arith, low, written.size)) ∙ ap (λ (n : ℕ). Some n) (written.views v view (omega (arith, before, end)))
+    same : list ≡ list_at (cell_count g.grid) (length g.tiles) place
+    same =
+        listed ∙ (λ i. list_at (all_cells i) (length {A = ℕ} (take (length (group i)) (replicate 9 0))) place)
+        ∙ ap (λ k. list_at (cell_count g.grid) k place) (room_taken (length g.tiles) few)
 
-  pub written_others : (sparse byte : ℕ) → HasNoView g sparse → slice_get bytes sparse ≡ Some byte → byte ≡ 255
-  written_others sparse byte none is = sym (get_or_from_slice_get bytes sparse byte 0 is) ∙ written.others sparse (slice_get_within bytes sparse byte is) none
+    below : Below (cell_count g.grid) list
+    below = subst (Below (cell_count g.grid)) (sym same) (list_at_below (cell_count g.grid) (length g.tiles) place room low_in)
 
--- ---- how the least entries over the blank's places are found
+    -- they are cells of the grid
+    pub listed_below : All (λ cell. cell < cells) list
+    listed_below = subst (λ n. All (λ cell. cell < n) list) (sym all_cells) (All-from_recursion (λ cell. cell < cell_count g.grid) list below)
 
--- a view of the place with this entry
-abbrev pub Met : Lookup → ℕ → ℕ → Type 0
-Met table p n = (w : Sight) × IsView table.selection.grid table.selection.tiles w × (place_in table.selection.grid w ≡ p) × (value_in table w ≡ n)
+    module _ (sparse : ℕ) (there : sparse ≡ sparse_of cells list) where
+      there_in : sparse ≡ sparse_of (cell_count g.grid) list
+      there_in = there ∙ ap (λ n. sparse_of n list) all_cells
 
--- the views of the first i ranks were looked at
-pub record IsFolding (table : Lookup) (i : ℕ) (least : List ℕ) : Type 0 where
-  pub size : length least ≡ folded_size_of table.selection
-  pub low : (v : Sight) → IsView table.selection.grid table.selection.tiles v → rank_in table.selection.grid v < i → (slice_index least (place_in table.selection.grid v) ≤ value_in table v) × (value_in table v ≤ 65535)
-  pub met : (p : ℕ) → p < length least → (slice_index least p ≡ 65535) ⊎ Met table p (slice_index least p)
+      -- there is an entry at their sparse place
+      pub place_within : sparse < sparse_size_of g
+      place_within =
+          let long : length list ≡ length g.tiles = ap length same ∙ length-list_at (cell_count g.grid) (length g.tiles) place room in
+          let h : sparse_of (cell_count g.grid) list < sparse_size_of g = subst (λ k. sparse_of (cell_count g.grid) list < cell_count g.grid ^ k) long (sparse_below (cell_count g.grid) list below) in
+          let e = there_in in
+          omega (arith, h, e)
 
-pub folding_none : (table : Lookup) → IsFolding table 0 (replicate (folded_size_of table.selection) 65535)
-folding_none table = record {
-  size = length-replicate (folded_size_of table.selection) 65535;
-  low = λ v view lt. absurd (omega arith);
-  met = λ p p_in. inl (get_or-replicate (folded_size_of table.selection) p 65535 0 (omega (arith, length-replicate {A = ℕ} (folded_size_of table.selection) 65535)));
-}
+      -- what is read there is the value of the place
+      pub place_read : (value : ℕ) → IsRead g entries sparse value → value ≡ slice_index fold.least place
+      place_read value read =
+          read.is ∙ ap read.at_sparse (there_in ∙ ap (sparse_of (cell_count g.grid)) same)
+          ∙ sym (by_place_entry g read.at_sparse place low_in)
+          ∙ ap (λ (xs : List ℕ). slice_index xs place) (sym read.kept)
+          ∙ ap (λ (f : Fold). slice_index f.least place) is
 
--- one more view, whose value is no less than the entry of its place
-pub folding_kept :
-    (table : Lookup) (i : ℕ) (least : List ℕ) (u : Sight) (n : ℕ)
-    → IsFolding table i least
-    → IsView table.selection.grid table.selection.tiles u
-    → rank_in table.selection.grid u ≡ i
-    → value_in table u ≡ n
-    → n ≤ 65535
-    → slice_index least (place_in table.selection.grid u) ≤ n
-    → IsFolding table (i + 1) least
-folding_kept table i least u n folding view rank is small high = record {
-  size = folding.size;
-  low = λ v view_v lt. ⊎_elim
-      (λ (before : rank_in table.selection.grid v < i). folding.low v view_v before)
-      (λ (after : i ≤ rank_in table.selection.grid v).
-      let same : u ≡ v = sight_from_rank table.selection.grid table.selection.tiles u v view view_v (omega arith) in
-      subst (λ (w : Sight). (slice_index least (place_in table.selection.grid w) ≤ value_in table w) × (value_in table w ≤ 65535)) same (omega arith, omega arith))
-      (cases_lt (rank_in table.selection.grid v) i);
-  met = folding.met;
-}
-
--- one more view, whose value is less
-pub folding_set :
-    (table : Lookup) (i : ℕ) (least : List ℕ) (u : Sight) (n : ℕ)
-    → IsFolding table i least
-    → IsView table.selection.grid table.selection.tiles u
-    → rank_in table.selection.grid u ≡ i
-    → value_in table u ≡ n
-    → n ≤ 65535
-    → place_in table.selection.grid u < length least
-    → n < slice_index least (place_in table.selection.grid u)
-    → IsFolding table (i + 1) (set least (place_in table.selection.grid u) n)
-folding_set table i least u n folding view rank is small inside less = record {
-  size = length-set least (place_in table.selection.grid u) n ∙ folding.size;
-  low = λ v view_v lt. ⊎_elim
-      (λ (before : rank_in table.selection.grid v < i).
-      let was = folding.low v view_v before in
-      let falls = entry_falls (place_in table.selection.grid v) in
-      (omega (arith, was.0), was.1))
-      (λ (after : i ≤ rank_in table.selection.grid v).
-      let same : u ≡ v = sight_from_rank table.selection.grid table.selection.tiles u v view view_v (omega arith) in
-      subst (λ (w : Sight). (slice_index (set least (place_in table.selection.grid u) n) (place_in table.selection.grid w) ≤ value_in table w) × (value_in table w ≤ 65535)) same (omega (arith, here), omega arith))
-      (cases_lt (rank_in table.selection.grid v) i);
-  met = λ p p_in. ⊎_elim
-      (λ (e : p ≡ place_in table.selection.grid u).
-      let at : slice_index (set least (place_in table.selection.grid u) n) p ≡ n = ap (λ k. get_or (set least (place_in table.selection.grid u) n) k 0) e ∙ here in
-      inr (u, view, sym e, is ∙ sym at))
-      (λ (ne : p ≢ place_in table.selection.grid u).
-      let at : slice_index (set least (place_in table.selection.grid u) n) p ≡ slice_index least p = get_or-set_other least (place_in table.selection.grid u) p n 0 ne in
-      subst (λ k. (k ≡ 65535) ⊎ Met table p k) (sym at) (folding.met p (omega (arith, length-set least (place_in table.selection.grid u) n))))
-      (cases_eq p (place_in table.selection.grid u));
-}
-  where
-    here : slice_index (set least (place_in table.selection.grid u) n) (place_in table.selection.grid u) ≡ n
-    here = get_or-set_same least (place_in table.selection.grid u) n 0 inside
-
-    entry_falls : (k : ℕ) → slice_index (set least (place_in table.selection.grid u) n) k ≤ slice_index least k
-    entry_falls k = ⊎_elim
-        (λ (e : k ≡ place_in table.selection.grid u). let f : get_or (set least (place_in table.selection.grid u) n) k 0 ≡ n = ap (λ j. get_or (set least (place_in table.selection.grid u) n) j 0) e ∙ here in let g : get_or least k 0 ≡ get_or least (place_in table.selection.grid u) 0 = ap (λ j. get_or least j 0) e in omega arith)
-        (λ (ne : k ≢ place_in table.selection.grid u). let f = get_or-set_other least (place_in table.selection.grid u) k n 0 ne in omega arith)
-        (cases_eq k (place_in table.selection.grid u))
-
--- all views were looked at
-pub folding_all : (table : Lookup) (i : ℕ) (least : List ℕ) → size_of table.selection ≤ i → IsFolding table i least → IsFoldOf table (record { selection = table.selection; least = least })
-folding_all table i least end folding = record {
-  selection = refl;
-  size = folding.size;
-  least = λ v view. record {
-    reached = ⊎_elim (λ (e : slice_index least (place_in table.selection.grid v) ≡ 65535). let here = low v view in (v, view, refl, omega (arith, here.0, here.1)))
-        (λ (met : Met table (place_in table.selection.grid v) (slice_index least (place_in table.selection.grid v))).
-        (met.0, met.1, same_cells table.selection.grid table.selection.tiles met.0 v met.1 view met.2, met.3))
-        (folding.met (place_in table.selection.grid v) (omega (arith, folding.size, place_below table.selection.grid table.selection.tiles v view)));
-    none_below = λ w view_w same.
-        let at : slice_index least (place_in table.selection.grid w) ≡ slice_index least (place_in table.selection.grid v) = ap (λ (cells : List ℕ). slice_index least (rank_of (cell_count table.selection.grid) cells)) same in
-        omega (arith, (low w view_w).0);
-  };
-}
-  where
-    low : (v : Sight) → IsView table.selection.grid table.selection.tiles v → (slice_index least (place_in table.selection.grid v) ≤ value_in table v) × (value_in table v ≤ 65535)
-    low v view = let below = sight_below table.selection.grid table.selection.tiles v view in folding.low v view (omega arith)
+-- ---- folded values
 
 -- two least entries are no more than each other
 pub one_folded_value : (table : Lookup) (v : Sight) (n k : ℕ) → IsFoldedValue table v n → IsFoldedValue table v k → n ≡ k

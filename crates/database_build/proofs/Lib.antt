@@ -7,11 +7,14 @@ pub mod EdgeLemmas
 pub mod GraphLemmas
 pub mod RowLemmas
 pub mod FillLemmas
+pub mod LeastNodeLemmas
 pub mod NodeSetLemmas
 pub mod ReachLemmas
 pub mod LayerStepLemmas
 pub mod LayerLemmas
 pub mod FoldLemmas
 pub mod SlotLemmas
+pub mod PlacementLemmas
+pub mod TableFoldLemmas
 pub mod EntryLemmas
 pub mod FrameLemmas

@@ -1,5 +1,5 @@
 -- What a table keeps of the views of its group: their values by rank, or by slot.
-use Rattle.std.specs.Prelude.{ℕ, suc, ◌≡◌, ◌⊎◌, ◌<◌, ◌≤◌, ◌==◌, All, List, length, map, slice_index, if◌then◌else◌}
+use Rattle.std.specs.Prelude.{ℕ, suc, ◌≡◌, ◌⊎◌, ◌<◌, ◌==◌, All, List, length, map, slice_index, if◌then◌else◌}
 use Rattle.std.specs.List.{range_with_len}
 use Rattle.board.specs.Grids.{cell_count}
 use Rattle.pattern_index.specs.Ranks.{list_at}
@@ -7,7 +7,6 @@ use Rattle.pattern_index.specs.Selections.{Selection, size_of}
 use Rattle.pattern_index.specs.Sparse.{digit_base, slot_count_of, sparse_of}
 use Rattle.database_build.specs.declared.entries.Entries.{Entries}
 use Rattle.database_build.specs.declared.entries.Entries.TheVariants.{Ranked, Bytes, Words}
-use Rattle.database_build.specs.declared.entries.TheConstants.{MOST_SLOTS}
 use Rattle.database_build.specs.declared.table.TheConstants.{NO_VALUE}
 
 -- the value that a byte stands for: 255 stands for NO_VALUE
@@ -38,8 +37,8 @@ HasEntries g (Words words) = length words.items ≡ slot_count_of g
 abbrev pub AreSmall : List ℕ → Type 0
 AreSmall values = All (λ value. (value < 255) ⊎ (value ≡ NO_VALUE)) values
 
--- values are kept by rank only where there are too many slots, and as words only where some value needs one
-abbrev pub IsKeptBest : Selection → List ℕ → Entries → Type 0
-IsKeptBest g values (Ranked kept) = MOST_SLOTS < slot_count_of g
-IsKeptBest g values (Bytes kept) = (slot_count_of g ≤ MOST_SLOTS) × AreSmall values
-IsKeptBest g values (Words kept) = (slot_count_of g ≤ MOST_SLOTS) × (¬ AreSmall values)
+-- values are kept by rank only where there are too many places, and as words only where some value needs one
+abbrev pub IsKeptBest : (fits : Type 0) → List ℕ → Entries → Type 0
+IsKeptBest fits values (Ranked kept) = ¬ fits
+IsKeptBest fits values (Bytes kept) = fits × AreSmall values
+IsKeptBest fits values (Words kept) = fits × (¬ AreSmall values)

@@ -8,7 +8,7 @@ use Rattle.pattern_index.specs.Selections.{Selection, IsSelection, folded_size_o
 use Rattle.database_build.specs.Values.{IsValue, IsPotential}
 use Rattle.database_build.specs.Tables.{Lookup, HoldsValues, value_in}
 use Rattle.database_build.specs.Folds.{Fold, IsFoldedValue, IsFoldOf, folded_in}
-use Rattle.database_build.specs.SmallValues.{most_bytes}
+use Rattle.database_build.specs.FoldEntries.{most_places}
 use Rattle.database_build.specs.Frames.{GroupSize, Fits}
 
 -- a view has one value
@@ -57,9 +57,9 @@ FoldedValuesAreReached =
 abbrev pub FoldedValuesAreDetermined : Type 0
 FoldedValuesAreDetermined = (table : Lookup) (v : Sight) (n k : ℕ) → IsFoldedValue table v n → IsFoldedValue table v k → n ≡ k
 
--- the bytes of a folded table are at most those of six digits of 16, and four for each value
-abbrev pub BytesAreFew : Type 0
-BytesAreFew = (g : Selection) → most_bytes g ≡ min (16 ^ 6) (4 * folded_size_of g)
+-- the sparse places that a folded table keeps are at most those of six digits of 16, and four for each value
+abbrev pub PlacesAreFew : Type 0
+PlacesAreFew = (g : Selection) → most_places g ≡ min (16 ^ 6) (4 * folded_size_of g)
 
 -- what fits a group fits each other one of the same grid with as many tiles
 abbrev pub FramesFitAll : Type 0

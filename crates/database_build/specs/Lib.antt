@@ -4,7 +4,7 @@ pub mod Faults
 pub mod Falls
 pub mod Folds
 pub mod Marks
-pub mod SmallValues
+pub mod FoldEntries
 pub mod Buckets
 pub mod Orders
 pub mod Sets
@@ -15,6 +15,7 @@ pub mod Edges
 pub mod Entries
 pub mod Graphs
 pub mod Rows
+pub mod Placements
 pub mod Searches
 pub mod NodeSets
 pub mod Layers

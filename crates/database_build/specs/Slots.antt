@@ -2,8 +2,8 @@
 use Rattle.std.specs.Prelude.{ℕ, suc, ◌≡◌, ◌⊎◌, ◌+◌, ◌*◌, ◌^◌, ◌<◌, List, ◌∷◌, length, slice_get, slice_index}
 use Rattle.pattern_index.specs.Laws.{factorial}
 use Rattle.pattern_index.specs.Sparse.{digit_base, sparse_of}
-use Rattle.database_build.specs.Orders.{order_of, positions_at}
-use Rattle.database_build.specs.Sets.{set_place}
+use Rattle.database_build.specs.Orders.{positions_at}
+use Rattle.database_build.specs.Placements.{placement_in}
 use Rattle.database_build.specs.Regions.{IsPlaced, IsFree}
 use Rattle.database_build.specs.Graphs.{node_in}
 use Rattle.database_build.specs.declared.regions.Regions.{Regions}
@@ -13,9 +13,9 @@ pub record ArePositions (count : ℕ) (positions : List ℕ) : Type 0 where
   pub size : length positions ≡ factorial count * count
   pub are : (order tile : ℕ) → order < factorial count → tile < count → slice_index positions (order * count + tile) ≡ slice_index (positions_at count order) tile
 
--- the number of a placement of tiles: by their set, and then by their order
+-- the number of a placement of tiles
 abbrev pub placement_of : Regions → List ℕ → ℕ
-placement_of r cells = set_place cells * factorial r.count + order_of cells
+placement_of r = placement_in r.count
 
 -- there is a slot for each view, and that of a view of which P holds has the value of its node
 pub record AreFilled {A : Type 0} (r : Regions) (nodes : List A) (P : List ℕ → ℕ → Type 0) (slots : List A) : Type 0 where

@@ -5,12 +5,11 @@ ghost use Rattle.database_build.specs.Tables.{HoldsValues};
 ghost use Rattle.database_build.specs.Frames.{Fits};
 ghost use Rattle.database_build.specs.Folds.{IsTrueFold};
 
-use crate::entries::keep_values;
+use crate::entries::{keep_least, keep_values};
 use crate::finding::find_values;
 use crate::folding::Folded;
 use crate::frame::Frame;
-use crate::orders::factorial;
-use crate::rows::rank_least;
+use crate::least::fold_nodes;
 use crate::table::Table;
 use board::{Board, Weights};
 use memory::OutOfMemory;
@@ -120,7 +119,7 @@ fn fold_of(
     ensures values { IfOk result (IsTrueFold weights.now goal.now) }
 {
     let found = find_values(alloc, frame, group, goal, weights)?;
-    let orders = factorial(group.tiles().len());
-    let least = rank_least(alloc, group, &found.regions, orders, &found.values)?;
-    Folded::of_group(alloc, group, least)
+    let least = fold_nodes(alloc, group, &found.regions, &found.values)?;
+    let entries = keep_least(alloc, group, &least)?;
+    Ok(Folded::of_group(group, entries))
 }

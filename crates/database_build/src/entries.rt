@@ -1,17 +1,22 @@
 //! What a table keeps of the views of its group: their values by rank, or by slot.
 
-ghost use Rattle.std.specs.Prelude.{ℕ, ◌≡◌, ◌⊎◌, ◌↔◌, ◌<◌, ◌≤◌, ◌^◌, All, IfOk, IsTrue, length, map, min, slice_get, slice_index};
+ghost use Rattle.std.specs.Prelude.{ℕ, ◌≡◌, ◌↔◌, ◌<◌, ◌≤◌, ◌^◌, IfOk, IsTrue, Some};
+ghost use Rattle.std.specs.Prelude.{length, map, min, slice_get, slice_index};
+ghost use Rattle.board.specs.Grids.{cell_count};
 ghost use Rattle.pattern_index.specs.Views.{Sight, IsView};
-ghost use Rattle.pattern_index.specs.Selections.{rank_in};
-ghost use Rattle.pattern_index.specs.Sparse.{slot_count_of, slot_in};
+ghost use Rattle.pattern_index.specs.Selections.{place_in, rank_in};
+ghost use Rattle.pattern_index.specs.Sparse.{slot_count_of, slot_in, sparse_in, sparse_size_of};
 ghost use Rattle.database_build.specs.Entries.{AreSmall, HasEntries, IsKeptBest, values_in};
+ghost use Rattle.database_build.specs.FoldEntries.{HasLeast, HasNoView, least_in, most_places};
+ghost use Rattle.database_build.specs.Placements.{placement_count, placement_in};
 ghost use Rattle.database_build.specs.Graphs.{node_in, node_count};
 ghost use Rattle.database_build.specs.Regions.{IsRegions};
 
+use crate::folding::{MOST_PLACES, PLACES_A_VALUE};
 use crate::orders::factorial;
 use crate::regions::Regions;
-use crate::rows::rank_values;
-use crate::slots::{find_positions, write_slots};
+use crate::rows::{rank_least, rank_values};
+use crate::slots::{find_positions, write_places, write_slots};
 use crate::table::NO_VALUE;
 use memory::{OutOfMemory, filled, push, with_capacity};
 use pattern_index::Group;
@@ -45,7 +50,8 @@ pub(crate) fn keep_values(
     ensures values { IfOk result (λ entries. (v : Sight) → IsView group.now.grid group.now.tiles v
         → slice_index (values_in group.now entries) (rank_in group.now.grid v)
         ≡ slice_index nodes.now (node_in regions.now v)) }
-    ensures best { IfOk result (IsKeptBest group.now nodes.now) }
+    ensures best { IfOk result
+        (IsKeptBest (slot_count_of group.now ≤ MOST_SLOTS) nodes.now) }
 {
     if group.slot_count() > MOST_SLOTS {
         let orders = factorial(group.tiles().len());
@@ -81,6 +87,65 @@ fn fill_slots<T: Copy>(
     let mut slots = filled(alloc, filler, group.slot_count())?;
     write_slots(regions, &positions, nodes, &mut slots);
     Ok(slots)
+}
+
+// What a folded table of a group keeps, where the least value of each placement of its tiles is
+// given: by sparse place where there are not too many, and as bytes where each value fits one.
+pub(crate) fn keep_least(
+    alloc: Global,
+    group: &Group,
+    least: &[u16],
+) -> Result<Entries, OutOfMemory>
+    requires { length least.now
+        ≡ placement_count (cell_count group.now.grid) (length group.now.tiles) }
+    ensures entries { IfOk result (HasLeast group.now) }
+    ensures values { IfOk result (λ entries. (v : Sight) → IsView group.now.grid group.now.tiles v
+        → slice_index (least_in group.now entries) (place_in group.now.grid v)
+        ≡ slice_index least.now (placement_in (length group.now.tiles) v.cells)) }
+    ensures best { IfOk result
+        (IsKeptBest (sparse_size_of group.now ≤ most_places group.now) least.now) }
+{
+    if has_many_places(group) {
+        let values = rank_least(alloc, group, least)?;
+        return Ok(Entries::Ranked(values));
+    }
+    if !are_small(least) {
+        let words = fill_places(alloc, group, least, NO_VALUE)?;
+        return Ok(Entries::Words(words));
+    }
+    let narrow = narrow_all(alloc, least)?;
+    let bytes = fill_places(alloc, group, &narrow, u8::MAX)?;
+    Ok(Entries::Bytes(bytes))
+}
+
+// Whether a group has too many sparse places for its folded tables to be kept by them.
+fn has_many_places(group: &Group) -> bool
+    ensures { IsTrue result ↔ (most_places group.now < sparse_size_of group.now) }
+{
+    group.sparse_size() > MOST_PLACES.min(PLACES_A_VALUE * group.folded_size())
+}
+
+// What placements have at their sparse places, where what they have is given.
+fn fill_places<T: Copy>(
+    alloc: Global,
+    group: &Group,
+    least: &[T],
+    filler: T,
+) -> Result<Vec<T>, OutOfMemory>
+    requires few { sparse_size_of group.now ≤ most_places group.now }
+    requires least { length least.now
+        ≡ placement_count (cell_count group.now.grid) (length group.now.tiles) }
+    ensures size { IfOk result (λ places. length places.items ≡ sparse_size_of group.now) }
+    ensures values { IfOk result (λ places. (v : Sight) → IsView group.now.grid group.now.tiles v
+        → slice_get places.items (sparse_in group.now.grid v)
+        ≡ slice_get least.now (placement_in (length group.now.tiles) v.cells)) }
+    ensures others { IfOk result (λ places. (sparse : ℕ) (entry : T) → HasNoView group.now sparse
+        → slice_get places.items sparse ≡ Some entry → entry ≡ filler) }
+{
+    let positions = find_positions(alloc, group.tiles().len())?;
+    let mut places = filled(alloc, filler, group.sparse_size())?;
+    write_places(group, &positions, least, &mut places);
+    Ok(places)
 }
 
 // Whether a byte can stand for each value.

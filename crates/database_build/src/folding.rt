@@ -1,35 +1,36 @@
 //! Folded tables: those without the blank.
 
-ghost use Rattle.std.specs.Prelude.{ℕ, ◌≡◌, ◌<◌, ◌↔◌, length, replicate, slice_index_or, false, ◌⊎◌, ◌≤◌};
-ghost use Rattle.std.specs.Prelude.{IfOk, IfSome, IfNone, IsTrue, All, Contains, slice_get};
-ghost use Rattle.pattern_index.specs.Views.{IsView};
+ghost use Rattle.std.specs.Prelude.{ℕ, ◌≡◌, ◌⊎◌, ◌<◌, ◌≤◌, ◌↔◌, length, slice_index};
+ghost use Rattle.std.specs.Prelude.{All, Contains, IfNone, IfOk, IfSome, IsTrue, None};
+ghost use Rattle.board.specs.Grids.{cell_count};
+ghost use Rattle.pattern_index.specs.Views.{IsView, Sight, view_at};
 ghost use Rattle.pattern_index.specs.Selections.{IsSelection, folded_size_of};
+ghost use Rattle.pattern_index.specs.Sparse.{sparse_in, sparse_size_of, stride_of};
 ghost use Rattle.database_build.specs.Folds.{IsFoldOf, folded_in};
 ghost use Rattle.database_build.specs.Marks.{AreMarksOf};
-ghost use Rattle.board.specs.Grids.{cell_count};
-ghost use Rattle.pattern_index.specs.Sparse.{sparse_of, sparse_in, sparse_size_of, stride_of};
-ghost use Rattle.pattern_index.specs.Views.{Sight};
-ghost use Rattle.database_build.specs.SmallValues.{AreBytesOf, HasBytes, HasNoView, AreStridesOf, most_bytes};
+ghost use Rattle.database_build.specs.FoldEntries.{AreStridesOf, HasLeast, HasNoView, least_in};
+ghost use Rattle.database_build.specs.FoldEntries.{most_places};
 
-use crate::table::{NO_VALUE, Table};
-use memory::{OutOfMemory, filled};
+use crate::entries::{Entries, keep_least};
+use crate::least::fold_table;
+use crate::table::{NO_VALUE, Table, tell_bytes, tell_words, widened};
+use memory::OutOfMemory;
 use pattern_index::{Group, View, list_cells, sparse_place};
 use std::alloc::Global;
 use std::marker::Model;
 
-/// The most bytes that a group has beside its values: one with more sparse places has none.
-pub const MOST_BYTES: usize = 16_777_216;
+/// The most sparse places of a group whose folded tables are kept by them: as many as six tiles
+/// have on 16 cells.
+pub const MOST_PLACES: usize = 16_777_216;
 
-/// How many bytes a group has for each of its values at most: one with more sparse places has none.
-pub const BYTES_A_VALUE: usize = 4;
+/// How many sparse places such a group has for each of its values at most.
+pub const PLACES_A_VALUE: usize = 4;
 
 /// For each way in which a group's tiles can stand, the least value of the views that show them so.
 #[derive(Debug, Drop)]
 pub struct Folded {
     group: Group,
-    least: Vec<u16>,
-    // The values up to 254 once more, by sparse places, which are found sooner; 255 for the others.
-    bytes: Vec<u8>,
+    entries: Entries,
     // Of each number whether it is a tile of the group.
     marks: [bool; 25],
     // The stride of each number that may be a tile.
@@ -37,51 +38,45 @@ pub struct Folded {
 }
 
 impl Model for Folded {
-    ghost use Rattle.std.specs.Prelude.{◌≡◌, length};
-    ghost use Rattle.pattern_index.specs.Selections.{folded_size_of};
     ghost use Rattle.database_build.specs.Folds.{Fold};
     ghost use Rattle.database_build.specs.Marks.{AreMarksOf};
-    ghost use Rattle.database_build.specs.SmallValues.{HasBytes, AreStridesOf};
+    ghost use Rattle.database_build.specs.FoldEntries.{AreStridesOf, HasLeast, least_in};
     ghost use Rattle.pattern_index.specs.Selections.{IsSelection};
 
     ghost Value = { Fold };
 
-    ghost view = { λ t. record { selection = t.group; least = t.least.items } };
+    ghost view = { λ t. record { selection = t.group; least = least_in t.group t.entries } };
 
-    ghost invariant = { λ t. (length t.least.items ≡ folded_size_of t.group)
-        × IsSelection t.group × AreMarksOf t.group.tiles t.marks
-        × HasBytes (record { selection = t.group; least = t.least.items }) t.bytes.items
-        × AreStridesOf t.group t.strides };
+    ghost invariant = { λ t. IsSelection t.group × HasLeast t.group t.entries
+        × AreMarksOf t.group.tiles t.marks × AreStridesOf t.group t.strides };
 }
 
 impl Folded {
-    // The folded table of these values, by the places of the group's tiles.
-    pub(crate) fn of_group(
-        alloc: Global,
-        group: &Group,
-        least: Vec<u16>,
-    ) -> Result<Self, OutOfMemory>
-        requires { length least.items ≡ folded_size_of group.now }
-        ensures { IfOk result
-            (λ fold. fold ≡ record { selection = group.now; least = least.items }) }
+    // The folded table of a group with these entries.
+    pub(crate) fn of_group(group: &Group, entries: Entries) -> Self
+        requires { HasLeast group.now entries }
+        ensures { result ≡ record {
+          selection = group.now;
+          least = least_in group.now entries;
+        } }
     {
-        let bytes = make_bytes(alloc, group, &least)?;
         let marks = mark_tiles(group);
         let strides = find_strides(group);
-        Ok(Folded {
+        Folded {
             group: *group,
-            least,
-            bytes,
+            entries,
             marks,
             strides,
-        })
+        }
     }
 
     /// Its group.
     pub fn group(&self) -> &Group
         ensures value { result.now ≡ self.now.selection }
         ensures size { length self.now.least ≡ folded_size_of self.now.selection }
+        ensures high { (place : ℕ) → slice_index self.now.least place ≤ NO_VALUE }
     {
+        self.tell_values();
         &self.group
     }
 
@@ -90,31 +85,51 @@ impl Folded {
         requires { IsView self.now.selection.grid self.now.selection.tiles view.now }
         ensures { result ≡ folded_in self.now view.now }
     {
-        self.least[self.group.place(view)]
+        match &self.entries {
+            Entries::Ranked(least) => least[self.group.place(view)],
+            Entries::Bytes(bytes) => widened(bytes[self.group.sparse_place(view)]),
+            Entries::Words(words) => words[self.group.sparse_place(view)],
+        }
     }
 
-    /// The folded value of the views with a sparse place, found with one read. None where it is 255
-    /// or more, or where the group has too many sparse places: `value` tells it then.
-    pub fn small_value(&self, sparse: usize) -> Option<u16>
+    /// The folded value of what its group sees of a board, by the cell of each of the board's
+    /// numbers (`cells_of`): as `value` of the view, without making one.
+    pub fn value_at(&self, cells: &[u8; 25]) -> u16
+        requires { IsView self.now.selection.grid self.now.selection.tiles
+            (view_at self.now.selection.tiles cells.now) }
+        ensures { result ≡ folded_in self.now (view_at self.now.selection.tiles cells.now) }
+    {
+        match &self.entries {
+            Entries::Ranked(least) => least[self.group.place_at(cells)],
+            Entries::Bytes(bytes) => widened(bytes[self.group.sparse_place_at(cells)]),
+            Entries::Words(words) => words[self.group.sparse_place_at(cells)],
+        }
+    }
+
+    /// The folded value of the views with a sparse place, found with one read. None where it is
+    /// `NO_VALUE`, or where the group has too many sparse places: `value` tells it then.
+    pub fn sparse_value(&self, sparse: usize) -> Option<u16>
         ensures some { IfSome result (λ value. (v : Sight)
             → IsView self.now.selection.grid self.now.selection.tiles v
             → sparse_in self.now.selection.grid v ≡ sparse → value ≡ folded_in self.now v) }
         ensures none { IfNone result ((v : Sight)
             → IsView self.now.selection.grid self.now.selection.tiles v
             → sparse_in self.now.selection.grid v ≡ sparse
-            → (255 ≤ folded_in self.now v)
-            ⊎ (most_bytes self.now.selection < sparse_size_of self.now.selection)) }
-        ensures high { IfSome result (λ value. value < 255) }
+            → (folded_in self.now v ≡ NO_VALUE)
+            ⊎ (most_places self.now.selection < sparse_size_of self.now.selection)) }
+        ensures high { IfSome result (λ value. value < NO_VALUE) }
         ensures others { HasNoView self.now.selection sparse → result ≡ None }
         ensures past { sparse_size_of self.now.selection ≤ sparse → result ≡ None }
     {
-        let Some(byte) = self.bytes.get(sparse) else {
-            return None;
+        let value = match &self.entries {
+            Entries::Ranked(_) => return None,
+            Entries::Bytes(bytes) => widened(*bytes.get(sparse)?),
+            Entries::Words(words) => *words.get(sparse)?,
         };
-        if *byte == u8::MAX {
+        if value == NO_VALUE {
             return None;
         }
-        Some(u16::from(*byte))
+        Some(value)
     }
 
     /// The stride of a number in its sparse places, 0 for one that is no tile of its group's. It is
@@ -128,12 +143,20 @@ impl Folded {
         self.strides[tile as usize]
     }
 
-    /// Its values, by the places of the tiles.
-    pub fn values(&self) -> &[u16]
-        ensures value { result.now ≡ self.now.least }
-        ensures size { length self.now.least ≡ folded_size_of self.now.selection }
+    /// The value of the views whose tiles have a place.
+    pub fn entry(&self, place: usize) -> u16
+        requires { place < folded_size_of self.now.selection }
+        ensures { result ≡ slice_index self.now.least place }
     {
-        &self.least
+        let cells = self.group.shape().cells();
+        let mut list = [0; 9];
+        let list = &mut list[..self.group.tiles().len()];
+        list_cells(cells, place, list);
+        match &self.entries {
+            Entries::Ranked(least) => least[place],
+            Entries::Bytes(bytes) => widened(bytes[sparse_place(cells, list)]),
+            Entries::Words(words) => words[sparse_place(cells, list)],
+        }
     }
 
     /// Whether a tile is one of its group's. It is looked up, in no more time where the group has
@@ -155,6 +178,17 @@ impl Folded {
     {
         self.group.folded_size()
     }
+
+    // Each value is at most `NO_VALUE`.
+    fn tell_values(&self)
+        ensures { (place : ℕ) → slice_index self.now.least place ≤ NO_VALUE }
+    {
+        match &self.entries {
+            Entries::Ranked(least) => tell_words(least),
+            Entries::Bytes(bytes) => tell_bytes(bytes),
+            Entries::Words(words) => tell_words(words),
+        }
+    }
 }
 
 /// The folded table: for each way in which the tiles can stand, the least value over the blank's
@@ -163,43 +197,9 @@ pub fn fold(alloc: Global, table: Table) -> Result<Folded, OutOfMemory>
     ensures { IfOk result (IsFoldOf table) }
 {
     let group = *table.group();
-    let mut least = filled(alloc, NO_VALUE, group.folded_size())?;
-    lower_all(&table, &mut least);
-    Folded::of_group(alloc, &group, least)
-}
-
-// The bytes of a group with these values, where they are not too many.
-fn make_bytes(alloc: Global, group: &Group, least: &[u16]) -> Result<Vec<u8>, OutOfMemory>
-    requires { length least.now ≡ folded_size_of group.now }
-    ensures { IfOk result (λ bytes.
-        HasBytes (record { selection = group.now; least = least.now }) bytes.items) }
-{
-    let size = group.sparse_size();
-    if size > MOST_BYTES.min(BYTES_A_VALUE * least.len()) {
-        return Ok(Vec::new(alloc));
-    }
-    let mut bytes = filled(alloc, u8::MAX, size)?;
-    fill_bytes(group, least, &mut bytes);
-    Ok(bytes)
-}
-
-// Writes the byte of each view at its sparse place, where all were 255 before.
-fn fill_bytes(group: &Group, least: &[u16], bytes: &mut [u8])
-    requires size { length least.now ≡ folded_size_of group.now }
-    requires all { bytes.old ≡ replicate (sparse_size_of group.now) 255 }
-    ensures views { AreBytesOf (record { selection = group.now; least = least.now }) bytes.new }
-    ensures others { (sparse : ℕ) (byte : ℕ) → HasNoView group.now sparse
-        → slice_get bytes.new sparse ≡ Some byte → byte ≡ 255 }
-    ensures all { length bytes.new ≡ sparse_size_of group.now }
-{
-    let cells = group.shape().cells();
-    let count = group.tiles().len();
-    let mut list = [0; 9];
-    'places: for place in 0..group.folded_size() {
-        list_cells(cells, place, &mut list[..count]);
-        let sparse = sparse_place(cells, &list[..count]);
-        bytes[sparse] = least[place].min(255) as u8;
-    }
+    let least = fold_table(alloc, &table)?;
+    let entries = keep_least(alloc, &group, &least)?;
+    Ok(Folded::of_group(&group, entries))
 }
 
 // The strides of the numbers in a group's sparse places.
@@ -231,21 +231,4 @@ fn is_among(tiles: &[u8], number: u8) -> bool
     ensures { IsTrue result ↔ Contains tiles.now number }
 {
     tiles.contains(&number)
-}
-
-// Lowers the entry of each view's place to the view's value.
-fn lower_all(table: &Table, least: &mut [u16])
-    requires { least.old ≡ replicate (folded_size_of table.now.selection) NO_VALUE }
-    ensures { IsFoldOf table.now
-        (record { selection = table.now.selection; least = least.new }) }
-{
-    let group = *table.group();
-    'ranks: for rank in 0..group.size() {
-        let view = group.unrank(rank);
-        let place = group.place(&view);
-        let value = table.value(&view);
-        if value < least[place] {
-            least[place] = value;
-        }
-    }
 }

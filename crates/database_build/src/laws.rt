@@ -4,9 +4,9 @@ ghost use Rattle.std.specs.Prelude.{◌≡◌, ◌^◌};
 ghost use Rattle.database_build.specs.Laws.{ValuesAreDetermined, ValuesArePotentials};
 ghost use Rattle.database_build.specs.Laws.{PotentialsAreLowerBounds};
 ghost use Rattle.database_build.specs.Laws.{FoldedValuesAreLow, FoldedValuesAreReached};
-ghost use Rattle.database_build.specs.Laws.{BytesAreFew, FoldedValuesAreDetermined, FramesFitAll};
+ghost use Rattle.database_build.specs.Laws.{PlacesAreFew, FoldedValuesAreDetermined, FramesFitAll};
 
-use crate::folding::{BYTES_A_VALUE, MOST_BYTES};
+use crate::folding::{MOST_PLACES, PLACES_A_VALUE};
 use crate::table::NO_VALUE;
 
 /// The value that stands for no plan is the greatest of 16 bits.
@@ -14,15 +14,16 @@ pub fn no_value_is_greatest()
     ensures { NO_VALUE ≡ u16.MAX }
 {}
 
-/// The most bytes of a group are one for each sparse place of six tiles of a board of 4 by 4.
-pub fn most_bytes_are_those_of_six_tiles()
-    ensures { MOST_BYTES ≡ 16 ^ 6 }
+/// A group has at most as many sparse places as six tiles on a board of 4 by 4, or its folded tables
+/// are not kept by them.
+pub fn most_places_are_those_of_six_tiles()
+    ensures { MOST_PLACES ≡ 16 ^ 6 }
 {}
 
-/// A group has at most four bytes for each of its values, within that.
-pub fn bytes_a_value_are_four()
-    ensures value { BYTES_A_VALUE ≡ 4 }
-    ensures few { BytesAreFew }
+/// Nor are they where it has more than four for each of its values.
+pub fn places_a_value_are_four()
+    ensures value { PLACES_A_VALUE ≡ 4 }
+    ensures few { PlacesAreFew }
 {}
 
 /// A view has one value.

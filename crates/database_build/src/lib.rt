@@ -16,6 +16,7 @@ mod frame;
 mod graph;
 pub mod laws;
 mod layers;
+mod least;
 mod node_sets;
 mod orders;
 mod potential;
@@ -28,7 +29,7 @@ mod table;
 
 pub use building::{build, build_folded, build_folded_in, build_in};
 pub use faults::TableFault;
-pub use folding::{BYTES_A_VALUE, Folded, MOST_BYTES, fold};
+pub use folding::{Folded, MOST_PLACES, PLACES_A_VALUE, fold};
 pub use frame::Frame;
 pub use potential::is_potential;
 pub use table::{NO_VALUE, Table};

@@ -12,11 +12,12 @@ ghost use Rattle.database_build.specs.Marks.{AreMarksOf};
 ghost use Rattle.database_build.specs.Sets.{set_place};
 ghost use Rattle.database_build.specs.Regions.{IsRegions, IsPlaced};
 ghost use Rattle.database_build.specs.Graphs.{node_in, node_count};
-ghost use Rattle.database_build.specs.Rows.{AreLarger, IsLeastNode, IsRow, node_value};
+ghost use Rattle.database_build.specs.Rows.{AreLarger, IsRow, node_value};
+ghost use Rattle.database_build.specs.Placements.{placement_count, placement_in};
 
 use crate::orders::{factorial, order_of};
 use crate::regions::{Regions, stands_on};
-use crate::table::NO_VALUE;
+use crate::sets::Choices;
 use memory::{OutOfMemory, push, with_capacity};
 use pattern_index::{Group, list_cells};
 use std::alloc::Global;
@@ -99,55 +100,33 @@ fn add_row(
     Ok(())
 }
 
-// The least values of a group's views, by the places of its tiles, where the values of their nodes are given.
+// The least values of placements, by the places of a group's tiles, where they are given by set and
+// order.
 pub(crate) fn rank_least(
     alloc: Global,
     group: &Group,
-    regions: &Regions,
-    orders: usize,
-    nodes: &[u16],
+    least: &[u16],
 ) -> Result<Vec<u16>, OutOfMemory>
-    requires regions { IsRegions group.now.grid (length group.now.tiles) regions.now }
-    requires orders { orders ≡ factorial (length group.now.tiles) }
-    requires nodes { length nodes.now ≡ node_count regions.now }
+    requires { length least.now
+        ≡ placement_count (cell_count group.now.grid) (length group.now.tiles) }
     ensures size { IfOk result (λ values. length values.items ≡ folded_size_of group.now) }
     ensures values { IfOk result (λ values. (v : Sight) → IsView group.now.grid group.now.tiles v
-        → IsLeastNode regions.now nodes.now v.cells
-        (slice_index values.items (place_in group.now.grid v))) }
+        → slice_index values.items (place_in group.now.grid v)
+        ≡ slice_index least.now (placement_in (length group.now.tiles) v.cells)) }
 {
+    let choices = Choices::new();
+    let cells = group.shape().cells();
+    let count = group.tiles().len();
+    let orders = factorial(count);
     let mut values = with_capacity(alloc, group.folded_size())?;
-    let cells = regions.shape.cells();
-    let count = regions.count;
     let mut list = [0; 9];
     'places: for place in 0..group.folded_size() {
         list_cells(cells, place, &mut list[..count]);
-        let least = least_value(regions, orders, nodes, &list[..count]);
-        push(&mut values, least)?;
+        let set = choices.place(&list[..count]);
+        let order = order_of(&list[..count]);
+        push(&mut values, least[set * orders + order])?;
     }
     Ok(values)
-}
-
-// The least value of the views with tiles on these cells, wherever the blank is.
-fn least_value(regions: &Regions, orders: usize, nodes: &[u16], cells: &[u8]) -> u16
-    requires regions { IsRegions regions.now.shape regions.now.count regions.now }
-    requires orders { orders ≡ factorial regions.now.count }
-    requires nodes { length nodes.now ≡ node_count regions.now }
-    requires placed { IsPlaced regions.now.shape regions.now.count cells.now }
-    ensures { IsLeastNode regions.now nodes.now cells.now result }
-{
-    let count = regions.shape.cells();
-    let set = regions.choices.place(cells);
-    let order = order_of(cells);
-    let marks = mark_cells(cells);
-    let mut least = NO_VALUE;
-    'blanks: for blank in 0..count {
-        if marks[blank] {
-            continue;
-        }
-        let region = regions.numbers[set * count + blank] as usize;
-        least = least.min(nodes[region * orders + order]);
-    }
-    least
 }
 
 // Marks the cells of a list.

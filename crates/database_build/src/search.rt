@@ -52,8 +52,10 @@ impl Search {
         if self.values[node] as usize != cost {
             return Ok(());
         }
-        let region = node / self.graph.orders.size();
-        let order = node % self.graph.orders.size();
+        // (Numbers of 32 bits are divided in less time.)
+        let size = self.graph.orders.size() as u32;
+        let region = (node as u32 / size) as usize;
+        let order = (node as u32 % size) as usize;
         let first = self.graph.edges.starts[region] as usize;
         let end = self.graph.edges.starts[region + 1] as usize;
         'edges: for at in first..end {

@@ -3,10 +3,12 @@
 ghost use Rattle.std.specs.Prelude.{suc, ◌≡◌, ◌+◌, ◌*◌, ◌<◌, ◌≤◌, ◌^◌, ◌++◌, All, IfOk, OnOk, length, map, slice_index};
 ghost use Rattle.board.specs.Grids.{cell_count};
 ghost use Rattle.pattern_index.specs.Laws.{factorial};
-ghost use Rattle.pattern_index.specs.Sparse.{digit_base, sparse_of};
+ghost use Rattle.pattern_index.specs.Sparse.{digit_base, sparse_of, sparse_size_of};
 ghost use Rattle.database_build.specs.Graphs.{node_count};
 ghost use Rattle.database_build.specs.Marks.{AreMarksOf};
 ghost use Rattle.database_build.specs.Orders.{order_of, positions_at};
+ghost use Rattle.database_build.specs.Placements.{AreAllWritten, AreWritten, IsSetList};
+ghost use Rattle.database_build.specs.Placements.{placement_count};
 ghost use Rattle.database_build.specs.Regions.{IsRegions, IsPlaced};
 ghost use Rattle.database_build.specs.Sets.{choose, set_place};
 ghost use Rattle.database_build.specs.Slots.{AreFilledTo, AreFilledUpTo, ArePositions};
@@ -14,8 +16,9 @@ ghost use Rattle.database_build.specs.Slots.{AreFilledTo, AreFilledUpTo, ArePosi
 use crate::orders::{factorial, write_positions};
 use crate::regions::Regions;
 use crate::rows::mark_cells;
+use crate::sets::Choices;
 use memory::{OutOfMemory, push};
-use pattern_index::{digit_base, sparse_place};
+use pattern_index::{Group, digit_base, sparse_place};
 use std::alloc::Global;
 
 // The positions of all tiles in each order: on how many smaller cells others stand.
@@ -94,7 +97,7 @@ fn write_set<T: Copy>(regions: &Regions, positions: &[u8], set: usize, nodes: &[
 }
 
 // Writes on which cell each tile stands, by its position among the cells.
-fn place_tiles(cells: &[u8], positions: &[u8], placed: &mut [u8])
+pub(crate) fn place_tiles(cells: &[u8], positions: &[u8], placed: &mut [u8])
     requires same { length placed.old ≡ length positions.now }
     requires within { All (λ position. position < length cells.now) positions.now }
     ensures { placed.new ≡ map (slice_index cells.now) positions.now }
@@ -135,5 +138,46 @@ fn write_blanks<T: Copy>(
         }
         let region = regions.numbers[set * count + blank] as usize;
         slots[first + blank] = nodes[region * orders + order];
+    }
+}
+
+// Writes what each placement of a group's tiles has at its sparse place.
+pub(crate) fn write_places<T: Copy>(group: &Group, positions: &[u8], least: &[T], places: &mut [T])
+    requires positions { ArePositions (length group.now.tiles) positions.now }
+    requires least { length least.now
+        ≡ placement_count (cell_count group.now.grid) (length group.now.tiles) }
+    requires places { length places.old ≡ sparse_size_of group.now }
+    ensures { AreAllWritten group.now least.now places.old places.new }
+{
+    let choices = Choices::new();
+    let cells = group.shape().cells();
+    let count = group.tiles().len();
+    let orders = factorial(count);
+    'sets: for set in 0..choices.count(cells, count) {
+        let mut list = [0; 9];
+        choices.write_set(cells, set, &mut list[..count]);
+        let row = &least[set * orders..set * orders + orders];
+        write_orders(group, &list[..count], positions, row, places);
+    }
+}
+
+// The same for the placements of tiles on these cells, by their orders.
+fn write_orders<T: Copy>(group: &Group, cells: &[u8], positions: &[u8], row: &[T], places: &mut [T])
+    requires set { IsSetList group.now.grid (length group.now.tiles) cells.now }
+    requires positions { ArePositions (length group.now.tiles) positions.now }
+    requires row { length row.now ≡ factorial (length group.now.tiles) }
+    requires places { length places.old ≡ sparse_size_of group.now }
+    ensures { AreWritten group.now cells.now row.now places.old places.new }
+{
+    let count = cells.len();
+    let base = group.shape().cells();
+    'orders: for order in 0..row.len() {
+        let mut placed = [0; 9];
+        place_tiles(
+            cells,
+            &positions[order * count..order * count + count],
+            &mut placed[..count],
+        );
+        places[sparse_place(base, &placed[..count])] = row[order];
     }
 }

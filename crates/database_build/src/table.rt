@@ -121,7 +121,7 @@ impl Table {
 }
 
 // The value that a byte stands for.
-fn widened(byte: u8) -> u16
+pub(crate) fn widened(byte: u8) -> u16
     ensures { result ≡ widened byte }
 {
     if byte == u8::MAX {
@@ -132,14 +132,14 @@ fn widened(byte: u8) -> u16
 }
 
 // Numbers of 16 bits are at most the greatest value.
-fn tell_words(words: &[u16])
+pub(crate) fn tell_words(words: &[u16])
     ensures { (place : ℕ) → slice_index words.now place ≤ NO_VALUE }
 {
     let _ = words;
 }
 
 // So are bytes.
-fn tell_bytes(bytes: &[u8])
+pub(crate) fn tell_bytes(bytes: &[u8])
     ensures { (place : ℕ) → slice_index bytes.now place ≤ NO_VALUE }
 {
     let _ = bytes;

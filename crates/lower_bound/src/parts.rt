@@ -3,7 +3,6 @@
 ghost use Rattle.std.specs.Prelude.{ℕ, ◌≡◌, ◌+◌, ◌*◌, ◌≤◌, length, map, sum, sum_by, All, AllPairs};
 ghost use Rattle.std.specs.Prelude.{◌<◌, Contains, slice_index_or};
 ghost use Rattle.board.specs.Positions.{Position};
-ghost use Rattle.pattern_index.specs.Views.{IsView, view_at};
 ghost use Rattle.pattern_index.specs.Splits.{ShareNoTile};
 ghost use Rattle.database_build.specs.Folds.{Fold};
 ghost use Rattle.lower_bound.specs.Folded.{folded_parts, values_of, value_for, IsBefore};
@@ -80,7 +79,7 @@ impl Parts {
     {
         let mut values = [0; MOST_GROUPS];
         'tables: for i in 0..folds.len() {
-            values[i] = value_by(&folds[i], cells);
+            values[i] = folds[i].value_at(cells);
         }
         let count = folds.len() as u8;
         Parts { count, values }
@@ -110,7 +109,8 @@ pub fn sum_after(folds: &[Folded], sum: u32, before: &[u8; 25], after: &[u8; 25]
 {
     'tables: for fold in folds {
         if fold.has_tile(tile) {
-            let (was, is) = values_by(fold, before, after);
+            let was = fold.value_at(before);
+            let is = fold.value_at(after);
             return sum - u32::from(was) + u32::from(is);
         }
     }
@@ -182,28 +182,4 @@ fn value_for(fold: &Folded, board: &Board) -> u16
 {
     let view = fold.group().view(board);
     fold.value(&view)
-}
-
-// What a folded table says of a board, by the cell of each of its numbers.
-fn value_by(fold: &Folded, cells: &[u8; 25]) -> u16
-    requires { IsView fold.now.selection.grid fold.now.selection.tiles
-        (view_at fold.now.selection.tiles cells.now) }
-    ensures { result ≡ value_by cells.now fold.now }
-{
-    fold.values()[fold.group().place_at(cells)]
-}
-
-// What a folded table says of two boards, by the cell of each of their numbers. Both places are
-// made before the first value is read.
-fn values_by(fold: &Folded, one: &[u8; 25], other: &[u8; 25]) -> (u16, u16)
-    requires one { IsView fold.now.selection.grid fold.now.selection.tiles
-        (view_at fold.now.selection.tiles one.now) }
-    requires other { IsView fold.now.selection.grid fold.now.selection.tiles
-        (view_at fold.now.selection.tiles other.now) }
-    ensures one { result.0 ≡ value_by one.now fold.now }
-    ensures other { result.1 ≡ value_by other.now fold.now }
-{
-    let (first, second) = fold.group().places_at(one, other);
-    let values = fold.values();
-    (values[first], values[second])
 }

@@ -75,42 +75,6 @@ pub(crate) fn rank_tiles(count: usize, tiles: &[u8], cells: &[u8; 25]) -> usize
     rank
 }
 
-// The ranks of the cells of some tiles, as `rank_tiles` makes them, by two lists of the cell of each
-// number in one pass over the tiles.
-pub(crate) fn rank_tiles_twice(
-    count: usize,
-    tiles: &[u8],
-    one: &[u8; 25],
-    other: &[u8; 25],
-) -> (usize, usize)
-    requires few { count ≤ 25 }
-    requires tiles { All (λ tile. tile < 25) tiles.now }
-    requires one { IsListing count (map (slice_index one.now) tiles.now) }
-    requires other { IsListing count (map (slice_index other.now) tiles.now) }
-    requires fits { length tiles.now ≤ count }
-    requires small { ways count (length tiles.now) ≤ MAX_SIZE }
-    ensures one { result.0 ≡ rank_of count (map (slice_index one.now) tiles.now) }
-    ensures other { result.1 ≡ rank_of count (map (slice_index other.now) tiles.now) }
-{
-    let mut one_rank = 0;
-    let mut other_rank = 0;
-    let mut one_seen = 0;
-    let mut other_seen = 0;
-    let mut free = count;
-    'tiles: for tile in tiles {
-        let one_cell = one[*tile as usize];
-        let other_cell = other[*tile as usize];
-        let one_digit = one_cell as usize - bits_below(one_seen, one_cell);
-        let other_digit = other_cell as usize - bits_below(other_seen, other_cell);
-        one_rank = one_rank * free + one_digit;
-        other_rank = other_rank * free + other_digit;
-        one_seen = with_bit(one_seen, one_cell);
-        other_seen = with_bit(other_seen, other_cell);
-        free -= 1;
-    }
-    (one_rank, other_rank)
-}
-
 // The bits below each cell's. To read them takes less than to shift one into its place.
 const BITS_BELOW: [u32; 32] = [
     0x0, 0x1, 0x3, 0x7, 0xF, 0x1F, 0x3F, 0x7F, 0xFF, 0x1FF, 0x3FF, 0x7FF, 0xFFF, 0x1FFF, 0x3FFF,

@@ -18,7 +18,7 @@ ghost use Rattle.pattern_index.specs.Laws.{factorial};
 ghost use Rattle.pattern_index.specs.Faults.{IsFirstFault};
 ghost use Rattle.pattern_index.specs.declared.faults.GroupFault.{GroupFault};
 
-use crate::cells::{rank_cells, rank_numbers, rank_tiles, rank_tiles_twice};
+use crate::cells::{rank_cells, rank_numbers, rank_tiles};
 use crate::faults::GroupFault;
 use crate::sparse::{
     are_different, count_numbers, digit_base, sparse_place, sparse_tiles, stride_of, write_digits,
@@ -202,19 +202,6 @@ impl Group {
         rank_tiles(self.shape().cells(), self.tiles(), cells)
     }
 
-    /// The places of the tiles' cells on two boards, as `place_at` answers them.
-    pub fn places_at(&self, one: &[u8; 25], other: &[u8; 25]) -> (usize, usize)
-        requires one { IsView self.now.grid self.now.tiles (view_at self.now.tiles one.now) }
-        requires other { IsView self.now.grid self.now.tiles (view_at self.now.tiles other.now) }
-        ensures one { result.0 ≡ place_in self.now.grid (view_at self.now.tiles one.now) }
-        ensures other { result.1 ≡ place_in self.now.grid (view_at self.now.tiles other.now) }
-        ensures below { (result.0 < folded_size_of self.now)
-            × (result.1 < folded_size_of self.now) }
-        ensures high { (result.0 < MAX_SIZE) × (result.1 < MAX_SIZE) }
-    {
-        rank_tiles_twice(self.shape().cells(), self.tiles(), one, other)
-    }
-
     /// How many numbers have as many digits as there are tiles, each below the count of cells: N^k
     /// for k tiles and N cells. All sparse places are below it.
     pub fn sparse_size(&self) -> usize
@@ -224,13 +211,22 @@ impl Group {
     }
 
     /// The sparse place of what it sees of a board, by the cell of each of the board's numbers
-    /// (`cells_of`): the number that has the cells of its tiles as digits, that of the first tile as
-    /// the lowest. It is made in less time than a rank.
+    /// (`cells_of`): as `sparse_place` of the view, without making one. It is made in less time than
+    /// a rank.
     pub fn sparse_place_at(&self, cells: &[u8; 25]) -> usize
         requires { IsView self.now.grid self.now.tiles (view_at self.now.tiles cells.now) }
         ensures { result ≡ sparse_in self.now.grid (view_at self.now.tiles cells.now) }
     {
         sparse_tiles(self.shape().cells(), self.tiles(), cells)
+    }
+
+    /// The sparse place of a view: the number that has the cells of its tiles as digits, that of the
+    /// first tile as the lowest.
+    pub fn sparse_place(&self, view: &View) -> usize
+        requires { IsView self.now.grid self.now.tiles view.now }
+        ensures { result ≡ sparse_in self.now.grid view.now }
+    {
+        sparse_place(self.shape().cells(), &view.cells()[1..])
     }
 
     /// What a sparse place changes by where a tile goes to the next cell: 0 where the tile is none

@@ -31,7 +31,7 @@ use Rattle.pattern_index.proofs.SparseLemmas.{moved, sparse_small, stride_low, p
 use Rattle.database_build.specs.Folds.{Fold}
 use Rattle.database_build.specs.Tables.{Lookup}
 use Rattle.lower_bound.specs.Folded.{IsBefore}
-use Rattle.successor_sums.specs.Unpacked.{board_in, AreCellsOf, IsUnpacked, cells_after, IsSmall, IsLarge, SomeIsLarge}
+use Rattle.successor_sums.specs.Unpacked.{board_in, AreCellsOf, IsUnpacked, cells_after, IsSmall, IsUntold, SomeIsUntold}
 use Rattle.successor_sums.specs.declared.unpacked.UnpackedBoard.TheInside.{Inside}
 use Rattle.successor_sums.specs.declared.unpacked.Successor.{Successor}
 
@@ -358,6 +358,6 @@ module _ (g : Selection) (selection : IsSelection g) (cells : List ℕ) (r : Suc
       let product : cell * stride_of (cell_count g.grid) g.tiles r.tile ≤ 255 * 3814697265625 = mul-le cell (stride_of (cell_count g.grid) g.tiles r.tile) 255 3814697265625 (omega (arith, low)) (omega (arith, top, power)) in
       omega (arith, product)
 
--- one table that has the tile, with a large value, is enough
-pub large : (folds : List Fold) (before after : List ℕ) (tile table : ℕ) (fold : Fold) → table < length folds → fold ≡ get_or folds table fold → ((d : Fold) → Contains (get_or folds table d).selection.tiles tile) → IsLarge before after fold → SomeIsLarge folds before after tile
-large folds before after tile table fold within at has some = (table, within, λ d. (has d, subst (λ (f : Fold). IsLarge before after f) (at ∙ get_or_default folds table fold d within) some))
+-- one table that has the tile, with a untold value, is enough
+pub untold : (folds : List Fold) (before after : List ℕ) (tile table : ℕ) (fold : Fold) → table < length folds → fold ≡ get_or folds table fold → ((d : Fold) → Contains (get_or folds table d).selection.tiles tile) → IsUntold before after fold → SomeIsUntold folds before after tile
+untold folds before after tile table fold within at has some = (table, within, λ d. (has d, subst (λ (f : Fold). IsUntold before after f) (at ∙ get_or_default folds table fold d within) some))

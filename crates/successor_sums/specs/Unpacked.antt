@@ -14,7 +14,8 @@ use Rattle.pattern_index.specs.Views.{IsView, view_at}
 use Rattle.pattern_index.specs.Sparse.{sparse_in, sparse_size_of}
 use Rattle.database_build.specs.Tables.{Lookup}
 use Rattle.database_build.specs.Folds.{Fold}
-use Rattle.database_build.specs.SmallValues.{most_bytes}
+use Rattle.database_build.specs.FoldEntries.{most_places}
+use Rattle.database_build.specs.declared.table.TheConstants.{NO_VALUE}
 use Rattle.lower_bound.specs.declared.bound.TheConstants.{GREATEST_SUM}
 use Rattle.lower_bound.specs.Bounds.{Part, sum_of}
 use Rattle.lower_bound.specs.Folded.{AreAsBefore, AreViews, IsBefore, value_by}
@@ -110,13 +111,13 @@ IsNextTo folds cells r = IsSmall r × AreViews (cells_after cells r) folds × Ar
 abbrev pub AreSparsePlaces : List Fold → List ℕ → List ℕ → Type 0
 AreSparsePlaces folds cells places = (i : ℕ) (d : Fold) → i < length folds → slice_index places i ≡ sparse_in (slice_index_or folds i d).selection.grid (view_at (slice_index_or folds i d).selection.tiles cells)
 
--- a folded table says 255 or more of the cells before or after, or it has too many sparse places for bytes
-abbrev pub IsLarge : List ℕ → List ℕ → Fold → Type 0
-IsLarge before after fold = (255 ≤ value_by before fold) ⊎ (255 ≤ value_by after fold) ⊎ (most_bytes fold.selection < sparse_size_of fold.selection)
+-- a folded table has no value for the cells before or after, or it has too many sparse places to tell one by them
+abbrev pub IsUntold : List ℕ → List ℕ → Fold → Type 0
+IsUntold before after fold = (NO_VALUE ≤ value_by before fold) ⊎ (NO_VALUE ≤ value_by after fold) ⊎ (most_places fold.selection < sparse_size_of fold.selection)
 
--- so does some folded table whose group has the tile
-abbrev pub SomeIsLarge : List Fold → List ℕ → List ℕ → ℕ → Type 0
-SomeIsLarge folds before after tile = (i : ℕ) × (i < length folds) × ((d : Fold) → Contains (slice_index_or folds i d).selection.tiles tile × IsLarge before after (slice_index_or folds i d))
+-- so is it with some folded table whose group has the tile
+abbrev pub SomeIsUntold : List Fold → List ℕ → List ℕ → ℕ → Type 0
+SomeIsUntold folds before after tile = (i : ℕ) × (i < length folds) × ((d : Fold) → Contains (slice_index_or folds i d).selection.tiles tile × IsUntold before after (slice_index_or folds i d))
 
 -- the first of what was reached, so many, has its sum now, and is as it was else
 abbrev pub IsSummed : (List ℕ → ℕ) → List ℕ → ℕ → List Successor → List Successor → Type 0

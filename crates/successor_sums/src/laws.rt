@@ -1,15 +1,14 @@
-//! The laws of large values: each is the contract of a function that does nothing.
+//! The laws of values that are told by sparse place: each is the contract of a function that does nothing.
 
-ghost use Rattle.successor_sums.specs.Laws.{SmallValuesAreNotLarge, ATableIsLargeOrSaysLittle};
+ghost use Rattle.successor_sums.specs.Laws.{BothAreTold, BothAreToldOrNot};
 
-/// Where each folded table whose group has the tile that is moved says less than 255 before and
-/// after, and doesn't have too many sparse places for bytes, no value is large.
-pub fn small_values_are_not_large()
-    ensures { SmallValuesAreNotLarge }
+/// Where each folded table whose group has the tile that is moved has a value before and after, and
+/// doesn't have too many sparse places, both are told.
+pub fn both_are_told()
+    ensures { BothAreTold }
 {}
 
-/// A folded table is large, or it says less than 255 before and after and doesn't have too many
-/// sparse places for bytes.
-pub fn a_table_is_large_or_says_little()
-    ensures { ATableIsLargeOrSaysLittle }
+/// A folded table tells both, or one is not there, or the table has too many sparse places.
+pub fn both_are_told_or_not()
+    ensures { BothAreToldOrNot }
 {}

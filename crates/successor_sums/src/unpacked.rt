@@ -20,7 +20,7 @@ ghost use Rattle.successor_sums.specs.Whole.{sum_by_cells};
 ghost use Rattle.successor_sums.specs.Unpacked.{successors_of, is_left_out, successors_but};
 ghost use Rattle.successor_sums.specs.Unpacked.{IsReached, IsSmall, cells_after, with_sum, told_by};
 ghost use Rattle.pattern_index.specs.Sparse.{sparse_in};
-ghost use Rattle.successor_sums.specs.Unpacked.{AreSparsePlaces, SomeIsLarge, AreCellsOf, SeesViews, IsNextTo, IsSumOf, IsSummed, AreSummed};
+ghost use Rattle.successor_sums.specs.Unpacked.{AreSparsePlaces, SomeIsUntold, AreCellsOf, SeesViews, IsNextTo, IsSumOf, IsSummed, AreSummed};
 ghost use Rattle.successor_sums.specs.ByMoves.{OfFour, entries_of, nothing};
 
 use crate::by_moves::{ByMoves, MOVES};
@@ -440,14 +440,14 @@ fn next_sum(
     ensures value { result ≡ sum_by (value_by (cells_after cells.now reached.now)) folds.now }
     ensures high { result ≤ GREATEST_SUM }
 {
-    match small_sum(folds, by_tile, known, cells, places, reached) {
+    match told_sum(folds, by_tile, known, cells, places, reached) {
         Some(sum) => sum,
         None => folded_sum(folds, Some(known), cells, reached),
     }
 }
 
-// That sum, where the values before the move and after it are small ones.
-fn small_sum(
+// That sum, where the values before the move and after it are told by sparse place.
+fn told_sum(
     folds: &[Folded],
     by_tile: &[usize; 25],
     known: u32,
@@ -467,7 +467,7 @@ fn small_sum(
         (λ sum. sum ≡ sum_by (value_by (cells_after cells.now reached.now)) folds.now) }
     ensures high { IfSome result (λ sum. sum ≤ GREATEST_SUM) }
     ensures none { IfNone result
-        (SomeIsLarge folds.now cells.now (cells_after cells.now reached.now) reached.now.tile) }
+        (SomeIsUntold folds.now cells.now (cells_after cells.now reached.now) reached.now.tile) }
 {
     let tile = reached.tile as u8;
     let table = by_tile[tile as usize];
@@ -476,10 +476,10 @@ fn small_sum(
     }
     let fold = &folds[table];
     let before = places[table];
-    let Some(was) = fold.small_value(before) else {
+    let Some(was) = fold.sparse_value(before) else {
         return None;
     };
-    let Some(is) = fold.small_value(sparse_after(fold, before, cells, reached)) else {
+    let Some(is) = fold.sparse_value(sparse_after(fold, before, cells, reached)) else {
         return None;
     };
     Some(known - u32::from(was) + u32::from(is))

@@ -5,7 +5,7 @@ ghost use Rattle.std.specs.Prelude.{◌≡◌, IfSome};
 use super::answer::{Answer, whole_if};
 use batch_runs::Setup;
 use board::{Board, Shape, Weights};
-use database_build::{NO_VALUE, Table, build, fold};
+use database_build::{Folded, NO_VALUE, Table, build, fold};
 use lower_bound::{Bound, TableList};
 use memory::{copy_of, push};
 use pattern_index::{Group, Partition};
@@ -54,6 +54,19 @@ fn has_values(table: &Table, values: &[u16]) -> bool {
     true
 }
 
+// Whether a folded table has these values, by the places of its tiles.
+fn has_folds(folded: &Folded, values: &[u16]) -> bool {
+    if values.len() != folded.size() {
+        return false;
+    }
+    for place in 0..values.len() {
+        if folded.entry(place) != values[place] {
+            return false;
+        }
+    }
+    true
+}
+
 /// Folds a table of tile 1 of 2 by 2. Where its values find no memory, there is none to fold.
 pub fn fold_table(alloc: Global) -> Answer {
     let Ok(group) = Group::new(Shape::new(2, 2).unwrap(), &[1]) else {
@@ -67,7 +80,7 @@ pub fn fold_table(alloc: Global) -> Answer {
     };
     match fold(alloc, table) {
         Ok(folded) => whole_if(
-            folded.values() == [3, 0, 2, 1].as_slice(),
+            has_folds(&folded, &[3, 0, 2, 1]),
             "other folded values",
         ),
         Err(_) => Answer::Refused,
@@ -170,8 +183,8 @@ fn holds_folds_of_singles(bound: &Bound) -> bool {
         TableList::Whole(_) => false,
         TableList::Folded(folds) => {
             folds.len() == 2
-                && folds[0].values() == [1, 0, 2, 1].as_slice()
-                && folds[1].values() == [6, 3, 3, 0].as_slice()
+                && has_folds(&folds[0], &[1, 0, 2, 1])
+                && has_folds(&folds[1], &[6, 3, 3, 0])
         }
     }
 }

@@ -1,21 +1,61 @@
-use Rattle.std.proofs.Common.{◌+◌, List, ℕ, refl, sym, subst, arith}
-use Rattle.database_build.proofs.FillLemmas.{AreLeast, places_none, list_placed, array_long, list_more, all_places}
+use Rattle.std.proofs.Common.{[], ap, ◌∙◌, length, arith}
+use Rattle.std.proofs.lemmas.List.FromFn.{length-map-range_with_len}
+use Rattle.board.specs.Grids.{cell_count}
+use Rattle.database_build.proofs.EntryLemmas.{at_place, cells_wide, least_long, number_within, places_all, value_there}
+use Rattle.database_build.proofs.OrderTables.{pushed}
 use Rattle.database_build.proofs.rows.rank_least.Goals as goal
 
-pub places-init : goal.places-init
-places-init c = record {
-  all = refl;
-  are = places_none c.args.group.now c.args.regions.now c.args.nodes.now c.in_ok-values.values.items c.in_ok-values.ensures.items;
-}
+pub place-set-requires-clause-listing : goal.place-set-requires-clause-listing
+place-set-requires-clause-listing c =
+    cells_wide c.args.group.now c.shape.ensures.group c.places.place (omega (arith, c.folded_size-place-end.ensures.value, c.places-test.true)) c.cells-cells.result (length c.tiles-count.result.now) c.places.list c.list_cells.new.list
+    (c.cells-cells.ensures.value ∙ ap cell_count c.shape.ensures.value) (ap length c.tiles-count.ensures.value) c.places.invariant.all c.list_cells.ensures
 
-pub least_value-least-requires-clause-placed : goal.least_value-least-requires-clause-placed
-least_value-least-requires-clause-placed c = list_placed c.args.group.now c.args.regions.now c.args.nodes.now c.requires.regions c.cells-cells.result c.places.place c.folded_size-place-end.result c.places.list c.cells-cells.ensures.value c.places.invariant.all c.folded_size-place-end.ensures.value c.places-test.true c.list_cells.new.list c.list_cells.ensures
+pub overflow_mul-set : goal.overflow_mul-set
+overflow_mul-set c =
+    let within =
+    number_within c.args.group.now c.shape.ensures.group c.places.place (omega (arith, c.folded_size-place-end.ensures.value, c.places-test.true)) c.cells-cells.result (length c.tiles-count.result.now) c.places.list c.list_cells.new.list
+    (c.cells-cells.ensures.value ∙ ap cell_count c.shape.ensures.value) (ap length c.tiles-count.ensures.value) c.places.invariant.all c.list_cells.ensures
+    c.args.least.now c.place-set.result c.factorial-orders.result c.order_of-order.result c.place-set.ensures c.factorial-orders.ensures.value c.order_of-order.ensures.value c.requires in
+    let all = least_long c.args.group.now c.args.least.now c.requires in
+    let size = c.folded_size.ensures.value in
+    let high = c.folded_size.ensures.high in
+    omega (arith, within, all, size, high)
+
+pub overflow_add-set : goal.overflow_add-set
+overflow_add-set c =
+    let within =
+    number_within c.args.group.now c.shape.ensures.group c.places.place (omega (arith, c.folded_size-place-end.ensures.value, c.places-test.true)) c.cells-cells.result (length c.tiles-count.result.now) c.places.list c.list_cells.new.list
+    (c.cells-cells.ensures.value ∙ ap cell_count c.shape.ensures.value) (ap length c.tiles-count.ensures.value) c.places.invariant.all c.list_cells.ensures
+    c.args.least.now c.place-set.result c.factorial-orders.result c.order_of-order.result c.place-set.ensures c.factorial-orders.ensures.value c.order_of-order.ensures.value c.requires in
+    let all = least_long c.args.group.now c.args.least.now c.requires in
+    let size = c.folded_size.ensures.value in
+    let high = c.folded_size.ensures.high in
+    omega (arith, within, all, size, high)
+
+pub offset_bounds-least-set : goal.offset_bounds-least-set
+offset_bounds-least-set c =
+    let within =
+    number_within c.args.group.now c.shape.ensures.group c.places.place (omega (arith, c.folded_size-place-end.ensures.value, c.places-test.true)) c.cells-cells.result (length c.tiles-count.result.now) c.places.list c.list_cells.new.list
+    (c.cells-cells.ensures.value ∙ ap cell_count c.shape.ensures.value) (ap length c.tiles-count.ensures.value) c.places.invariant.all c.list_cells.ensures
+    c.args.least.now c.place-set.result c.factorial-orders.result c.order_of-order.result c.place-set.ensures c.factorial-orders.ensures.value c.order_of-order.ensures.value c.requires in
+    let all = least_long c.args.group.now c.args.least.now c.requires in
+    let size = c.folded_size.ensures.value in
+    let high = c.folded_size.ensures.high in
+    omega (arith, within, all, size, high)
+
+pub bounds-least-set : goal.bounds-least-set
+bounds-least-set c =
+    number_within c.args.group.now c.shape.ensures.group c.places.place (omega (arith, c.folded_size-place-end.ensures.value, c.places-test.true)) c.cells-cells.result (length c.tiles-count.result.now) c.places.list c.list_cells.new.list
+    (c.cells-cells.ensures.value ∙ ap cell_count c.shape.ensures.value) (ap length c.tiles-count.ensures.value) c.places.invariant.all c.list_cells.ensures
+    c.args.least.now c.place-set.result c.factorial-orders.result c.order_of-order.result c.place-set.ensures c.factorial-orders.ensures.value c.order_of-order.ensures.value c.requires
 
 pub places-preserved : goal.places-preserved
 places-preserved c = record {
-  all = array_long c.args.group.now c.args.regions.now c.args.nodes.now c.requires.regions c.cells-cells.result c.places.place c.folded_size-place-end.result c.places.list c.cells-cells.ensures.value c.places.invariant.all c.folded_size-place-end.ensures.value c.places-test.true c.list_cells.new.list c.list_cells.ensures;
-  are = subst (λ (items : List ℕ). AreLeast c.args.group.now c.args.regions.now c.args.nodes.now (c.places.place + 1) items) (sym c.in_ok-push.ensures.items)
-      (list_more c.args.group.now c.args.regions.now c.args.nodes.now c.requires.regions c.cells-cells.result c.places.place c.folded_size-place-end.result c.places.list c.cells-cells.ensures.value c.places.invariant.all c.folded_size-place-end.ensures.value c.places-test.true c.list_cells.new.list c.list_cells.ensures c.places.values.items c.least_value-least.result c.least_value-least.ensures c.places.invariant.are);
+  all = c.place-set.array_long;
+  are = pushed (at_place c.args.group.now c.args.least.now) [] c.places.values.items c.push.new.items.items c.places.place _ c.places.invariant.are c.in_ok-push.ensures.items
+      (value_there c.args.group.now c.shape.ensures.group c.places.place (omega (arith, c.folded_size-place-end.ensures.value, c.places-test.true)) c.cells-cells.result (length c.tiles-count.result.now) c.places.list c.list_cells.new.list
+      (c.cells-cells.ensures.value ∙ ap cell_count c.shape.ensures.value) (ap length c.tiles-count.ensures.value) c.places.invariant.all c.list_cells.ensures
+      c.args.least.now c.place-set.result c.factorial-orders.result c.order_of-order.result c.place-set.ensures c.factorial-orders.ensures.value c.order_of-order.ensures.value);
 }
 
 pub returns-clause-size : goal.returns-clause-size
@@ -23,12 +63,12 @@ returns-clause-size c =
     let end = c.places-test.false in
     let high = c.places.auto.place-end in
     let is = c.folded_size-place-end.ensures.value in
-    let size = c.places.invariant.are.size in
-    omega (arith, end, high, is, size)
+    let all = ap length c.places.invariant.are ∙ length-map-range_with_len (at_place c.args.group.now c.args.least.now) 0 c.places.place in
+    omega (arith, end, high, is, all)
 
 pub returns-clause-values : goal.returns-clause-values
 returns-clause-values c =
     let end = c.places-test.false in
     let high = c.places.auto.place-end in
     let is = c.folded_size-place-end.ensures.value in
-    all_places c.args.group.now c.args.regions.now c.args.nodes.now c.requires.regions c.places.place c.places.values.items (omega (arith, end, high, is)) c.places.invariant.are
+    places_all c.args.group.now c.args.least.now c.places.values.items c.places.place (omega (arith, end, high, is)) c.places.invariant.are

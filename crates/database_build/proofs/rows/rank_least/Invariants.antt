@@ -1,10 +1,11 @@
-use Rattle.std.proofs.Common.{◌≡◌, length}
-use Rattle.database_build.proofs.FillLemmas.{AreLeast}
+use Rattle.std.proofs.Common.{◌≡◌, length, map}
+use Rattle.std.specs.List.{range_with_len}
+use Rattle.database_build.proofs.EntryLemmas.{at_place}
 use Rattle.database_build.proofs.rows.rank_least.Given as goal
 
--- the places before this one have their least values
+-- the places before this one have their values
 abbrev pub invariant-places : goal.invariant-places
 invariant-places l = record {
   all : length l.list ≡ 9;
-  are : AreLeast l.group l.regions l.nodes l.place l.values.items;
+  are : l.values.items ≡ map (at_place l.group l.least) (range_with_len 0 l.place);
 }

@@ -1,0 +1,15 @@
+use Rattle.std.proofs.Common.{◌∙◌}
+use Rattle.std.proofs.lemmas.Bool.{false≢true}
+use Rattle.database_build.proofs.EntryLemmas.{bytes_least, least_few, words_least}
+use Rattle.database_build.proofs.entries.keep_least.Goals as goal
+
+pub returns-then-not-are_small-clause-values : goal.returns-then-not-are_small-clause-values
+returns-then-not-are_small-clause-values c v view = words_least c.args.group.now v view c.args.least.now c.in_ok-words.words.items (c.in_ok-words.ensures.values v view)
+
+pub narrow_all-requires : goal.narrow_all-requires
+narrow_all-requires c = least_few c.args.group.now c.args.least.now c.requires (λ more. false≢true (c.if-has_many_places.ensures.1 more))
+
+pub returns-clause-values : goal.returns-clause-values
+returns-clause-values c v view =
+    bytes_least c.args.group.now v view c.args.least.now c.deref.result.now c.in_ok-bytes.bytes.items c.requires (c.are_small.ensures.0 c.if-not-are_small.false) (c.deref.ensures.value ∙ c.in_ok-narrow.ensures)
+    (c.in_ok-bytes.ensures.values v view)
