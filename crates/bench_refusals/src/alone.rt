@@ -9,7 +9,7 @@ mod searches;
 mod workers;
 mod worlds;
 
-use crate::requests::is_refused;
+use crate::is_refused;
 use answer::Answer;
 use certificates::{read_announcement, read_certificate};
 use containers::{reserve_closed, reserve_open};

@@ -12,10 +12,9 @@
 #![tactic(auto)]
 
 mod alone;
-mod requests;
 mod threads;
 
-use requests::is_refused;
+use std::alloc::Global;
 use std::env::FillError;
 use std::io::{Eprint, Print};
 use std::process::ExitCode;
@@ -97,4 +96,14 @@ fn refuse(rt: &impl Eprint) -> u8 {
          that it names without arguments",
     );
     2
+}
+
+/// Whether memory is refused in a row of small requests.
+pub fn is_refused(alloc: Global, requests: u32) -> bool {
+    for _ in 0..requests {
+        if Vec::<u8>::with_capacity(alloc, 1).is_err() {
+            return true;
+        }
+    }
+    false
 }

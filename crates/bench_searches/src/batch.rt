@@ -5,19 +5,20 @@
 //! optimal, unsolvable, bounded and refused, and how many boards were expanded for them. To count
 //! these takes time, so `uncounted` leaves it out, and 0 is printed.
 
-mod setup;
-
 use batch_runs::{Setup, SpreadKind, Summary};
-use board::Shape;
+use board::{Board, Shape, Weights};
 use byte_streams::{BufferedSource, ByteSink, Sink, Source};
 use hda_run::{Free, Gate, Kind};
-use setup::guided_setup;
+use memory::OutOfMemory;
+use option_texts::default_groups;
 use setup_runs::run_batch;
+use std::alloc::Global;
 use std::array;
 use std::io::{self, BufWriter, Eprint, Read, Write};
 use std::sync::Wait;
 use std::sync::atomic::{AtomicU64, Ordering};
 use std::thread::Threads;
+use table_sets::{build_bound, build_folded_bound};
 use world_model::WORKER_LIMIT;
 
 // How many counts there are from one worker's on to the next one's: as many as a cache line and the
@@ -119,6 +120,26 @@ fn read_spread(word: &str) -> Option<SpreadKind> {
         "blank" => Some(SpreadKind::Blank),
         _ => None,
     }
+}
+
+// The setup for boards of a shape: Korf's goal, unit costs, and tables for the default groups,
+// whole or folded.
+fn guided_setup(
+    rt: &(impl Threads + Sync),
+    alloc: Global,
+    shape: Shape,
+    fold: bool,
+) -> Result<Setup, OutOfMemory> {
+    let goal = Board::goal(shape);
+    let weights = Weights::unit(shape);
+    let groups = default_groups(alloc, shape)?;
+    let setup = Setup::new(alloc, goal, weights);
+    if fold {
+        let bound = build_folded_bound(rt, alloc, groups, &goal, &weights)?;
+        return Ok(setup.bound(bound));
+    }
+    let bound = build_bound(rt, alloc, groups, &goal, &weights)?;
+    Ok(setup.bound(bound))
 }
 
 // Answers the lines of the source, and prints the counts.

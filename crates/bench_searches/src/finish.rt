@@ -3,14 +3,14 @@
 //!
 //! It prints a line when the world has searched, and another when it has given its outcome.
 
-mod search;
-
 use board::{Board, Shape, Weights};
-use hda_run::Job;
+use hda_run::{Job, World};
 use outcomes::Outcome;
-use search::searched;
+use owners::ByBlank;
+use std::alloc::Global;
 use std::io::{self, Print};
 use test_worlds::bound_of;
+use world_model::{Refusal, Step};
 
 // A start, the count of its rows and columns, and the groups of the tables.
 #[derive(Clone, Copy)]
@@ -46,6 +46,9 @@ const GUIDED: Setup = Setup {
     ],
 };
 
+// More boards than are expanded from any of the starts.
+const MANY: u64 = 1 << 30;
+
 // The setup that the words name, or None where they name none.
 fn read_words(words: &[String]) -> Option<Setup> {
     let Some(word) = words.first() else {
@@ -56,6 +59,26 @@ fn read_words(words: &[String]) -> Option<Setup> {
         "guided" => Some(GUIDED),
         _ => None,
     }
+}
+
+// The world of a job, of one worker, in which no board is left to be expanded; None where there is
+// no memory for it.
+fn searched<'a>(alloc: Global, job: Job<'a>) -> Option<World<'a, ByBlank>> {
+    let mut world = World::new(alloc, job, 1, ByBlank).ok()?;
+    'boards: for _ in 0..MANY {
+        match world.step(alloc, Step::Expand(0)) {
+            Ok(()) => {}
+            Err(Refusal::NoAllowance) => {
+                let _ = world.step(alloc, Step::Announce(0));
+                if world.step(alloc, Step::Grant(0)).is_err() {
+                    break;
+                }
+            }
+            Err(Refusal::NothingBelowLimit) => break,
+            Err(_) => return None,
+        }
+    }
+    Some(world)
 }
 
 fn print_outcome(rt: &impl Print, outcome: &Outcome) -> io::Result<()> {

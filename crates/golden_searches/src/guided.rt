@@ -7,19 +7,23 @@
 //! is none or none is found and there is one, and where the checker refuses its certificate.
 
 mod boards;
-mod certificates;
 mod lines;
 mod tables;
-mod walk;
 
 use board::{Board, Shape, Weights};
-use boards::{Tally, tally_boards};
-use certificates::print_certificate;
-use lines::{CERTIFIED, LINES, print_report};
+use boards::{Tally, compare_on_a_walk, tally_boards};
+use byte_streams::{ByteSink, ByteSource};
+use certificate_runs::run_check;
+use hda_run::Free;
+use lines::{Asked, CERTIFIED, LINES, print_report, setup_of};
+use setup_runs::run_cert;
 use std::io::{self, ErrorKind, Print};
 use std::sync::Wait;
 use std::thread::Threads;
-use walk::compare_on_a_walk;
+
+// No more bytes are printed. In a longer certificate other rows may stand where other boards are
+// met first.
+const MOST_SHOWN: usize = 100;
 
 /// Prints what is answered of the lines, of the boards of small shapes, and of the boards on a walk.
 pub fn print_guided<R: Print + AllocGlobal + Threads + Wait + Sync>(rt: &R) -> io::Result<()> {
@@ -77,4 +81,44 @@ fn print_tally<R: Print + AllocGlobal + Threads + Wait + Sync>(
     let kind = if fold { "folded" } else { "whole" };
     println!(rt; "# All boards of {rows} by {cols} at {name} cost, tables {kind}")?;
     println!(rt; "{tally:?}")
+}
+
+// Prints a line's certificate, where it is short, and what the checker reports of it.
+fn print_certificate<R: Print + AllocGlobal + Threads + Wait + Sync>(
+    rt: &R,
+    asked: &Asked,
+) -> io::Result<()> {
+    asked.print(rt)?;
+    let Some(bytes) = certificate_of(rt, asked) else {
+        return Err(ErrorKind::InvalidData.into());
+    };
+    if bytes.len() <= MOST_SHOWN {
+        println!(rt; "{bytes:?}")?;
+    }
+    print_verdict(rt, bytes.as_slice())
+}
+
+// The bytes that are written for a line, or None where memory was refused.
+fn certificate_of<R: Threads + Wait + AllocGlobal + Sync>(
+    rt: &R,
+    asked: &Asked,
+) -> Option<Vec<u8>> {
+    let setup = setup_of(rt, rt.alloc(), asked)?;
+    let mut source = ByteSource::new(asked.line.as_bytes());
+    let mut sink = ByteSink::new(Vec::new(rt.alloc()));
+    run_cert(rt, rt.alloc(), &mut source, &mut sink, &setup, &Free).ok()?;
+    Some(sink.into_inner())
+}
+
+// Prints what the checker reports of bytes.
+fn print_verdict<R: Print + AllocGlobal + Threads + Sync>(rt: &R, bytes: &[u8]) -> io::Result<()> {
+    let mut sink = ByteSink::new(Vec::new(rt.alloc()));
+    let Ok(_) = run_check(rt, rt.alloc(), &mut ByteSource::new(bytes), &mut sink) else {
+        return Err(ErrorKind::InvalidData.into());
+    };
+    let report = sink.into_inner();
+    let Ok(text) = str::from_utf8(report.as_slice()) else {
+        return Err(ErrorKind::InvalidData.into());
+    };
+    rt.println(text)
 }

@@ -8,7 +8,6 @@
 //! What is printed is the words, each line of the input behind `< ` when it is begun to be read,
 //! what the replay passes on behind `> ` when it flushes, and the status or the code of the fault.
 
-mod escapes;
 mod setups;
 mod streams;
 

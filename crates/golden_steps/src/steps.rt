@@ -12,7 +12,6 @@ mod look;
 mod scenes;
 mod team;
 mod trial;
-mod words;
 
 use acts::make;
 use board::Shape;

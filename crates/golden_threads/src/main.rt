@@ -8,7 +8,6 @@
 #![tactic(auto)]
 
 mod costs;
-mod far;
 mod gated;
 mod goals;
 mod held;

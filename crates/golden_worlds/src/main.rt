@@ -6,10 +6,15 @@
 //! Without a word it prints both parts. The exit status is 1 where no part has that word.
 #![tactic(auto)]
 
+ghost use Rattle.std.specs.Prelude.{◌≡◌, []};
+
 mod drawn;
 mod solved;
-mod tables;
 
+use board::Shape;
+use lower_bound::Bound;
+use pattern_index::Partition;
+use std::alloc::Global;
 use std::env;
 use std::io::{self, ErrorKind, Print};
 use std::rt::Env;
@@ -40,4 +45,13 @@ fn print_part(rt: &(impl Print + AllocGlobal), word: &str) -> io::Result<()> {
         "solved" => solved::print_solved(rt),
         _ => Err(ErrorKind::InvalidInput.into()),
     }
+}
+
+/// The bound of no group, whose sums are 0.
+pub fn no_tables(alloc: Global, shape: Shape) -> Bound
+    ensures sides { result.split.grid ≡ shape }
+    ensures tables { (result.lookups ≡ []) × (result.folds ≡ []) }
+{
+    let partition = Partition::new(shape, Vec::new(alloc)).unwrap();
+    Bound::new(partition, Vec::new(alloc)).unwrap()
 }

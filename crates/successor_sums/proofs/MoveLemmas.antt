@@ -29,7 +29,6 @@ use Rattle.pattern_index.proofs.RankLemmas.{below_in, differ_from_pairs}
 use Rattle.pattern_index.proofs.PlaceLemmas.{place_listing}
 use Rattle.pattern_index.proofs.SparseLemmas.{moved, sparse_small, stride_low, pow_low}
 use Rattle.database_build.specs.Folds.{Fold}
-use Rattle.database_build.specs.Tables.{Lookup}
 use Rattle.lower_bound.specs.Folded.{IsBefore}
 use Rattle.successor_sums.specs.Unpacked.{board_in, AreCellsOf, IsUnpacked, cells_after, IsSmall, IsUntold, SomeIsUntold}
 use Rattle.successor_sums.specs.declared.unpacked.UnpackedBoard.TheInside.{Inside}

@@ -1,5 +1,5 @@
 -- Entries for the moves, and the sum of a board after each.
-use Rattle.std.proofs.Common.{◌≡◌, ◌≢◌, ℕ, zero, suc, ◌<◌, ◌≤◌, List, [], ◌∷◌, ◌++◌, length, get_or, Option, Some, None, refl, sym, ap, ◌∙◌, subst, arith, ◌+◌, Bool, true, false, set, ⊎_elim, map, take, drop}
+use Rattle.std.proofs.Common.{◌≡◌, ◌≢◌, ℕ, zero, suc, ◌<◌, ◌≤◌, List, [], ◌∷◌, ◌++◌, length, get_or, Option, Some, None, refl, sym, ap, ◌∙◌, subst, arith, ◌+◌, Bool, true, false, set, ⊎_elim, map}
 use Rattle.std.specs.Prelude.{⊤, IfSome, if◌then◌else◌, All, AllPairs, slice_index, sum, sum_by, option_map}
 use Rattle.std.specs.List.{AllByRecursion}
 use Rattle.std.proofs.lemmas.List.Elements.{All-from_recursion, recursion_from_All, All-weaker}
@@ -19,7 +19,7 @@ use Rattle.board.specs.Keys.{HasKey}
 use Rattle.board.proofs.NeighbourLemmas.{cells_above}
 use Rattle.pattern_index.specs.Views.{Sight, IsView, view_of, view_at}
 use Rattle.pattern_index.specs.Splits.{ShareNoTile}
-use Rattle.pattern_index.specs.Selections.{Selection, IsTile, IsGroup, rank_in}
+use Rattle.pattern_index.specs.Selections.{Selection, IsTile, IsGroup}
 use Rattle.pattern_index.proofs.StorageLemmas.{looked_up}
 use Rattle.pattern_index.proofs.ViewMoveLemmas.{board_view}
 use Rattle.database_build.specs.Tables.{Lookup, value_in}

@@ -48,10 +48,25 @@ fn sum_of_table(table: &Table) -> u64 {
     sum
 }
 
-fn sum_of(values: &[u16]) -> u64 {
-    values
-        .iter()
-        .fold(0, |sum: u64, value| sum.wrapping_add(u64::from(*value)))
+fn sum_of_fold(fold: &Folded) -> u64 {
+    let mut sum: u64 = 0;
+    for place in 0..fold.size() {
+        sum = sum.wrapping_add(u64::from(fold.entry(place)));
+    }
+    sum
+}
+
+// Whether two folded tables are of one group and have the same values.
+fn are_alike(fold: &Folded, other: &Folded) -> bool {
+    if fold.group() != other.group() || fold.size() != other.size() {
+        return false;
+    }
+    for place in 0..fold.size() {
+        if fold.entry(place) != other.entry(place) {
+            return false;
+        }
+    }
+    true
 }
 
 // The folded tables of a bound, where it holds such.
@@ -73,8 +88,10 @@ fn are_folded_alike(one: &Bound, other: &Bound) -> bool {
         }
     }
     folds.len() == others.len()
-        && folds.iter().zip(others).all(|(fold, other)| fold.group() == other.group()
-            && fold.values() == other.values())
+        && folds
+            .iter()
+            .zip(others)
+            .all(|(fold, other)| are_alike(fold, other))
 }
 
 // What folded tables of the default groups say of a board, all values of each added, and whether
@@ -94,7 +111,7 @@ fn fold_groups<R: Threads + Sync>(
     let sum_of_board = folded.of(board);
     let mut sums = [0; 3];
     for (sum, fold) in sums.iter_mut().zip(folded_tables(&folded)?) {
-        *sum = sum_of(fold.values());
+        *sum = sum_of_fold(fold);
     }
     let groups = default_groups(alloc, shape).ok()?;
     let whole = build_bound(rt, alloc, groups, &goal, weights).ok()?;

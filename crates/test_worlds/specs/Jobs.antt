@@ -7,7 +7,7 @@ use Rattle.search_lists.specs.Orders.{Guide}
 use Rattle.world_model.specs.declared.limits.TheConstants.{PACKET_LIMIT}
 use Rattle.world_model.specs.Workers.{Packet}
 use Rattle.worker_core.specs.Roles.{IsGuided, task_of}
-use Rattle.test_worlds.specs.declared.job.Job.{Job}
+use Rattle.test_worlds.specs.declared.problems.Job.{Job}
 
 -- the weights and the bound are for boards with the goal's sides
 pub record IsFit (job : Job) : Type 0 where

@@ -5,15 +5,13 @@
 #![tactic(auto)]
 
 mod gates;
-mod job;
 mod problems;
 mod solving;
 mod steps;
 mod tables;
 
 pub use gates::{Counter, Delay};
-pub use job::Job;
-pub use problems::{Answer, Division, Problem, Team};
+pub use problems::{Answer, Division, Job, Problem, Team};
 pub use solving::{answer_of_threads, answer_with_rows, answer_without_rows};
 pub use steps::{expand, hire, meet, settle};
 pub use tables::bound_of;

@@ -1,6 +1,7 @@
 //! What is asked of workers, and what they answer.
 
 use board::{Board, Weights};
+use lower_bound::Bound;
 use outcomes::Cause;
 
 /// A board, the goal, what moves cost, and how many boards may be expanded.
@@ -10,6 +11,15 @@ pub struct Problem {
     pub goal: Board,
     pub weights: Weights,
     pub limit: u64,
+}
+
+/// What a worker is lent of its task: a goal, the weights, and the bound by which the search is
+/// led.
+#[derive(Drop)]
+pub struct Job {
+    pub goal: Board,
+    pub weights: Weights,
+    pub bound: Bound,
 }
 
 /// How boards are divided among workers.

@@ -4,7 +4,7 @@ ghost use Rattle.std.specs.Prelude.{◌≡◌, ◌<◌, ◌≤◌, IfSome, IsTru
 ghost use Rattle.worker_core.specs.Workers.{packets_of};
 ghost use Rattle.test_worlds.specs.Jobs.{IsFit, IsLed, HasFew};
 
-use crate::job::Job;
+use crate::problems::Job;
 use board::GREATEST_COST;
 use memory::OutOfMemory;
 use message_ledger::{Allowance, Counting, Purse};

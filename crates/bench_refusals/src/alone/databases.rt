@@ -79,10 +79,7 @@ pub fn fold_table(alloc: Global) -> Answer {
         return Answer::Wrong("no table");
     };
     match fold(alloc, table) {
-        Ok(folded) => whole_if(
-            has_folds(&folded, &[3, 0, 2, 1]),
-            "other folded values",
-        ),
+        Ok(folded) => whole_if(has_folds(&folded, &[3, 0, 2, 1]), "other folded values"),
         Err(_) => Answer::Refused,
     }
 }

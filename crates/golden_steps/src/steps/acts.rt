@@ -1,18 +1,17 @@
-//! What is done in a scene, line by line.
+//! What is done in a scene, line by line, and the words for what it answers.
 
 use crate::steps::scenes::{Act, Row};
 use crate::steps::team::Team;
 use crate::steps::trial::Trial;
-use crate::steps::words::{rest_word, word_of};
 use arrayvec::ArrayVec;
 use board::{Board, Move, Shape};
 use message_ledger::{Packet, Purse, Tokens};
 use owners::Spread;
-use quiescence::{Book, book_code};
+use quiescence::{Book, Rested, book_code};
 use std::alloc::Global;
-use step_lines::answer_word;
+use step_lines::{answer_word, step_code};
 use worker_core::{LaneIn, LaneOut, Queue};
-use world_model::{Item, LANE_LIMIT, PACKET_LIMIT};
+use world_model::{Item, LANE_LIMIT, PACKET_LIMIT, Refusal};
 
 /// Does what a line says, and returns the word for the answer.
 pub fn make<C: Tokens, S: Spread>(
@@ -187,4 +186,22 @@ fn take_first<C: Tokens>(purse: &mut Purse<C>, lane: &mut Queue<C>) -> &'static 
     };
     let _ = packet.open(purse);
     "ok"
+}
+
+// The word for a step that may have been left out.
+fn word_of(answer: Option<Result<(), Refusal>>) -> &'static str {
+    match answer {
+        Some(made) => answer_word(made),
+        None => "left out",
+    }
+}
+
+// The same of a worker that rests.
+fn rest_word(answer: Option<Result<Rested, Refusal>>) -> &'static str {
+    match answer {
+        Some(Ok(Rested::Waits)) => "waits",
+        Some(Ok(Rested::Quiet)) => "quiet",
+        Some(Err(refusal)) => step_code(refusal),
+        None => "left out",
+    }
 }

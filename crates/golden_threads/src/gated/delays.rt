@@ -2,7 +2,7 @@
 
 ghost use Rattle.lower_bound.specs.Tables.{ArePotentials};
 
-use crate::far::{GROUPS, START, problem};
+use crate::gated::{GROUPS, START, problem};
 use lower_bound::Bound;
 use std::alloc::Global;
 use std::io::{self, ErrorKind, Print};

@@ -1,6 +1,6 @@
 //! Runs that a limit on expansions stops.
 
-use crate::far::{START, problem};
+use crate::gated::{START, problem};
 use outcomes::Cause;
 use std::alloc::Global;
 use std::io::{self, ErrorKind, Print};

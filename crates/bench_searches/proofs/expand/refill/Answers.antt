@@ -5,7 +5,7 @@ use Rattle.worker_core.specs.Expanding.{role_by}
 use Rattle.worker_core.specs.Roles.{task_of}
 use Rattle.worker_core.specs.Workers.{state_of, with_book}
 use Rattle.bench_searches.proofs.SearchLemmas.{announced}
-use Rattle.bench_searches.proofs.expand.search.refill.Goals as goal
+use Rattle.bench_searches.proofs.expand.refill.Goals as goal
 
 pub grant-requires-clause-counted : goal.grant-requires-clause-counted
 grant-requires-clause-counted c κs =

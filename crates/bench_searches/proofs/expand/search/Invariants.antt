@@ -1,7 +1,7 @@
 use Rattle.std.proofs.Common.{◌≡◌, length}
 use Rattle.worker_core.specs.Workers.{packets_of}
 use Rattle.bench_searches.specs.Searches.{IsLed, HasFew}
-use Rattle.bench_searches.proofs.expand.search.search.Given as goal
+use Rattle.bench_searches.proofs.expand.search.Given as goal
 
 -- a guide leads the worker, whose one packet is not too full, and all that was granted is granted to it
 abbrev pub invariant-boards : goal.invariant-boards

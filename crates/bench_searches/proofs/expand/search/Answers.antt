@@ -1,5 +1,5 @@
 use Rattle.std.proofs.Common.{length, ◌∙◌}
-use Rattle.bench_searches.proofs.expand.search.search.Goals as goal
+use Rattle.bench_searches.proofs.expand.search.Goals as goal
 
 pub boards-preserved : goal.boards-preserved
 boards-preserved c =

@@ -1,5 +1,5 @@
 use Rattle.worker_core.specs.Roles.{guide_of, task_of}
-use Rattle.bench_searches.proofs.expand.search.begin.Goals as goal
+use Rattle.bench_searches.proofs.expand.begin.Goals as goal
 
 pub returns-clause-led : goal.returns-clause-led
 returns-clause-led c = λ rule.
