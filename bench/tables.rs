@@ -104,7 +104,7 @@ fn main() -> ExitCode {
     };
     let weights = weights_of(shape.cells(), *weights);
     let goal = goal_of(shape.cells(), *goal);
-    let is_group = words[1] == "group";
+    let is_group = words[1].starts_with("group");
     let tiles: Vec<u8> = if is_group {
         counts.iter().map(|tile| *tile as u8).collect()
     } else {

@@ -15,6 +15,7 @@
 //!     bench_kernels folded ..                the same, folded
 //!     bench_kernels group WEIGHTS GOAL ROWS COLS TILE..
 //!                                            the table of the group with these tiles
+//!     bench_kernels group-folded ..          the same, folded
 //!     bench_kernels built .., built-folded ..
 //!                                            tables that are built and not read
 //!     bench_kernels sums SIDE BOARDS ROUNDS COUNT..

@@ -117,6 +117,11 @@ pub fn read_part(alloc: Global, name: &str, numbers: &[usize]) -> Option<Part> {
             let task = task_of(*weights, *goal, true);
             Some(Part::Tables(group_of(alloc, shape, tiles)?, task))
         }
+        ("group-folded", [weights, goal, rows, cols, tiles @ ..]) => {
+            let shape = shape_of(*rows, *cols)?;
+            let task = task_of(*weights, *goal, true).folded();
+            Some(Part::Tables(group_of(alloc, shape, tiles)?, task))
+        }
         ("sums", [side, boards, rounds, counts @ ..]) => {
             let shape = shape_of(*side, *side)?;
             let groups = read_groups(alloc, shape, counts)?;
