@@ -65,7 +65,8 @@ impl Search {
         Ok(())
     }
 
-    // Lowers the node to which an edge leads from one of this order.
+    // Lowers the node to which an edge leads from one of this order, where its value is more. (Most
+    // are passed over, so the test stands here.)
     fn pass(&mut self, edge: &Edge, order: usize, cost: usize) -> Result<(), OutOfMemory>
         requires fits { IsFit self.old }
         requires order { order < factorial self.old.graph.regions.count }
@@ -82,19 +83,21 @@ impl Search {
             .orders
             .moved(order, edge.from as usize, edge.to as usize);
         let node = edge.region as usize * self.graph.orders.size() + moved;
-        self.lower(node, cost + self.graph.costs[tile] as usize)
+        let total = cost + self.graph.costs[tile] as usize;
+        if self.values[node] as usize <= total {
+            return Ok(());
+        }
+        self.lower(node, total)
     }
 
-    // Lowers the value of a node to a cost where it is more. The node then waits in that bucket, so
-    // a cost of `NO_VALUE` or more is never written.
+    // Lowers the value of a node to a cost that is less, and lets the node wait in that bucket.
     fn lower(&mut self, node: usize, cost: usize) -> Result<(), OutOfMemory>
         requires inside { node < length self.old.values.items }
         requires small { node < 2 ^ 32 }
+        requires less { cost < slice_index self.old.values.items node }
+        requires fits { cost < NO_VALUE }
         ensures { OnOk result (IsLowered node cost self.old self.new) }
     {
-        if self.values[node] as usize <= cost {
-            return Ok(());
-        }
         grow(self.alloc, &mut self.buckets, cost)?;
         put(&mut self.buckets, cost, node as u32)?;
         self.values[node] = cost as u16;
