@@ -19,7 +19,7 @@ use Rattle.pattern_index.proofs.PlaceLemmas.{place_listing, place_below as view_
 use Rattle.pattern_index.proofs.RankLemmas.{below_in, differ_in, length-list_at, list_at_below, list_at_differ, listing_from}
 use Rattle.pattern_index.proofs.SightLemmas.{sight_below, listing}
 use Rattle.pattern_index.proofs.SparseLemmas.{slot_below}
-use Rattle.database_build.specs.Entries.{HasEntries, by_rank, slot_of_rank, values_in, widened}
+use Rattle.database_build.specs.Entries.{HasEntries, HaveOneForm, IsKeptBest, by_rank, slot_of_rank, values_in, widened}
 use Rattle.database_build.specs.FoldEntries.{by_place, most_places}
 use Rattle.database_build.specs.Graphs.{node_in, node_count}
 use Rattle.database_build.specs.Orders.{order_of}
@@ -76,6 +76,18 @@ pub values_size : (g : Selection) (entries : Entries) → HasEntries g entries �
 values_size g (Ranked values) has = has
 values_size g (Bytes bytes) has = length-by_rank g (λ slot. widened (slice_index bytes.items slot))
 values_size g (Words words) has = length-by_rank g (slice_index words.items)
+
+-- entries that are kept best have one form
+pub one_form : (size limit : ℕ) (values : List ℕ) (one other : Entries) → IsKeptBest (size ≤ limit) values one → IsKeptBest (size ≤ limit) values other → HaveOneForm one other
+one_form size limit values (Ranked a) (Ranked b) is is' = tt
+one_form size limit values (Ranked a) (Bytes b) is is' = is is'.0
+one_form size limit values (Ranked a) (Words b) is is' = is is'.0
+one_form size limit values (Bytes a) (Ranked b) is is' = is' is.0
+one_form size limit values (Bytes a) (Bytes b) is is' = tt
+one_form size limit values (Bytes a) (Words b) is is' = is'.1 is.1
+one_form size limit values (Words a) (Ranked b) is is' = is' is.0
+one_form size limit values (Words a) (Bytes b) is is' = is.1 is'.1
+one_form size limit values (Words a) (Words b) is is' = tt
 
 -- what a byte stands for is at most NO_VALUE
 widened_high : (byte : ℕ) → byte ≤ NO_VALUE → widened byte ≤ NO_VALUE

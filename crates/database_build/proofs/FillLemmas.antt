@@ -281,7 +281,7 @@ module _ (g : Selection) (r : Regions) (nodes : List ℕ) (regions : IsRegions g
 -- ---- one list of cells
 
 -- some cell is free where fewer are taken
-some_free : (m : ℕ) (xs : List ℕ) → Differ xs → below m xs < m → (blank : ℕ) × (blank < m) × (¬ Contains xs blank)
+pub some_free : (m : ℕ) (xs : List ℕ) → Differ xs → below m xs < m → (blank : ℕ) × (blank < m) × (¬ Contains xs blank)
 some_free zero xs differ few = absurd (omega (arith, few))
 some_free (suc m) xs differ few =
     ⊎_elim

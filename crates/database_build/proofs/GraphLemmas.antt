@@ -41,7 +41,7 @@ factorial_some zero = omega arith
 factorial_some (suc n) = let h = factorial_some n in let m : 1 * factorial n ≤ suc n * factorial n = mul-le-mul_right (factorial n) (omega arith) in omega arith
 
 -- a cell that is not in a list differs from all in it
-other_from_free : (x : ℕ) (xs : List ℕ) → ¬ Contains xs x → Other x xs
+pub other_from_free : (x : ℕ) (xs : List ℕ) → ¬ Contains xs x → Other x xs
 other_from_free x xs free = recursion_from_All (λ y. x ≢ y) xs (All-from_get_or (λ y. x ≢ y) xs x (λ k k_in same. free (k, k_in, sym same)))
 
 -- nothing is replaced where the cell is not there

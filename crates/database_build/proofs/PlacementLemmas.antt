@@ -1,19 +1,21 @@
 -- The placements of tiles: by the set of their cells and their order, and by their sparse place.
-use Rattle.std.proofs.Common.{◌≡◌, ◌≢◌, ℕ, zero, suc, ◌+◌, ◌-◌, ◌*◌, ◌^◌, ◌<◌, ◌≤◌, List, [], ◌∷◌, ◌++◌, length, get_or, map, take, drop, refl, sym, ap, ◌∙◌, subst, ⊎_elim, arith, set}
-use Rattle.std.specs.Prelude.{All, AllPairs, slice_get, slice_index}
-use Rattle.std.proofs.Math.Nat.{mul_comm, mul-le-mul_right}
+use Rattle.std.proofs.Common.{◌≡◌, ◌≢◌, ℕ, zero, suc, ◌+◌, ◌-◌, ◌*◌, ◌/◌, ◌%◌, ◌^◌, ◌<◌, ◌≤◌, List, [], ◌∷◌, ◌++◌, length, get_or, map, take, drop, refl, sym, ap, ◌∙◌, subst, ⊎_elim, arith, set}
+use Rattle.std.specs.Prelude.{All, AllPairs, Contains, slice_get, slice_index}
+use Rattle.std.proofs.Math.Nat.{mod-add-div, mul_comm, mul-le-mul_right, pow-succ', pow-zero}
 use Rattle.std.proofs.lemmas.Bool.{cases_eq}
-use Rattle.std.proofs.lemmas.Nat.{mul-add-lt, mul-le}
+use Rattle.std.proofs.lemmas.Nat.{div_below, mul-add-lt, mul-le}
 use Rattle.std.proofs.lemmas.List.{take_at, length-set, length-take-le}
-use Rattle.std.proofs.lemmas.List.Elements.{recursion_from_All}
+use Rattle.std.proofs.lemmas.List.Elements.{All-cons, recursion_from_All}
 use Rattle.std.proofs.lemmas.Option.{slice_get_read}
 use Rattle.board.specs.Grids.{Grid, cell_count}
 use Rattle.pattern_index.specs.Laws.{factorial}
 use Rattle.pattern_index.specs.Selections.{Selection, IsSelection}
-use Rattle.pattern_index.specs.Sparse.{digits_in, sparse_of, sparse_size_of}
+use Rattle.pattern_index.specs.Sparse.{digits_in, sparse_in, sparse_of, sparse_size_of}
+use Rattle.pattern_index.specs.Views.{Sight, IsView}
 use Rattle.pattern_index.proofs.GroupLemmas.{groups_small}
-use Rattle.pattern_index.proofs.RankLemmas.{Below}
-use Rattle.pattern_index.proofs.SparseLemmas.{digits_back, sparse_below}
+use Rattle.pattern_index.proofs.PlaceLemmas.{place_listing}
+use Rattle.pattern_index.proofs.RankLemmas.{Below, Differ, differ_from_pairs, listing_from, pairs_from_differ}
+use Rattle.pattern_index.proofs.SparseLemmas.{digits_back, digits_below, length-digits, sparse_below, view_digits}
 use Rattle.database_build.specs.FoldEntries.{HasNoView}
 use Rattle.database_build.specs.Orders.{order_of, positions_at}
 use Rattle.database_build.specs.Placements.{AreAllWritten, AreWritten, IsSetList, placement_in, placement_count}
@@ -21,7 +23,9 @@ use Rattle.database_build.specs.Regions.{IsPlaced}
 use Rattle.database_build.specs.Sets.{AreSame, choose, set_at, set_place}
 use Rattle.database_build.specs.Slots.{ArePositions}
 use Rattle.database_build.proofs.BucketLemmas.{get_set_same, get_set_other}
-use Rattle.database_build.proofs.OrderLemmas.{positions_are, order_below, one_placement}
+use Rattle.database_build.proofs.FillLemmas.{some_free}
+use Rattle.database_build.proofs.GraphLemmas.{other_from_free}
+use Rattle.database_build.proofs.OrderLemmas.{below-all, positions_are, order_below, one_placement}
 use Rattle.database_build.proofs.OrderTables.{factorial_small, length-positions_at}
 use Rattle.database_build.proofs.SetLemmas.{place_below, same_place, set_is, sets_differ}
 use Rattle.database_build.proofs.SlotLemmas.{order_positions, set_placed}
@@ -110,6 +114,54 @@ module _ (grid : Grid) (count : ℕ) where
 -- the sparse place of a placement is that of a view
 pub placed_view : (g : Selection) (xs : List ℕ) → IsPlaced g.grid (length g.tiles) xs → ¬ HasNoView g (sparse_of (cell_count g.grid) xs)
 placed_view g xs one none = none (subst (λ ys. AllPairs (λ x y. x ≢ y) ys) (sym (sparse_digits g.grid (length g.tiles) xs one)) one.listing.different)
+
+-- a number is made of its digits again
+digits_whole : (n count number : ℕ) → 0 < n → number < n ^ count → sparse_of n (digits_in n count number) ≡ number
+unfolding sparse_of digits_in
+digits_whole n zero number some low = omega (arith, low, pow-zero n)
+digits_whole n (suc count) number some low =
+    let step = pow-succ' n count in
+    let turned = mul_comm n (n ^ count) in
+    let rest = div_below number n (n ^ count) some (omega (arith, low, step, turned)) in
+    ap (λ k. number % n + n * k) (digits_whole n count (number / n) some rest) ∙ mod-add-div number n
+
+-- a sparse place whose digits differ is that of a view
+pub seen_place : (g : Selection) (sparse : ℕ) → IsSelection g → sparse < sparse_size_of g → AllPairs (λ x y. x ≢ y) (digits_in (cell_count g.grid) (length g.tiles) sparse) → (v : Sight) × IsView g.grid g.tiles v × (sparse_in g.grid v ≡ sparse)
+seen_place g sparse group low different = (
+  record { blank = free.0; cells = xs },
+  record {
+    one_each = long;
+    in_range = All-cons (λ cell. cell < size) free.0 xs free.1 (listing_from size xs below_size differ).in_range;
+    different = pairs_from_differ (free.0 ∷ xs) (other_from_free free.0 xs free.2, differ);
+  },
+  digits_whole size (length g.tiles) sparse some low,
+)
+  where
+    size : ℕ
+    size = cell_count g.grid
+
+    xs : List ℕ
+    xs = digits_in size (length g.tiles) sparse
+
+    some : 0 < size
+    some = let room = (groups_small g group).1 in omega (arith, room)
+
+    long : length xs ≡ length g.tiles
+    long = length-digits size (length g.tiles) sparse
+
+    below_size : Below size xs
+    below_size = digits_below size (length g.tiles) sparse some
+
+    differ : Differ xs
+    differ = differ_from_pairs xs different
+
+    free : (blank : ℕ) × (blank < size) × (¬ Contains xs blank)
+    free = some_free size xs differ (let room = (groups_small g group).1 in let all = below-all size xs below_size in omega (arith, room, all, long))
+
+-- no view has a sparse place with two digits that are the same
+pub unseen_place : (g : Selection) (sparse : ℕ) → HasNoView g sparse → (v : Sight) → IsView g.grid g.tiles v → sparse_in g.grid v ≢ sparse
+unseen_place g sparse none v view there =
+    none (subst (λ ys. AllPairs (λ x y. x ≢ y) ys) (sym (view_digits g.grid g.tiles v sparse view there)) (place_listing g.grid g.tiles v view).different)
 
 -- ---- what is written for one set, order by order
 

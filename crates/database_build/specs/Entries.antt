@@ -37,6 +37,18 @@ HasEntries g (Words words) = length words.items ≡ slot_count_of g
 abbrev pub AreSmall : List ℕ → Type 0
 AreSmall values = All (λ value. (value < 255) ⊎ (value ≡ NO_VALUE)) values
 
+-- both are by rank, both bytes, or both words
+abbrev pub HaveOneForm : Entries → Entries → Type 0
+HaveOneForm (Ranked one) (Ranked other) = Unit {0}
+HaveOneForm (Ranked one) (Bytes other) = ⊥
+HaveOneForm (Ranked one) (Words other) = ⊥
+HaveOneForm (Bytes one) (Ranked other) = ⊥
+HaveOneForm (Bytes one) (Bytes other) = Unit {0}
+HaveOneForm (Bytes one) (Words other) = ⊥
+HaveOneForm (Words one) (Ranked other) = ⊥
+HaveOneForm (Words one) (Bytes other) = ⊥
+HaveOneForm (Words one) (Words other) = Unit {0}
+
 -- values are kept by rank only where there are too many places, and as words only where some value needs one
 abbrev pub IsKeptBest : (fits : Type 0) → List ℕ → Entries → Type 0
 IsKeptBest fits values (Ranked kept) = ¬ fits

@@ -1,15 +1,18 @@
 -- The laws of the definitions. Each is the contract of a function that does nothing.
-use Rattle.std.specs.Prelude.{ℕ, ◌≡◌, ◌*◌, ◌^◌, ◌≤◌, List, length, min}
+use Rattle.std.specs.Prelude.{ℕ, ◌≡◌, ◌≢◌, ◌*◌, ◌^◌, ◌<◌, ◌≤◌, ◌↔◌, List, length, min}
 use Rattle.board.specs.declared.moves.Move.{Move}
 use Rattle.board.specs.Positions.{Position, IsBoard}
 use Rattle.board.specs.CostRules.{CostRule}
 use Rattle.pattern_index.specs.Views.{Sight, IsView, Abstraction, ViewLeads, view_of}
 use Rattle.pattern_index.specs.Selections.{Selection, IsSelection, folded_size_of}
+use Rattle.pattern_index.specs.Sparse.{sparse_in, sparse_size_of}
 use Rattle.database_build.specs.Values.{IsValue, IsPotential}
 use Rattle.database_build.specs.Tables.{Lookup, HoldsValues, value_in}
 use Rattle.database_build.specs.Folds.{Fold, IsFoldedValue, IsFoldOf, folded_in}
-use Rattle.database_build.specs.FoldEntries.{most_places}
+use Rattle.database_build.specs.Entries.{HaveOneForm, IsKeptBest}
+use Rattle.database_build.specs.FoldEntries.{HasNoView, most_places}
 use Rattle.database_build.specs.Frames.{GroupSize, Fits}
+use Rattle.database_build.specs.declared.entries.Entries.{Entries}
 
 -- a view has one value
 abbrev pub ValuesAreDetermined : Type 0
@@ -60,6 +63,22 @@ FoldedValuesAreDetermined = (table : Lookup) (v : Sight) (n k : ℕ) → IsFolde
 -- the sparse places that a folded table keeps are at most those of six digits of 16, and four for each value
 abbrev pub PlacesAreFew : Type 0
 PlacesAreFew = (g : Selection) → most_places g ≡ min (16 ^ 6) (4 * folded_size_of g)
+
+-- the form in which values are kept best is determined: by rank, as bytes, or as words
+abbrev pub FormsAreDetermined : Type 0
+FormsAreDetermined =
+    (size limit : ℕ) (values : List ℕ) (one other : Entries)
+    → IsKeptBest (size ≤ limit) values one
+    → IsKeptBest (size ≤ limit) values other
+    → HaveOneForm one other
+
+-- a sparse place of a group has no view, by its digits, exactly if it isn't that of a view
+abbrev pub PlacesWithoutViews : Type 0
+PlacesWithoutViews =
+    (g : Selection) (sparse : ℕ)
+    → IsSelection g
+    → sparse < sparse_size_of g
+    → HasNoView g sparse ↔ ((v : Sight) → IsView g.grid g.tiles v → sparse_in g.grid v ≢ sparse)
 
 -- what fits a group fits each other one of the same grid with as many tiles
 abbrev pub FramesFitAll : Type 0

@@ -5,6 +5,7 @@ ghost use Rattle.database_build.specs.Laws.{ValuesAreDetermined, ValuesArePotent
 ghost use Rattle.database_build.specs.Laws.{PotentialsAreLowerBounds};
 ghost use Rattle.database_build.specs.Laws.{FoldedValuesAreLow, FoldedValuesAreReached};
 ghost use Rattle.database_build.specs.Laws.{PlacesAreFew, FoldedValuesAreDetermined, FramesFitAll};
+ghost use Rattle.database_build.specs.Laws.{FormsAreDetermined, PlacesWithoutViews};
 
 use crate::folding::{MOST_PLACES, PLACES_A_VALUE};
 use crate::table::NO_VALUE;
@@ -47,6 +48,16 @@ pub fn folded_values_are_least()
     ensures low { FoldedValuesAreLow }
     ensures reached { FoldedValuesAreReached }
     ensures one { FoldedValuesAreDetermined }
+{}
+
+/// Values are kept best in one form: by rank, as bytes, or as words.
+pub fn forms_are_determined()
+    ensures { FormsAreDetermined }
+{}
+
+/// A sparse place has no view exactly where two of its digits are the same.
+pub fn places_without_views()
+    ensures { PlacesWithoutViews }
 {}
 
 /// A frame that fits a group fits each other one of its shape with as many tiles.
