@@ -200,51 +200,50 @@ module _ (fold : Fold) (g : Selection) (entries : Entries) (is : record { select
       pub no_view_read : HasNoView fold.selection sparse → value ≡ NO_VALUE
       no_view_read none = read.others (subst (λ (f : Fold). HasNoView f.selection sparse) (sym is) none)
 
-  -- the cells that have a place
-  module _ (selection : IsSelection g) (place : ℕ) (low : place < folded_size_of fold.selection) (grid : Grid) (cells : ℕ) (tiles list : List ℕ) (shape : grid ≡ g.grid) (counted : cells ≡ cell_count grid) (group : tiles ≡ g.tiles) (listed : list ≡ list_at cells (length {A = ℕ} (take (length tiles) (replicate 9 0))) place) where
-    low_in : place < folded_size_of g
-    low_in = subst (λ (f : Fold). place < folded_size_of f.selection) (sym is) low
+  -- what is read at the sparse place of a place is its value
+  pub place_read : (place sparse value : ℕ) → place < folded_size_of fold.selection → sparse ≡ sparse_of_place g place → IsRead g entries sparse value → value ≡ slice_index fold.least place
+  place_read place sparse value low there read =
+      let of_group : place < folded_size_of g = subst (λ (f : Fold). place < folded_size_of f.selection) (sym is) low in
+      read.is ∙ ap read.at_sparse there
+      ∙ sym (by_place_entry g read.at_sparse place of_group)
+      ∙ ap (λ (xs : List ℕ). slice_index xs place) (sym read.kept)
+      ∙ ap (λ (f : Fold). slice_index f.least place) is
 
-    few : length g.tiles ≤ 9
-    few = (groups_small g selection).0
+-- the cells that have a place
+module _ (g : Selection) (selection : IsSelection g) (place : ℕ) (low : place < folded_size_of g) (grid : Grid) (cells : ℕ) (tiles list : List ℕ) (shape : grid ≡ g.grid) (counted : cells ≡ cell_count grid) (group : tiles ≡ g.tiles) (listed : list ≡ list_at cells (length {A = ℕ} (take (length tiles) (replicate 9 0))) place) where
+  few : length g.tiles ≤ 9
+  few = (groups_small g selection).0
 
-    room : length g.tiles ≤ cell_count g.grid
-    room = let h = (groups_small g selection).1 in omega (arith, h)
+  room : length g.tiles ≤ cell_count g.grid
+  room = let h = (groups_small g selection).1 in omega (arith, h)
 
-    all_cells : cells ≡ cell_count g.grid
-    all_cells = counted ∙ ap cell_count shape
+  all_cells : cells ≡ cell_count g.grid
+  all_cells = counted ∙ ap cell_count shape
 
-    same : list ≡ list_at (cell_count g.grid) (length g.tiles) place
-    same =
-        listed ∙ (λ i. list_at (all_cells i) (length {A = ℕ} (take (length (group i)) (replicate 9 0))) place)
-        ∙ ap (λ k. list_at (cell_count g.grid) k place) (room_taken (length g.tiles) few)
+  same : list ≡ list_at (cell_count g.grid) (length g.tiles) place
+  same =
+      listed ∙ (λ i. list_at (all_cells i) (length {A = ℕ} (take (length (group i)) (replicate 9 0))) place)
+      ∙ ap (λ k. list_at (cell_count g.grid) k place) (room_taken (length g.tiles) few)
 
-    below : Below (cell_count g.grid) list
-    below = subst (Below (cell_count g.grid)) (sym same) (list_at_below (cell_count g.grid) (length g.tiles) place room low_in)
+  below : Below (cell_count g.grid) list
+  below = subst (Below (cell_count g.grid)) (sym same) (list_at_below (cell_count g.grid) (length g.tiles) place room low)
 
-    -- they are cells of the grid
-    pub listed_below : All (λ cell. cell < cells) list
-    listed_below = subst (λ n. All (λ cell. cell < n) list) (sym all_cells) (All-from_recursion (λ cell. cell < cell_count g.grid) list below)
+  -- they are cells of the grid
+  pub listed_below : All (λ cell. cell < cells) list
+  listed_below = subst (λ n. All (λ cell. cell < n) list) (sym all_cells) (All-from_recursion (λ cell. cell < cell_count g.grid) list below)
 
-    module _ (sparse : ℕ) (there : sparse ≡ sparse_of cells list) where
-      there_in : sparse ≡ sparse_of (cell_count g.grid) list
-      there_in = there ∙ ap (λ n. sparse_of n list) all_cells
+  module _ (sparse : ℕ) (there : sparse ≡ sparse_of cells list) where
+    -- their sparse place is that of the place
+    pub place_sparse : sparse ≡ sparse_of_place g place
+    place_sparse = there ∙ (λ i. sparse_of (all_cells i) (same i))
 
-      -- there is an entry at their sparse place
-      pub place_within : sparse < sparse_size_of g
-      place_within =
-          let long : length list ≡ length g.tiles = ap length same ∙ length-list_at (cell_count g.grid) (length g.tiles) place room in
-          let h : sparse_of (cell_count g.grid) list < sparse_size_of g = subst (λ k. sparse_of (cell_count g.grid) list < cell_count g.grid ^ k) long (sparse_below (cell_count g.grid) list below) in
-          let e = there_in in
-          omega (arith, h, e)
-
-      -- what is read there is the value of the place
-      pub place_read : (value : ℕ) → IsRead g entries sparse value → value ≡ slice_index fold.least place
-      place_read value read =
-          read.is ∙ ap read.at_sparse (there_in ∙ ap (sparse_of (cell_count g.grid)) same)
-          ∙ sym (by_place_entry g read.at_sparse place low_in)
-          ∙ ap (λ (xs : List ℕ). slice_index xs place) (sym read.kept)
-          ∙ ap (λ (f : Fold). slice_index f.least place) is
+    -- and there is an entry at it
+    pub place_within : sparse < sparse_size_of g
+    place_within =
+        let long : length list ≡ length g.tiles = ap length same ∙ length-list_at (cell_count g.grid) (length g.tiles) place room in
+        let h : sparse_of (cell_count g.grid) list < sparse_size_of g = subst (λ k. sparse_of (cell_count g.grid) list < cell_count g.grid ^ k) long (sparse_below (cell_count g.grid) list below) in
+        let e : sparse ≡ sparse_of (cell_count g.grid) list = there ∙ ap (λ n. sparse_of n list) all_cells in
+        omega (arith, h, e)
 
 -- ---- folded values
 

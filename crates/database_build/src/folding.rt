@@ -9,7 +9,7 @@ ghost use Rattle.pattern_index.specs.Sparse.{sparse_in, sparse_size_of, stride_o
 ghost use Rattle.database_build.specs.Folds.{IsFoldOf, folded_in};
 ghost use Rattle.database_build.specs.Marks.{AreMarksOf};
 ghost use Rattle.database_build.specs.FoldEntries.{AreStridesOf, HasLeast, HasNoView, least_in};
-ghost use Rattle.database_build.specs.FoldEntries.{most_places};
+ghost use Rattle.database_build.specs.FoldEntries.{most_places, sparse_of_place};
 
 use crate::entries::{Entries, keep_least};
 use crate::least::fold_table;
@@ -148,14 +148,10 @@ impl Folded {
         requires { place < folded_size_of self.now.selection }
         ensures { result ≡ slice_index self.now.least place }
     {
-        let cells = self.group.shape().cells();
-        let mut list = [0; 9];
-        let list = &mut list[..self.group.tiles().len()];
-        list_cells(cells, place, list);
         match &self.entries {
             Entries::Ranked(least) => least[place],
-            Entries::Bytes(bytes) => widened(bytes[sparse_place(cells, list)]),
-            Entries::Words(words) => words[sparse_place(cells, list)],
+            Entries::Bytes(bytes) => widened(bytes[sparse_at(&self.group, place)]),
+            Entries::Words(words) => words[sparse_at(&self.group, place)],
         }
     }
 
@@ -200,6 +196,19 @@ pub fn fold(alloc: Global, table: Table) -> Result<Folded, OutOfMemory>
     let least = fold_table(alloc, &table)?;
     let entries = keep_least(alloc, &group, &least)?;
     Ok(Folded::of_group(&group, entries))
+}
+
+// The sparse place of the views with a place.
+fn sparse_at(group: &Group, place: usize) -> usize
+    requires { place < folded_size_of group.now }
+    ensures value { result ≡ sparse_of_place group.now place }
+    ensures below { result < sparse_size_of group.now }
+{
+    let cells = group.shape().cells();
+    let mut list = [0; 9];
+    let list = &mut list[..group.tiles().len()];
+    list_cells(cells, place, list);
+    sparse_place(cells, list)
 }
 
 // The strides of the numbers in a group's sparse places.
