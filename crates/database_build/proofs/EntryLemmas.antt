@@ -289,10 +289,14 @@ replicated n i a x is =
 pub least_long : (g : Selection) (least : List ℕ) → length least ≡ placement_count (cell_count g.grid) (length g.tiles) → length least ≡ folded_size_of g
 least_long g least are = are ∙ choose_ways (cell_count g.grid) (length g.tiles)
 
+-- sparse places that are not too many are few enough
+pub not_more : (g : Selection) → ¬ (most_places g < sparse_size_of g) → sparse_size_of g ≤ most_places g
+not_more g few = ⊎_elim (λ (more : most_places g < sparse_size_of g). absurd (few more)) (λ (fits : sparse_size_of g ≤ most_places g). fits) (cases_lt (most_places g) (sparse_size_of g))
+
 -- and no more than sparse places
 pub least_few : (g : Selection) (least : List ℕ) → length least ≡ placement_count (cell_count g.grid) (length g.tiles) → ¬ (most_places g < sparse_size_of g) → length least ≤ 2 ^ 27
 least_few g least are few =
-    let fits : sparse_size_of g ≤ most_places g = ⊎_elim (λ (more : most_places g < sparse_size_of g). absurd (few more)) (λ (fits : sparse_size_of g ≤ most_places g). fits) (cases_lt (most_places g) (sparse_size_of g)) in
+    let fits = not_more g few in
     let all = least_long g least are in
     let low = ways_low (cell_count g.grid) (length g.tiles) in
     let top = min-le_left MOST_PLACES (PLACES_A_VALUE * folded_size_of g) in

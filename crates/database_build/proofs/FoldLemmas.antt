@@ -116,7 +116,7 @@ module _ (g : Selection) (entries : Entries) (has : HasLeast g entries) (items :
 
   -- or a word
   pub words_size : (words : Vec ℕ Global) → entries ≡ Words words → items ≡ words.items → length items ≡ sparse_size_of g
-  words_size words kept all = let are : ArePlaces g NO_VALUE words.items = subst (HasLeast g) kept has in ap length all ∙ are.size
+  words_size words kept all = let are : HasLeast g (Words words) = subst (HasLeast g) kept has in ap length all ∙ are.0.size
 
   module _ (sparse : ℕ) (low : sparse < sparse_size_of g) where
     -- a byte that is read
@@ -134,7 +134,8 @@ module _ (g : Selection) (entries : Entries) (has : HasLeast g entries) (items :
     -- a word that is read
     pub word_read : (words : Vec ℕ Global) (value : ℕ) → entries ≡ Words words → items ≡ words.items → value ≡ get_or items sparse value → IsRead g entries sparse value
     word_read words value kept all read =
-        let are : ArePlaces g NO_VALUE words.items = subst (HasLeast g) kept has in
+        let whole : HasLeast g (Words words) = subst (HasLeast g) kept has in
+        let are : ArePlaces g NO_VALUE words.items = whole.0 in
         let there : slice_get words.items sparse ≡ Some value = indexed words.items sparse value (omega (arith, low, are.size)) (read ∙ ap (λ (xs : List ℕ). get_or xs sparse value) all) in
         record {
           at_sparse = slice_index words.items;

@@ -1,29 +1,32 @@
 -- The placements of tiles: by the set of their cells and their order, and by their sparse place.
-use Rattle.std.proofs.Common.{◌≡◌, ◌≢◌, ℕ, zero, suc, ◌+◌, ◌-◌, ◌*◌, ◌/◌, ◌%◌, ◌^◌, ◌<◌, ◌≤◌, List, [], ◌∷◌, ◌++◌, length, get_or, map, take, drop, refl, sym, ap, ◌∙◌, subst, ⊎_elim, arith, set}
-use Rattle.std.specs.Prelude.{All, AllPairs, Contains, slice_get, slice_index}
+use Rattle.std.proofs.Common.{◌≡◌, ◌≢◌, ℕ, zero, suc, ◌+◌, ◌-◌, ◌*◌, ◌/◌, ◌%◌, ◌^◌, ◌<◌, ◌≤◌, List, [], ◌∷◌, ◌++◌, length, get_or, map, take, drop, refl, sym, ap, ◌∙◌, subst, inl, inr, ⊎_elim, arith, set}
+use Rattle.std.specs.Prelude.{◌⊎◌, All, AllPairs, Contains, Some, slice_get, slice_index}
 use Rattle.std.proofs.Math.Nat.{mod-add-div, mul_comm, mul-le-mul_right, pow-succ', pow-zero}
 use Rattle.std.proofs.lemmas.Bool.{cases_eq}
-use Rattle.std.proofs.lemmas.Nat.{div_below, mul-add-lt, mul-le}
-use Rattle.std.proofs.lemmas.List.{take_at, length-set, length-take-le}
+use Rattle.std.proofs.lemmas.Nat.{div-add-mod', div_below, mod_below, mul-add-lt, mul-le}
+use Rattle.std.proofs.lemmas.List.{get_or_default, take_at, length-set, length-take-le}
 use Rattle.std.proofs.lemmas.List.Elements.{All-cons, recursion_from_All}
-use Rattle.std.proofs.lemmas.Option.{slice_get_read}
+use Rattle.std.proofs.lemmas.Option.{get_or_from_slice_get, slice_get-get_or, slice_get_read, slice_get_within}
 use Rattle.board.specs.Grids.{Grid, cell_count}
 use Rattle.pattern_index.specs.Laws.{factorial}
-use Rattle.pattern_index.specs.Selections.{Selection, IsSelection}
+use Rattle.pattern_index.specs.Selections.{Selection, IsSelection, place_in}
 use Rattle.pattern_index.specs.Sparse.{digits_in, sparse_in, sparse_of, sparse_size_of}
 use Rattle.pattern_index.specs.Views.{Sight, IsView}
 use Rattle.pattern_index.proofs.GroupLemmas.{groups_small}
-use Rattle.pattern_index.proofs.PlaceLemmas.{place_listing}
-use Rattle.pattern_index.proofs.RankLemmas.{Below, Differ, differ_from_pairs, listing_from, pairs_from_differ}
+use Rattle.pattern_index.proofs.PlaceLemmas.{place_below as view_place_below, place_listing}
+use Rattle.pattern_index.proofs.RankLemmas.{Below, Differ, Other, differ_from_pairs, listing_from, pairs_from_differ}
 use Rattle.pattern_index.proofs.SparseLemmas.{digits_back, digits_below, length-digits, sparse_below, view_digits}
-use Rattle.database_build.specs.FoldEntries.{HasNoView}
+use Rattle.database_build.specs.Entries.{AreSmall}
+use Rattle.database_build.specs.FoldEntries.{ArePlaces, HasNoView, by_place}
 use Rattle.database_build.specs.Orders.{order_of, positions_at}
 use Rattle.database_build.specs.Placements.{AreAllWritten, AreWritten, IsSetList, placement_in, placement_count}
 use Rattle.database_build.specs.Regions.{IsPlaced}
 use Rattle.database_build.specs.Sets.{AreSame, choose, set_at, set_place}
 use Rattle.database_build.specs.Slots.{ArePositions}
+use Rattle.database_build.specs.declared.table.TheConstants.{NO_VALUE}
 use Rattle.database_build.proofs.BucketLemmas.{get_set_same, get_set_other}
 use Rattle.database_build.proofs.FillLemmas.{some_free}
+use Rattle.database_build.proofs.FoldLemmas.{by_place_at, length-by_place}
 use Rattle.database_build.proofs.GraphLemmas.{other_from_free}
 use Rattle.database_build.proofs.OrderLemmas.{below-all, positions_are, order_below, one_placement}
 use Rattle.database_build.proofs.OrderTables.{factorial_small, length-positions_at}
@@ -115,6 +118,26 @@ module _ (grid : Grid) (count : ℕ) where
 pub placed_view : (g : Selection) (xs : List ℕ) → IsPlaced g.grid (length g.tiles) xs → ¬ HasNoView g (sparse_of (cell_count g.grid) xs)
 placed_view g xs one none = none (subst (λ ys. AllPairs (λ x y. x ≢ y) ys) (sym (sparse_digits g.grid (length g.tiles) xs one)) one.listing.different)
 
+-- numbers differ or don't
+other_or_not : (x : ℕ) (xs : List ℕ) → Other x xs ⊎ (¬ Other x xs)
+other_or_not x [] = inl tt
+other_or_not x (y ∷ ys) =
+    ⊎_elim
+    (λ (same : x ≡ y). inr (λ other. other.0 same))
+    (λ (ne : x ≢ y). ⊎_elim (λ rest. inl (ne, rest)) (λ none. inr (λ other. none other.1)) (other_or_not x ys))
+    (cases_eq x y)
+
+differ_lists : (xs : List ℕ) → Differ xs ⊎ (¬ Differ xs)
+differ_lists [] = inl tt
+differ_lists (x ∷ xs) =
+    ⊎_elim
+    (λ other. ⊎_elim (λ rest. inl (other, rest)) (λ none. inr (λ differ. none differ.1)) (differ_lists xs))
+    (λ none. inr (λ differ. none differ.0))
+    (other_or_not x xs)
+
+differ_or_not : (xs : List ℕ) → AllPairs (λ x y. x ≢ y) xs ⊎ (¬ AllPairs (λ x y. x ≢ y) xs)
+differ_or_not xs = ⊎_elim (λ differ. inl (pairs_from_differ xs differ)) (λ none. inr (λ different. none (differ_from_pairs xs different))) (differ_lists xs)
+
 -- a number is made of its digits again
 digits_whole : (n count number : ℕ) → 0 < n → number < n ^ count → sparse_of n (digits_in n count number) ≡ number
 unfolding sparse_of digits_in
@@ -162,6 +185,70 @@ seen_place g sparse group low different = (
 pub unseen_place : (g : Selection) (sparse : ℕ) → HasNoView g sparse → (v : Sight) → IsView g.grid g.tiles v → sparse_in g.grid v ≢ sparse
 unseen_place g sparse none v view there =
     none (subst (λ ys. AllPairs (λ x y. x ≢ y) ys) (sym (view_digits g.grid g.tiles v sparse view there)) (place_listing g.grid g.tiles v view).different)
+
+-- each number is that of a placement
+numbered : (grid : Grid) (count k : ℕ) → k < placement_count (cell_count grid) count → (xs : List ℕ) × IsPlaced grid count xs × (placement_in count xs ≡ k)
+numbered grid count k low = (
+  xs,
+  are.placed,
+  (λ i. set_is_k i * orders + are.order_is i) ∙ div-add-mod' k orders,
+)
+  where
+    orders : ℕ
+    orders = factorial count
+
+    some : 0 < orders
+    some =
+        ⊎_elim
+        (λ (none : orders ≡ 0). let empty : choose (cell_count grid) count * orders ≡ choose (cell_count grid) count * 0 = ap (λ m. choose (cell_count grid) count * m) none in absurd (omega (arith, low, empty)))
+        (λ (other : orders ≢ 0). omega (arith, other))
+        (cases_eq orders 0)
+
+    set : ℕ
+    set = k / orders
+
+    listed : IsSetList grid count (set_at (cell_count grid) count set)
+    listed = (set, div_below k orders (choose (cell_count grid) count) some low, refl)
+
+    xs : List ℕ
+    xs = map (slice_index (set_at (cell_count grid) count set)) (positions_at count (k % orders))
+
+    are : IsOrdered grid count (set_at (cell_count grid) count set) (k % orders) xs
+    are = ordered grid count (set_at (cell_count grid) count set) listed (k % orders) (mod_below k orders some)
+
+    set_is_k : set_place xs ≡ set
+    set_is_k =
+        sets_same grid count xs (set_at (cell_count grid) count set) are.placed (set_list grid count (set_at (cell_count grid) count set) listed) are.same
+        ∙ set_list_place grid count (set_at (cell_count grid) count set) listed
+
+-- where the value of a placement needs a word, so does the word at its sparse place
+pub words_needed :
+    (g : Selection) (least words : List ℕ)
+    → length least ≡ placement_count (cell_count g.grid) (length g.tiles)
+    → ((xs : List ℕ) → IsPlaced g.grid (length g.tiles) xs → slice_get words (sparse_of (cell_count g.grid) xs) ≡ slice_get least (placement_in (length g.tiles) xs))
+    → ¬ AreSmall least
+    → ¬ AreSmall words
+words_needed g least words long kept large small = large (λ k d low.
+    let at = numbered g.grid (length g.tiles) k (omega (arith, low, long)) in
+    let sparse = sparse_of (cell_count g.grid) at.0 in
+    let there : slice_get words sparse ≡ Some (get_or least k d) = kept at.0 at.1 ∙ ap (slice_get least) at.2 ∙ slice_get-get_or least k d low in
+    subst (λ (value : ℕ). (value < 255) ⊎ (value ≡ NO_VALUE)) (get_or_from_slice_get words sparse (get_or least k d) d there) (small sparse d (slice_get_within words sparse (get_or least k d) there)))
+
+-- words by place need as much as those by sparse place, since no other needs any
+pub small_places : (g : Selection) (words : List ℕ) → IsSelection g → ArePlaces g NO_VALUE words → AreSmall (by_place g (slice_index words)) → AreSmall words
+small_places g words group are small k d low =
+    ⊎_elim
+    (λ (different : AllPairs (λ x y. x ≢ y) digits).
+    let v = seen_place g k group (omega (arith, low, are.size)) different in
+    let is : get_or (by_place g (slice_index words)) (place_in g.grid v.0) 0 ≡ get_or words k d =
+    by_place_at g (slice_index words) v.0 v.1 ∙ ap (slice_index words) v.2 ∙ get_or_default words k 0 d low in
+    let within : place_in g.grid v.0 < length (by_place g (slice_index words)) = let all = length-by_place g (slice_index words) in let below = view_place_below g.grid g.tiles v.0 v.1 in omega (arith, all, below) in
+    subst (λ (value : ℕ). (value < 255) ⊎ (value ≡ NO_VALUE)) is (small (place_in g.grid v.0) 0 within))
+    (λ (none : HasNoView g k). inr (are.others k (get_or words k d) none (slice_get-get_or words k d low)))
+    (differ_or_not digits)
+  where
+    digits : List ℕ
+    digits = digits_in (cell_count g.grid) (length g.tiles) k
 
 -- ---- what is written for one set, order by order
 

@@ -5,7 +5,7 @@ use Rattle.board.specs.Grids.{cell_count}
 use Rattle.pattern_index.specs.Ranks.{list_at}
 use Rattle.pattern_index.specs.Selections.{Selection, folded_size_of}
 use Rattle.pattern_index.specs.Sparse.{digits_in, sparse_of, sparse_size_of, stride_of}
-use Rattle.database_build.specs.Entries.{widened}
+use Rattle.database_build.specs.Entries.{AreSmall, widened}
 use Rattle.database_build.specs.declared.entries.Entries.{Entries}
 use Rattle.database_build.specs.declared.entries.Entries.TheVariants.{Ranked, Bytes, Words}
 use Rattle.database_build.specs.declared.folding.TheConstants.{MOST_PLACES, PLACES_A_VALUE}
@@ -39,11 +39,11 @@ pub record ArePlaces (g : Selection) (none : ℕ) (entries : List ℕ) : Type 0 
   pub size : length entries ≡ sparse_size_of g
   pub others : (sparse entry : ℕ) → HasNoView g sparse → slice_get entries sparse ≡ Some entry → entry ≡ none
 
--- there is an entry for each sparse place where they are not too many, else one for each value
+-- there is an entry for each sparse place where they are not too many, else one for each value; it is a word only where some value needs one
 abbrev pub HasLeast : Selection → Entries → Type 0
 HasLeast g (Ranked least) = (most_places g < sparse_size_of g) × (length least.items ≡ folded_size_of g)
 HasLeast g (Bytes bytes) = ArePlaces g 255 bytes.items
-HasLeast g (Words words) = ArePlaces g NO_VALUE words.items
+HasLeast g (Words words) = ArePlaces g NO_VALUE words.items × (¬ AreSmall words.items)
 
 -- the stride of each number that may be a tile
 abbrev pub AreStridesOf : Selection → List ℕ → Type 0

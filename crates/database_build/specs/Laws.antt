@@ -1,5 +1,6 @@
 -- The laws of the definitions. Each is the contract of a function that does nothing.
-use Rattle.std.specs.Prelude.{ℕ, ◌≡◌, ◌≢◌, ◌*◌, ◌^◌, ◌<◌, ◌≤◌, ◌↔◌, List, length, min}
+use Rattle.std.specs.Prelude.{ℕ, ◌≡◌, ◌≢◌, ◌*◌, ◌^◌, ◌<◌, ◌≤◌, ◌↔◌, List, Vec, length, min}
+use Rattle.std.specs.declared.alloc.Global.{Global}
 use Rattle.board.specs.declared.moves.Move.{Move}
 use Rattle.board.specs.Positions.{Position, IsBoard}
 use Rattle.board.specs.CostRules.{CostRule}
@@ -9,10 +10,11 @@ use Rattle.pattern_index.specs.Sparse.{sparse_in, sparse_size_of}
 use Rattle.database_build.specs.Values.{IsValue, IsPotential}
 use Rattle.database_build.specs.Tables.{Lookup, HoldsValues, value_in}
 use Rattle.database_build.specs.Folds.{Fold, IsFoldedValue, IsFoldOf, folded_in}
-use Rattle.database_build.specs.Entries.{HaveOneForm, IsKeptBest}
-use Rattle.database_build.specs.FoldEntries.{HasNoView, most_places}
+use Rattle.database_build.specs.Entries.{AreSmall, HaveOneForm, IsKeptBest}
+use Rattle.database_build.specs.FoldEntries.{HasLeast, HasNoView, least_in, most_places}
 use Rattle.database_build.specs.Frames.{GroupSize, Fits}
 use Rattle.database_build.specs.declared.entries.Entries.{Entries}
+use Rattle.database_build.specs.declared.entries.Entries.TheVariants.{Words}
 
 -- a view has one value
 abbrev pub ValuesAreDetermined : Type 0
@@ -71,6 +73,10 @@ FormsAreDetermined =
     → IsKeptBest (size ≤ limit) values one
     → IsKeptBest (size ≤ limit) values other
     → HaveOneForm one other
+
+-- a folded table is kept as words only where some value needs one
+abbrev pub WordsAreNeeded : Type 0
+WordsAreNeeded = (g : Selection) (words : Vec ℕ Global) → IsSelection g → HasLeast g (Words words) → ¬ AreSmall (least_in g (Words words))
 
 -- a sparse place of a group has no view, by its digits, exactly if it isn't that of a view
 abbrev pub PlacesWithoutViews : Type 0

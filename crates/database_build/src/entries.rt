@@ -1,16 +1,16 @@
 //! What a table keeps of the views of its group: their values by rank, or by slot.
 
 ghost use Rattle.std.specs.Prelude.{ℕ, ◌≡◌, ◌↔◌, ◌<◌, ◌≤◌, ◌^◌, IfOk, IsTrue, Some};
-ghost use Rattle.std.specs.Prelude.{length, map, min, slice_get, slice_index};
+ghost use Rattle.std.specs.Prelude.{List, length, map, min, slice_get, slice_index};
 ghost use Rattle.board.specs.Grids.{cell_count};
 ghost use Rattle.pattern_index.specs.Views.{Sight, IsView};
 ghost use Rattle.pattern_index.specs.Selections.{place_in, rank_in};
-ghost use Rattle.pattern_index.specs.Sparse.{slot_count_of, slot_in, sparse_in, sparse_size_of};
+ghost use Rattle.pattern_index.specs.Sparse.{slot_count_of, slot_in, sparse_of, sparse_size_of};
 ghost use Rattle.database_build.specs.Entries.{AreSmall, HasEntries, IsKeptBest, values_in};
 ghost use Rattle.database_build.specs.FoldEntries.{HasLeast, HasNoView, least_in, most_places};
 ghost use Rattle.database_build.specs.Placements.{placement_count, placement_in};
 ghost use Rattle.database_build.specs.Graphs.{node_in, node_count};
-ghost use Rattle.database_build.specs.Regions.{IsRegions};
+ghost use Rattle.database_build.specs.Regions.{IsPlaced, IsRegions};
 
 use crate::folding::{MOST_PLACES, PLACES_A_VALUE};
 use crate::orders::factorial;
@@ -136,9 +136,10 @@ fn fill_places<T: Copy>(
     requires least { length least.now
         ≡ placement_count (cell_count group.now.grid) (length group.now.tiles) }
     ensures size { IfOk result (λ places. length places.items ≡ sparse_size_of group.now) }
-    ensures values { IfOk result (λ places. (v : Sight) → IsView group.now.grid group.now.tiles v
-        → slice_get places.items (sparse_in group.now.grid v)
-        ≡ slice_get least.now (placement_in (length group.now.tiles) v.cells)) }
+    ensures values { IfOk result (λ places. (cells : List ℕ)
+        → IsPlaced group.now.grid (length group.now.tiles) cells
+        → slice_get places.items (sparse_of (cell_count group.now.grid) cells)
+        ≡ slice_get least.now (placement_in (length group.now.tiles) cells)) }
     ensures others { IfOk result (λ places. (sparse : ℕ) (entry : T) → HasNoView group.now sparse
         → slice_get places.items sparse ≡ Some entry → entry ≡ filler) }
 {

@@ -5,7 +5,7 @@ ghost use Rattle.database_build.specs.Laws.{ValuesAreDetermined, ValuesArePotent
 ghost use Rattle.database_build.specs.Laws.{PotentialsAreLowerBounds};
 ghost use Rattle.database_build.specs.Laws.{FoldedValuesAreLow, FoldedValuesAreReached};
 ghost use Rattle.database_build.specs.Laws.{PlacesAreFew, FoldedValuesAreDetermined, FramesFitAll};
-ghost use Rattle.database_build.specs.Laws.{FormsAreDetermined, PlacesWithoutViews};
+ghost use Rattle.database_build.specs.Laws.{FormsAreDetermined, PlacesWithoutViews, WordsAreNeeded};
 
 use crate::folding::{MOST_PLACES, PLACES_A_VALUE};
 use crate::table::NO_VALUE;
@@ -50,9 +50,11 @@ pub fn folded_values_are_least()
     ensures one { FoldedValuesAreDetermined }
 {}
 
-/// Values are kept best in one form: by rank, as bytes, or as words.
+/// Values are kept best in one form: by rank, as bytes, or as words. Folded values are kept as words
+/// only where some value needs one.
 pub fn forms_are_determined()
-    ensures { FormsAreDetermined }
+    ensures best { FormsAreDetermined }
+    ensures words { WordsAreNeeded }
 {}
 
 /// A sparse place has no view exactly where two of its digits are the same.

@@ -1,10 +1,22 @@
-use Rattle.std.proofs.Common.{◌∙◌}
+use Rattle.std.proofs.Common.{◌∙◌, sym}
 use Rattle.std.proofs.lemmas.Bool.{false≢true}
-use Rattle.database_build.proofs.EntryLemmas.{bytes_least, least_few, words_least}
+use Rattle.database_build.proofs.EntryLemmas.{bytes_least, least_few, not_more, tiles_placed, words_least}
+use Rattle.database_build.proofs.PlacementLemmas.{words_needed}
 use Rattle.database_build.proofs.entries.keep_least.Goals as goal
 
+pub returns-then-not-are_small-clause-entries : goal.returns-then-not-are_small-clause-entries
+returns-then-not-are_small-clause-entries c = (
+  record {
+    few = not_more c.args.group.now (λ more. false≢true (c.if-has_many_places.ensures.1 more));
+    size = c.in_ok-words.ensures.size;
+    others = c.in_ok-words.ensures.others;
+  },
+  words_needed c.args.group.now c.args.least.now c.in_ok-words.words.items c.requires c.in_ok-words.ensures.values (λ small. false≢true (sym c.if-not-are_small.true ∙ c.are_small.ensures.1 small)),
+)
+
 pub returns-then-not-are_small-clause-values : goal.returns-then-not-are_small-clause-values
-returns-then-not-are_small-clause-values c v view = words_least c.args.group.now v view c.args.least.now c.in_ok-words.words.items (c.in_ok-words.ensures.values v view)
+returns-then-not-are_small-clause-values c v view =
+    words_least c.args.group.now v view c.args.least.now c.in_ok-words.words.items (c.in_ok-words.ensures.values v.cells (tiles_placed c.args.group.now v view))
 
 pub narrow_all-requires : goal.narrow_all-requires
 narrow_all-requires c = least_few c.args.group.now c.args.least.now c.requires (λ more. false≢true (c.if-has_many_places.ensures.1 more))
@@ -12,4 +24,4 @@ narrow_all-requires c = least_few c.args.group.now c.args.least.now c.requires (
 pub returns-clause-values : goal.returns-clause-values
 returns-clause-values c v view =
     bytes_least c.args.group.now v view c.args.least.now c.deref.result.now c.in_ok-bytes.bytes.items c.requires (c.are_small.ensures.0 c.if-not-are_small.false) (c.deref.ensures.value ∙ c.in_ok-narrow.ensures)
-    (c.in_ok-bytes.ensures.values v view)
+    (c.in_ok-bytes.ensures.values v.cells (tiles_placed c.args.group.now v view))
