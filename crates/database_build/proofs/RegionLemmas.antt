@@ -6,20 +6,21 @@ use Rattle.std.proofs.lemmas.Bool.{cases_order, false≢true, cases_lt}
 use Rattle.std.proofs.lemmas.List.{get_or-set_same, get_or-set_other, length-set, length-append, get_or_append_left}
 use Rattle.std.proofs.lemmas.List.Sums.{sum_by-set}
 use Rattle.board.specs.declared.moves.Move.{Move}
-use Rattle.board.specs.Grids.{Grid, cell_count}
+use Rattle.board.specs.Grids.{Grid, IsShape, cell_count}
 use Rattle.board.specs.Neighbours.{LiesTowards, opposite}
 use Rattle.board.proofs.MoveLemmas.{cell_below}
 use Rattle.pattern_index.proofs.ViewMoveLemmas.{lies_back}
-use Rattle.database_build.specs.Sets.{AreSame, set_at, choose, set_place}
-use Rattle.database_build.specs.Regions.{IsFree, Wanders, IsPlaced, HasRegions, region_in}
+use Rattle.database_build.specs.Sets.{AreSame, IsChoices, set_at, choose, set_place}
+use Rattle.database_build.specs.Regions.{IsFree, Wanders, IsPlaced, HasRegions, IsRegions, region_in}
 use Rattle.database_build.specs.Labels.{IsLabel, AreLabels, AreSettled, IsLowering, IsSettled}
 use Rattle.std.proofs.lemmas.Option.{slice_get_within, slice_get-get_or, get_or_from_slice_get}
 use Rattle.std.proofs.Math.Seq.{get_or-append_seam}
 use Rattle.std.proofs.Math.Nat.{mul-le-mul_right, mul_assoc, mul_comm, mul-le-mul_left}
 use Rattle.pattern_index.specs.Ranks.{IsListing, ways}
+use Rattle.pattern_index.specs.declared.group.TheConstants.{MAX_SIZE}
 use Rattle.pattern_index.proofs.RankLemmas.{Differ, differ_in, below_in}
 use Rattle.database_build.specs.Orders.{below}
-use Rattle.database_build.specs.Numberings.{IsHome, IsNumberedRow, HasRow, AreNumbered, AreNumberedTo}
+use Rattle.database_build.specs.Numberings.{AreBegun, AreOfSameSets, IsHome, IsLabelled, IsNumberedRow, HasRow, AreNumbered, AreNumberedTo}
 use Rattle.database_build.specs.declared.regions.Home.{Home}
 use Rattle.database_build.proofs.OrderLemmas.{below-zero, below-all, below_there, below_absent, in_or_out}
 use Rattle.pattern_index.specs.Laws.{factorial}
@@ -348,21 +349,25 @@ few_places n count set limit low small =
     let e = all_ways n count in
     omega arith
 
-pub numbered_first : (grid : Grid) (count : ℕ) → AreNumbered grid count [] [] 0
-numbered_first grid count = record {
+first_numbered : (grid : Grid) (count : ℕ) → AreNumbered grid count [] [] 0
+first_numbered grid count = record {
   size = omega arith;
   rows = λ other lt. absurd (omega arith);
   are_homes = λ region home is. absurd (let h = slice_get_within [] region home is in omega arith);
   few = omega arith;
 }
 
+pub numbered_first : (grid : Grid) (count : ℕ) (numbers : List ℕ) (homes : List Home) → numbers ≡ [] → homes ≡ [] → AreNumbered grid count numbers homes 0
+numbered_first grid count numbers homes none no_home =
+    subst (λ (ns : List ℕ). AreNumbered grid count ns homes 0) (sym none) (subst (λ (hs : List Home). AreNumbered grid count [] hs 0) (sym no_home) (first_numbered grid count))
+
 lower_set : (n other set cell : ℕ) → other * n + cell < set * n → other < set
 lower_set n other set cell low =
     ⊎_elim (λ (lt : other < set). lt) (λ (le : set ≤ other). let m : set * n ≤ other * n = mul-le-mul_right n le in absurd (omega arith)) (cases_lt other set)
 
-pub listing_of : (cells n length count place : ℕ) (xs : List ℕ) → cells ≡ n → xs ≡ set_at cells length place → length ≡ count → place < choose n count → IsListing n xs
-listing_of cells n length count place xs same is size low =
-    subst (λ (ys : List ℕ). IsListing n ys) (sym (is ∙ (λ i. set_at (same i) (size i) place))) (set_is n count place low).0
+-- the set that was written
+pub set_written : (cells n length count place : ℕ) (xs : List ℕ) → cells ≡ n → xs ≡ set_at cells length place → length ≡ count → xs ≡ set_at n count place
+set_written cells n length count place xs same is size = is ∙ (λ i. set_at (same i) (size i) place)
 
 -- ---- all sets are numbered
 
@@ -445,6 +450,70 @@ module _ (r : Regions) (numbered : AreNumbered r.shape r.count r.numbers.items r
     joined = joined;
     homes = homes_in;
     few = few_homes (cell_count r.shape) r.count (length r.homes.items) numbered.few;
+  }
+
+-- ---- set after set, and cell after cell
+
+module _ (r : Regions) (set : ℕ) (cells labels : List ℕ) (begun : AreBegun r.shape r.count set r) (low : set < choose (cell_count r.shape) r.count) (are : cells ≡ set_at (cell_count r.shape) r.count set) where
+  long : length cells ≡ r.count
+  long = ap length are ∙ (set_is (cell_count r.shape) r.count set low).1
+
+  -- no cell of the set is numbered
+  pub begun_first : AreNumberedTo r.shape (length cells) cells labels r.numbers.items r.homes.items set 0
+  begun_first =
+      numbered_none r.shape cells labels r.numbers.items r.homes.items set
+      (subst (λ (k : ℕ). AreNumbered r.shape k r.numbers.items r.homes.items set) (sym long) begun.numbered)
+
+  -- what its cells are numbered by
+  pub begun_row : AreSettled r.shape cells labels → IsLabelled r.shape set cells labels
+  begun_row settled =
+      let places = few_places (cell_count r.shape) r.count set MAX_SIZE (omega (arith, low)) begun.small in
+      let some : set * 1 ≤ set * (cell_count r.shape - r.count) = mul-le-mul_left set (let room = begun.room in omega (arith, room)) in
+      record {
+        listing = subst (λ (ys : List ℕ). IsListing (cell_count r.shape) ys) (sym are) (set_is (cell_count r.shape) r.count set low).0;
+        cells_are = are ∙ ap (λ (k : ℕ). set_at (cell_count r.shape) k set) (sym long);
+        settled = settled;
+        fits = omega (arith, places, some);
+        small = subst (λ (k : ℕ). set * (cell_count r.shape - k) ≤ MAX_SIZE) (sym long) places;
+      }
+
+  -- all are
+  pub begun_all : AreSettled r.shape cells labels → (cell : ℕ) → cell_count r.shape ≤ cell → cell ≤ cell_count r.shape → (r' : Regions) → AreOfSameSets r r' → AreNumberedTo r.shape (length cells) cells labels r'.numbers.items r'.homes.items set cell → AreBegun r.shape r.count (set + 1) r'
+  begun_all settled cell high all r' same numbered =
+      let row = begun_row settled in
+      record {
+        shape = same.shape;
+        tiles = same.count;
+        choices = subst IsChoices (sym same.choices) begun.choices;
+        short = begun.short;
+        room = begun.room;
+        small = begun.small;
+        numbered = subst (λ (k : ℕ). AreNumbered r.shape k r'.numbers.items r'.homes.items (set + 1)) long
+            (numbered_all r.shape cells labels r'.numbers.items r'.homes.items set cell high all row.listing row.cells_are settled numbered);
+      }
+
+module _ (grid : Grid) (count set : ℕ) (r : Regions) (begun : AreBegun grid count set r) where
+  -- the grid and the count are the regions' own
+  pub begun_own : AreBegun r.shape r.count set r
+  begun_own = subst (λ (g : Grid). AreBegun g r.count set r) (sym begun.shape) (subst (λ (k : ℕ). AreBegun grid k set r) (sym begun.tiles) begun)
+
+  pub begun_next : (next : ℕ) (r' : Regions) → AreBegun r.shape r.count next r' → AreBegun grid count next r'
+  begun_next next r' is = subst (λ (g : Grid). AreBegun g count next r') begun.shape (subst (λ (k : ℕ). AreBegun r.shape k next r') begun.tiles is)
+
+  -- where the sets of all places are numbered
+  pub begun_regions : IsShape grid → 0 < count → set ≡ choose (cell_count grid) count → IsRegions grid count r
+  begun_regions sides some all = record {
+    shape = begun.shape;
+    sides = sides;
+    tiles = begun.tiles;
+    some = some;
+    room = begun.room;
+    short = begun.short;
+    choices = begun.choices;
+    regions = has_regions r
+        (subst (λ (g : Grid). AreNumbered g r.count r.numbers.items r.homes.items (choose (cell_count g) r.count)) (sym begun.shape)
+        (subst (λ (k : ℕ). AreNumbered grid k r.numbers.items r.homes.items (choose (cell_count grid) k)) (sym begun.tiles)
+        (subst (λ (s : ℕ). AreNumbered grid count r.numbers.items r.homes.items s) all begun.numbered)));
   }
 
 -- the number of a free cell is there

@@ -1,11 +1,14 @@
 -- How regions are numbered, one cell of one set after another.
-use Rattle.std.specs.Prelude.{ℕ, ◌≡◌, ◌+◌, ◌-◌, ◌*◌, ◌<◌, ◌≤◌, List, length, Some, slice_get, slice_index}
+use Rattle.std.specs.Prelude.{ℕ, suc, ◌≡◌, ◌+◌, ◌-◌, ◌*◌, ◌^◌, ◌<◌, ◌≤◌, List, length, Some, slice_get, slice_index}
 use Rattle.board.specs.Grids.{Grid, cell_count}
+use Rattle.pattern_index.specs.Ranks.{ways, IsListing}
+use Rattle.pattern_index.specs.declared.group.TheConstants.{MAX_SIZE}
 use Rattle.database_build.specs.Orders.{below}
-use Rattle.database_build.specs.Sets.{set_at}
+use Rattle.database_build.specs.Sets.{IsChoices, set_at}
 use Rattle.database_build.specs.Regions.{IsFree}
 use Rattle.database_build.specs.Labels.{AreSettled}
 use Rattle.database_build.specs.declared.regions.Home.{Home}
+use Rattle.database_build.specs.declared.regions.Regions.{Regions}
 
 -- a region's home is a free cell, whose number is the region
 pub record IsHome (grid : Grid) (count : ℕ) (numbers : List ℕ) (region : ℕ) (home : Home) : Type 0 where
@@ -37,3 +40,27 @@ pub record AreNumberedTo (grid : Grid) (count : ℕ) (cells labels numbers : Lis
   pub row : IsNumberedRow grid cells labels numbers homes set cell
   pub are_homes : (region : ℕ) (home : Home) → slice_get homes region ≡ Some home → IsHome grid count numbers region home
   pub few : length homes + below cell cells ≤ set * (cell_count grid - count) + cell
+
+-- these regions are of all sets of `count` cells of a grid, of which those below one are numbered
+pub record AreBegun (grid : Grid) (count set : ℕ) (r : Regions) : Type 0 where
+  pub shape : r.shape ≡ grid
+  pub tiles : r.count ≡ count
+  pub choices : IsChoices r.choices
+  pub short : count ≤ 9
+  pub room : suc count ≤ cell_count grid
+  pub small : ways (cell_count grid) (suc count) ≤ MAX_SIZE
+  pub numbered : AreNumbered grid count r.numbers.items r.homes.items set
+
+-- both are of the sets of as many cells of one grid
+pub record AreOfSameSets (r r' : Regions) : Type 0 where
+  pub shape : r'.shape ≡ r.shape
+  pub count : r'.count ≡ r.count
+  pub choices : r'.choices ≡ r.choices
+
+-- the cells of a set, in rising order, and the labels of free ones; sets are few enough to be numbered
+pub record IsLabelled (grid : Grid) (set : ℕ) (cells labels : List ℕ) : Type 0 where
+  pub listing : IsListing (cell_count grid) cells
+  pub cells_are : cells ≡ set_at (cell_count grid) (length cells) set
+  pub settled : AreSettled grid cells labels
+  pub fits : set < 2 ^ 32
+  pub small : set * (cell_count grid - length cells) ≤ MAX_SIZE

@@ -8,7 +8,7 @@ ghost use Rattle.pattern_index.specs.Ranks.{ways, IsListing};
 ghost use Rattle.pattern_index.specs.declared.group.TheConstants.{MAX_SIZE};
 ghost use Rattle.database_build.specs.Regions.{AreSameRegions, IsRegions, IsPlaced, IsFree, region_in};
 ghost use Rattle.database_build.specs.Sets.{choose, set_at, IsChoices};
-ghost use Rattle.database_build.specs.Numberings.{AreNumbered, AreNumberedTo};
+ghost use Rattle.database_build.specs.Numberings.{AreBegun, AreNumberedTo, AreOfSameSets, IsLabelled};
 ghost use Rattle.database_build.specs.Labels.{AreLabels, AreSettled, IsLowering, IsSettled, IsSettledTowards};
 
 use crate::sets::Choices;
@@ -46,20 +46,79 @@ impl Regions {
         requires small { ways (cell_count shape) (suc count) ≤ MAX_SIZE }
         ensures { IfOk result (IsRegions shape count) }
     {
-        let choices = Choices::new();
-        let mut numbers = Vec::new(alloc);
-        let mut homes = Vec::new(alloc);
-        let sets = choices.count(shape.cells(), count);
-        'sets: for set in 0..sets {
-            add_set(&choices, shape, count, set, &mut numbers, &mut homes)?;
-        }
-        Ok(Regions {
+        let mut regions = Regions {
             shape,
             count,
-            choices,
-            numbers,
-            homes,
-        })
+            choices: Choices::new(),
+            numbers: Vec::new(alloc),
+            homes: Vec::new(alloc),
+        };
+        let sets = regions.choices.count(shape.cells(), count);
+        'sets: for set in 0..sets {
+            regions.add_set(set)?;
+        }
+        Ok(regions)
+    }
+
+    // Numbers the cells of a set, after those of the sets below it.
+    fn add_set(&mut self, set: usize) -> Result<(), OutOfMemory>
+        requires begun { AreBegun self.old.shape self.old.count set self.old }
+        requires below { set < choose (cell_count self.old.shape) self.old.count }
+        ensures { IfOk result (λ _. AreBegun self.old.shape self.old.count (set + 1) self.new) }
+    {
+        let mut cells = [0; 9];
+        let placed = &mut cells[..self.count];
+        self.choices.write_set(self.shape.cells(), set, placed);
+        self.add_row(set, placed)
+    }
+
+    // Numbers the cells of a set on which tiles stand.
+    fn add_row(&mut self, set: usize, cells: &[u8]) -> Result<(), OutOfMemory>
+        requires begun { AreBegun self.old.shape self.old.count set self.old }
+        requires below { set < choose (cell_count self.old.shape) self.old.count }
+        requires cells { cells.now ≡ set_at (cell_count self.old.shape) self.old.count set }
+        ensures { IfOk result (λ _. AreBegun self.old.shape self.old.count (set + 1) self.new) }
+    {
+        let shape = self.shape;
+        let labels = label_cells(shape, cells);
+        'cells: for cell in 0..shape.cells() {
+            self.add_cell(set, cell, cells, &labels)?;
+        }
+        Ok(())
+    }
+
+    // Numbers a cell: a free one as the cell that is its label, or anew where that is itself.
+    fn add_cell(
+        &mut self,
+        set: usize,
+        cell: usize,
+        cells: &[u8],
+        labels: &[u8; 25],
+    ) -> Result<(), OutOfMemory>
+        requires inside { cell < cell_count self.old.shape }
+        requires row { IsLabelled self.old.shape set cells.now labels.now }
+        requires numbered { AreNumberedTo self.old.shape (length cells.now) cells.now labels.now
+            self.old.numbers.items self.old.homes.items set cell }
+        ensures numbered { IfOk result (λ _. AreNumberedTo self.old.shape (length cells.now) cells.now
+            labels.now self.new.numbers.items self.new.homes.items set (cell + 1)) }
+        ensures same { AreOfSameSets self.old self.new }
+    {
+        let count = self.shape.cells();
+        if stands_on(cells, cell) {
+            return push(&mut self.numbers, NO_REGION);
+        }
+        let label = labels[cell] as usize;
+        if label < cell {
+            let number = self.numbers[set * count + label];
+            return push(&mut self.numbers, number);
+        }
+        let region = self.homes.len() as u32;
+        let home = Home {
+            set: set as u32,
+            cell: cell as u8,
+        };
+        push(&mut self.homes, home)?;
+        push(&mut self.numbers, region)
     }
 
     // The same once more.
@@ -85,90 +144,6 @@ impl Regions {
         let set = self.choices.place(cells);
         self.numbers[set * self.shape.cells() + blank as usize] as usize
     }
-}
-
-// Numbers the cells of a set, after those of the sets below it.
-fn add_set(
-    choices: &Choices,
-    shape: Shape,
-    count: usize,
-    set: usize,
-    numbers: &mut Vec<u32>,
-    homes: &mut Vec<Home>,
-) -> Result<(), OutOfMemory>
-    requires choices { IsChoices choices.now }
-    requires short { count ≤ 9 }
-    requires below { set < choose (cell_count shape) count }
-    requires fits { set < 2 ^ 32 }
-    requires small { set * (cell_count shape - count) ≤ MAX_SIZE }
-    requires numbered { AreNumbered shape count numbers.old.items homes.old.items set }
-    ensures { IfOk result (λ _. AreNumbered shape count numbers.new.items homes.new.items (set + 1)) }
-{
-    let mut cells = [0; 9];
-    let placed = &mut cells[..count];
-    choices.write_set(shape.cells(), set, placed);
-    add_row(shape, set, placed, numbers, homes)
-}
-
-// Numbers the cells of a set on which tiles stand.
-fn add_row(
-    shape: Shape,
-    set: usize,
-    cells: &[u8],
-    numbers: &mut Vec<u32>,
-    homes: &mut Vec<Home>,
-) -> Result<(), OutOfMemory>
-    requires listing { IsListing (cell_count shape) cells.now }
-    requires cells { cells.now ≡ set_at (cell_count shape) (length cells.now) set }
-    requires fits { set < 2 ^ 32 }
-    requires small { set * (cell_count shape - length cells.now) ≤ MAX_SIZE }
-    requires numbered { AreNumbered shape (length cells.now) numbers.old.items homes.old.items set }
-    ensures { IfOk result (λ _. AreNumbered shape (length cells.now) numbers.new.items homes.new.items (set + 1)) }
-{
-    let labels = label_cells(shape, cells);
-    'cells: for cell in 0..shape.cells() {
-        add_cell(shape, set, cell, cells, &labels, numbers, homes)?;
-    }
-    Ok(())
-}
-
-// Numbers a cell: a free one as the cell that is its label, or anew where that is itself.
-fn add_cell(
-    shape: Shape,
-    set: usize,
-    cell: usize,
-    cells: &[u8],
-    labels: &[u8; 25],
-    numbers: &mut Vec<u32>,
-    homes: &mut Vec<Home>,
-) -> Result<(), OutOfMemory>
-    requires inside { cell < cell_count shape }
-    requires listing { IsListing (cell_count shape) cells.now }
-    requires cells { cells.now ≡ set_at (cell_count shape) (length cells.now) set }
-    requires settled { AreSettled shape cells.now labels.now }
-    requires fits { set < 2 ^ 32 }
-    requires small { set * (cell_count shape - length cells.now) ≤ MAX_SIZE }
-    requires numbered { AreNumberedTo shape (length cells.now) cells.now labels.now numbers.old.items
-        homes.old.items set cell }
-    ensures { IfOk result (λ _. AreNumberedTo shape (length cells.now) cells.now labels.now numbers.new.items
-        homes.new.items set (cell + 1)) }
-{
-    let count = shape.cells();
-    if stands_on(cells, cell) {
-        return push(numbers, NO_REGION);
-    }
-    let label = labels[cell] as usize;
-    if label < cell {
-        let number = numbers[set * count + label];
-        return push(numbers, number);
-    }
-    let region = homes.len() as u32;
-    let home = Home {
-        set: set as u32,
-        cell: cell as u8,
-    };
-    push(homes, home)?;
-    push(numbers, region)
 }
 
 // For each free cell the lowest that the blank reaches from it.

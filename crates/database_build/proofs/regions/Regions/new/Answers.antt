@@ -1,27 +1,34 @@
-use Rattle.std.proofs.Common.{◌≡◌, ℕ, refl, ap, subst, ◌∙◌, arith}
+use Rattle.std.proofs.Common.{◌≡◌, ℕ, ap, refl, ◌+◌, ◌∙◌, arith}
 use Rattle.board.specs.Grids.{cell_count}
-use Rattle.pattern_index.specs.declared.group.TheConstants.{MAX_SIZE}
 use Rattle.database_build.specs.Sets.{choose}
-use Rattle.database_build.specs.Numberings.{AreNumbered}
-use Rattle.database_build.proofs.RegionLemmas.{few_places, has_regions}
+use Rattle.database_build.proofs.RegionLemmas.{begun_own, begun_next, begun_regions, numbered_first}
 use Rattle.database_build.proofs.regions.Regions.new.Goals as goal
 
-pub add_set-requires-clause-small : goal.add_set-requires-clause-small
-add_set-requires-clause-small c =
+pub sets-init : goal.sets-init
+sets-init c = record {
+  shape = refl;
+  tiles = refl;
+  choices = c.new.ensures;
+  short = c.requires.short;
+  room = c.requires.room;
+  small = c.requires.small;
+  numbered = numbered_first c.args.shape c.args.count c.new-2.result.items c.new-3.result.items c.new-2.ensures.items c.new-3.ensures.items;
+}
+
+pub add_set-requires-clause-begun : goal.add_set-requires-clause-begun
+add_set-requires-clause-begun c = begun_own c.args.shape c.args.count c.sets.set c.sets.regions c.sets.invariant
+
+pub add_set-requires-clause-below : goal.add_set-requires-clause-below
+add_set-requires-clause-below c =
     let sets : c.count-sets.result ≡ choose (cell_count c.args.shape) c.args.count = c.count-sets.ensures.value ∙ ap (λ (k : ℕ). choose k c.args.count) c.cells.ensures.value in
-    few_places (cell_count c.args.shape) c.args.count c.sets.set MAX_SIZE (omega arith) c.requires.small
+    let same : choose (cell_count c.sets.regions.shape) c.sets.regions.count ≡ choose (cell_count c.args.shape) c.args.count = (λ i. choose (cell_count (c.sets.invariant.shape i)) (c.sets.invariant.tiles i)) in
+    omega (arith, sets, same, c.sets-test.true)
+
+pub sets-preserved : goal.sets-preserved
+sets-preserved c = begun_next c.args.shape c.args.count c.sets.set c.sets.regions c.sets.invariant (c.sets.set + 1) c.add_set.new.self c.in_ok-add_set.ensures
 
 pub returns : goal.returns
 returns c =
     let sets : c.count-sets.result ≡ choose (cell_count c.args.shape) c.args.count = c.count-sets.ensures.value ∙ ap (λ (k : ℕ). choose k c.args.count) c.cells.ensures.value in
     let all : c.sets.set ≡ choose (cell_count c.args.shape) c.args.count = omega arith in
-    record {
-      shape = refl;
-      sides = c.cells.ensures.sides;
-      tiles = refl;
-      some = c.requires.some;
-      room = c.requires.room;
-      short = c.requires.short;
-      choices = c.new-choices.ensures;
-      regions = has_regions _ (subst (λ (k : ℕ). AreNumbered c.args.shape c.args.count c.sets.numbers.items c.sets.homes.items k) all c.sets.invariant);
-    }
+    begun_regions c.args.shape c.args.count c.sets.set c.sets.regions c.sets.invariant c.cells.ensures.sides c.requires.some all
