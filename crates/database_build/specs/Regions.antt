@@ -5,6 +5,7 @@ use Rattle.board.specs.Grids.{Grid, IsShape, cell_count}
 use Rattle.board.specs.Neighbours.{LiesTowards}
 use Rattle.pattern_index.specs.Laws.{factorial}
 use Rattle.pattern_index.specs.Ranks.{ways, IsListing}
+use Rattle.pattern_index.specs.declared.group.TheConstants.{MAX_SIZE}
 use Rattle.database_build.specs.Orders.{below}
 use Rattle.database_build.specs.Sets.{choose, set_place, set_at, AreSame, replaced, IsChoices}
 use Rattle.database_build.specs.declared.regions.Home.{Home}
@@ -56,6 +57,11 @@ pub record IsRegions (grid : Grid) (count : ℕ) (r : Regions) : Type 0 where
   pub choices : IsChoices r.choices
   pub regions : HasRegions r
 
+-- regions of which there are no more views than a group may have
+pub record AreGroupRegions (r : Regions) : Type 0 where
+  pub regions : IsRegions r.shape r.count r
+  pub small : ways (cell_count r.shape) (suc r.count) ≤ MAX_SIZE
+
 -- the regions have the same fields
 pub record AreSameRegions (r r' : Regions) : Type 0 where
   pub shape : r'.shape ≡ r.shape
@@ -71,6 +77,11 @@ pub record IsCrossing (grid : Grid) (cells : List ℕ) (m : Move) (from to : ℕ
   pub blank : IsFree grid cells to
   pub tile : Contains cells from
   pub towards : LiesTowards grid m to from
+
+-- both positions of the edge are those of some of `count` tiles
+pub record HasPositions (count : ℕ) (e : Edge) : Type 0 where
+  pub from : e.from < count
+  pub to : e.to < count
 
 -- The edge of a tile that goes from one cell to another, where the blank was, by the positions of the tile before and after, and the
 -- region in which the blank is then.

@@ -1,12 +1,9 @@
 //! Edges between regions: the moves of tiles.
 
-ghost use Rattle.std.specs.Prelude.{ℕ, suc, ◌≡◌, ◌+◌, ◌*◌, ◌<◌, ◌≤◌, ◌++◌, List, length, take};
+ghost use Rattle.std.specs.Prelude.{ℕ, ◌≡◌, ◌+◌, ◌*◌, ◌<◌, length, take};
 ghost use Rattle.std.specs.Prelude.{slice_index, IfOk, OnOk, MatchOption};
-ghost use Rattle.board.specs.Grids.{cell_count};
-ghost use Rattle.pattern_index.specs.Ranks.{ways};
-ghost use Rattle.pattern_index.specs.declared.group.TheConstants.{MAX_SIZE};
 ghost use Rattle.database_build.specs.Orders.{below};
-ghost use Rattle.database_build.specs.Regions.{IsRegions, IsPlaced, IsFree, IsEdgeOf, AreEdges};
+ghost use Rattle.database_build.specs.Regions.{AreEdges, AreGroupRegions, IsEdgeOf, IsFree, IsPlaced};
 ghost use Rattle.database_build.specs.Edges.{IsRising, IsStep, IsStepEdge, HasFound, AreAdded};
 
 use crate::orders::count_below;
@@ -35,8 +32,7 @@ pub(crate) struct Edges {
 impl Edges {
     // The edges between these regions.
     pub(crate) fn new(alloc: Global, regions: &Regions) -> Result<Self, OutOfMemory>
-        requires regions { IsRegions regions.now.shape regions.now.count regions.now }
-        requires small { ways (cell_count regions.now.shape) (suc regions.now.count) ≤ MAX_SIZE }
+        requires regions { AreGroupRegions regions.now }
         ensures { IfOk result (AreEdges regions.now) }
     {
         let mut edges = Edges {
@@ -67,8 +63,7 @@ impl Edges {
 
 // Adds the edges of a region.
 fn add_region(edges: &mut Vec<Edge>, regions: &Regions, region: usize) -> Result<(), OutOfMemory>
-    requires regions { IsRegions regions.now.shape regions.now.count regions.now }
-    requires small { ways (cell_count regions.now.shape) (suc regions.now.count) ≤ MAX_SIZE }
+    requires regions { AreGroupRegions regions.now }
     requires inside { region < length regions.now.homes.items }
     ensures { OnOk result (AreAdded regions.now region edges.old.items edges.new.items) }
 {
@@ -88,8 +83,7 @@ fn add_edges(
     set: usize,
     cells: &[u8; 9],
 ) -> Result<(), OutOfMemory>
-    requires regions { IsRegions regions.now.shape regions.now.count regions.now }
-    requires small { ways (cell_count regions.now.shape) (suc regions.now.count) ≤ MAX_SIZE }
+    requires regions { AreGroupRegions regions.now }
     requires cells { IsRising regions.now set (take regions.now.count cells.now) }
     ensures { OnOk result (HasFound regions.now (take regions.now.count cells.now) region
         (regions.now.count * 4) edges.old.items edges.new.items) }
@@ -113,8 +107,7 @@ fn find_edge(
     tile: usize,
     direction: Move,
 ) -> Option<Edge>
-    requires regions { IsRegions regions.now.shape regions.now.count regions.now }
-    requires small { ways (cell_count regions.now.shape) (suc regions.now.count) ≤ MAX_SIZE }
+    requires regions { AreGroupRegions regions.now }
     requires cells { IsRising regions.now set (take regions.now.count cells.now) }
     requires tile { tile < regions.now.count }
     ensures { MatchOption result
@@ -137,8 +130,7 @@ fn find_edge(
 
 // The edge of a tile that goes to a free cell.
 fn edge_to(regions: &Regions, cells: &[u8; 9], tile: usize, to: usize) -> Edge
-    requires regions { IsRegions regions.now.shape regions.now.count regions.now }
-    requires small { ways (cell_count regions.now.shape) (suc regions.now.count) ≤ MAX_SIZE }
+    requires regions { AreGroupRegions regions.now }
     requires placed { IsPlaced regions.now.shape regions.now.count
         (take regions.now.count cells.now) }
     requires tile { tile < regions.now.count }

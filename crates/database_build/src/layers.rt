@@ -7,6 +7,7 @@ ghost use Rattle.board.specs.CostRules.{CostRule};
 ghost use Rattle.pattern_index.specs.Laws.{factorial};
 ghost use Rattle.pattern_index.specs.Selections.{Selection};
 ghost use Rattle.database_build.specs.Graphs.{IsOrders, node_count};
+ghost use Rattle.database_build.specs.Regions.{HasPositions};
 ghost use Rattle.database_build.specs.Searches.{IsSoundGraph, IsSought, AreFound};
 ghost use Rattle.database_build.specs.NodeSets.{Has, IsIn, IsNodeSet, IsUnion};
 ghost use Rattle.database_build.specs.Layers.{AreBelow, AreLayers, IsAtStart, IsLed, IsMovedFrom, IsWritten};
@@ -146,8 +147,7 @@ fn insert_next(graph: &Graph, region: usize, place: usize, bits: u64, next: &mut
 // Inserts the nodes to which an edge leads from those of 64 orders whose bits are set.
 fn insert_moved(orders: &Orders, edge: &Edge, place: usize, bits: u64, next: &mut NodeSet)
     requires orders { IsOrders orders.now.count orders.now }
-    requires from { edge.now.from < orders.now.count }
-    requires to { edge.now.to < orders.now.count }
+    requires positions { HasPositions orders.now.count edge.now }
     requires bits { AreBelow (factorial orders.now.count) place bits }
     requires width { factorial orders.now.count ≤ 64 * next.old.width }
     requires inside { suc edge.now.region * next.old.width ≤ length next.old.words.items }

@@ -4,10 +4,10 @@
 ghost use Rattle.std.specs.Prelude.{ℕ, suc, ◌≡◌, ◌<◌, ◌≤◌, ◌+◌, ◌-◌, ◌*◌, ◌^◌, ◌↔◌};
 ghost use Rattle.std.specs.Prelude.{false, length, IfOk, IsTrue, Contains};
 ghost use Rattle.board.specs.Grids.{cell_count};
-ghost use Rattle.pattern_index.specs.Ranks.{ways, IsListing};
+ghost use Rattle.pattern_index.specs.Ranks.{ways};
 ghost use Rattle.pattern_index.specs.declared.group.TheConstants.{MAX_SIZE};
 ghost use Rattle.database_build.specs.Regions.{AreSameRegions, IsRegions, IsPlaced, IsFree, region_in};
-ghost use Rattle.database_build.specs.Sets.{choose, set_at, IsChoices};
+ghost use Rattle.database_build.specs.Sets.{choose, set_at};
 ghost use Rattle.database_build.specs.Numberings.{AreBegun, AreNumberedTo, AreOfSameSets, IsLabelled};
 ghost use Rattle.database_build.specs.Labels.{AreLabels, AreSettled, IsLowering, IsSettled, IsSettledTowards};
 

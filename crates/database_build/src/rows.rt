@@ -1,16 +1,15 @@
 //! Values of views, by rank.
 
-ghost use Rattle.std.specs.Prelude.{suc, [], ◌≡◌, ◌-◌, ◌<◌, ◌≤◌, ◌++◌, ◌∷◌};
+ghost use Rattle.std.specs.Prelude.{suc, [], ◌≡◌, ◌-◌, ◌<◌, ◌++◌, ◌∷◌};
 ghost use Rattle.std.specs.Prelude.{length, take, slice_index, IfOk, OnOk, Contains};
 ghost use Rattle.board.specs.Grids.{cell_count};
 ghost use Rattle.pattern_index.specs.Laws.{factorial};
-ghost use Rattle.pattern_index.specs.Ranks.{ways, IsListing};
-ghost use Rattle.pattern_index.specs.declared.group.TheConstants.{MAX_SIZE};
+ghost use Rattle.pattern_index.specs.Ranks.{IsListing};
 ghost use Rattle.pattern_index.specs.Views.{Sight, IsView};
 ghost use Rattle.pattern_index.specs.Selections.{size_of, rank_in, folded_size_of, place_in};
 ghost use Rattle.database_build.specs.Marks.{AreMarksOf};
 ghost use Rattle.database_build.specs.Sets.{set_place};
-ghost use Rattle.database_build.specs.Regions.{IsRegions, IsPlaced};
+ghost use Rattle.database_build.specs.Regions.{AreGroupRegions, IsRegions, IsPlaced};
 ghost use Rattle.database_build.specs.Graphs.{node_in, node_count};
 ghost use Rattle.database_build.specs.Rows.{AreLarger, IsRow, node_value};
 ghost use Rattle.database_build.specs.Placements.{placement_count, placement_in};
@@ -69,8 +68,7 @@ fn add_row(
     others: &[u8],
     values: &mut Vec<u16>,
 ) -> Result<(), OutOfMemory>
-    requires regions { IsRegions regions.now.shape regions.now.count regions.now }
-    requires small { ways (cell_count regions.now.shape) (suc regions.now.count) ≤ MAX_SIZE }
+    requires regions { AreGroupRegions regions.now }
     requires larger { AreLarger regions.now larger.now }
     requires orders { orders ≡ factorial regions.now.count }
     requires nodes { length nodes.now ≡ node_count regions.now }

@@ -7,6 +7,7 @@ ghost use Rattle.board.specs.CostRules.{CostRule};
 ghost use Rattle.pattern_index.specs.Laws.{factorial};
 ghost use Rattle.pattern_index.specs.Selections.{Selection};
 ghost use Rattle.database_build.specs.Graphs.{node_count};
+ghost use Rattle.database_build.specs.Regions.{HasPositions};
 ghost use Rattle.database_build.specs.Searches.{IsSoundGraph, IsSought, AreFound, IsFit, IsFresh, IsLowered};
 ghost use Rattle.database_build.specs.Searches.{IsPassed, IsVisited, target};
 
@@ -70,8 +71,7 @@ impl Search {
     fn pass(&mut self, edge: &Edge, order: usize, cost: usize) -> Result<(), OutOfMemory>
         requires fits { IsFit self.old }
         requires order { order < factorial self.old.graph.regions.count }
-        requires from { edge.now.from < self.old.graph.regions.count }
-        requires to { edge.now.to < self.old.graph.regions.count }
+        requires positions { HasPositions self.old.graph.regions.count edge.now }
         requires inside { target self.old.graph order edge.now
             < node_count self.old.graph.regions }
         requires cost { cost ≤ NO_VALUE }

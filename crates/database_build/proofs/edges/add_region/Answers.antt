@@ -13,18 +13,18 @@ pub write_set-requires-clause-below : goal.write_set-requires-clause-below
 write_set-requires-clause-below c =
     let r = c.args.regions.now in
     let at = slice_get_read r.homes.items (length r.homes.items) c.args.region c.index.result.now refl c.requires.inside c.index.ensures in
-    home_within r c.requires.regions c.args.region c.index.result.now at c.cells.result _ c.cells.ensures.value (first_length r.count c.requires.regions.short)
+    home_within r c.requires.regions.regions c.args.region c.index.result.now at c.cells.result _ c.cells.ensures.value (first_length r.count c.requires.regions.regions.short)
 
 pub add_edges-requires-clause-cells : goal.add_edges-requires-clause-cells
 add_edges-requires-clause-cells c =
     let r = c.args.regions.now in
     let at = slice_get_read r.homes.items (length r.homes.items) c.args.region c.index.result.now refl c.requires.inside c.index.ensures in
-    written_rising r c.requires.regions c.args.region c.index.result.now at c.write_set.new.set _ c.cells.result _ c.cells.ensures.value (first_length r.count c.requires.regions.short) c.write_set.ensures
+    written_rising r c.requires.regions.regions c.args.region c.index.result.now at c.write_set.new.set _ c.cells.result _ c.cells.ensures.value (first_length r.count c.requires.regions.regions.short) c.write_set.ensures
 
 pub returns : goal.returns
 returns c =
     let r = c.args.regions.now in
     let at = slice_get_read r.homes.items (length r.homes.items) c.args.region c.index.result.now refl c.requires.inside c.index.ensures in
     on_ok_weaker c.add_edges.result
-    (written_added r c.requires.regions c.args.region c.index.result.now at c.write_set.new.set _ c.cells.result _ c.cells.ensures.value (first_length r.count c.requires.regions.short) c.write_set.ensures c.args.edges.now.items c.add_edges.new.edges.items)
+    (written_added r c.requires.regions.regions c.args.region c.index.result.now at c.write_set.new.set _ c.cells.result _ c.cells.ensures.value (first_length r.count c.requires.regions.regions.short) c.write_set.ensures c.args.edges.now.items c.add_edges.new.edges.items)
     c.add_edges.ensures

@@ -12,7 +12,7 @@ pub overflow_cast-result-3 : goal.overflow_cast-result-3
 overflow_cast-result-3 c =
     let placed = moved_placed c.args.regions.now c.args.cells.now c.args.tile c.args.to c.requires.placed c.requires.tile c.requires.free in
     let free = moved_free c.args.regions.now c.args.cells.now c.args.tile c.args.to c.requires.placed c.requires.tile c.requires.free in
-    let low = region_small c.args.regions.now _ _ c.requires.regions c.requires.small placed free in
+    let low = region_small c.args.regions.now _ _ c.requires.regions.regions c.requires.regions.small placed free in
     omega (arith, c.region-region.ensures)
 
 pub returns : goal.returns

@@ -21,19 +21,12 @@ insert_all-requires-clause-inside c =
     let width = c.edges.invariant.union.width in
     word_within (length g.regions.homes.items) (factorial g.regions.count) c.edges.next c.index-in-edges.result.now.region c.args.place c.edges.invariant.next edge.other (omega (arith, c.requires.place))
 
-pub insert_moved-requires-clause-from : goal.insert_moved-requires-clause-from
-insert_moved-requires-clause-from c =
+pub insert_moved-requires-clause-positions : goal.insert_moved-requires-clause-positions
+insert_moved-requires-clause-positions c =
     let g = c.args.graph.now in
     let ends = ends_at g c.args.region c.index.result.now c.index-2.result.now c.requires.sound c.requires.region c.index.ensures c.index-2.ensures in
     let edge = edge_at g c.args.region c.index.result.now c.index-2.result.now c.edges.at c.index-in-edges.result.now c.requires.sound c.requires.region c.requires.next.some ends c.edges.auto.at c.edges-test.true c.index-in-edges.ensures in
-    omega (arith, edge.from, c.requires.sound.orders.passes.number)
-
-pub insert_moved-requires-clause-to : goal.insert_moved-requires-clause-to
-insert_moved-requires-clause-to c =
-    let g = c.args.graph.now in
-    let ends = ends_at g c.args.region c.index.result.now c.index-2.result.now c.requires.sound c.requires.region c.index.ensures c.index-2.ensures in
-    let edge = edge_at g c.args.region c.index.result.now c.index-2.result.now c.edges.at c.index-in-edges.result.now c.requires.sound c.requires.region c.requires.next.some ends c.edges.auto.at c.edges-test.true c.index-in-edges.ensures in
-    omega (arith, edge.to, c.requires.sound.orders.passes.number)
+    record { from = omega (arith, edge.from, c.requires.sound.orders.passes.number); to = omega (arith, edge.to, c.requires.sound.orders.passes.number) }
 
 pub insert_moved-requires-clause-inside : goal.insert_moved-requires-clause-inside
 insert_moved-requires-clause-inside c =

@@ -7,7 +7,7 @@ overflow_cast-start c =
     let homes = c.args.regions.now.homes.ok in
     let count = c.len-region-end.ensures in
     let low : c.regions.region ≤ length c.args.regions.now.homes.items = omega (arith, c.regions-test.true) in
-    let few = few_done c.args.regions.now c.regions.region _ c.regions.edges.edges.items c.requires.regions c.requires.small low c.regions.invariant in
+    let few = few_done c.args.regions.now c.regions.region _ c.regions.edges.edges.items c.requires.regions.regions c.requires.regions.small low c.regions.invariant in
     let len = c.len-start.ensures in
     let ok = c.regions.edges.edges.ok in
     omega arith
@@ -26,7 +26,7 @@ overflow_cast-end c =
     let homes = c.args.regions.now.homes.ok in
     let count = c.len-region-end.ensures in
     let low : c.regions.region ≤ length c.args.regions.now.homes.items = omega (arith, c.regions.auto.region-end) in
-    let few = few_done c.args.regions.now c.regions.region _ c.regions.edges.edges.items c.requires.regions c.requires.small low c.regions.invariant in
+    let few = few_done c.args.regions.now c.regions.region _ c.regions.edges.edges.items c.requires.regions.regions c.requires.regions.small low c.regions.invariant in
     let len = c.len-end.ensures in
     let ok = c.regions.edges.edges.ok in
     omega arith
@@ -39,6 +39,6 @@ returns c =
     let len = c.len-end.ensures in
     let ok = c.regions.edges.edges.ok in
     let end : c.len-end.result ≡ length c.regions.edges.edges.items = omega arith in
-    ends_done c.args.regions.now c.regions.region c.regions.edges.starts.items (record { starts = c.push-2.new.items; edges = c.regions.edges.edges }) c.requires.regions.regions all
+    ends_done c.args.regions.now c.regions.region c.regions.edges.starts.items (record { starts = c.push-2.new.items; edges = c.regions.edges.edges }) c.requires.regions.regions.regions all
     (c.in_ok-push-2.ensures.items ∙ ap (λ n. c.regions.edges.starts.items ++ n ∷ []) end)
     c.regions.invariant

@@ -1,4 +1,4 @@
-use Rattle.std.proofs.Common.{ℕ, ◌<◌, arith, refl, sym, subst}
+use Rattle.std.proofs.Common.{◌<◌, arith, refl, sym, subst}
 use Rattle.pattern_index.specs.Selections.{folded_size_of}
 use Rattle.database_build.specs.Folds.{Fold}
 use Rattle.database_build.proofs.FoldLemmas.{byte_read, bytes_size, place_read, word_read, words_size}

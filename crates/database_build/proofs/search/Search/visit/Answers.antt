@@ -13,19 +13,13 @@ index-requires-in-edges c =
     let ok = c.edges.self.graph.edges.edges.ok in
     omega arith
 
-pub pass-requires-clause-from : goal.pass-requires-clause-from
-pass-requires-clause-from c =
+pub pass-requires-clause-positions : goal.pass-requires-clause-positions
+pass-requires-clause-positions c =
     let g = c.args.self.now.graph in
     let sound = c.requires.fits.sound in
     let at = at_from g c.args.node c.size-size.result c.index-2.result.now c.index-3.result.now sound c.requires.inside (c.size-size.ensures ∙ sound.orders.passes.size) c.index-2.ensures c.index-3.ensures in
-    (edge_ends g c.edges.self.graph c.args.node c.size-size.result c.index-2.result.now c.index-3.result.now c.edges.at c.index-in-edges.result.now c.edges.invariant.graph at (c.size-size.ensures ∙ sound.orders.passes.size) c.edges.auto.at c.edges-test.true c.index-in-edges.ensures).0
-
-pub pass-requires-clause-to : goal.pass-requires-clause-to
-pass-requires-clause-to c =
-    let g = c.args.self.now.graph in
-    let sound = c.requires.fits.sound in
-    let at = at_from g c.args.node c.size-size.result c.index-2.result.now c.index-3.result.now sound c.requires.inside (c.size-size.ensures ∙ sound.orders.passes.size) c.index-2.ensures c.index-3.ensures in
-    (edge_ends g c.edges.self.graph c.args.node c.size-size.result c.index-2.result.now c.index-3.result.now c.edges.at c.index-in-edges.result.now c.edges.invariant.graph at (c.size-size.ensures ∙ sound.orders.passes.size) c.edges.auto.at c.edges-test.true c.index-in-edges.ensures).1
+    let ends = edge_ends g c.edges.self.graph c.args.node c.size-size.result c.index-2.result.now c.index-3.result.now c.edges.at c.index-in-edges.result.now c.edges.invariant.graph at (c.size-size.ensures ∙ sound.orders.passes.size) c.edges.auto.at c.edges-test.true c.index-in-edges.ensures in
+    record { from = ends.0; to = ends.1 }
 
 pub pass-requires-clause-inside : goal.pass-requires-clause-inside
 pass-requires-clause-inside c =
