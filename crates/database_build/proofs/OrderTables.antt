@@ -16,7 +16,7 @@ use Rattle.std.proofs.lemmas.List.FromFn.{map-range_with_len_more, length-range_
 use Rattle.std.proofs.lemmas.Bool.{cases_lt}
 use Rattle.pattern_index.proofs.RankLemmas.{Below, Differ, Other, below_in, differ_in, listing_from}
 use Rattle.database_build.specs.declared.orders.Orders.{Orders}
-use Rattle.database_build.specs.Graphs.{HasPasses, AreMoves, IsOrders}
+use Rattle.database_build.specs.Graphs.{HasPasses, HasPassesTo, AreMoves, IsOrders}
 use Rattle.database_build.specs.declared.orders.TheConstants.{MOST_MOVED}
 
 pub factorial_some : (n : ℕ) → 1 ≤ factorial n
@@ -211,22 +211,12 @@ table_more f w made old new size kept is =
           (cases_lt o made),
     )
 
--- what is kept for the orders below a number
-pub record HasOrders (count made : ℕ) (o : Orders) : Type 0 where
-  pub number : o.count ≡ count
-  pub some : 0 < count
-  pub short : count ≤ 9
-  pub size : o.size ≡ factorial count
-  pub tiles_length : length o.tiles.items ≡ made * count
-  pub tiles : (order position : ℕ) → order < made → position < count → get_or o.tiles.items (order * count + position) 0 ≡ tile_of count order position
-  pub passes_length : length o.passes.items ≡ made * (count - 1)
-  pub passes : (order position : ℕ) → order < made → position < count - 1 → get_or o.passes.items (order * (count - 1) + position) 0 ≡ order_of (map (exchanged position) (positions_at count order))
-
-pub kept_more : (count made : ℕ) (o o' : Orders) → HasOrders count made o → o'.count ≡ o.count → o'.size ≡ o.size → o'.tiles.items ≡ o.tiles.items ++ map (tile_of o.count made) (range_with_len 0 o.count) → o'.passes.items ≡ o.passes.items ++ map (λ position. order_of (map (exchanged position) (positions_at o.count made))) (range_with_len 0 (o.count - 1)) → HasOrders count (made + 1) o'
+-- what is kept for one order more
+pub kept_more : (count made : ℕ) (o o' : Orders) → HasPassesTo count made o → o'.count ≡ o.count → o'.size ≡ o.size → o'.tiles.items ≡ o.tiles.items ++ map (tile_of o.count made) (range_with_len 0 o.count) → o'.passes.items ≡ o.passes.items ++ map (λ position. order_of (map (exchanged position) (positions_at o.count made))) (range_with_len 0 (o.count - 1)) → HasPassesTo count (made + 1) o'
 kept_more count made o o' kept number size tiles passes =
     let same = kept.number in
     let tiles_more = table_more (tile_of count) count made o.tiles.items o'.tiles.items kept.tiles_length kept.tiles (tiles ∙ (λ i. o.tiles.items ++ map (tile_of (same i) made) (range_with_len 0 (same i)))) in
-    let passes_more = table_more (λ order position. order_of (map (exchanged position) (positions_at count order))) (count - 1) made o.passes.items o'.passes.items kept.passes_length kept.passes (passes ∙ (λ i. o.passes.items ++ map (λ position. order_of (map (exchanged position) (positions_at (same i) made))) (range_with_len 0 (same i - 1)))) in
+    let passes_more = table_more (λ order position. order_of (map (exchanged position) (positions_at count order))) (count - 1) made o.passes.items o'.passes.items kept.passes_length (λ order position low within. kept.passes order position low (omega (arith, within))) (passes ∙ (λ i. o.passes.items ++ map (λ position. order_of (map (exchanged position) (positions_at (same i) made))) (range_with_len 0 (same i - 1)))) in
     record {
       number = number ∙ same;
       some = kept.some;
@@ -235,22 +225,18 @@ kept_more count made o o' kept number size tiles passes =
       tiles_length = tiles_more.0;
       tiles = tiles_more.1;
       passes_length = passes_more.0;
-      passes = passes_more.1;
+      passes = λ order position low within. passes_more.1 order position low (omega (arith, within));
     }
 
-pub kept_all : (count made : ℕ) (o : Orders) → made ≡ factorial count → HasOrders count made o → HasPasses count o
-kept_all count made o all kept =
-    let at : HasOrders count (factorial count) o = subst (λ m. HasOrders count m o) all kept in
-    record {
-      number = at.number;
-      some = at.some;
-      short = at.short;
-      size = at.size;
-      tiles_length = at.tiles_length;
-      tiles = at.tiles;
-      passes_length = at.passes_length;
-      passes = λ order position low within. at.passes order position low (omega arith);
-    }
+-- those before one, by the count that they have
+pub kept_own : (count made : ℕ) (o : Orders) → HasPassesTo count made o → HasPassesTo o.count made o
+kept_own count made o kept = subst (λ n. HasPassesTo n made o) (sym kept.number) kept
+
+pub kept_next : (count made : ℕ) (o o' : Orders) → HasPassesTo count made o → HasPassesTo o.count (made + 1) o' → HasPassesTo count (made + 1) o'
+kept_next count made o o' kept next = subst (λ n. HasPassesTo n (made + 1) o') kept.number next
+
+pub kept_all : (count made : ℕ) (o : Orders) → made ≡ factorial count → HasPassesTo count made o → HasPasses count o
+kept_all count made o all kept = subst (λ m. HasPassesTo count m o) all kept
 
 -- ---- each position has a tile
 

@@ -12,16 +12,20 @@ use Rattle.database_build.specs.declared.edges.Edge.{Edge}
 use Rattle.database_build.specs.declared.edges.Edges.{Edges}
 use Rattle.database_build.specs.declared.regions.Regions.{Regions}
 
--- what is kept for each order of `count` tiles: the tile at each position, and the order after two are exchanged
-pub record HasPasses (count : ℕ) (o : Orders) : Type 0 where
+-- what is kept for the orders of `count` tiles before one: the tile at each position, and the order after two are exchanged
+pub record HasPassesTo (count made : ℕ) (o : Orders) : Type 0 where
   pub number : o.count ≡ count
   pub some : 0 < count
   pub short : count ≤ 9
   pub size : o.size ≡ factorial count
-  pub tiles_length : length o.tiles.items ≡ factorial count * count
-  pub tiles : (order position : ℕ) → order < factorial count → position < count → slice_index o.tiles.items (order * count + position) ≡ tile_of count order position
-  pub passes_length : length o.passes.items ≡ factorial count * (count - 1)
-  pub passes : (order position : ℕ) → order < factorial count → suc position < count → slice_index o.passes.items (order * (count - 1) + position) ≡ order_of (map (exchanged position) (positions_at count order))
+  pub tiles_length : length o.tiles.items ≡ made * count
+  pub tiles : (order position : ℕ) → order < made → position < count → slice_index o.tiles.items (order * count + position) ≡ tile_of count order position
+  pub passes_length : length o.passes.items ≡ made * (count - 1)
+  pub passes : (order position : ℕ) → order < made → suc position < count → slice_index o.passes.items (order * (count - 1) + position) ≡ order_of (map (exchanged position) (positions_at count order))
+
+-- that for all orders
+abbrev pub HasPasses : ℕ → Orders → Type 0
+HasPasses count = HasPassesTo count (factorial count)
 
 -- the order after the tile at a position has come to another, by both positions and then by order
 pub record AreMoves (count : ℕ) (moves : List ℕ) : Type 0 where

@@ -5,7 +5,7 @@ ghost use Rattle.std.specs.List.{position_or_len, range_with_len};
 ghost use Rattle.pattern_index.specs.Laws.{factorial};
 ghost use Rattle.pattern_index.specs.Ranks.{spread};
 ghost use Rattle.database_build.specs.Orders.{below, order_of, positions_at, tile_of, exchanged, moved_order};
-ghost use Rattle.database_build.specs.Graphs.{AreMoves, HasPasses, IsOrders};
+ghost use Rattle.database_build.specs.Graphs.{AreMoves, HasPasses, HasPassesTo, IsOrders};
 
 use memory::{OutOfMemory, copy_of, push};
 use std::alloc::Global;
@@ -134,18 +134,9 @@ impl Orders {
 
     // Adds what is kept for one order more.
     fn add_order(&mut self, order: usize) -> Result<(), OutOfMemory>
-        requires some { 0 < self.old.count }
-        requires short { self.old.count ≤ 9 }
+        requires orders { HasPassesTo self.old.count order self.old }
         requires order { order < factorial self.old.count }
-        ensures count { self.new.count ≡ self.old.count }
-        ensures size { self.new.size ≡ self.old.size }
-        ensures tiles { OnOk result (self.new.tiles.items
-            ≡ self.old.tiles.items
-            ++ map (tile_of self.old.count order) (range_with_len 0 self.old.count)) }
-        ensures passes { OnOk result (self.new.passes.items
-            ≡ self.old.passes.items
-            ++ map (λ position. order_of (map (exchanged position) (positions_at self.old.count order)))
-            (range_with_len 0 (self.old.count - 1))) }
+        ensures { OnOk result (HasPassesTo self.old.count (order + 1) self.new) }
     {
         let mut positions = [0; 9];
         write_positions(order, &mut positions[..self.count]);

@@ -1,6 +1,8 @@
-use Rattle.database_build.proofs.OrderTables.{kept_more}
+use Rattle.database_build.proofs.OrderTables.{kept_next, kept_own}
 use Rattle.database_build.proofs.orders.Orders.new.Goals as goal
 
+pub add_order-requires-clause-orders : goal.add_order-requires-clause-orders
+add_order-requires-clause-orders c = kept_own c.args.count c.orders.order c.orders.orders c.orders.invariant
+
 pub orders-preserved : goal.orders-preserved
-orders-preserved c =
-    kept_more c.args.count c.orders.order c.orders.orders c.add_order.new.self c.orders.invariant c.in_ok-add_order.ensures.count c.in_ok-add_order.ensures.size c.in_ok-add_order.ensures.tiles c.in_ok-add_order.ensures.passes
+orders-preserved c = kept_next c.args.count c.orders.order c.orders.orders c.add_order.new.self c.orders.invariant c.in_ok-add_order.ensures
