@@ -1,21 +1,29 @@
 //! Certificates by their fields and by their bytes.
 
-use crate::groups::partition_of;
+use crate::groups::{certificate_of, partition_of};
 use crate::vectors::{
     BOUND_OF_0, BOUND_OF_1, FOUR_LETTERS, GOAL, GREATEST, ONE_MOVE, ONE_MOVE_TWO, WITH_GROUPS,
     WITH_WEIGHTS,
 };
+use board::Move::{D, L, R, U};
 use board::{Board, GREATEST_COST, Move, Shape, Weights};
 use byte_streams::{ByteSink, ByteSource};
 use certificate::{Certificate, Claim, GREATEST_BOUND, Parts, Version, read, write};
 use std::alloc::Global;
-use std::test::Fail;
+use std::process::Abort;
+
+// What moves cost.
+enum Costs {
+    Unit,
+    Face,
+    List(&'static [u8]),
+}
 
 // A certificate, to Korf's goal, by its fields and by its bytes.
-#[derive(Clone, Copy)]
 struct Example {
     version: Version,
-    costs: Weights,
+    sides: (u8, u8),
+    costs: Costs,
     groups: &'static [&'static [u8]],
     start: &'static [u8],
     cost: u32,
@@ -25,32 +33,52 @@ struct Example {
     bytes: &'static [u8],
 }
 
-// The fields of an example.
-fn parts_of(alloc: Global, example: &Example) -> Result<Parts, Fail> {
-    let shape = example.costs.shape();
-    let mut rows = Vec::new(alloc);
-    for (tiles, cost) in example.rows {
-        rows.push((Board::from_tiles(shape, tiles)?, *cost))?;
+fn weights_of(rt: &impl Abort, shape: Shape, costs: &Costs) -> Weights {
+    match costs {
+        Costs::Unit => Weights::unit(shape),
+        Costs::Face => Weights::face(shape),
+        Costs::List(weights) => Weights::list(shape, weights).expect(rt, "weights"),
     }
-    let claim = match example.plan {
-        Some(plan) => Claim::Least {
-            cost: example.cost,
-            plan: Vec::from_slice(alloc, plan)?,
-        },
-        None => Claim::Bound {
+}
+
+fn claim_of(rt: &(impl Abort + AllocGlobal), example: &Example) -> Claim {
+    let Some(plan) = example.plan else {
+        return Claim::Bound {
             bound: example.cost,
-        },
+        };
     };
-    Ok(Parts {
+    Claim::Least {
+        cost: example.cost,
+        plan: Vec::from_slice(rt.alloc(), plan).expect(rt, "memory"),
+    }
+}
+
+fn rows_of(
+    rt: &(impl Abort + AllocGlobal),
+    shape: Shape,
+    rows: &[(&[u8], u32)],
+) -> Vec<(Board, u32)> {
+    let mut boards = Vec::new(rt.alloc());
+    for (tiles, cost) in rows {
+        let board = Board::from_tiles(shape, tiles).expect(rt, "a board");
+        boards.push((board, *cost)).expect(rt, "memory");
+    }
+    boards
+}
+
+// The fields of an example.
+fn parts_of(rt: &(impl Abort + AllocGlobal), example: &Example) -> Parts {
+    let shape = Shape::new(example.sides.0, example.sides.1).expect(rt, "a shape");
+    Parts {
         version: example.version,
         shape,
-        costs: example.costs,
-        groups: partition_of(alloc, shape, example.groups)?,
-        start: Board::from_tiles(shape, example.start)?,
+        costs: weights_of(rt, shape, &example.costs),
+        groups: partition_of(rt, shape, example.groups),
+        start: Board::from_tiles(shape, example.start).expect(rt, "a board"),
         goal: Board::goal(shape),
-        claim,
-        rows,
-    })
+        claim: claim_of(rt, example),
+        rows: rows_of(rt, shape, example.rows),
+    }
 }
 
 // The moves that are claimed.
@@ -89,124 +117,138 @@ fn is_read(alloc: Global, certificate: &Certificate, bytes: &[u8]) -> bool {
     }
 }
 
-#[test]
-fn written_and_read(rt: HostRuntime) -> Result<(), Fail> {
-    use Move::{D, L, R, U};
-    let square = Shape::new(2, 2)?;
-    let high = Shape::new(3, 2)?;
-    let examples = [
-        Example {
-            version: Version::One,
-            costs: Weights::unit(square),
-            groups: &[],
-            start: &[0, 1, 2, 3],
-            cost: 0,
-            plan: Some(&[]),
-            rows: &[],
-            bytes: &GOAL,
-        },
-        Example {
-            version: Version::One,
-            costs: Weights::unit(square),
-            groups: &[],
-            start: &[1, 0, 2, 3],
-            cost: 1,
-            plan: Some(&[L]),
-            rows: &[(&[1, 0, 2, 3], 0)],
-            bytes: &ONE_MOVE,
-        },
-        Example {
-            version: Version::One,
-            costs: Weights::unit(square),
-            groups: &[&[1], &[3]],
-            start: &[1, 3, 0, 2],
-            cost: 3,
-            plan: Some(&[R, U, L]),
-            rows: &[(&[1, 3, 0, 2], 0)],
-            bytes: &WITH_GROUPS,
-        },
-        Example {
-            version: Version::One,
-            costs: Weights::list(square, &[5, 1, 1])?,
-            groups: &[],
-            start: &[1, 0, 2, 3],
-            cost: 5,
-            plan: Some(&[L]),
-            rows: &[(&[1, 0, 2, 3], 0), (&[1, 3, 0, 2], 2), (&[1, 3, 2, 0], 1)],
-            bytes: &WITH_WEIGHTS,
-        },
-        Example {
-            version: Version::One,
-            costs: Weights::face(high),
-            groups: &[],
-            start: &[1, 2, 0, 3, 4, 5],
-            cost: 0x03_0201,
-            plan: Some(&[U, L, R, D]),
-            rows: &[
-                (&[0, 1, 2, 3, 4, 5], 0x0102),
-                (&[1, 2, 0, 3, 4, 5], GREATEST_COST),
-            ],
-            bytes: &FOUR_LETTERS,
-        },
-        Example {
-            version: Version::Two,
-            costs: Weights::unit(square),
-            groups: &[],
-            start: &[1, 0, 2, 3],
-            cost: 1,
-            plan: Some(&[L]),
-            rows: &[(&[1, 0, 2, 3], 0)],
-            bytes: &ONE_MOVE_TWO,
-        },
-        Example {
-            version: Version::Two,
-            costs: Weights::unit(square),
-            groups: &[],
-            start: &[1, 0, 2, 3],
-            cost: 1,
-            plan: None,
-            rows: &[(&[1, 0, 2, 3], 0)],
-            bytes: &BOUND_OF_1,
-        },
-        Example {
-            version: Version::Two,
-            costs: Weights::unit(square),
-            groups: &[],
-            start: &[1, 0, 2, 3],
-            cost: 0,
-            plan: None,
-            rows: &[],
-            bytes: &BOUND_OF_0,
-        },
-        Example {
-            version: Version::Two,
-            costs: Weights::unit(square),
-            groups: &[],
-            start: &[1, 0, 2, 3],
-            cost: GREATEST_BOUND,
-            plan: None,
-            rows: &[],
-            bytes: &GREATEST,
-        },
-    ];
-    for example in &examples {
-        let parts = parts_of(rt.alloc(), example)?;
-        let certificate = Certificate::new(parts).ok_or("they have a spelling")?;
-        assert!(rt; is_written(rt.alloc(), &certificate, example.bytes));
-        assert!(rt; is_read(rt.alloc(), &certificate, example.bytes));
-    }
-    Ok(())
-}
+const EXAMPLES: [Example; 9] = [
+    Example {
+        version: Version::One,
+        sides: (2, 2),
+        costs: Costs::Unit,
+        groups: &[],
+        start: &[0, 1, 2, 3],
+        cost: 0,
+        plan: Some(&[]),
+        rows: &[],
+        bytes: &GOAL,
+    },
+    Example {
+        version: Version::One,
+        sides: (2, 2),
+        costs: Costs::Unit,
+        groups: &[],
+        start: &[1, 0, 2, 3],
+        cost: 1,
+        plan: Some(&[L]),
+        rows: &[(&[1, 0, 2, 3], 0)],
+        bytes: &ONE_MOVE,
+    },
+    Example {
+        version: Version::One,
+        sides: (2, 2),
+        costs: Costs::Unit,
+        groups: &[&[1], &[3]],
+        start: &[1, 3, 0, 2],
+        cost: 3,
+        plan: Some(&[R, U, L]),
+        rows: &[(&[1, 3, 0, 2], 0)],
+        bytes: &WITH_GROUPS,
+    },
+    Example {
+        version: Version::One,
+        sides: (2, 2),
+        costs: Costs::List(&[5, 1, 1]),
+        groups: &[],
+        start: &[1, 0, 2, 3],
+        cost: 5,
+        plan: Some(&[L]),
+        rows: &[(&[1, 0, 2, 3], 0), (&[1, 3, 0, 2], 2), (&[1, 3, 2, 0], 1)],
+        bytes: &WITH_WEIGHTS,
+    },
+    Example {
+        version: Version::One,
+        sides: (3, 2),
+        costs: Costs::Face,
+        groups: &[],
+        start: &[1, 2, 0, 3, 4, 5],
+        cost: 0x03_0201,
+        plan: Some(&[U, L, R, D]),
+        rows: &[
+            (&[0, 1, 2, 3, 4, 5], 0x0102),
+            (&[1, 2, 0, 3, 4, 5], GREATEST_COST),
+        ],
+        bytes: &FOUR_LETTERS,
+    },
+    Example {
+        version: Version::Two,
+        sides: (2, 2),
+        costs: Costs::Unit,
+        groups: &[],
+        start: &[1, 0, 2, 3],
+        cost: 1,
+        plan: Some(&[L]),
+        rows: &[(&[1, 0, 2, 3], 0)],
+        bytes: &ONE_MOVE_TWO,
+    },
+    Example {
+        version: Version::Two,
+        sides: (2, 2),
+        costs: Costs::Unit,
+        groups: &[],
+        start: &[1, 0, 2, 3],
+        cost: 1,
+        plan: None,
+        rows: &[(&[1, 0, 2, 3], 0)],
+        bytes: &BOUND_OF_1,
+    },
+    Example {
+        version: Version::Two,
+        sides: (2, 2),
+        costs: Costs::Unit,
+        groups: &[],
+        start: &[1, 0, 2, 3],
+        cost: 0,
+        plan: None,
+        rows: &[],
+        bytes: &BOUND_OF_0,
+    },
+    Example {
+        version: Version::Two,
+        sides: (2, 2),
+        costs: Costs::Unit,
+        groups: &[],
+        start: &[1, 0, 2, 3],
+        cost: GREATEST_BOUND,
+        plan: None,
+        rows: &[],
+        bytes: &GREATEST,
+    },
+];
 
 #[test]
-fn upgraded_once(rt: HostRuntime) -> Result<(), Fail> {
-    for (bytes, upgraded) in [
-        (&ONE_MOVE[..], &ONE_MOVE_TWO[..]),
-        (&ONE_MOVE_TWO, &ONE_MOVE_TWO),
-        (&BOUND_OF_1, &BOUND_OF_1),
-    ] {
-        let certificate = read(rt.alloc(), &mut ByteSource::new(bytes))?.upgrade();
-        assert!(rt; is_written(rt.alloc(), &certificate, upgraded));
+fn written_and_read(rt: HostRuntime) {
+    for (row, example) in EXAMPLES.iter().enumerate() {
+        let parts = parts_of(&rt, example);
+        let certificate = Certificate::new(parts).expect(&rt, "they have a spelling");
+        assert!(rt;
+            is_written(rt.alloc(), &certificate, example.bytes),
+            "row {row}"
+        );
+        assert!(rt;
+            is_read(rt.alloc(), &certificate, example.bytes),
+            "row {row}"
+        );
     }
-    Ok(())
+}
+
+// Bytes, and those of their certificate in version 2.
+const UPGRADES: [(&[u8], &[u8]); 3] = [
+    (&ONE_MOVE, &ONE_MOVE_TWO),
+    (&ONE_MOVE_TWO, &ONE_MOVE_TWO),
+    (&BOUND_OF_1, &BOUND_OF_1),
+];
+
+#[test]
+fn upgraded_once(rt: HostRuntime) {
+    for (row, (bytes, upgraded)) in UPGRADES.iter().enumerate() {
+        let certificate = certificate_of(&rt, bytes).upgrade();
+        assert!(rt; is_written(rt.alloc(), &certificate, upgraded), "row {row}");
+    }
 }

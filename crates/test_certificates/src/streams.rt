@@ -1,64 +1,55 @@
 //! Streams that fail at each of their calls in turn.
 
+use crate::groups::certificate_of;
 use crate::vectors::ONE_MOVE;
 use byte_streams::{ByteSink, ByteSource};
-use certificate::{Certificate, FormatFault, ReadFault, WriteFault, read, write};
+use certificate::{Certificate, FormatFault, ReadFault, read, write};
 use std::alloc::Global;
 use std::io::ErrorKind;
-use std::test::Fail;
 use test_support::{FailingReader, FailingWriter};
+
+// What is answered where so many reads succeed.
+fn fault_after(alloc: Global, bytes: &[u8], reads_before: usize) -> Option<ReadFault> {
+    let mut source = ByteSource::new(FailingReader {
+        bytes,
+        reads_before,
+        kind: ErrorKind::Other,
+    });
+    read(alloc, &mut source).err()
+}
 
 #[test]
 fn each_read_fails_in_turn(rt: HostRuntime) {
     // One group is announced, of one tile, which is 0.
     let mut with_groups = ONE_MOVE;
     with_groups[11] = 1;
+    let group_fault = Some(ReadFault::Format(FormatFault::OutOfRange));
     // Each byte is a read, and so is the end. Nothing behind a fault is read.
-    for (text, reads, answer) in [
-        (&ONE_MOVE, 46, None),
-        (
-            &with_groups,
-            14,
-            Some(ReadFault::Format(FormatFault::OutOfRange)),
-        ),
-    ] {
-        for reads_before in 0..=reads {
-            let mut source = ByteSource::new(FailingReader {
-                bytes: text,
-                reads_before,
-                kind: ErrorKind::Other,
-            });
-            let fault = read(rt.alloc(), &mut source).err();
-            let want = if reads_before < reads {
-                Some(ReadFault::Failed)
-            } else {
-                answer
-            };
-            assert_eq!(rt; fault, want, "{reads_before} of {reads}");
+    for (text, reads, answer) in [(&ONE_MOVE, 46, None), (&with_groups, 14, group_fault)] {
+        for reads_before in 0..reads {
+            let fault = fault_after(rt.alloc(), text, reads_before);
+            assert_eq!(rt; fault, Some(ReadFault::Failed), "{reads_before} of {reads}");
         }
+        assert_eq!(rt; fault_after(rt.alloc(), text, reads), answer);
     }
 }
 
-// What is answered where so many writes succeed, and the bytes that were taken.
-fn written(
-    alloc: Global,
-    certificate: &Certificate,
-    writes_before: usize,
-) -> (Result<(), WriteFault>, Vec<u8>) {
+// Whether so many bytes are written, each by a write, where so many writes succeed.
+fn is_cut_off(alloc: Global, certificate: &Certificate, writes_before: usize) -> bool {
     let writer = FailingWriter::new(alloc, writes_before, Some(ErrorKind::Other));
     let mut sink = ByteSink::new(writer);
     let answer = write(&mut sink, certificate);
-    (answer, sink.into_inner().taken)
+    answer.is_ok() == (writes_before == ONE_MOVE.len())
+        && Some(sink.into_inner().taken.as_slice()) == ONE_MOVE.get(..writes_before)
 }
 
 #[test]
-fn each_write_fails_in_turn(rt: HostRuntime) -> Result<(), Fail> {
-    let certificate = read(rt.alloc(), &mut ByteSource::new(&ONE_MOVE[..]))?;
-    // Each byte is a write.
+fn each_write_fails_in_turn(rt: HostRuntime) {
+    let certificate = certificate_of(&rt, &ONE_MOVE);
     for writes_before in 0..=ONE_MOVE.len() {
-        let (answer, taken) = written(rt.alloc(), &certificate, writes_before);
-        assert_eq!(rt; answer.is_ok(), writes_before == ONE_MOVE.len());
-        assert_eq!(rt; taken.as_slice(), &ONE_MOVE[..writes_before]);
+        assert!(rt;
+            is_cut_off(rt.alloc(), &certificate, writes_before),
+            "{writes_before}"
+        );
     }
-    Ok(())
 }
