@@ -1,8 +1,9 @@
 //! Plans, keys, classes and faults in tables, and each other call once.
 
+use crate::fixtures::{board_of, shape_of};
 use board::Move::{D, L, R, U};
-use board::{Board, BoardFault, Move, Shape, TilesFault, Weights, follow, same_class};
-use std::test::Fail;
+use board::{Board, Move, Shape, TilesFault, Weights, follow, same_class};
+use std::process::Abort;
 
 // A plan between two lists of tiles, with its unit cost and its face cost.
 struct WorkedPlan {
@@ -65,30 +66,29 @@ const PLANS: [WorkedPlan; 6] = [
 ];
 
 // Whether a plan leads where it should, at both costs.
-fn leads(row: &WorkedPlan) -> Result<bool, BoardFault> {
-    let shape = Shape::new(row.sides.0, row.sides.1)?;
-    let start = Board::from_tiles(shape, row.from)?;
-    let end = Board::from_tiles(shape, row.to)?;
+fn leads(rt: &impl Abort, row: &WorkedPlan) -> bool {
+    let shape = shape_of(rt, row.sides.0, row.sides.1);
+    let start = board_of(rt, shape, row.from);
+    let end = board_of(rt, shape, row.to);
     let unit = follow(&start, row.plan, &Weights::unit(shape));
     let face = follow(&start, row.plan, &Weights::face(shape));
-    Ok(unit == Ok((end, row.costs.0)) && face == Ok((end, row.costs.1)))
+    unit == Ok((end, row.costs.0)) && face == Ok((end, row.costs.1))
 }
 
 #[test]
-fn plans_lead(rt: HostRuntime) -> Result<(), Fail> {
+fn plans_lead(rt: HostRuntime) {
     for (row, plan) in PLANS.iter().enumerate() {
-        assert!(rt; leads(plan)?, "row {row}");
+        assert!(rt; leads(&rt, plan), "row {row}");
     }
-    Ok(())
 }
 
 // What moves the blank would make of 1 0 over 2 3 at face cost, by direction.
 #[test]
-fn four_successors(rt: HostRuntime) -> Result<(), Fail> {
-    let shape = Shape::new(2, 2)?;
-    let board = Board::from_tiles(shape, &[1, 0, 2, 3])?;
-    let left = Board::from_tiles(shape, &[0, 1, 2, 3])?;
-    let down = Board::from_tiles(shape, &[1, 3, 2, 0])?;
+fn four_successors(rt: HostRuntime) {
+    let shape = shape_of(&rt, 2, 2);
+    let board = board_of(&rt, shape, &[1, 0, 2, 3]);
+    let left = board_of(&rt, shape, &[0, 1, 2, 3]);
+    let down = board_of(&rt, shape, &[1, 3, 2, 0]);
     let weights = Weights::face(shape);
     for (direction, moved) in [
         (U, None),
@@ -98,18 +98,16 @@ fn four_successors(rt: HostRuntime) -> Result<(), Fail> {
     ] {
         assert!(rt; board.step(direction, &weights) == moved);
     }
-    Ok(())
 }
 
 // Boards of 2 by 2 with their keys.
 #[test]
-fn keys(rt: HostRuntime) -> Result<(), Fail> {
-    let shape = Shape::new(2, 2)?;
+fn keys(rt: HostRuntime) {
+    let shape = shape_of(&rt, 2, 2);
     for (tiles, key) in [([0, 1, 2, 3], 1091), ([1, 0, 2, 3], 32835)] {
-        let board = Board::from_tiles(shape, &tiles)?;
+        let board = board_of(&rt, shape, &tiles);
         assert!(rt; board.key() == key && Board::from_key(shape, key) == Some(board));
     }
-    Ok(())
 }
 
 // Boards, and whether they are in the class of Korf's goal. The last is the fifteen puzzle with two
@@ -125,13 +123,12 @@ const CLASSES: [(u8, &[u8], bool); 3] = [
 ];
 
 #[test]
-fn classes(rt: HostRuntime) -> Result<(), Fail> {
-    for (side, tiles, is_same) in CLASSES {
-        let shape = Shape::new(side, side)?;
-        let board = Board::from_tiles(shape, tiles)?;
-        assert!(rt; same_class(&board, &Board::goal(shape)) == is_same);
+fn classes(rt: HostRuntime) {
+    for (side, tiles, is_same) in &CLASSES {
+        let shape = shape_of(&rt, *side, *side);
+        let board = board_of(&rt, shape, tiles);
+        assert!(rt; same_class(&board, &Board::goal(shape)) == *is_same);
     }
-    Ok(())
 }
 
 // Numbers that are no board of 2 by 2, and the first fault of each: their count before any place,
@@ -144,48 +141,52 @@ const FAULTS: [(&[u8], TilesFault); 4] = [
 ];
 
 #[test]
-fn first_faults(rt: HostRuntime) -> Result<(), Fail> {
-    let shape = Shape::new(2, 2)?;
-    for (numbers, fault) in FAULTS {
-        assert!(rt; Board::from_tiles(shape, numbers) == Err(fault));
+fn first_faults(rt: HostRuntime) {
+    let shape = shape_of(&rt, 2, 2);
+    for (numbers, fault) in &FAULTS {
+        assert!(rt; Board::from_tiles(shape, numbers) == Err(*fault));
     }
-    Ok(())
 }
 
-// The calls that the tables above leave out, and a plan whose second move leaves the board, at
-// place 1.
+// The calls that the tables above leave out.
 #[test]
-fn each_call_once(rt: HostRuntime) -> Result<(), Fail> {
-    let shape = Shape::new(2, 3)?;
-    let board = Board::from_tiles(shape, &[1, 2, 3, 4, 0, 5])?;
+fn each_call_of_shapes_and_moves(rt: HostRuntime) {
+    let shape = shape_of(&rt, 2, 3);
+    assert!(rt; shape.rows() == 2);
+    assert!(rt; shape.cols() == 3);
+    assert!(rt; shape.cells() == 6);
+    assert!(rt; shape.neighbour(1, D) == Some(4));
+    assert!(rt; shape.neighbour(2, R) == None);
+    assert!(rt; shape != shape_of(&rt, 3, 2));
+    assert!(rt; U.undo() == D);
+    assert!(rt; L.letter() == b'L');
+    assert!(rt; Move::from_letter(b'R') == Some(R));
+    assert!(rt; Move::from_letter(b'r') == None);
+}
+
+// The same of a board; and a plan whose second move leaves it, at place 1.
+#[test]
+fn each_call_once(rt: HostRuntime) {
+    let shape = shape_of(&rt, 2, 3);
+    let board = board_of(&rt, shape, &[1, 2, 3, 4, 0, 5]);
+    assert!(rt; board.tiles() == [1, 2, 3, 4, 0, 5].as_slice());
+    assert!(rt; Board::goal(shape).tile(5) == 5);
+    assert!(rt; board.tile(3) == 4);
+    assert!(rt; board.blank() == 4);
+    assert!(rt; board.shape() == shape);
+    assert!(rt; follow(&board, &[L, L, U], &Weights::unit(shape)) == Err(1));
+}
+
+#[test]
+fn each_call_of_weights(rt: HostRuntime) {
+    let shape = Shape::new(2, 3).expect(&rt, "a shape");
     let unit = Weights::unit(shape);
     let face = Weights::face(shape);
-    for (call, is_right) in [
-        ("rows", shape.rows() == 2),
-        ("cols", shape.cols() == 3),
-        ("cells", shape.cells() == 6),
-        ("neighbour", shape.neighbour(1, D) == Some(4)),
-        ("neighbour", shape.neighbour(2, R) == None),
-        ("undo", U.undo() == D),
-        ("letter", L.letter() == b'L'),
-        ("from_letter", Move::from_letter(b'R') == Some(R)),
-        ("from_letter", Move::from_letter(b'r') == None),
-        ("tiles", board.tiles() == [1, 2, 3, 4, 0, 5].as_slice()),
-        ("goal", Board::goal(shape).tile(5) == 5),
-        ("tile", board.tile(3) == 4),
-        ("blank", board.blank() == 4),
-        ("shape", board.shape() == shape),
-        ("of", unit.of(5) == 1),
-        ("of", face.of(5) == 5),
-        ("list", Weights::list(shape, &[1, 1, 1, 1, 1]) == Ok(unit)),
-        ("list", Weights::list(shape, &[1, 2, 3, 4, 5]) == Ok(face)),
-        ("listed", face.listed() == [1, 2, 3, 4, 5].as_slice()),
-        ("shape", face.shape() == shape),
-        ("follow", follow(&board, &[L, L, U], &unit) == Err(1)),
-        ("==", unit != face),
-        ("==", shape != Shape::new(3, 2)?),
-    ] {
-        assert!(rt; is_right, "{call}");
-    }
-    Ok(())
+    assert!(rt; unit.of(5) == 1);
+    assert!(rt; face.of(5) == 5);
+    assert!(rt; Weights::list(shape, &[1, 1, 1, 1, 1]) == Ok(unit));
+    assert!(rt; Weights::list(shape, &[1, 2, 3, 4, 5]) == Ok(face));
+    assert!(rt; face.listed() == [1, 2, 3, 4, 5].as_slice());
+    assert!(rt; face.shape() == shape);
+    assert!(rt; unit != face);
 }

@@ -5,7 +5,7 @@ use closed_table::{Closed, Relaxed};
 use open_buckets::{GREATEST_F, Open};
 use std::alloc::Global;
 use std::collections::BTreeMap;
-use std::test::Fail;
+use std::process::Abort;
 
 // The inverse of the odd number by which keys are hashed: its multiples by small numbers have the
 // hash 0, so they all hang in one chain.
@@ -51,7 +51,7 @@ fn at(table: &Closed, place: usize) -> Option<(u128, u32)> {
 }
 
 #[test]
-fn a_board_that_is_met_again(rt: HostRuntime) -> Result<(), Fail> {
+fn a_board_that_is_met_again(rt: HostRuntime) {
     let mut table = Closed::new(rt.alloc());
     // The cost and the last move, and the answer; the board is closed each time.
     for (cost, via, answer) in [
@@ -60,17 +60,13 @@ fn a_board_that_is_met_again(rt: HostRuntime) -> Result<(), Fail> {
         (4, Move::L, 'L'),
         (6, Move::U, 'K'),
     ] {
-        assert_eq!(rt;
-            meet(rt.alloc(), &mut table, 7, cost, via),
-            Some((answer, 0))
-        );
-        let known = table.get(7).ok_or("unknown")?;
-        assert_eq!(rt; known.expanded, answer == 'K');
-        assert_eq!(rt; close(&mut table, 7), Some(cost.min(known.cost)));
+        assert!(rt; meet(rt.alloc(), &mut table, 7, cost, via) == Some((answer, 0)));
+        let known = table.get(7).expect(&rt, "known");
+        assert!(rt; known.expanded == (answer == 'K'));
+        assert!(rt; close(&mut table, 7) == Some(cost.min(known.cost)));
     }
-    let known = table.get(7).ok_or("unknown")?;
-    assert_eq!(rt; (known.cost, known.via == Move::L), (4, true));
-    Ok(())
+    let known = table.get(7).expect(&rt, "known");
+    assert!(rt; known.cost == 4 && known.via == Move::L);
 }
 
 // The board at a place is closed; None where there is no such place.
@@ -87,14 +83,20 @@ fn is_closed(table: &Closed, key: u128) -> Option<bool> {
     Some(table.get(key)?.expanded)
 }
 
+// Which of the boards with the keys 7, 9 and 8 are closed.
+fn are_closed(table: &Closed) -> Option<[bool; 3]> {
+    Some([
+        is_closed(table, 7)?,
+        is_closed(table, 9)?,
+        is_closed(table, 8)?,
+    ])
+}
+
 #[test]
-fn boards_that_are_closed_at_their_places(rt: HostRuntime) -> Result<(), Fail> {
+fn boards_that_are_closed_at_their_places(rt: HostRuntime) {
     let mut table = Closed::new(rt.alloc());
     for (key, place) in [(7, 0), (9, 1), (8, 2)] {
-        assert_eq!(rt;
-            meet(rt.alloc(), &mut table, key, 5, Move::U),
-            Some(('N', place))
-        );
+        assert!(rt; meet(rt.alloc(), &mut table, key, 5, Move::U) == Some(('N', place)));
     }
     // The place, whether there is one, and which boards are closed after it.
     for (place, is_there, closed) in [
@@ -103,16 +105,13 @@ fn boards_that_are_closed_at_their_places(rt: HostRuntime) -> Result<(), Fail> {
         (0, true, [true, true, false]),
         (0, true, [true, true, false]),
     ] {
-        assert_eq!(rt; close_at(&mut table, place).is_some(), is_there);
-        for (key, is) in [7, 9, 8].into_iter().zip(closed) {
-            assert_eq!(rt; is_closed(&table, key), Some(is));
-        }
-        assert_eq!(rt; at(&table, 1), Some((9, 5)));
+        assert!(rt; close_at(&mut table, place).is_some() == is_there);
+        assert!(rt; are_closed(&table) == Some(closed));
+        assert!(rt; at(&table, 1) == Some((9, 5)));
     }
     // One that is met at a lower cost is open again, at its place.
-    assert_eq!(rt; meet(rt.alloc(), &mut table, 9, 4, Move::D), Some(('L', 1)));
-    assert_eq!(rt; is_closed(&table, 9), Some(false));
-    Ok(())
+    assert!(rt; meet(rt.alloc(), &mut table, 9, 4, Move::D) == Some(('L', 1)));
+    assert!(rt; is_closed(&table, 9) == Some(false));
 }
 
 // The next of a row of pseudo-random numbers (Marsaglia 2003).
@@ -124,59 +123,72 @@ fn draw(state: u64) -> u64 {
 }
 
 // What the map would answer, which takes the cost where it is news.
-fn meet_in_map(costs: &mut BTreeMap<u128, u32>, key: u128, cost: u32) -> Option<char> {
+fn meet_in_map(rt: &impl Abort, costs: &mut BTreeMap<u128, u32>, key: u128, cost: u32) -> char {
     let before = costs.get(&key).copied();
     if let Some(old) = before {
         if old <= cost {
-            return Some('K');
+            return 'K';
         }
     }
-    costs.insert(key, cost).ok()?;
-    Some(if before.is_none() { 'N' } else { 'L' })
+    let added: Result<_, _> = costs.insert(key, cost);
+    added.expect(rt, "memory");
+    if before.is_none() { 'N' } else { 'L' }
 }
 
-// How many keys came of so many draws below a limit, times a factor, where each answer is that of
-// an ordered map, and the keys stand in the order in which they came.
-fn beside_a_map(alloc: Global, draws: u32, limit: u64, factor: u128) -> Option<usize> {
-    let mut table = Closed::new(alloc);
-    let mut costs = BTreeMap::new(alloc);
-    let mut order = Vec::new(alloc);
+// A board is met in the table and in the map, which have to answer alike; its key comes behind the
+// others where it is new.
+fn meet_in_both(
+    rt: &(impl Abort + AllocGlobal),
+    table: &mut Closed,
+    costs: &mut BTreeMap<u128, u32>,
+    order: &mut Vec<u128>,
+    key: u128,
+    cost: u32,
+) {
+    let answer = meet_in_map(rt, costs, key, cost);
+    if answer == 'N' {
+        order.push(key).expect(rt, "memory");
+    }
+    let (met, place) = meet(rt.alloc(), table, key, cost, Move::R).expect(rt, "memory");
+    assert!(rt; met == answer);
+    assert!(rt; order.get(place as usize).copied() == Some(key));
+}
+
+// Compares the table with the map, where keys stand in the order in which they came.
+fn compare_with_map(rt: &impl Abort, table: &Closed, costs: &BTreeMap<u128, u32>, order: &[u128]) {
+    for (place, key) in order.iter().enumerate() {
+        let cost = costs.get(key).copied().expect(rt, "a key of the map");
+        assert!(rt; at(table, place) == Some((*key, cost)));
+        assert!(rt; table.get(*key).expect(rt, "known").cost == cost);
+    }
+    assert!(rt; table.len() == order.len());
+}
+
+// How many keys came of so many draws below a limit, times a factor.
+fn beside_a_map(rt: &(impl Abort + AllocGlobal), draws: u32, limit: u64, factor: u128) -> usize {
+    let mut table = Closed::new(rt.alloc());
+    let mut costs = BTreeMap::new(rt.alloc());
+    let mut order = Vec::new(rt.alloc());
     let mut state = 88_172_645_463_325_252;
     for _ in 0..draws {
         state = draw(state);
         let key = ((state % limit.max(1)) as u128).wrapping_mul(factor);
         let cost = (state >> 40) as u32 % 1000;
-        let answer = meet_in_map(&mut costs, key, cost)?;
-        let (met, place) = meet(alloc, &mut table, key, cost, Move::R)?;
-        if answer == 'N' {
-            order.push(key).ok()?;
-        }
-        if met != answer || order.get(place as usize).copied() != Some(key) {
-            return None;
-        }
+        meet_in_both(rt, &mut table, &mut costs, &mut order, key, cost);
     }
-    for (place, key) in order.iter().enumerate() {
-        let cost = costs.get(key).copied()?;
-        if at(&table, place) != Some((*key, cost)) || table.get(*key)?.cost != cost {
-            return None;
-        }
-    }
-    if table.len() != order.len() {
-        return None;
-    }
-    Some(order.len())
+    compare_with_map(rt, &table, &costs, order.as_slice());
+    order.len()
 }
 
 #[test]
-fn keys_beside_an_ordered_map(rt: HostRuntime) -> Result<(), Fail> {
+fn keys_beside_an_ordered_map(rt: HostRuntime) {
     // Draws, their limit and their factor, and how many keys came of them.
     for (draws, limit, factor, count) in [
         (400_000, 300_000, SPREAD, 220_817),
         (2_000, 300, COLLIDING, 298),
     ] {
-        assert_eq!(rt; beside_a_map(rt.alloc(), draws, limit, factor), Some(count));
+        assert_eq!(rt; beside_a_map(&rt, draws, limit, factor), count);
     }
-    Ok(())
 }
 
 // An entry waits; None where it may not, or there is no memory for it.
@@ -192,7 +204,7 @@ fn wait(alloc: Global, open: &mut Open<u128>, f: u32, key: u128, g: u32) -> Opti
 }
 
 #[test]
-fn the_lowest_is_taken(rt: HostRuntime) -> Result<(), Fail> {
+fn the_lowest_is_taken(rt: HostRuntime) {
     let mut open = Open::new(rt.alloc());
     // The cost plus sum, the key and the cost of each entry, and the lowest after it.
     for (f, key, g, lowest) in [
@@ -201,7 +213,7 @@ fn the_lowest_is_taken(rt: HostRuntime) -> Result<(), Fail> {
         (5, 2, 2, 5),
         (GREATEST_F, 3, 0, 5),
     ] {
-        assert_eq!(rt; wait(rt.alloc(), &mut open, f, key, g), Some(lowest));
+        assert!(rt; wait(rt.alloc(), &mut open, f, key, g) == Some(lowest));
     }
     // The limit, the entry that is taken, and the lowest after it.
     for (below, entry, lowest) in [
@@ -214,9 +226,8 @@ fn the_lowest_is_taken(rt: HostRuntime) -> Result<(), Fail> {
         (u32::MAX, Some((3, 0)), None),
         (u32::MAX, None, None),
     ] {
-        assert_eq!(rt; open.peek_lowest(below), entry);
-        assert_eq!(rt; open.take_lowest(below), entry);
-        assert_eq!(rt; open.lowest(), lowest);
+        assert!(rt; open.peek_lowest(below) == entry, "below {below}");
+        assert!(rt; open.take_lowest(below) == entry, "below {below}");
+        assert!(rt; open.lowest() == lowest, "below {below}");
     }
-    Ok(())
 }

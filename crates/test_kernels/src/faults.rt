@@ -1,13 +1,13 @@
 //! The fault of each call, carried to the sum of all of them by `?`.
 
-ghost use Rattle.std.specs.Prelude.{◌≡◌, IfOk, All};
+ghost use Rattle.std.specs.Prelude.{◌≡◌, All};
 
+use crate::fixtures::{group_of, shape_of};
 use board::Shape;
 use database_build::Table;
 use lower_bound::{Bound, PatternFault};
 use pattern_index::{Group, Partition};
-use std::alloc::Global;
-use std::test::Fail;
+use std::process::Abort;
 
 // What is asked for: a group of these numbers, a partition of these groups, its bound without any
 // table, and a table of so many values of tile 1; and the code of the first fault.
@@ -105,48 +105,52 @@ const ASKED: [Asked; 11] = [
 ];
 
 // The groups of these tiles.
-fn groups_of(alloc: Global, shape: Shape, lists: &[&[u8]]) -> Result<Vec<Group>, Fail>
-    ensures { IfOk result (λ groups. All (λ g. g.grid ≡ shape) groups.items) }
+fn groups_of(rt: &(impl Abort + AllocGlobal), shape: Shape, lists: &[&[u8]]) -> Vec<Group>
+    ensures { All (λ g. g.grid ≡ shape) result.items }
 {
-    let mut groups = Vec::new(alloc);
+    let mut groups = Vec::new(rt.alloc());
     'groups: for tiles in lists {
-        groups.push(Group::new(shape, tiles)?)?;
+        groups.push(group_of(rt, shape, tiles)).expect(rt, "memory");
     }
-    Ok(groups)
+    groups
 }
 
-// Makes a group, a partition, a bound without any table, and a table of tile 1.
-fn make_all(
-    shape: Shape,
-    numbers: &[u8],
-    groups: Vec<Group>,
-    tables: Vec<Table>,
-    values: Vec<u16>,
-) -> Result<(), PatternFault>
+// So many values.
+fn zeros(rt: &(impl Abort + AllocGlobal), count: usize) -> Vec<u16> {
+    let mut values = Vec::new(rt.alloc());
+    for _ in 0..count {
+        values.push(0).expect(rt, "memory");
+    }
+    values
+}
+
+fn make_bound(shape: Shape, groups: Vec<Group>, tables: Vec<Table>) -> Result<(), PatternFault>
     requires { All (λ g. g.grid ≡ shape) groups.items }
 {
-    let _ = Group::new(shape, numbers)?;
     let partition = Partition::new(shape, groups)?;
     let _ = Bound::new(partition, tables)?;
+    Ok(())
+}
+
+fn make_table(shape: Shape, values: Vec<u16>) -> Result<(), PatternFault> {
     let one = Group::new(shape, &[1])?;
     let _ = Table::from_values(&one, values)?;
     Ok(())
 }
 
+// Makes a group, a partition, a bound without any table, and a table of tile 1.
+fn make_all(rt: &(impl Abort + AllocGlobal), asked: &Asked) -> Result<(), PatternFault> {
+    let shape = shape_of(rt, asked.side, asked.side);
+    let _ = Group::new(shape, asked.numbers)?;
+    let groups = groups_of(rt, shape, asked.groups);
+    make_bound(shape, groups, Vec::new(rt.alloc()))?;
+    make_table(shape, zeros(rt, asked.values))
+}
+
 #[test]
-fn each_fault_in_the_sum(rt: HostRuntime) -> Result<(), Fail> {
+fn each_fault_in_the_sum(rt: HostRuntime) {
     for asked in &ASKED {
-        let shape = Shape::new(asked.side, asked.side)?;
-        let groups = groups_of(rt.alloc(), shape, asked.groups)?;
-        let mut values = Vec::new(rt.alloc());
-        for _ in 0..asked.values {
-            values.push(0)?;
-        }
-        let tables = Vec::new(rt.alloc());
-        let Err(fault) = make_all(shape, asked.numbers, groups, tables, values) else {
-            return Err("a fault is passed over")?;
-        };
+        let fault = make_all(&rt, asked).expect_err(&rt, "a fault is passed over");
         assert!(rt; fault.code() == asked.code);
     }
-    Ok(())
 }

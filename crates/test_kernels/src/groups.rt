@@ -1,9 +1,10 @@
 //! Sizes and ranks of groups, moves of views, and partitions.
 
+use crate::fixtures::{board_of, group_of, shape_of};
 use board::Move::{L, U};
-use board::{Board, Shape, Weights};
+use board::{Shape, Weights};
 use pattern_index::{Group, MAX_SIZE, Partition};
-use std::test::Fail;
+use std::process::Abort;
 
 // All tiles of a board of 5 by 5.
 const TILES: [u8; 24] = [
@@ -11,13 +12,13 @@ const TILES: [u8; 24] = [
 ];
 
 // The group of the first tiles of a shape.
-fn first_tiles(rows: u8, cols: u8, count: usize) -> Result<Group, Fail> {
-    let tiles = TILES.get(..count).ok_or("there are fewer tiles")?;
-    Ok(Group::new(Shape::new(rows, cols)?, tiles)?)
+fn first_tiles(rt: &impl Abort, rows: u8, cols: u8, count: usize) -> Group {
+    let tiles = TILES.get(..count).expect(rt, "so many tiles");
+    group_of(rt, shape_of(rt, rows, cols), tiles)
 }
 
 #[test]
-fn sizes(rt: HostRuntime) -> Result<(), Fail> {
+fn sizes(rt: HostRuntime) {
     for (rows, cols, count, size) in [
         (3, 3, 4, 15_120),
         (2, 5, 4, 30_240),
@@ -27,10 +28,9 @@ fn sizes(rt: HostRuntime) -> Result<(), Fail> {
         (5, 5, 4, 6_375_600),
         (2, 5, 9, 3_628_800),
     ] {
-        assert!(rt; first_tiles(rows, cols, count)?.size() == size);
+        assert!(rt; first_tiles(&rt, rows, cols, count).size() == size);
     }
     assert!(rt; MAX_SIZE == 67_108_864);
-    Ok(())
 }
 
 // A board, the rank of what a group sees of it, and the size of the group.
@@ -82,39 +82,37 @@ const RANKS: [WorkedRank; 5] = [
 ];
 
 // Whether the view of a board has its rank, and the rank that view.
-fn has_rank(row: &WorkedRank) -> Result<bool, Fail> {
-    let shape = Shape::new(row.side, row.side)?;
-    let board = Board::from_tiles(shape, row.board)?;
-    let group = Group::new(shape, row.tiles)?;
-    if group.size() != row.size {
-        return Ok(false);
+fn has_rank(rt: &impl Abort, row: &WorkedRank) -> bool {
+    let shape = shape_of(rt, row.side, row.side);
+    let board = board_of(rt, shape, row.board);
+    let group = group_of(rt, shape, row.tiles);
+    if group.size() != row.size || row.rank >= row.size {
+        return false;
     }
     let view = group.view(&board);
-    Ok(group.rank(&view) == row.rank && row.rank < row.size && group.unrank(row.rank) == view)
+    group.rank(&view) == row.rank && group.unrank(row.rank) == view
 }
 
 #[test]
-fn stated_ranks(rt: HostRuntime) -> Result<(), Fail> {
+fn stated_ranks(rt: HostRuntime) {
     for (row, rank) in RANKS.iter().enumerate() {
-        assert!(rt; has_rank(rank)?, "row {row}");
+        assert!(rt; has_rank(&rt, rank), "row {row}");
     }
-    Ok(())
 }
 
 // The blank goes from cell 2 of a board of 3 by 3 to cell 1, from which tile 2 comes. The move
 // counts in a group of that tile alone, and a move up leaves the board.
 #[test]
-fn view_moves(rt: HostRuntime) -> Result<(), Fail> {
-    let shape = Shape::new(3, 3)?;
+fn view_moves(rt: HostRuntime) {
+    let shape = shape_of(&rt, 3, 3);
     let weights = Weights::face(shape);
-    let board = Board::from_tiles(shape, &[1, 2, 0, 3, 4, 5, 6, 7, 8])?;
-    let moved = Board::from_tiles(shape, &[1, 0, 2, 3, 4, 5, 6, 7, 8])?;
+    let board = board_of(&rt, shape, &[1, 2, 0, 3, 4, 5, 6, 7, 8]);
+    let moved = board_of(&rt, shape, &[1, 0, 2, 3, 4, 5, 6, 7, 8]);
     for (tile, direction, cost) in [(2, L, Some(2)), (8, L, Some(0)), (2, U, None)] {
-        let group = Group::new(shape, &[tile])?;
+        let group = group_of(&rt, shape, &[tile]);
         let after = cost.map(|cost| (group.view(&moved), cost));
         assert!(rt; group.step(&group.view(&board), direction, &weights) == after);
     }
-    Ok(())
 }
 
 // Whether a partition has this shape and these groups.
@@ -123,13 +121,14 @@ fn has_groups(partition: &Partition, shape: Shape, groups: &[Group]) -> bool {
 }
 
 #[test]
-fn partitions(rt: HostRuntime) -> Result<(), Fail> {
-    let shape = Shape::new(3, 3)?;
-    let group = Group::new(shape, &[8, 3, 5])?;
+fn partitions(rt: HostRuntime) {
+    let shape = shape_of(&rt, 3, 3);
+    let group = group_of(&rt, shape, &[8, 3, 5]);
     assert!(rt; group.shape() == shape && group.tiles() == [3, 5, 8].as_slice());
-    let groups = [group, Group::new(shape, &[1, 2])?];
-    let partition = Partition::new(shape, Vec::from_slice(rt.alloc(), &groups)?)?;
-    let copy = partition.copy(rt.alloc())?;
-    assert!(rt; has_groups(&partition, shape, &groups) && has_groups(&copy, shape, &groups));
-    Ok(())
+    let groups = [group, group_of(&rt, shape, &[1, 2])];
+    let listed = Vec::from_slice(rt.alloc(), &groups).expect(&rt, "memory");
+    let partition = Partition::new(shape, listed).expect(&rt, "a partition");
+    assert!(rt; has_groups(&partition, shape, &groups));
+    let copy = partition.copy(rt.alloc()).expect(&rt, "memory");
+    assert!(rt; has_groups(&copy, shape, &groups));
 }

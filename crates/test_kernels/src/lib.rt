@@ -14,6 +14,8 @@ mod containers;
 #[cfg(test)]
 mod faults;
 #[cfg(test)]
+mod fixtures;
+#[cfg(test)]
 mod folds;
 #[cfg(test)]
 mod groups;

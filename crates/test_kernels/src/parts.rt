@@ -4,17 +4,12 @@ ghost use Rattle.std.specs.Prelude.{◌≡◌, [], IfSome};
 ghost use Rattle.lower_bound.specs.Folded.{values_of};
 ghost use Rattle.lower_bound.specs.Tables.{parts_of};
 
-use crate::sums::bound_of;
-use board::{Board, Move, Shape, Weights};
+use crate::fixtures::{board_of, shape_of};
+use crate::sums::{HARDEST, SINGLES, bound_of};
+use board::{Board, Move, Weights};
 use lower_bound::laws::moves_move_one_tile;
 use lower_bound::{Bound, Parts};
-use std::test::Fail;
-
-// A board of 3 by 3 that is as far from the goal as one can be.
-const HARDEST: [u8; 9] = [8, 0, 6, 5, 4, 7, 2, 3, 1];
-
-// A group for each of the tiles 1 to 8.
-const SINGLES: [&[u8]; 8] = [&[1], &[2], &[3], &[4], &[5], &[6], &[7], &[8]];
+use std::process::Abort;
 
 // The board after a move, and its values by those of the board before.
 fn moved(
@@ -60,17 +55,19 @@ fn have_sum(bound: &Bound, goal: &Board, start: &Board, weights: &Weights, sum: 
     parts.sum() == sum && bound.parts(goal).sum() == 0
 }
 
+// Whether the hardest board has this sum at these weights, by folded tables.
+fn has_sum_of_the_hardest(rt: &(impl Abort + AllocGlobal), weights: &Weights, sum: u32) -> bool {
+    let goal = Board::goal(weights.shape());
+    let start = board_of(rt, weights.shape(), &HARDEST);
+    let bound = bound_of(rt, &goal, weights, &SINGLES);
+    let folded = bound.folded(rt.alloc()).expect(rt, "memory");
+    have_sum(&folded, &goal, &start, weights, sum)
+}
+
 // The distances of the tiles from their cells are 21 at unit cost, and 97 at face cost.
 #[test]
-fn sums_of_the_hardest_board(rt: HostRuntime) -> Result<(), Fail> {
-    let shape = Shape::new(3, 3)?;
-    let goal = Board::goal(shape);
-    let start = Board::from_tiles(shape, &HARDEST)?;
-    let unit = Weights::unit(shape);
-    let bound = bound_of(rt.alloc(), &goal, &unit, &SINGLES)?.folded(rt.alloc())?;
-    assert!(rt; have_sum(&bound, &goal, &start, &unit, 21));
-    let face = Weights::face(shape);
-    let bound = bound_of(rt.alloc(), &goal, &face, &SINGLES)?.folded(rt.alloc())?;
-    assert!(rt; have_sum(&bound, &goal, &start, &face, 97));
-    Ok(())
+fn sums_of_the_hardest_board(rt: HostRuntime) {
+    let shape = shape_of(&rt, 3, 3);
+    assert!(rt; has_sum_of_the_hardest(&rt, &Weights::unit(shape), 21));
+    assert!(rt; has_sum_of_the_hardest(&rt, &Weights::face(shape), 97));
 }

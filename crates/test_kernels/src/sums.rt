@@ -1,102 +1,119 @@
 //! Sums of boards, beside the costs that a breadth-first search finds.
 
-ghost use Rattle.std.specs.Prelude.{◌≡◌, IfOk};
+ghost use Rattle.std.specs.Prelude.{◌≡◌};
 
+use crate::fixtures::{board_of, group_of, shape_of};
 use board::{Board, Shape, Weights};
 use database_build::{NO_VALUE, build};
 use lower_bound::{Bound, is_potential};
-use pattern_index::{Group, Partition};
-use std::alloc::Global;
+use pattern_index::Partition;
 use std::process::Abort;
-use std::test::Fail;
-use successor_sums::UnpackedBoard;
+use successor_sums::{Successor, UnpackedBoard};
 use test_support::least_costs;
 
 // The groups of these tiles.
-fn partition_of(alloc: Global, shape: Shape, tiles: &[&[u8]]) -> Result<Partition, Fail>
-    ensures { IfOk result (λ p. p.grid ≡ shape) }
+fn partition_of(rt: &(impl Abort + AllocGlobal), shape: Shape, tiles: &[&[u8]]) -> Partition
+    ensures { result.grid ≡ shape }
 {
-    let mut groups = Vec::new(alloc);
+    let mut groups = Vec::new(rt.alloc());
     'groups: for numbers in tiles {
-        groups.push(Group::new(shape, numbers)?)?;
+        groups
+            .push(group_of(rt, shape, numbers))
+            .expect(rt, "memory");
     }
-    Ok(Partition::new(shape, groups)?)
+    Partition::new(shape, groups).expect(rt, "a partition")
 }
 
 // The bound of the groups of these tiles, by built tables.
 pub(crate) fn bound_of(
-    alloc: Global,
+    rt: &(impl Abort + AllocGlobal),
     goal: &Board,
     weights: &Weights,
     tiles: &[&[u8]],
-) -> Result<Bound, Fail>
+) -> Bound
     requires { weights.now.grid ≡ goal.now.grid }
-    ensures { IfOk result (λ b. b.split.grid ≡ goal.now.grid) }
+    ensures { result.split.grid ≡ goal.now.grid }
 {
-    let partition = partition_of(alloc, goal.shape(), tiles)?;
+    let partition = partition_of(rt, goal.shape(), tiles);
     // That the groups are of the goal's shape is told by this call.
     let _ = partition.shape();
-    let mut tables = Vec::new(alloc);
+    let mut tables = Vec::new(rt.alloc());
     for group in partition.groups() {
-        tables.push(build(alloc, group, goal, weights)?)?;
+        let table = build(rt.alloc(), group, goal, weights).expect(rt, "memory");
+        tables.push(table).expect(rt, "memory");
     }
-    Ok(Bound::new(partition, tables)?)
+    Bound::new(partition, tables).expect(rt, "a table for each group")
 }
+
+// A board of 3 by 3 that is as far from the goal as one can be.
+pub(crate) const HARDEST: [u8; 9] = [8, 0, 6, 5, 4, 7, 2, 3, 1];
+
+// A group for each of the tiles 1 to 8.
+pub(crate) const SINGLES: [&[u8]; 8] = [&[1], &[2], &[3], &[4], &[5], &[6], &[7], &[8]];
 
 // A group for each tile: the sums are the taxicab distances, plain and times the tiles' numbers.
 #[test]
-fn the_hardest_board_of_three_by_three(rt: HostRuntime) -> Result<(), Fail> {
-    let shape = Shape::new(3, 3)?;
+fn the_hardest_board_of_three_by_three(rt: HostRuntime) {
+    let shape = shape_of(&rt, 3, 3);
     let goal = Board::goal(shape);
-    let start = Board::from_tiles(shape, &[8, 0, 6, 5, 4, 7, 2, 3, 1])?;
-    let singles: [&[u8]; 8] = [&[1], &[2], &[3], &[4], &[5], &[6], &[7], &[8]];
+    let start = board_of(&rt, shape, &HARDEST);
     for (weights, sum) in [(Weights::unit(shape), 21), (Weights::face(shape), 97)] {
-        let bound = bound_of(rt.alloc(), &goal, &weights, &singles)?;
+        let bound = bound_of(&rt, &goal, &weights, &SINGLES);
         assert!(rt; bound.of(&start) == sum && bound.of(&goal) == 0);
     }
-    Ok(())
+}
+
+// A successor of the hardest board: the tile that moves, the tiles then, and their sum.
+type WorkedSuccessor = (u32, [u8; 9], u32);
+
+// Whether a successor is as it was worked.
+fn is_worked(rt: &impl Abort, successor: &Successor, worked: &WorkedSuccessor) -> bool {
+    let (tile, tiles, sum) = worked;
+    let board = board_of(rt, shape_of(rt, 3, 3), tiles);
+    successor.key == board.key()
+        && successor.cell as usize == board.blank()
+        && successor.tile == *tile
+        && successor.cost == 1
+        && successor.sum == *sum
 }
 
 // The blank can't go up. To the left and to the right a tile comes one cell nearer to its own, and
 // below tile 4 leaves its own.
 #[test]
-fn successors_of_the_hardest_board(rt: HostRuntime) -> Result<(), Fail> {
-    let shape = Shape::new(3, 3)?;
+fn successors_of_the_hardest_board(rt: HostRuntime) {
+    let shape = shape_of(&rt, 3, 3);
     let weights = Weights::unit(shape);
-    let singles: [&[u8]; 8] = [&[1], &[2], &[3], &[4], &[5], &[6], &[7], &[8]];
-    let bound = bound_of(rt.alloc(), &Board::goal(shape), &weights, &singles)?;
-    let start = Board::from_tiles(shape, &[8, 0, 6, 5, 4, 7, 2, 3, 1])?;
+    let bound = bound_of(&rt, &Board::goal(shape), &weights, &SINGLES);
+    let start = board_of(&rt, shape, &HARDEST);
     let unpacked = UnpackedBoard::new(&start);
     assert!(rt; unpacked.key() == start.key() && unpacked.board() == start);
     assert!(rt; unpacked.sum(&bound) == 21);
     let [up, left, right, down] = unpacked.successors(&weights, &bound);
     assert!(rt; up.is_none());
     assert!(rt; unpacked.blank() == 1);
-    for (told, tile, tiles, sum) in [
-        (left, 8, [0, 8, 6, 5, 4, 7, 2, 3, 1], 20),
-        (right, 6, [8, 6, 0, 5, 4, 7, 2, 3, 1], 20),
-        (down, 4, [8, 4, 6, 5, 0, 7, 2, 3, 1], 22),
+    for (told, worked) in [
+        (left, (8, [0, 8, 6, 5, 4, 7, 2, 3, 1], 20)),
+        (right, (6, [8, 6, 0, 5, 4, 7, 2, 3, 1], 20)),
+        (down, (4, [8, 4, 6, 5, 0, 7, 2, 3, 1], 22)),
     ] {
-        let successor = told.ok_or("the blank stays on the board")?;
-        let board = Board::from_tiles(shape, &tiles)?;
-        assert!(rt; successor.key == board.key() && successor.cell as usize == board.blank());
-        assert!(rt; successor.tile == tile && successor.cost == 1 && successor.sum == sum);
+        let successor = told.expect(&rt, "the blank stays on the board");
+        assert!(rt; is_worked(&rt, &successor, &worked));
     }
-    Ok(())
 }
 
 #[test]
-fn groups_and_their_tables(rt: HostRuntime) -> Result<(), Fail> {
-    let goal = Board::goal(Shape::new(2, 3)?);
+fn groups_and_their_tables(rt: HostRuntime) {
+    let goal = Board::goal(shape_of(&rt, 2, 3));
     let weights = Weights::face(goal.shape());
-    let bound = bound_of(rt.alloc(), &goal, &weights, &[&[2, 1], &[5]])?;
+    let bound = bound_of(&rt, &goal, &weights, &[&[2, 1], &[5]]);
     let groups = bound.partition().groups();
     assert!(rt; groups.len() == 2);
     for i in 0..groups.len() {
-        let table = bound.table(i).ok_or("there is a table for each group")?;
+        let table = bound
+            .table(i)
+            .expect(&rt, "there is a table for each group");
         assert!(rt; is_potential(table, &groups[i], &goal, &weights));
     }
-    Ok(())
 }
 
 // Groups of the tiles of 2 by 3.
@@ -106,42 +123,49 @@ const PARTITIONS: [&[&[u8]]; 3] = [
     &[&[1, 2, 3, 4, 5]],
 ];
 
+// Whether the sum of a board is right beside its least cost. No sum is above the cost, that of a
+// group of all tiles is the cost itself, and only the goal's is 0.
+fn is_right(bound: &Bound, goal: &Board, start: &Board, cost: u32, is_whole: bool) -> bool
+    requires { start.now.grid ≡ bound.now.split.grid }
+{
+    let sum = bound.of(start);
+    if sum > cost || (sum < cost && is_whole) {
+        return false;
+    }
+    (sum == 0) == (*start == *goal)
+}
+
 // Compares the sum of each board of 2 by 3 with the least cost, and counts the boards that have a
-// plan. No sum is above the cost, that of a group of all tiles is the cost itself, and only the
-// goal's is 0.
+// plan.
 fn compare_with_search(
     rt: &(impl Abort + AllocGlobal),
     goal: &Board,
     weights: &Weights,
     tiles: &[&[u8]],
-) -> Result<u32, Fail>
+) -> u32
     requires { weights.now.grid ≡ goal.now.grid }
 {
-    let bound = bound_of(rt.alloc(), goal, weights, tiles)?;
+    let bound = bound_of(rt, goal, weights, tiles);
+    let costs = least_costs(rt.alloc(), goal, weights).expect(rt, "memory");
     let mut solved = 0u32;
-    for (start, least) in least_costs(rt.alloc(), goal, weights)?.as_slice() {
-        if start.shape() != goal.shape() {
-            return Err("a board of another shape")?;
-        }
-        let sum = bound.of(start);
+    for (start, least) in costs.as_slice() {
+        assert!(rt; start.shape() == goal.shape());
         let cost = least.unwrap_or(u32::from(NO_VALUE));
-        let is_right = sum == cost || (sum < cost && tiles.len() > 1);
-        assert!(rt; is_right && (sum == 0) == (*start == *goal));
+        assert!(rt; is_right(&bound, goal, start, cost, tiles.len() == 1));
         if least.is_some() {
             solved = solved.saturating_add(1);
         }
     }
-    Ok(solved)
+    solved
 }
 
 #[test]
-fn each_board_of_two_by_three(rt: HostRuntime) -> Result<(), Fail> {
-    let shape = Shape::new(2, 3)?;
+fn each_board_of_two_by_three(rt: HostRuntime) {
+    let shape = shape_of(&rt, 2, 3);
     let goal = Board::goal(shape);
     for weights in [Weights::unit(shape), Weights::face(shape)] {
         for tiles in PARTITIONS {
-            assert!(rt; compare_with_search(&rt, &goal, &weights, tiles)? == 360);
+            assert!(rt; compare_with_search(&rt, &goal, &weights, tiles) == 360);
         }
     }
-    Ok(())
 }

@@ -2,11 +2,10 @@
 
 ghost use Rattle.std.specs.Prelude.{◌≡◌};
 
-use board::{Board, Shape, Weights};
+use crate::fixtures::{board_of, group_of, list_of, shape_of};
+use board::{Board, Weights};
 use database_build::{NO_VALUE, Table, build, is_potential};
-use pattern_index::Group;
-use std::alloc::Global;
-use std::test::Fail;
+use std::process::Abort;
 
 // The values of tile 1 on 2 by 2 at unit cost, by rank: the blank on cell 0 and the tile on 1, 2,
 // 3; the blank on 1 and the tile on 0, 2, 3; and so on.
@@ -73,53 +72,37 @@ const VALUES: [WorkedValue; 4] = [
     },
 ];
 
-// Whether a built table has this value.
-fn has_value(
-    alloc: Global,
+// The value of a board in the table that is built of some tiles.
+fn value_of(
+    rt: &(impl Abort + AllocGlobal),
     goal: &Board,
     board: &Board,
     tiles: &[u8],
     weights: &Weights,
-    value: u16,
-) -> Result<bool, Fail>
+) -> u16
     requires goal { goal.now.grid ≡ board.now.grid }
     requires weights { weights.now.grid ≡ board.now.grid }
 {
-    let group = Group::new(board.shape(), tiles)?;
-    let table = build(alloc, &group, goal, weights)?;
-    Ok(table.value(&group.view(board)) == value)
+    let group = group_of(rt, board.shape(), tiles);
+    let table = build(rt.alloc(), &group, goal, weights).expect(rt, "memory");
+    table.value(&group.view(board))
 }
 
 // Whether the built tables have both values of a row.
-fn has_values(alloc: Global, row: &WorkedValue) -> Result<bool, Fail> {
-    let shape = Shape::new(row.side, row.side)?;
-    let goal = Board::from_tiles(shape, row.goal)?;
-    let board = Board::from_tiles(shape, row.board)?;
-    let unit = has_value(
-        alloc,
-        &goal,
-        &board,
-        row.tiles,
-        &Weights::unit(shape),
-        row.unit,
-    )?;
-    let face = has_value(
-        alloc,
-        &goal,
-        &board,
-        row.tiles,
-        &Weights::face(shape),
-        row.face,
-    )?;
-    Ok(unit && face)
+fn has_values(rt: &(impl Abort + AllocGlobal), row: &WorkedValue) -> bool {
+    let shape = shape_of(rt, row.side, row.side);
+    let goal = board_of(rt, shape, row.goal);
+    let board = board_of(rt, shape, row.board);
+    let unit = value_of(rt, &goal, &board, row.tiles, &Weights::unit(shape));
+    let face = value_of(rt, &goal, &board, row.tiles, &Weights::face(shape));
+    unit == row.unit && face == row.face
 }
 
 #[test]
-fn worked_values(rt: HostRuntime) -> Result<(), Fail> {
+fn worked_values(rt: HostRuntime) {
     for (row, value) in VALUES.iter().enumerate() {
-        assert!(rt; has_values(rt.alloc(), value)?, "row {row}");
+        assert!(rt; has_values(&rt, value), "row {row}");
     }
-    Ok(())
 }
 
 // Whether a table has these values, by rank.
@@ -137,20 +120,22 @@ fn has_all_values(table: &Table, values: &[u16]) -> bool {
 }
 
 #[test]
-fn values_of_one_tile(rt: HostRuntime) -> Result<(), Fail> {
-    let shape = Shape::new(2, 2)?;
+fn values_of_one_tile(rt: HostRuntime) {
+    let shape = shape_of(&rt, 2, 2);
     let goal = Board::goal(shape);
     let unit = Weights::unit(shape);
-    let group = Group::new(shape, &[1])?;
-    let built = build(rt.alloc(), &group, &goal, &unit)?;
+    let group = group_of(&rt, shape, &[1]);
+    let built = build(rt.alloc(), &group, &goal, &unit).expect(&rt, "memory");
     assert!(rt; has_all_values(&built, &TILE_ONE) && *built.group() == group);
-    for (row, potential) in POTENTIALS.iter().enumerate() {
-        let (values, is_one) = *potential;
-        let table = Table::from_values(&group, Vec::from_slice(rt.alloc(), &values)?)?;
-        assert!(rt;
-            is_potential(&table, &group, &goal, &unit) == is_one,
-            "row {row}"
-        );
+}
+
+#[test]
+fn potentials_of_one_tile(rt: HostRuntime) {
+    let shape = shape_of(&rt, 2, 2);
+    let group = group_of(&rt, shape, &[1]);
+    for (row, (values, is_one)) in POTENTIALS.iter().enumerate() {
+        let table = Table::from_values(&group, list_of(&rt, values)).expect(&rt, "a table");
+        let is = is_potential(&table, &group, &Board::goal(shape), &Weights::unit(shape));
+        assert!(rt; is == *is_one, "row {row}");
     }
-    Ok(())
 }

@@ -4,8 +4,9 @@
 ghost use Rattle.std.specs.Prelude.{◌≡◌, ◌+◌, ◌^◌};
 
 use crate::calls::{Call, Row, make};
+use crate::fixtures::{board_of, shape_of};
 use arrayvec::ArrayVec;
-use board::{Board, Shape};
+use board::Board;
 use incumbent::Best;
 use message_ledger::{Allowance, Capped, Credit, Grants, Packet, Plain, Shares};
 use outcomes::Want;
@@ -13,7 +14,6 @@ use owners::{ByBlank, Spread, Zobrist};
 use quiescence::Book;
 use std::marker::Brand;
 use std::sync::ledger::{Blank, Ledger};
-use std::test::Fail;
 use world_model::{HaltCause, Item, Stop};
 
 const LIMIT: u64 = 300;
@@ -158,16 +158,17 @@ fn stop_by_list() -> (Option<Stop>, Option<u32>) {
 }
 
 #[test]
-fn calls_of_two_workers(rt: HostRuntime) -> Result<(), Fail> {
+fn calls_of_two_workers(rt: HostRuntime) {
     for rows in [&QUIET[..], &HALTED[..]] {
-        assert_eq!(rt; plain_difference(rows), None);
+        assert!(rt; plain_difference(rows).is_none());
         let credit = Blank::new(u64::MAX);
         let grants = Blank::new(2);
-        assert_eq!(rt;
-            shared_difference::<Brand, Brand>(credit, grants, rows),
-            None
-        );
+        assert!(rt; shared_difference::<Brand, Brand>(credit, grants, rows).is_none());
     }
+}
+
+#[test]
+fn amounts_and_best_costs(rt: HostRuntime) {
     assert_eq!(rt; amounts(), (4, 4, 7, 1));
     for (costs, lower, best, limit) in [
         ([9, 9, 8], [true, false, true], Some(8), 8),
@@ -178,10 +179,9 @@ fn calls_of_two_workers(rt: HostRuntime) -> Result<(), Fail> {
             1_048_321,
         ),
     ] {
-        assert_eq!(rt; best_costs(costs), (lower, best, limit));
+        assert!(rt; best_costs(costs) == (lower, best, limit));
     }
-    assert_eq!(rt; stop_by_list(), (Some(Stop::Memory(Want::Stated)), Some(5)));
-    Ok(())
+    assert!(rt; stop_by_list() == (Some(Stop::Memory(Want::Stated)), Some(5)));
 }
 
 // The sides and the numbers of a board, and its owners of 2, 3, 7 and 16 workers by its hash and by
@@ -221,12 +221,11 @@ fn owners_of<S: Spread>(spread: &S, board: &Board) -> [usize; 4] {
 }
 
 #[test]
-fn owners_of_boards(rt: HostRuntime) -> Result<(), Fail> {
-    for (rows, cols, tiles, by_hash, by_blank) in OWNERS {
-        let shape = Shape::new(rows, cols)?;
-        let board = Board::from_tiles(shape, tiles)?;
-        assert_eq!(rt; owners_of(&Zobrist::new(shape), &board), by_hash);
-        assert_eq!(rt; owners_of(&ByBlank, &board), by_blank);
+fn owners_of_boards(rt: HostRuntime) {
+    for (rows, cols, tiles, by_hash, by_blank) in &OWNERS {
+        let shape = shape_of(&rt, *rows, *cols);
+        let board = board_of(&rt, shape, tiles);
+        assert_eq!(rt; owners_of(&Zobrist::new(shape), &board), *by_hash);
+        assert_eq!(rt; owners_of(&ByBlank, &board), *by_blank);
     }
-    Ok(())
 }

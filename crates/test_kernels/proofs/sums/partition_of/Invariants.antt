@@ -2,4 +2,4 @@ use Rattle.std.proofs.Common.{◌≡◌, All}
 use Rattle.test_kernels.proofs.sums.partition_of.Given as goal
 
 abbrev pub invariant-groups : goal.invariant-groups
-invariant-groups l = All (λ g. g.grid ≡ l.fn.shape) l.groups.items
+invariant-groups g l = All (λ g. g.grid ≡ l.fn.shape) l.groups.items
