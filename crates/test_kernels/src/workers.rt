@@ -8,7 +8,7 @@ use crate::fixtures::{board_of, shape_of};
 use arrayvec::ArrayVec;
 use board::Board;
 use incumbent::Best;
-use message_ledger::{Allowance, Capped, Credit, Grants, Packet, Plain, Shares};
+use message_ledger::{Allowance, Capped, Counting, Credit, Grants, Packet, Plain, Purse, Shares};
 use outcomes::Want;
 use owners::{ByBlank, Spread, Zobrist};
 use quiescence::Book;
@@ -54,25 +54,39 @@ const HALTED: [Row; 6] = [
     (0, Call::HaltByLimit, "Q1", 1, 1),
 ];
 
+// Whether the call of a row is answered as it says.
+fn is_answered<C: Counting>(
+    book: &mut Book<C>,
+    first: &mut Purse<C>,
+    second: &mut Purse<C>,
+    allowance: &mut Allowance<C>,
+    row: &Row,
+) -> bool
+    requires first { C.counts book.old.credit first.old }
+    requires second { C.counts book.old.credit second.old }
+    requires granted { C.counts book.old.granted allowance.old.granted }
+{
+    let (worker, call, want, credit, amount) = *row;
+    if worker == 0 {
+        let got = make(book, 0, first, second, allowance, call);
+        got == want && book.credit() == credit && first.amount() == amount
+    } else {
+        let got = make(book, 1, second, first, allowance, call);
+        got == want && book.credit() == credit && second.amount() == amount
+    }
+}
+
 // The place of the first row that is answered otherwise, counted in whole numbers.
 fn plain_difference(rows: &[Row]) -> Option<usize> {
     let (mut credit, mut first) = Credit::plain();
     let mut second = credit.empty_purse();
     let mut book = Book::new(credit, Grants::plain(), LIMIT, WORKERS);
     for (place, row) in rows.iter().enumerate() {
-        let (worker, call, want, credit, amount) = *row;
         if first.amount() > book.credit() || second.amount() > book.credit() {
             return Some(place);
         }
         let mut allowance = Allowance::plain();
-        let (got, purse) = if worker == 0 {
-            let got = make(&mut book, 0, &mut first, &mut second, &mut allowance, call);
-            (got, first.amount())
-        } else {
-            let got = make(&mut book, 1, &mut second, &mut first, &mut allowance, call);
-            (got, second.amount())
-        };
-        if got != want || book.credit() != credit || purse != amount {
+        if !is_answered(&mut book, &mut first, &mut second, &mut allowance, row) {
             return Some(place);
         }
     }
@@ -99,15 +113,7 @@ fn shared_difference<L: Ledger + Send + Sync, M: Capped + Send + Sync>(
     let mut allowance = tickets.take::<L>();
     let mut book = Book::new(credit, grants, LIMIT, WORKERS);
     for (place, row) in rows.iter().enumerate() {
-        let (worker, call, want, credit, amount) = *row;
-        let (got, purse) = if worker == 0 {
-            let got = make(&mut book, 0, &mut first, &mut second, &mut allowance, call);
-            (got, first.amount())
-        } else {
-            let got = make(&mut book, 1, &mut second, &mut first, &mut allowance, call);
-            (got, second.amount())
-        };
-        if got != want || book.credit() != credit || purse != amount {
+        if !is_answered(&mut book, &mut first, &mut second, &mut allowance, row) {
             return Some(place);
         }
     }
