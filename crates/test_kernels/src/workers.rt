@@ -93,7 +93,23 @@ fn plain_difference(rows: &[Row]) -> Option<usize> {
     None
 }
 
-// The same, counted by parts of ledgers.
+// The place of the first row that is answered otherwise, where parts of ledgers count.
+fn first_wrong<L: Ledger + Send + Sync, M: Capped + Send + Sync>(
+    book: &mut Book<Shares<L, M>>,
+    first: &mut Purse<Shares<L, M>>,
+    second: &mut Purse<Shares<L, M>>,
+    allowance: &mut Allowance<Shares<L, M>>,
+    rows: &[Row],
+) -> Option<usize> {
+    for (place, row) in rows.iter().enumerate() {
+        if !is_answered(book, first, second, allowance, row) {
+            return Some(place);
+        }
+    }
+    None
+}
+
+// The same from the start of a run.
 fn shared_difference<L: Ledger + Send + Sync, M: Capped + Send + Sync>(
     credit: Blank,
     grants: Blank,
@@ -112,12 +128,7 @@ fn shared_difference<L: Ledger + Send + Sync, M: Capped + Send + Sync>(
     let (grants, mut tickets) = Grants::<Shares<L, M>>::shared(grants);
     let mut allowance = tickets.take::<L>();
     let mut book = Book::new(credit, grants, LIMIT, WORKERS);
-    for (place, row) in rows.iter().enumerate() {
-        if !is_answered(&mut book, &mut first, &mut second, &mut allowance, row) {
-            return Some(place);
-        }
-    }
-    None
+    first_wrong(&mut book, &mut first, &mut second, &mut allowance, rows)
 }
 
 // The credit, a purse of it, what is granted and what is spent, after a call of each kind.
