@@ -1,6 +1,6 @@
 //! Whether packets have room for what is offered to their workers.
 
-ghost use Rattle.std.specs.Prelude.{ℕ, ◌≡◌, ◌≤◌, ◌↔◌, [], length, map, slice_index_or, IsTrue, Some};
+ghost use Rattle.std.specs.Prelude.{◌≡◌, ◌≤◌, ◌↔◌, map, IsTrue, Some};
 ghost use Rattle.offers.specs.Room.{goes, go, HasRoom};
 
 use crate::offer::Offer;
@@ -10,8 +10,6 @@ use world_model::{Item, PACKET_LIMIT};
 
 /// Whether each packet of a worker has room for what is offered to others.
 pub fn has_room(unsent: &[ArrayVec<Item, PACKET_LIMIT>], me: usize, offers: &ByMoves<Offer>) -> bool
-    requires { (to : ℕ)
-        → length (slice_index_or (map (λ v. v.items) unsent.now) to []) ≤ PACKET_LIMIT }
     ensures { IsTrue result ↔ HasRoom me (map (λ v. v.items) unsent.now) offers.now }
 {
     'packets: for to in 0..unsent.len() {
