@@ -5,15 +5,10 @@
 //! expansions that it was given, or where the goal is known and no open board can lead to it at a
 //! lower cost.
 
-ghost use Rattle.std.specs.Prelude.{◌≡◌, IfSome, length};
-ghost use Rattle.board.specs.CostRules.{CostRule};
-ghost use Rattle.board.specs.Positions.{Position};
-ghost use Rattle.lower_bound.specs.Tables.{Tables};
-ghost use Rattle.worker_core.specs.Workers.{packets_of};
-ghost use Rattle.bench_searches.specs.Searches.{IsLed, HasFew};
+ghost use Rattle.std.specs.Prelude.{◌≡◌, IfSome};
+ghost use Rattle.worker_core.specs.Serving.{Serves};
 
 use board::{Board, Move, Shape, Weights};
-use lower_bound::Bound;
 use message_ledger::{Allowance, Credit, Grants, Plain, Purse};
 use owners::ByBlank;
 use quiescence::Book;
@@ -21,7 +16,7 @@ use std::alloc::Global;
 use std::io::{self, Print};
 use test_worlds::bound_of;
 use worker_core::laws::tasks_have_guides;
-use worker_core::{Goal, Worker};
+use worker_core::{Context, Goal, Successors, Worker};
 use world_model::{Item, Refusal};
 
 // A board whose plans cost at least 57 (Korf 1985, the first of his hundred).
@@ -49,26 +44,18 @@ struct Stop {
 }
 
 // Expands `count` boards, or as many as lead to the goal; None where there is no memory for it.
-fn search(
-    alloc: Global,
-    goal: &Goal,
-    weights: &Weights,
-    bound: &Bound,
-    start: Board,
-    count: u64,
-) -> Option<Stop>
-    requires rule { weights.now.grid ≡ goal.now.grid }
-    requires sides { bound.now.split.grid ≡ goal.now.grid }
-    requires start { start.grid ≡ goal.now.grid }
+fn search(alloc: Global, context: &Context<'_, ByBlank>, start: Board, count: u64) -> Option<Stop>
+    requires one { context.now.workers ≡ 1 }
+    requires start { start.grid ≡ context.now.goal.grid }
 {
     let (credit, purse) = Credit::plain();
     let mut book = Book::new(credit, Grants::plain(), count, 1);
-    let mut worker = begin(alloc, goal, bound, start, purse)?;
+    let mut worker = begin(alloc, context, start, purse)?;
     'boards: for _ in 0..count {
-        if !refill(goal, &mut worker, &mut book) {
+        if !refill(context, &mut worker, &mut book) {
             break;
         }
-        match worker.expand(alloc, 0, goal, weights, bound, &ByBlank) {
+        match worker.expand(alloc, context, Successors::All) {
             Ok(()) => {}
             Err(Refusal::NothingBelowLimit) => break,
             Err(_) => return None,
@@ -84,21 +71,17 @@ fn search(
 // A worker that has met the start.
 fn begin(
     alloc: Global,
-    goal: &Goal,
-    bound: &Bound,
+    context: &Context<'_, ByBlank>,
     start: Board,
     purse: Purse<Plain>,
 ) -> Option<Worker<Plain>>
-    requires sides { bound.now.split.grid ≡ goal.now.grid }
-    requires start { start.grid ≡ goal.now.grid }
-    ensures led { IfSome result (λ worker. (rule : CostRule)
-        → IsLed goal.now rule bound.now worker.lists) }
-    ensures one { IfSome result (λ worker. length worker.unsent.items ≡ 1) }
-    ensures few { IfSome result (λ worker. HasFew (packets_of worker.unsent.items)) }
+    requires one { context.now.workers ≡ 1 }
+    requires start { start.grid ≡ context.now.goal.grid }
+    ensures serves { IfSome result (λ worker. Serves context.now worker) }
     ensures counted { IfSome result (λ worker. worker.allowance.granted ≡ 0) }
 {
     tasks_have_guides();
-    let _ = goal.shape();
+    let _ = context.goal.shape();
     let _ = start.shape();
     let Ok(mut worker) = Worker::new(alloc, 1, purse, Allowance::plain()) else {
         return None;
@@ -108,7 +91,7 @@ fn begin(
         cost: 0,
         via: Move::U,
     };
-    let Ok(()) = worker.meet(alloc, goal, bound, &item) else {
+    let Ok(()) = worker.meet(alloc, context, &item) else {
         return None;
     };
     Some(worker)
@@ -116,20 +99,21 @@ fn begin(
 
 // Where no allowance is left, announces the goal if it is known, and is granted more. Answers
 // whether there is something left to do.
-fn refill(goal: &Goal, worker: &mut Worker<Plain>, book: &mut Book<Plain>) -> bool
-    requires one { length worker.old.unsent.items ≡ 1 }
+fn refill(
+    context: &Context<'_, ByBlank>,
+    worker: &mut Worker<Plain>,
+    book: &mut Book<Plain>,
+) -> bool
+    requires one { context.now.workers ≡ 1 }
+    requires serves { Serves context.now worker.old }
     requires counted { worker.old.allowance.granted ≡ book.old.granted }
-    requires led { (rule : CostRule) × (tables : Tables)
-        × IsLed goal.now rule tables worker.old.lists }
     ensures counted { worker.new.allowance.granted ≡ book.new.granted }
-    ensures led { (goal : Position) (rule : CostRule) (tables : Tables)
-        → IsLed goal rule tables worker.old.lists → IsLed goal rule tables worker.new.lists }
-    ensures unsent { worker.new.unsent ≡ worker.old.unsent }
+    ensures serves { Serves context.now worker.new }
 {
     if worker.allowance() > 0 {
         return true;
     }
-    let _ = worker.announce(0, goal, &ByBlank, book);
+    let _ = worker.announce(0, context.goal, &ByBlank, book);
     worker.grant(book).is_ok()
 }
 
@@ -162,14 +146,15 @@ fn run_search(rt: &(impl Print + AllocGlobal), count: u64, groups: &[&[u8]]) -> 
     let bound = bound_of(rt.alloc(), &goal, &weights, groups)?;
     let sum = bound.of(&start);
     println!(rt; "sum {sum}").ok()?;
-    let stop = search(
-        rt.alloc(),
-        &Goal::new(&goal),
-        &weights,
-        &bound,
-        start,
-        count,
-    )?;
+    let context = Context {
+        me: 0,
+        workers: 1,
+        goal: &Goal::new(&goal),
+        weights: &weights,
+        bound: &bound,
+        owners: &ByBlank,
+    };
+    let stop = search(rt.alloc(), &context, start, count)?;
     print_stop(rt, stop).ok()
 }
 

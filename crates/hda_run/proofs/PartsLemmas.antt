@@ -28,7 +28,7 @@ use Rattle.world_model.specs.Workers.{WorkerState, Packet, Lane}
 use Rattle.world_model.specs.Worlds.{IsWorker, Knows, role_of, IsLane}
 use Rattle.world_model.proofs.ChangeLemmas.{part_le}
 use Rattle.world_model.proofs.CreditLemmas.{funds}
-use Rattle.world_model.specs.WorkerSteps.{AtLane}
+use Rattle.world_model.specs.WorkerSteps.{AtLane, ExpandStep}
 use Rattle.world_model.specs.declared.parts.Item.{Item}
 use Rattle.world_model.specs.declared.parts.Known.{Known}
 use Rattle.world_model.specs.Knowledge.{Knowledge, is_news, relaxation}
@@ -39,11 +39,15 @@ use Rattle.search_lists.specs.Orders.{Guide}
 use Rattle.message_ledger.specs.declared.plain.Plain.{Plain}
 use Rattle.message_ledger.specs.Spending.{Spending, spent}
 use Rattle.worker_core.specs.declared.worker.Worker.{Worker}
-use Rattle.worker_core.specs.Expanding.{role_by}
-use Rattle.worker_core.specs.Roles.{IsGuided, WereReached, guide_of, task_of}
+use Rattle.worker_core.specs.declared.expanding.Successors.{Successors}
+use Rattle.worker_core.specs.declared.expanding.Successors.TheVariants.{All as Whole, Onward}
+use Rattle.worker_core.specs.Contexts.{ContextModel, role_from}
+use Rattle.worker_core.specs.Expanding.{ExpandStepFor, OnwardStepsAloneAreWhole, role_by}
+use Rattle.worker_core.specs.Roles.{IsGuided, WereReached, guide_of}
+use Rattle.worker_core.specs.Serving.{Serves, StaysGuided}
 use Rattle.worker_core.specs.Workers.{state_of, packets_of, with_book, at_lane}
 use Rattle.hda_run.specs.declared.parts.Parts.{Parts}
-use Rattle.hda_run.specs.Problems.{task_in, Problem}
+use Rattle.hda_run.specs.Problems.{context_in, task_in, Problem}
 use Rattle.hda_run.specs.Worlds.{world_of, AreGuided, job_of, IsLawful, IsWorkerCount}
 
 -- ---- what the parts of a world are, and what the world is after one of them has changed
@@ -59,26 +63,11 @@ inside v n i is lt = omega (arith, is, lt, v.ok.0)
 pub outside : {X : Type 0} (v : Vec X Global) (n i : ℕ) → n ≡ vec_len v → n ≤ i → length v.items ≤ i
 outside v n i is le = omega (arith, is, le, v.ok.0)
 
--- the only one there is
-pub alone_within : {X : Type 0} (v : Vec X Global) (i : ℕ) → length v.items ≡ 1 → i < 1 → i < length v.items
-alone_within v i one lt = omega (arith, one, lt)
-
 -- what was read at a place, seen otherwise
 pub seen_at : {X Y : Type 0} (f : X → Y) (xs : List X) (i : ℕ) (x : X) → i < length xs → x ≡ get_or xs i x → slice_get (map f xs) i ≡ Some (f x)
 seen_at f [] i x lt is = absurd (omega (arith, lt))
 seen_at f (y ∷ xs) zero x lt is = ap (λ z. Some (f z)) (sym is)
 seen_at f (y ∷ xs) (suc i) x lt is = seen_at f xs i x (omega (arith, lt)) is
-
--- no list has more than so many elements, if none that stands at a place has
-pub each_few : (m : ℕ) (lists : List Packet) (i : ℕ) → ((to : ℕ) (packet : Packet) → slice_get lists to ≡ Some packet → length packet ≤ m) → length (get_or lists i []) ≤ m
-each_few m [] i each = omega arith
-each_few m (x ∷ lists) zero each = each zero x refl
-each_few m (x ∷ lists) (suc i) each = each_few m lists i (λ to packet at. each (suc to) packet at)
-
--- lists that stay guided for a task do so for one that is the same
-pub guided_for : (task task' : Task) → task ≡ task' → (guide : Guide) (old new : Lists) → (IsGuided task guide old → IsGuided task guide new) → IsGuided task' guide old → IsGuided task' guide new
-guided_for task task' same guide old new stays is =
-    subst (λ (t : Task). IsGuided t guide new) same (stays (subst (λ (t : Task). IsGuided t guide old) (sym same) is))
 
 module _ {S : Type 0} (hash_of : S → Position → ℕ) (parts : Parts S) where
   -- as many states as workers
@@ -136,10 +125,6 @@ module _ {S : Type 0} (hash_of : S → Position → ℕ) (parts : Parts S) (me :
   pub me_unsent : IsShaped (world_of hash_of parts) → me < length worker.unsent.items
   me_unsent shaped = let n = unsent_count shaped in omega (arith, n, within)
 
-  pub few_unsent : IsShaped (world_of hash_of parts) → (to : ℕ) → length (get_or (packets_of worker.unsent.items) to []) ≤ PACKET_LIMIT
-  few_unsent shaped to =
-      each_few PACKET_LIMIT (packets_of worker.unsent.items) to (λ k packet there. ((shaped.workers me (state_of worker) is_worker).unsent k packet there).few)
-
   pub purse_funded : IsCredited (world_of hash_of parts) → worker.purse ≤ parts.book.credit
   purse_funded credited = funds (world_of hash_of parts) credited me (state_of worker) is_worker
 
@@ -152,37 +137,58 @@ module _ {S : Type 0} (hash_of : S → Position → ℕ) (parts : Parts S) (me :
   pub floor_there : IsShaped (world_of hash_of parts) → me < length parts.book.floors
   floor_there shaped = let n = shaped.floors ∙ state_count hash_of parts in omega (arith, n, within)
 
-  -- where it is the only worker, it knows the board before each that it knows at a cost above 0
-  pub were_reached : IsShaped (world_of hash_of parts) → IsSound (world_of hash_of parts) → length parts.workers.items ≡ 1 → (rule : CostRule) → rule ≡ parts.job.rule → WereReached rule worker.lists.closed
-  were_reached shaped sound alone rule rule_is b known board sides knows later =
-      let here : Knows (world_of hash_of parts) me b known = record { worker = state_of worker; is = is_worker; board = (board, sides ∙ ap (λ (r : CostRule). r.grid) rule_is ∙ shaped.task.costs); knows = knows } in
+  -- the only worker owns each board
+  owned_alone : IsShaped (world_of hash_of parts) → length parts.workers.items ≡ 1 → (b : Position) → (world_of hash_of parts).owner b ≡ me
+  owned_alone shaped alone b =
+      let owned = shaped.owners b in
+      let count = state_count hash_of parts in
+      omega (arith, owned, count, alone, within)
+
+  -- and knows the board before each that it knows at a cost above 0
+  were_reached : IsShaped (world_of hash_of parts) → IsSound (world_of hash_of parts) → length parts.workers.items ≡ 1 → WereReached parts.job.rule worker.lists.closed.known
+  were_reached shaped sound alone b known board sides knows later =
+      let here : Knows (world_of hash_of parts) me b known = record { worker = state_of worker; is = is_worker; board = (board, sides ∙ shaped.task.costs); knows = knows } in
       ⊎_elim
       (λ start. let none = start.1 in absurd (omega (arith, none, later)))
       (λ some.
       let before = some.0 in
-      let owned = shaped.owners before in
-      let count = state_count hash_of parts in
-      let same : (world_of hash_of parts).owner before ≡ me = omega (arith, owned, count, alone, within) in
-      let is : Some some.4.worker ≡ Some (state_of worker) = sym some.4.is ∙ ap (λ (k : ℕ). slice_get (world_of hash_of parts).workers k) same ∙ is_worker in
+      let is : Some some.4.worker ≡ Some (state_of worker) = sym some.4.is ∙ ap (λ (k : ℕ). slice_get (world_of hash_of parts).workers k) (owned_alone shaped alone before) ∙ is_worker in
       let it : some.4.worker ≡ state_of worker = cc in (
         before,
         some.1,
         some.2,
         some.4.board.0,
-        subst (λ (r : CostRule). Moves r before known.via b some.1) (sym rule_is) some.3,
+        some.3,
         ap (λ (w : WorkerState). fin.get w.known (key_of before)) (sym it) ∙ some.4.knows,
         some.5,
       ))
       (sound.reached me b known here)
 
-  -- ---- the role of the worker
+  -- so it expands by all moves where it leaves the one back out
+  pub whole_step : IsShaped (world_of hash_of parts) → IsSound (world_of hash_of parts) → OnwardStepsAloneAreWhole → (successors : Successors) → (successors ≡ Onward → length parts.workers.items ≡ 1) → (answer : Option Refusal) (after : WorkerState) → ExpandStepFor successors (role_of (world_of hash_of parts) me) (turn (state_of worker) answer after) → ExpandStep (role_of (world_of hash_of parts) me) (turn (state_of worker) answer after)
+  whole_step shaped sound law Whole alone answer after step = step
+  whole_step shaped sound law Onward alone answer after step =
+      law (role_of (world_of hash_of parts) me) (turn (state_of worker) answer after) shaped.task.costs (owned_alone shaped (alone refl)) (were_reached shaped sound (alone refl)) step
 
   pub owner_is : IsShaped (world_of hash_of parts) → (b : Position) → (world_of hash_of parts).owner b ≡ hash_of parts.owners b % length worker.unsent.items
   owner_is shaped b = ap (λ (k : ℕ). hash_of parts.owners b % k) (sym (unsent_count shaped))
 
-  pub role_is : IsShaped (world_of hash_of parts) → (goal : Position) (rule : CostRule) (tables : Tables) → goal ≡ parts.job.goal → rule ≡ parts.job.rule → tables ≡ parts.job.tables → role_by (task_of parts.job.start goal rule tables) (hash_of parts.owners) (length worker.unsent.items) me ≡ role_of (world_of hash_of parts) me
-  role_is shaped goal rule tables goal_is rule_is tables_is = λ t.
-      role_by (task_of parts.job.start (goal_is t) (rule_is t) (tables_is t)) (hash_of parts.owners) (unsent_count shaped t) me
+  -- ---- what the worker's steps are lent
+
+  module _ (count : ℕ) (all : count ≡ length parts.workers.items) (context : ContextModel S) (lent : context ≡ context_in parts.job me count parts.owners) where
+    pub serves : IsShaped (world_of hash_of parts) → AreGuided parts → Serves context worker
+    serves shaped guided =
+        subst (λ (x : ContextModel S). Serves x worker) (sym lent) (record {
+          workers = unsent_count shaped ∙ sym all;
+          guided = (parts.job.start, guide_of (task_in parts.job), is_guided guided);
+        })
+
+    pub role_is : role_from hash_of parts.job.start context ≡ role_of (world_of hash_of parts) me
+    role_is = ap (role_from hash_of parts.job.start) lent ∙ (λ t. role_by (task_in parts.job) (hash_of parts.owners) (all t) me)
+
+    pub guided_after : (worker' : W) → StaysGuided context worker.lists worker'.lists → AreGuided parts → All (λ (w : W). Leads w.lists) (set parts.workers.items me worker')
+    guided_after worker' stays all_guided =
+        set_guided worker' (subst (λ (x : ContextModel S). StaysGuided x worker.lists worker'.lists) lent stays parts.job.start (guide_of (task_in parts.job))) all_guided
 
 -- ---- a world of which a worker and a lane have changed
 

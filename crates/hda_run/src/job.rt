@@ -1,17 +1,18 @@
 //! Jobs.
 
-ghost use Rattle.std.specs.Prelude.{◌≡◌, ◌↔◌, IsOk, IsErrOf, IfOk};
+ghost use Rattle.std.specs.Prelude.{◌≡◌, ◌<◌, ◌↔◌, IsOk, IsErrOf, IfOk};
 ghost use Rattle.board.specs.Rows.{IsLowerBound};
 ghost use Rattle.lower_bound.specs.Tables.{ArePotentials};
 ghost use Rattle.world_model.specs.Shapes.{IsTask};
-ghost use Rattle.hda_run.specs.Problems.{problem, HasOneShape, task_in};
+ghost use Rattle.hda_run.specs.Problems.{problem, context_in, HasOneShape, task_in};
 
 use crate::faults::JobFault;
 use board::{Board, Weights};
 use lower_bound::Bound;
 use lower_bound::laws::sums_are_lower_bounds;
+use owners::Spread;
 use std::marker::Model;
-use worker_core::Goal;
+use worker_core::{Context, Goal};
 
 /// What is to be solved: the plans from a start to a goal, the weights of moves, tables whose sums
 /// guide the search, and how many boards may be expanded.
@@ -107,9 +108,31 @@ impl<'a> Job<'a> {
     pub fn bound(&self) -> &Bound
         ensures value { result.now ≡ self.now.tables }
         ensures sides { result.now.split.grid ≡ self.now.goal.grid }
+        ensures potentials { ArePotentials self.now.rule self.now.goal self.now.tables }
         ensures lower { IsLowerBound self.now.rule (task_in self.now).sum self.now.goal }
     {
         self.bound
+    }
+
+    /// What the steps of worker `me` of so many are lent, where boards are owned so.
+    pub fn context<'b, S: Spread>(
+        &'b self,
+        me: usize,
+        workers: usize,
+        owners: &'b S,
+    ) -> Context<'b, S>
+        requires { me < workers }
+        ensures value { result ≡ context_in self.now me workers owners.now }
+        ensures task { IsTask (task_in self.now) }
+    {
+        Context {
+            me,
+            workers,
+            goal: &self.goal,
+            weights: &self.weights,
+            bound: self.bound,
+            owners,
+        }
     }
 
     /// How many boards may be expanded.

@@ -5,6 +5,7 @@ ghost use Rattle.std.specs.Prelude.{slice_set};
 ghost use Rattle.board.specs.declared.moves.Move.{Move};
 ghost use Rattle.outcomes.specs.Outcomes.{Task};
 ghost use Rattle.search_lists.specs.Orders.{Guide};
+ghost use Rattle.worker_core.specs.Contexts.{task_from};
 ghost use Rattle.worker_core.specs.Roles.{IsGuideOf, IsGuided, guide_of};
 ghost use Rattle.worker_core.specs.Workers.{state_of};
 ghost use Rattle.world_model.specs.declared.limits.TheConstants.{WORKER_LIMIT};
@@ -15,14 +16,14 @@ ghost use Rattle.hda_run.specs.Worlds.{world_of, AreGuided, job_of};
 
 use crate::job::Job;
 use crate::parts::Parts;
-use board::Move;
+use board::{Board, Move};
 use memory::OutOfMemory;
 use message_ledger::{Allowance, Credit, Grants, Plain, Purse};
 use owners::Spread;
 use quiescence::Book;
 use std::alloc::Global;
 use worker_core::laws::tasks_have_guides;
-use worker_core::{Queue, Worker};
+use worker_core::{Context, Queue, Worker};
 use world_model::Item;
 
 /// The parts of the opening world of a job.
@@ -43,8 +44,9 @@ pub(crate) fn open_parts<'a, S: Spread + Drop>(
     tasks_have_guides();
     let _ = job.goal();
     let (mut credit, purse) = Credit::plain();
-    let first = first_worker(alloc, &job, workers, purse)?;
     let owner = owners.owner(job.start(), workers);
+    let context = job.context(owner, workers, &owners);
+    let first = first_worker(alloc, &context, job.start(), purse)?;
     let all = workers_with(alloc, workers, &mut credit, first, owner)?;
     let lanes = empty_lanes(alloc, workers)?;
     let book = Book::new(credit, Grants::plain(), job.limit(), workers);
@@ -107,29 +109,31 @@ fn idle_workers(
     Ok(made)
 }
 
-// One of so many workers, which knows the start, and has the purse.
-fn first_worker(
+// A worker that knows the start, and has the purse.
+fn first_worker<S: Spread>(
     alloc: Global,
-    job: &Job,
-    workers: usize,
+    context: &Context<'_, S>,
+    start: &Board,
     purse: Purse<Plain>,
 ) -> Result<Worker<Plain>, OutOfMemory>
-    requires few { workers ≤ WORKER_LIMIT }
+    requires few { context.now.workers ≤ WORKER_LIMIT }
+    requires sides { start.now.grid ≡ context.now.goal.grid }
     requires one { purse ≡ 1 }
     ensures state { IfOk result (λ worker. (via : Move)
-        × (state_of worker ≡ first_state workers (task_in job.now) via)) }
-    ensures guided { IfOk result (λ worker.
-        IsGuided (task_in job.now) (guide_of (task_in job.now)) worker.lists) }
+        × (state_of worker
+        ≡ first_state context.now.workers (task_from start.now context.now) via)) }
+    ensures guided { IfOk result (λ worker. IsGuided (task_from start.now context.now)
+        (guide_of (task_from start.now context.now)) worker.lists) }
 {
     tasks_have_guides();
-    let goal = job.keyed_goal();
-    let mut worker = Worker::new(alloc, workers, purse, Allowance::plain())?;
+    let _ = context.goal.shape();
+    let mut worker = Worker::new(alloc, context.workers, purse, Allowance::plain())?;
     let item = Item {
-        board: *job.start(),
+        board: *start,
         cost: 0,
         via: Move::U,
     };
-    worker.meet(alloc, goal, job.bound(), &item)?;
+    worker.meet(alloc, context, &item)?;
     Ok(worker)
 }
 

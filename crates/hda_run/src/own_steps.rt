@@ -1,6 +1,7 @@
 //! The two steps that a worker takes by itself.
 
-ghost use Rattle.std.specs.Prelude.{◌≡◌, ◌<◌, length};
+ghost use Rattle.std.specs.Prelude.{◌≡◌};
+ghost use Rattle.worker_core.specs.declared.expanding.Successors.{Successors};
 ghost use Rattle.world_model.specs.declared.steps.Step.{Step};
 ghost use Rattle.world_model.specs.Steps.{Next};
 ghost use Rattle.world_model.specs.Turns.{turn, refusal_in};
@@ -9,6 +10,8 @@ ghost use Rattle.hda_run.specs.Worlds.{world_of, IsLawful, AreGuided};
 use crate::parts::Parts;
 use owners::Spread;
 use std::alloc::Global;
+use worker_core::Successors;
+use worker_core::laws::onward_steps_alone_are_whole;
 use world_model::Refusal;
 
 impl<'a, S: Spread> Parts<'a, S> {
@@ -21,43 +24,13 @@ impl<'a, S: Spread> Parts<'a, S> {
         ensures job { self.new.job ≡ self.old.job }
         ensures owners { self.new.owners ≡ self.old.owners }
     {
+        onward_steps_alone_are_whole();
         if me >= self.workers.len() {
             return Err(Refusal::NoSuchWorker);
         }
-        if self.workers.len() == 1 {
-            return self.expand_alone(alloc, me);
-        }
-        let job = &self.job;
-        self.workers[me].expand(
-            alloc,
-            me,
-            job.keyed_goal(),
-            job.weights(),
-            job.bound(),
-            &self.owners,
-        )
-    }
-
-    // The only worker expands a board. It knows the board that this one came from.
-    fn expand_alone(&mut self, alloc: Global, me: usize) -> Result<(), Refusal>
-        requires lawful { IsLawful S.hash_of self.old }
-        requires alone { length self.old.workers.items ≡ 1 }
-        requires me { me < 1 }
-        ensures step { Next (Step.Expand me) (turn (world_of S.hash_of self.old)
-            (refusal_in result) (world_of S.hash_of self.new)) }
-        ensures guided { AreGuided self.new }
-        ensures job { self.new.job ≡ self.old.job }
-        ensures owners { self.new.owners ≡ self.old.owners }
-    {
-        let job = &self.job;
-        self.workers[me].expand_alone(
-            alloc,
-            me,
-            job.keyed_goal(),
-            job.weights(),
-            job.bound(),
-            &self.owners,
-        )
+        let workers = self.workers.len();
+        let context = self.job.context(me, workers, &self.owners);
+        self.workers[me].expand(alloc, &context, successors_for(workers))
     }
 
     /// A worker relaxes the last item that it holds.
@@ -72,7 +45,19 @@ impl<'a, S: Spread> Parts<'a, S> {
         if me >= self.workers.len() {
             return Err(Refusal::NoSuchWorker);
         }
-        let job = &self.job;
-        self.workers[me].settle(alloc, me, job.keyed_goal(), job.bound(), &self.owners)
+        let context = self.job.context(me, self.workers.len(), &self.owners);
+        self.workers[me].settle(alloc, &context)
+    }
+}
+
+// The successors that one of so many workers takes. One alone knows the board before each that it
+// expands, so it leaves the move back out.
+fn successors_for(workers: usize) -> Successors
+    ensures { result ≡ Successors.Onward → workers ≡ 1 }
+{
+    if workers == 1 {
+        Successors::Onward
+    } else {
+        Successors::All
     }
 }

@@ -1,11 +1,10 @@
 -- What a worker is lent of its task, and how its lists stand to it.
-use Rattle.std.specs.Prelude.{ℕ, ◌≡◌, ◌≤◌, List, [], length, slice_index_or}
+use Rattle.std.specs.Prelude.{ℕ, ◌≡◌}
 use Rattle.board.specs.CostRules.{CostRule}
 use Rattle.board.specs.Positions.{Position}
 use Rattle.search_lists.specs.Lists.{Lists}
 use Rattle.search_lists.specs.Orders.{Guide}
-use Rattle.world_model.specs.declared.limits.TheConstants.{PACKET_LIMIT}
-use Rattle.world_model.specs.Workers.{Packet}
+use Rattle.worker_core.specs.Contexts.{ContextModel, context_of}
 use Rattle.worker_core.specs.Roles.{IsGuided, task_of}
 use Rattle.test_worlds.specs.declared.problems.Job.{Job}
 
@@ -18,6 +17,6 @@ pub record IsFit (job : Job) : Type 0 where
 abbrev pub IsLed : Job → Lists → Type 0
 IsLed job lists = (start : Position) × (guide : Guide) × IsGuided (task_of start job.goal job.weights job.bound) guide lists
 
--- no packet has more than `PACKET_LIMIT` items
-abbrev pub HasFew : List Packet → Type 0
-HasFew packets = (to : ℕ) → length (slice_index_or packets to []) ≤ PACKET_LIMIT
+-- what the steps of one of two workers are lent
+abbrev pub lent : {S : Type 0} → Job → S → ℕ → ContextModel S
+lent job owners me = context_of me 2 job.goal job.weights job.bound owners

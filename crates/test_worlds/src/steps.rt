@@ -1,18 +1,17 @@
 //! The steps.
 
-ghost use Rattle.std.specs.Prelude.{◌≡◌, ◌<◌, ◌≤◌, IfSome, IsTrue, length};
-ghost use Rattle.worker_core.specs.Workers.{packets_of};
-ghost use Rattle.test_worlds.specs.Jobs.{IsFit, IsLed, HasFew};
+ghost use Rattle.std.specs.Prelude.{◌≡◌, ◌<◌, IfSome};
+ghost use Rattle.test_worlds.specs.Jobs.{IsFit, IsLed, lent};
 
 use crate::problems::Job;
 use board::GREATEST_COST;
 use memory::OutOfMemory;
 use message_ledger::{Allowance, Counting, Purse};
-use owners::Spread;
+use owners::{ByBlank, Spread};
 use std::alloc::Global;
 use worker_core::laws::tasks_have_guides;
-use worker_core::{Goal, Worker};
-use world_model::{Item, PACKET_LIMIT, Refusal};
+use worker_core::{Context, Goal, Successors, Worker};
+use world_model::{Item, Refusal};
 
 // How many workers there are.
 const WORKERS: usize = 2;
@@ -52,7 +51,9 @@ pub fn meet<C: Counting>(
     if item.cost > GREATEST_COST {
         return None;
     }
-    Some(worker.meet(alloc, &Goal::new(&job.goal), &job.bound, item))
+    let goal = Goal::new(&job.goal);
+    let context = context_of(job, &goal, &ByBlank, 0);
+    Some(worker.meet(alloc, &context, item))
 }
 
 /// A board is expanded. None where there are not two workers, of whom this is one.
@@ -67,37 +68,37 @@ pub fn expand<C: Counting, S: Spread>(
     requires led { IsLed job.now worker.old.lists }
     ensures led { IsLed job.now worker.new.lists }
 {
-    if me >= WORKERS {
+    if me >= WORKERS || worker.workers() != WORKERS {
         return None;
     }
-    if !is_one_of_two(worker) {
-        return None;
-    }
-    Some(worker.expand(
-        alloc,
-        me,
-        &Goal::new(&job.goal),
-        &job.weights,
-        &job.bound,
-        owners,
-    ))
+    let goal = Goal::new(&job.goal);
+    let context = context_of(job, &goal, owners, me);
+    Some(worker.expand(alloc, &context, Successors::All))
 }
 
-// Whether there are two workers, for each of whom no more is unsent than a packet takes.
-fn is_one_of_two<C: Counting>(worker: &Worker<C>) -> bool
-    ensures two { IsTrue result → length worker.now.unsent.items ≡ WORKERS }
-    ensures few { IsTrue result → HasFew (packets_of worker.now.unsent.items) }
+// What the steps of one of two workers are lent.
+fn context_of<'a, S: Spread>(
+    job: &'a Job,
+    goal: &'a Goal,
+    owners: &'a S,
+    me: usize,
+) -> Context<'a, S>
+    requires job { IsFit job.now }
+    requires goal { goal.now ≡ job.now.goal }
+    requires me { me < WORKERS }
+    ensures { result ≡ lent job.now owners.now me }
 {
-    if worker.workers() != WORKERS {
-        return false;
+    Context {
+        me,
+        workers: WORKERS,
+        goal,
+        weights: &job.weights,
+        bound: &job.bound,
+        owners,
     }
-    if worker.unsent(0).len() > PACKET_LIMIT {
-        return false;
-    }
-    worker.unsent(1).len() <= PACKET_LIMIT
 }
 
-/// The last item that is held is taken in. None where there are no workers.
+/// The last item that is held is taken in. None where this is not one of two workers.
 pub fn settle<C: Counting, S: Spread>(
     alloc: Global,
     job: &Job,
@@ -109,8 +110,10 @@ pub fn settle<C: Counting, S: Spread>(
     requires led { IsLed job.now worker.old.lists }
     ensures led { IsLed job.now worker.new.lists }
 {
-    if worker.workers() == 0 {
+    if me >= WORKERS {
         return None;
     }
-    Some(worker.settle(alloc, me, &Goal::new(&job.goal), &job.bound, owners))
+    let goal = Goal::new(&job.goal);
+    let context = context_of(job, &goal, owners, me);
+    Some(worker.settle(alloc, &context))
 }

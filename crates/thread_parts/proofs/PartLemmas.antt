@@ -29,12 +29,14 @@ use Rattle.search_lists.specs.Lists.{Lists}
 use Rattle.search_lists.specs.Orders.{Guide}
 use Rattle.message_ledger.specs.Spending.{Spending}
 use Rattle.worker_core.specs.declared.worker.Worker.{Worker}
+use Rattle.worker_core.specs.Contexts.{ContextModel, role_from}
 use Rattle.worker_core.specs.Expanding.{role_by}
-use Rattle.worker_core.specs.Roles.{IsGuided, guide_of, task_of}
+use Rattle.worker_core.specs.Roles.{IsGuided, guide_of}
+use Rattle.worker_core.specs.Serving.{Serves, StaysGuided}
 use Rattle.worker_core.specs.Workers.{state_of, at_lane, packets_of, with_book}
 use Rattle.worker_core.specs.Settling.{SettleOrDrop}
 use Rattle.rings.specs.Rings.{SendingEnd, ReceivingEnd, TakesIn, GivesOut, Looks, sent_lanes, received_lanes, left_lanes}
-use Rattle.hda_run.specs.Problems.{Problem, task_in}
+use Rattle.hda_run.specs.Problems.{Problem, context_in, task_in}
 use Rattle.thread_parts.specs.declared.part.Part.{Part}
 use Rattle.thread_parts.specs.Parts.{IsKept, face_of, part_state, Holds, role_of}
 use Rattle.thread_parts.specs.Steps.{SendByRing, DeliverByRing, WithPurse, IsBarred}
@@ -48,17 +50,6 @@ use Rattle.worker_core.specs.Lanes.{HasSent, HasReceived, IsAtSender, IsAtReceiv
 use Rattle.std.specs.FinMap as map
 
 -- ---- what follows from what a part keeps
-
--- no list has more than so many elements, if none that stands at a place has
-each_few : (m : ℕ) (lists : List Packet) (i : ℕ) → ((to : ℕ) (packet : Packet) → slice_get lists to ≡ Some packet → length packet ≤ m) → length (get_or lists i []) ≤ m
-each_few m [] i each = omega arith
-each_few m (x ∷ lists) zero each = each zero x refl
-each_few m (x ∷ lists) (suc i) each = each_few m lists i (λ to packet at. each (suc to) packet at)
-
--- lists that stay guided for a task do so for one that is the same
-pub guided_for : (task task' : Task) → task ≡ task' → (guide : Guide) (old new : Lists) → (IsGuided task guide old → IsGuided task guide new) → IsGuided task' guide old → IsGuided task' guide new
-guided_for task task' same guide old new stays is =
-    subst (λ (t : Task). IsGuided t guide new) same (stays (subst (λ (t : Task). IsGuided t guide old) (sym same) is))
 
 module _ {S C D E K G : Type 0} (hash_of : S → Position → ℕ) (n : ℕ) (part : Part S C D E K G) (holds : Holds hash_of n part) where
   -- an end for each worker, to send by and to receive by
@@ -80,13 +71,21 @@ module _ {S C D E K G : Type 0} (hash_of : S → Position → ℕ) (n : ℕ) (pa
   pub some_unsent : 0 < length part.worker.unsent.items
   some_unsent = let me = holds.role.me in omega (arith, me, unsent_count)
 
-  pub few_unsent : (to : ℕ) → length (get_or (packets_of part.worker.unsent.items) to []) ≤ PACKET_LIMIT
-  few_unsent to = each_few PACKET_LIMIT (packets_of part.worker.unsent.items) to (λ k packet there. (holds.keeps.shaped.unsent k packet there).few)
+  -- ---- what the worker's steps are lent
 
-  -- the role that the worker's steps speak of
-  pub role_is : (goal : Position) (rule : CostRule) (tables : Tables) → goal ≡ part.job.now.goal → rule ≡ part.job.now.rule → tables ≡ part.job.now.tables → role_by (task_of part.job.now.start goal rule tables) (hash_of part.owners.now) (length part.worker.unsent.items) part.me ≡ role_of hash_of n part
-  role_is goal rule tables goal_is rule_is tables_is = λ t.
-      role_by (task_of part.job.now.start (goal_is t) (rule_is t) (tables_is t)) (hash_of part.owners.now) (unsent_count t) part.me
+  module _ (count : ℕ) (all : count ≡ length part.worker.unsent.items) (context : ContextModel S) (lent : context ≡ context_in part.job.now part.me count part.owners.now) where
+    pub serves : Serves context part.worker
+    serves = subst (λ (x : ContextModel S). Serves x part.worker) (sym lent) (record {
+      workers = sym all;
+      guided = (part.job.now.start, guide_of (task_in part.job.now), holds.guided);
+    })
+
+    pub role_is : role_from hash_of part.job.now.start context ≡ role_of hash_of n part
+    role_is = ap (role_from hash_of part.job.now.start) lent ∙ (λ t. role_by (task_in part.job.now) (hash_of part.owners.now) ((all ∙ unsent_count) t) part.me)
+
+    pub guided_after : (worker : Worker C D E K G) → StaysGuided context part.worker.lists worker.lists → IsGuided (task_in part.job.now) (guide_of (task_in part.job.now)) worker.lists
+    guided_after worker stays =
+        subst (λ (x : ContextModel S). StaysGuided x part.worker.lists worker.lists) lent stays part.job.now.start (guide_of (task_in part.job.now)) holds.guided
 
   -- a part with another worker, which keeps what it should, holds
   pub holds_with : (worker : Worker C D E K G) → Keeps n (role_of hash_of n part) (with_worker (part_state part) (state_of worker)) → IsGuided (task_in part.job.now) (guide_of (task_in part.job.now)) worker.lists → Holds hash_of n (record part { worker = worker })

@@ -71,7 +71,7 @@ fn open_worker<S: Spread, C: Counting>(
     allowance: Allowance<C>,
 ) -> Result<Worker<C>, OutOfMemory>
     requires few { workers ≤ WORKER_LIMIT }
-    requires some { 0 < workers }
+    requires there { me < workers }
     ensures first { S.hash_of owners.now job.now.start % workers ≡ me
         → IfOk result (λ worker. (via : Move) × (state_of worker
         ≡ with_means purse allowance (first_worker workers (task_in job.now) via))) }
@@ -82,7 +82,7 @@ fn open_worker<S: Spread, C: Counting>(
         IsGuided (task_in job.now) (guide_of (task_in job.now)) worker.lists) }
 {
     tasks_have_guides();
-    let goal = job.keyed_goal();
+    let context = job.context(me, workers, owners);
     let mut worker = Worker::new(alloc, workers, purse, allowance)?;
     let owner = owners.owner(job.start(), workers);
     if owner != me {
@@ -93,6 +93,6 @@ fn open_worker<S: Spread, C: Counting>(
         cost: 0,
         via: Move::U,
     };
-    worker.meet(alloc, goal, job.bound(), &item)?;
+    worker.meet(alloc, &context, &item)?;
     Ok(worker)
 }

@@ -13,6 +13,7 @@ use message_ledger::Tokens;
 use owners::Spread;
 use std::alloc::Global;
 use thread_model::laws::steps_are_kept;
+use worker_core::Successors;
 use world_model::Refusal;
 
 impl<'a, S: Spread, C: Tokens> Part<'a, S, C> {
@@ -30,17 +31,9 @@ impl<'a, S: Spread, C: Tokens> Part<'a, S, C> {
         ensures kept { IsKept self.old self.new }
     {
         steps_are_kept();
-        let job = self.job;
-        let me = self.me;
-        let owners = self.owners;
-        self.worker.expand_onward(
-            alloc,
-            me,
-            job.keyed_goal(),
-            job.weights(),
-            job.bound(),
-            owners,
-        )
+        let workers = self.worker.workers();
+        let context = self.job.context(self.me, workers, self.owners);
+        self.worker.expand(alloc, &context, Successors::Onward)
     }
 
     /// Takes the last held item out: drops it where it is foreign, and else relaxes its board.
@@ -55,10 +48,8 @@ impl<'a, S: Spread, C: Tokens> Part<'a, S, C> {
         ensures kept { IsKept self.old self.new }
     {
         steps_are_kept();
-        let job = self.job;
-        let me = self.me;
-        let owners = self.owners;
-        let goal = job.keyed_goal();
-        self.worker.settle(alloc, me, goal, job.bound(), owners)
+        let workers = self.worker.workers();
+        let context = self.job.context(self.me, workers, self.owners);
+        self.worker.settle(alloc, &context)
     }
 }

@@ -3,7 +3,7 @@ use Rattle.std.proofs.Common.{true, false, ◌≡◌, ◌≢◌, ℕ, ◌+◌, �
 use Rattle.std.specs.Prelude.{⊤, IfSome, filter_map, fold, option_map, Any, slice_get, unwrap_or}
 use Rattle.std.specs.FinMap as map
 use Rattle.std.proofs.lemmas.Bool.{cases_Bool, cases_eq, cond-true, cond-false, eq-eqb, le-ltb, ne_eqb, cases_lt, eqb-true, eqb-false}
-use Rattle.std.proofs.lemmas.List.{length-set, get_or_past}
+use Rattle.std.proofs.lemmas.List.{length-set}
 use Rattle.std.proofs.lemmas.Option.{slice_get-get_or, get_or_from_slice_get, slice_get_read, unwrap_or-slice_get}
 use Rattle.board.specs.declared.moves.Move.{Move}
 use Rattle.board.specs.declared.moves.Move.TheVariants.{U, L, R, D}
@@ -25,7 +25,7 @@ use Rattle.world_model.specs.Knowledge.{Knowledge, is_news, relaxation}
 use Rattle.world_model.specs.declared.steps.Refusal.{Refusal}
 use Rattle.world_model.specs.declared.steps.Refusal.TheVariants.{NoRoom}
 use Rattle.world_model.specs.Turns.{Becomes, Turn, Unless, turn}
-use Rattle.world_model.specs.WorkerSteps.{ExpandOnwardStep, ExpandStep, IsOverfull, WithMemory}
+use Rattle.world_model.specs.WorkerSteps.{ExpandOnwardStep, ExpandStep, ExpandStepBy, IsOverfull, WithMemory}
 use Rattle.world_model.specs.Workers.{WorkerState, Role, KnowsAs, IsNext, Packet, HasNothingBelow}
 use Rattle.world_model.proofs.ExpandLemmas.{all_lower}
 use Rattle.world_model.proofs.ChangeLemmas.{with_insert}
@@ -40,9 +40,12 @@ use Rattle.search_lists.proofs.OrderLemmas.{order_with_room}
 use Rattle.offers.specs.Offers.{item_by, Offers, IsOffered, AreOffered, OfEach, IsWithin}
 use Rattle.offers.specs.declared.offer.Offer.{Offer}
 use Rattle.offers.specs.Room.{goes, go, HasRoom}
-use Rattle.worker_core.specs.Expanding.{all_taken, taken, role_by, IsReady, stock, AddsUpBy, left_out_if}
+use Rattle.worker_core.specs.Expanding.{all_taken, taken, role_by, AddsUpBy, left_out_by, ExpandStepFor, OnwardStepsAloneAreWhole}
+use Rattle.worker_core.specs.declared.expanding.Successors.{Successors}
+use Rattle.worker_core.specs.declared.expanding.Successors.TheVariants.{All, Onward}
+use Rattle.worker_core.specs.Contexts.{ContextModel, role_from, task_from}
 use Rattle.worker_core.specs.Roles.{WereReached, IsGuided}
-use Rattle.worker_core.proofs.ExpandLemmas.{in_four, one_first, is_next, all_add, if_some, put_there, put_elsewhere, guided_same}
+use Rattle.worker_core.proofs.ExpandLemmas.{in_four, one_first, is_next, all_add, if_some, put_there, put_elsewhere, guided_same, restarted}
 use Rattle.worker_core.proofs.GuideLemmas.{some_below}
 
 -- ---- the move back from a board that is expanded: what it leads to is no news, so it may be left out; what is left out
@@ -141,26 +144,16 @@ in_four_but role worker b known (Some back) (before, c, first, leads, own, knows
 
 -- ---- the move back
 
--- where one worker has all boards, and each was reached from a known one, the move back leads to no news
-back_is_no_news : (task : Task) (hash : Position → ℕ) (workers me : ℕ) (worker : WorkerState) (closed : Table) (b : Position) (known : Known) (left_out : Option Move) → closed.known ≡ worker.known → IsBoard b → b.grid ≡ task.rule.grid → KnowsAs worker b known → me < workers → IfSome left_out (λ back. (workers ≡ 1) × WereReached task.rule closed × (0 < known.cost) × (back ≡ opposite known.via)) → IsNoNews (role_by task hash workers me) worker b known left_out
-back_is_no_news task hash workers me worker closed b known None same board sides knows within is = tt
-back_is_no_news task hash workers me worker closed b known (Some back) same board sides knows within (alone, reached, later, is) =
-    let from = reached b known board sides (ap (λ (m : Knowledge). map.get m (key_of b)) same ∙ knows) later in
+-- where the worker owns all boards, and each was reached from a known one, the move back leads to no news
+back_is_no_news : (role : Role) (worker : WorkerState) (b : Position) (known : Known) (left_out : Option Move) → ((p : Position) → role.owner p ≡ role.me) → IsBoard b → b.grid ≡ role.task.rule.grid → KnowsAs worker b known → IfSome left_out (λ back. WereReached role.task.rule worker.known × (0 < known.cost) × (back ≡ opposite known.via)) → IsNoNews role worker b known left_out
+back_is_no_news role worker b known None all board sides knows is = tt
+back_is_no_news role worker b known (Some back) all board sides knows (reached, later, is) =
+    let from = reached b known board sides knows later in
     let before = from.0 in
     let c = from.1 in
-    let moves : Moves task.rule b back before c = subst (λ (m : Move). Moves task.rule b m before c) (sym is) (taken_back task.rule before known.via b c from.3 from.4) in
-    let low = from.6 in (
-      before,
-      c,
-      from.2,
-      (successor_moves task.rule b back before c board).1 moves,
-      ap (λ (n : ℕ). hash before % n) alone ∙ of_one (hash before) me (subst (λ (n : ℕ). me < n) alone within),
-      ap (λ (m : Knowledge). map.get m (key_of before)) (sym same) ∙ from.5,
-      omega (arith, low),
-    )
-  where
-    of_one : (n k : ℕ) → k < 1 → n % 1 ≡ k
-    of_one n k lt = omega (arith, lt)
+    let moves : Moves role.task.rule b back before c = subst (λ (m : Move). Moves role.task.rule b m before c) (sym is) (taken_back role.task.rule before known.via b c from.3 from.4) in
+    let low = from.6 in
+    (before, c, from.2, (successor_moves role.task.rule b back before c board).1 moves, all before, from.5, omega (arith, low))
 
 -- the move back, where there is one, is from a cost above 0
 back_has : (known : Known) (P : Move → Type 0) → (0 < known.cost → P (opposite known.via)) → IfSome (move_back known) P
@@ -174,23 +167,37 @@ back_has known P is =
 abbrev Leaves : Turn WorkerState Refusal → WorkerState → Type 0
 Leaves it made = Unless it (IsOverfull made) NoRoom (WithMemory it (Becomes it made))
 
-module _ (task : Task) (hash : Position → ℕ) (workers me : ℕ) (worker : WorkerState) (closed : Table) (same : closed.known ≡ worker.known) (sides : task.rule.grid ≡ task.goal.grid) (within : me < workers) (alone : workers ≡ 1) (reached : WereReached task.rule closed) where
-  abbrev role : Role
-  role = role_by task hash workers me
-
-  same_expansion : (b : Position) (known : Known) → IsNext task worker b known → expansion_by (moves_but (move_back known)) role worker b known ≡ expansion role worker b known
+module _ (role : Role) (worker : WorkerState) (sides : role.task.rule.grid ≡ role.task.goal.grid) (all : (p : Position) → role.owner p ≡ role.me) (reached : WereReached role.task.rule worker.known) where
+  same_expansion : (b : Position) (known : Known) → IsNext role.task worker b known → expansion_by (moves_but (move_back known)) role worker b known ≡ expansion role worker b known
   same_expansion b known next =
       let no_news =
-      back_is_no_news task hash workers me worker closed b known (move_back known) same next.opens.board.0 (next.opens.board.1 ∙ sym sides) next.opens.knows within
-      (back_has known (λ back. (workers ≡ 1) × WereReached task.rule closed × (0 < known.cost) × (back ≡ opposite known.via)) (λ later. (alone, reached, later, refl))) in
+      back_is_no_news role worker b known (move_back known) all next.opens.board.0 (next.opens.board.1 ∙ sym sides) next.opens.knows
+      (back_has known (λ back. WereReached role.task.rule worker.known × (0 < known.cost) × (back ≡ opposite known.via)) (λ later. (reached, later, refl))) in
       in_four_by role worker b known (move_back known) ∙ sym (in_four_but role worker b known (move_back known) no_news)
 
-  -- so one worker expands a board by all moves where it leaves the one back out
-  pub alone_step : (answer : Option Refusal) (worker' : WorkerState) → ExpandOnwardStep role (turn worker answer worker') → ExpandStep role (turn worker answer worker')
+  alone_step : (answer : Option Refusal) (worker' : WorkerState) → ExpandOnwardStep role (turn worker answer worker') → ExpandStep role (turn worker answer worker')
   alone_step answer worker' (inl out) = inl out
   alone_step answer worker' (inr (busy, inl out)) = inr (busy, inl out)
   alone_step answer worker' (inr (busy, inr (left, (b, known, next, rest)))) =
       inr (busy, inr (left, (b, known, next, subst (Leaves (turn worker answer worker')) (same_expansion b known next) rest)))
+
+-- so one worker expands a board by all moves where it leaves the one back out
+pub onward_is_whole : OnwardStepsAloneAreWhole
+onward_is_whole role it sides all reached step = alone_step role it.before sides all reached it.answer it.after step
+
+-- the step by the moves that are not left out
+pub step_for : (successors : Successors) (role : Role) (it : Turn WorkerState Refusal) → ExpandStepBy (λ known. moves_but (left_out_by successors known)) role it → ExpandStepFor successors role it
+step_for All role it step = step
+step_for Onward role it step = step
+
+-- the same, where what is lent was read
+pub step_lent : {S : Type 0} (hash_of : S → Position → ℕ) (start : Position) (successors : Successors) (read context : ContextModel S) → read ≡ context → (it : Turn WorkerState Refusal) → ExpandStepBy (λ known. moves_but (left_out_by successors known)) (role_from hash_of start read) it → ExpandStepFor successors (role_from hash_of start context) it
+step_lent {S} hash_of start successors read context same it step =
+    step_for successors (role_from hash_of start context) it (subst (λ (x : ContextModel S). ExpandStepBy (λ known. moves_but (left_out_by successors known)) (role_from hash_of start x) it) same step)
+
+pub guided_read : {S : Type 0} (start start' : Position) (read context : ContextModel S) → read ≡ context → (guide : Guide) (lists : Lists) → IsGuided (task_from start context) guide lists → IsGuided (task_from start' read) guide lists
+guided_read {S} start start' read context same guide lists is =
+    restarted start start' read.goal read.rule read.tables guide lists (subst (λ (x : ContextModel S). IsGuided (task_from start x) guide lists) (sym same) is)
 
 -- ---- how many items each packet has after an expansion: one item
 
@@ -250,14 +257,6 @@ at_any xs any =
     let is : get_or xs any.0 [] ≡ any.1 = get_or_from_slice_get xs any.0 any.1 [] (slice_get_read xs (length xs) any.0 any.1 refl any.2 (sym any.3)) in
     (any.0, any.2, subst (λ (p : Packet). PACKET_LIMIT < length p) (sym is) any.4)
 
--- what has taken all offers has no packet with too many
-pub few_left : (me : ℕ) (grid : Grid) (lists : Lists) (unsent : List Packet) → IsReady me grid (stock lists unsent) [] → (to : ℕ) → length (get_or unsent to []) ≤ PACKET_LIMIT
-few_left me grid lists unsent ready to =
-    ⊎_elim
-    (λ (within : to < length unsent). let fits = ready.room to within in omega (arith, fits))
-    (λ (past : length unsent ≤ to). let none = ap length (get_or_past unsent to [] past) in omega (arith, none))
-    (cases_lt to (length unsent))
-
 -- ---- an expansion
 
 module _ (role : Role) (worker : WorkerState) (b : Position) (known : Known) (left_out : Option Move) (sum : Position → ℕ) (offers : Offers) (offered : AreOffered sum role.owner (but left_out (item_by role.task.rule b known.cost)) offers) (grid : Grid) (n : ℕ) (within : OfEach (IsWithin grid known.cost n) offers) (lists : length worker.unsent ≡ n) where
@@ -308,15 +307,15 @@ module _ (role : Role) (worker : WorkerState) (b : Position) (known : Known) (le
 -- ---- the board that is expanded, and what its moves offer
 
 -- the board is to be expanded, and this is what its moves offer to so many workers
-pub record IsChosen (role : Role) (worker : WorkerState) (b : Position) (known : Known) (onward : Bool) (left_out : Option Move) (offers : Offers) (workers : ℕ) : Type 0 where
+pub record IsChosen (role : Role) (worker : WorkerState) (b : Position) (known : Known) (successors : Successors) (left_out : Option Move) (offers : Offers) (workers : ℕ) : Type 0 where
   pub waits : ¬ HasNothingBelow role.task worker (limit_of worker.best)
   pub at : IsNext role.task worker b known
-  pub left_out_is : left_out ≡ left_out_if onward known
+  pub left_out_is : left_out ≡ left_out_by successors known
   pub offered : AreOffered role.task.sum role.owner (but left_out (item_by role.task.rule b known.cost)) offers
   pub within : OfEach (IsWithin role.task.goal.grid known.cost workers) offers
 
-pub chosen : (task : Task) (guide : Guide) (lists : Lists) (is : IsGuided task guide lists) (worker : WorkerState) (same : lists.closed.known ≡ worker.known) (hash : Position → ℕ) (n workers me : ℕ) (all : n ≡ workers) (limit : ℕ) (limit_is : limit ≡ limit_of worker.best) (next : Next) (first : IsLeastOpen guide lists.closed next) (below : next.f < limit) (b : Position) (grid : Grid) (sides : grid ≡ task.goal.grid) (has : HasKey grid next.key b) (onward : Bool) (left_out : Option Move) (back : (known : Known) → known.cost ≡ next.cost → known.via ≡ next.via → left_out ≡ left_out_if onward known) (offers : Offers) (offered : AreOffered task.sum (λ p. hash p % n) (but left_out (item_by task.rule b next.cost)) offers) (within : OfEach (IsWithin b.grid next.cost n) offers) → IsChosen (role_by task hash workers me) worker b first.opens.0 onward left_out offers workers
-chosen task guide lists is worker same hash n workers me all limit limit_is next first below b grid sides has onward left_out back offers offered within = record {
+pub chosen : (task : Task) (guide : Guide) (lists : Lists) (is : IsGuided task guide lists) (worker : WorkerState) (same : lists.closed.known ≡ worker.known) (hash : Position → ℕ) (n workers me : ℕ) (all : n ≡ workers) (limit : ℕ) (limit_is : limit ≡ limit_of worker.best) (next : Next) (first : IsLeastOpen guide lists.closed next) (below : next.f < limit) (b : Position) (grid : Grid) (sides : grid ≡ task.goal.grid) (has : HasKey grid next.key b) (successors : Successors) (left_out : Option Move) (back : (known : Known) → known.cost ≡ next.cost → known.via ≡ next.via → left_out ≡ left_out_by successors known) (offers : Offers) (offered : AreOffered task.sum (λ p. hash p % n) (but left_out (item_by task.rule b next.cost)) offers) (within : OfEach (IsWithin b.grid next.cost n) offers) → IsChosen (role_by task hash workers me) worker b first.opens.0 successors left_out offers workers
+chosen task guide lists is worker same hash n workers me all limit limit_is next first below b grid sides has successors left_out back offers offered within = record {
   waits = λ none. some_below task guide lists worker same is limit next first below (subst (HasNothingBelow task worker) (sym limit_is) none);
   at = is_next task guide lists worker same is next first b (subst (λ (g : Grid). HasKey g next.key b) sides has);
   left_out_is = back first.opens.0 first.opens.2 first.opens.3;
@@ -368,6 +367,6 @@ pub guided_with_room : (task : Task) (guide : Guide) (old new : Lists) → IsGui
 guided_with_room task guide old new is more = guided_same task guide old new is more.known (order_with_room guide old new more is.order)
 
 -- what is offered adds up
-pub chosen_adds : (role : Role) (guide : Guide) (lists : Lists) (is : IsGuided role.task guide lists) (worker : WorkerState) (b : Position) (known : Known) (onward : Bool) (left_out : Option Move) (offers : Offers) (n : ℕ) → IsChosen role worker b known onward left_out offers n → known.cost ≤ GREATEST_EXPANDED_COST → OfEach (AddsUpBy guide) offers
-chosen_adds role guide lists is worker b known onward left_out offers n it low =
+pub chosen_adds : (role : Role) (guide : Guide) (lists : Lists) (is : IsGuided role.task guide lists) (worker : WorkerState) (b : Position) (known : Known) (successors : Successors) (left_out : Option Move) (offers : Offers) (n : ℕ) → IsChosen role worker b known successors left_out offers n → known.cost ≤ GREATEST_EXPANDED_COST → OfEach (AddsUpBy guide) offers
+chosen_adds role guide lists is worker b known successors left_out offers n it low =
     all_add role.task guide role.owner b known.cost n role.task.goal.grid is.guides it.at.opens.board low left_out offers it.offered it.within

@@ -29,7 +29,9 @@ use Rattle.search_lists.specs.Lists.{Lists, empty_lists}
 use Rattle.search_lists.specs.Orders as orders
 use Rattle.search_lists.specs.Orders.{Guide, IsInOrder, NoneBelow, IsLeastOpen}
 use Rattle.worker_core.specs.Workers.{packets_of}
+use Rattle.worker_core.specs.Contexts.{ContextModel, task_from}
 use Rattle.worker_core.specs.Roles.{IsGuideOf, IsGuided}
+use Rattle.worker_core.specs.Serving.{StayInOrder, StaysGuided}
 use Rattle.worker_core.specs.Settling.{IsForeign, IsOwn, RefusedSettlesChangeNothing, SettleOrDrop}
 
 -- ---- lists of items, one for each worker, seen as packets
@@ -234,3 +236,9 @@ refused_settles role it refusal (inl (own, inl (none, (is, same)))) answer = sam
 refused_settles role it refusal (inl (own, inr (some, (front, last, held, inl (accepted, after))))) answer = absurd (none-some refusal (sym accepted ∙ answer))
 refused_settles role it refusal (inl (own, inr (some, (front, last, held, inr (lacking, (is, same)))))) answer = same
 refused_settles role it refusal (inr (accepted, dropped)) answer = absurd (none-some refusal (sym accepted ∙ answer))
+
+-- ---- what stays in order stays guided
+
+pub stays_guided : {S : Type 0} (context : ContextModel S) (old new : Lists) → StayInOrder context old new → StaysGuided context old new
+stays_guided context old new stay start guide is =
+    record { guides = is.guides; order = stay.order start guide is.guides is.order; boards = stay.boards (task_from start context) refl is.boards }

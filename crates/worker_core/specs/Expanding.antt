@@ -1,5 +1,5 @@
 -- How a worker takes what the moves from a board offer, one after the other.
-use Rattle.std.specs.Prelude.{Bool, true, false, ⊤, ℕ, ◌≡◌, ◌≢◌, ◌⊎◌, ◌+◌, ◌%◌, ◌<◌, ◌≤◌, List, [], ◌∷◌, length, slice_index_or, Option, Some, None, IfSome}
+use Rattle.std.specs.Prelude.{⊤, ℕ, ◌≡◌, ◌≢◌, ◌⊎◌, ◌+◌, ◌%◌, ◌<◌, ◌≤◌, List, [], ◌∷◌, length, slice_index_or, Option, Some, None, IfSome}
 use Rattle.board.specs.declared.moves.Move.{Move}
 use Rattle.board.specs.declared.moves.Move.TheVariants.{U, L, R, D}
 use Rattle.board.specs.Grids.{Grid}
@@ -19,6 +19,12 @@ use Rattle.world_model.specs.declared.parts.Item.{Item}
 use Rattle.world_model.specs.declared.parts.Known.{Known}
 use Rattle.world_model.specs.Expansions.{move_back, with_successor}
 use Rattle.world_model.specs.Workers.{WorkerState, Packet, Role}
+use Rattle.world_model.specs.WorkerSteps.{ExpandStep, ExpandOnwardStep}
+use Rattle.world_model.specs.Turns.{Turn}
+use Rattle.world_model.specs.declared.steps.Refusal.{Refusal}
+use Rattle.worker_core.specs.Roles.{WereReached}
+use Rattle.worker_core.specs.declared.expanding.Successors.{Successors}
+use Rattle.worker_core.specs.declared.expanding.Successors.TheVariants.{All, Onward}
 
 -- the worker with one successor more, where there is one
 abbrev pub taken : Role → WorkerState → Option Item → WorkerState
@@ -33,10 +39,26 @@ all_taken role worker items = taken role (taken role (taken role (taken role wor
 abbrev pub in_turn : Offers → List (Option Offer)
 in_turn offers = offers.up ∷ offers.left ∷ offers.right ∷ offers.down ∷ []
 
--- the move that is left out where a board is expanded that is known so: the one back, where that is asked for
-abbrev pub left_out_if : Bool → Known → Option Move
-left_out_if true known = move_back known
-left_out_if false known = None
+-- the move that is left out where a board is expanded that is known so: none, or the one back
+abbrev pub left_out_by : Successors → Known → Option Move
+left_out_by All known = None
+left_out_by Onward known = move_back known
+
+-- the step that expands a board by all moves, or by all but the one back
+abbrev pub ExpandStepFor : Successors → Role → Turn WorkerState Refusal → Type 0
+ExpandStepFor All role it = ExpandStep role it
+ExpandStepFor Onward role it = ExpandOnwardStep role it
+
+-- A worker that owns all boards, and of each knows the board from which it was reached, expands by all moves where it leaves the one back
+-- out.
+abbrev pub OnwardStepsAloneAreWhole : Type 0
+OnwardStepsAloneAreWhole =
+    (role : Role) (it : Turn WorkerState Refusal)
+    → role.task.rule.grid ≡ role.task.goal.grid
+    → ((b : Position) → role.owner b ≡ role.me)
+    → WereReached role.task.rule it.before.known
+    → ExpandOnwardStep role it
+    → ExpandStep role it
 
 -- how many items of what some moves offer go from worker `me` to another, `to`
 abbrev pub all_go : ℕ → ℕ → List (Option Offer) → ℕ

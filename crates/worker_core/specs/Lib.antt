@@ -4,3 +4,5 @@ pub mod Workers
 pub mod Roles
 pub mod Expanding
 pub mod Settling
+pub mod Contexts
+pub mod Serving

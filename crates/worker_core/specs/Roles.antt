@@ -14,6 +14,7 @@ use Rattle.closed_table.specs.Tables.{Table}
 use Rattle.search_lists.specs.Lists.{Lists}
 use Rattle.search_lists.specs.Orders.{Guide, IsInOrder}
 use Rattle.world_model.specs.declared.parts.Known.{Known}
+use Rattle.world_model.specs.Knowledge.{Knowledge}
 use Rattle.world_model.specs.Workers.{Role, IsTaskBoard}
 
 -- the role is that of the worker with this number, and its task has this goal
@@ -45,10 +46,10 @@ AreTaskBoards task closed = (key : ℕ) (known : Known) → map.get closed.known
 
 -- Each board of the rule's sides that is known at a cost above 0 was reached from a known one: the board before its last move, which
 -- is cheaper by the move's cost at least.
-abbrev pub WereReached : CostRule → Table → Type 0
-WereReached rule closed =
-    (b : Position) (known : Known) → IsBoard b → b.grid ≡ rule.grid → map.get closed.known (key_of b) ≡ Some known → 0 < known.cost
-    → (before : Position) × (c : ℕ) × (first : Known) × IsBoard before × Moves rule before known.via b c × (map.get closed.known (key_of before) ≡ Some first) × (first.cost + c ≤ known.cost)
+abbrev pub WereReached : CostRule → Knowledge → Type 0
+WereReached rule knowledge =
+    (b : Position) (known : Known) → IsBoard b → b.grid ≡ rule.grid → map.get knowledge (key_of b) ≡ Some known → 0 < known.cost
+    → (before : Position) × (c : ℕ) × (first : Known) × IsBoard before × Moves rule before known.via b c × (map.get knowledge (key_of before) ≡ Some first) × (first.cost + c ≤ known.cost)
 
 -- by this guide the lists are in order, and what they know is boards of the task
 pub record IsGuided (task : Task) (guide : Guide) (lists : Lists) : Type 0 where

@@ -1,6 +1,6 @@
 //! The step that expands a board.
 
-ghost use Rattle.std.specs.Prelude.{ℕ, ◌≡◌, ◌<◌, ◌≤◌, ◌+◌, [], length, slice_index_or, IfSome, OnOk, OnErr};
+ghost use Rattle.std.specs.Prelude.{ℕ, ◌≡◌, ◌<◌, ◌≤◌, ◌+◌, length, IfSome, OnOk, OnErr};
 ghost use Rattle.std.specs.Prelude.{◌≢◌, Option};
 ghost use Rattle.std.specs.FinMap as map;
 ghost use Rattle.board.specs.Keys.{key_of};
@@ -13,22 +13,21 @@ ghost use Rattle.outcomes.specs.Outcomes.{Task};
 ghost use Rattle.search_lists.specs.Lists.{HasMoreRoom};
 ghost use Rattle.successor_sums.specs.Unpacked.{but};
 ghost use Rattle.search_lists.specs.Orders.{Guide, IsInOrder, IsFirst};
-ghost use Rattle.world_model.specs.declared.limits.TheConstants.{PACKET_LIMIT};
 ghost use Rattle.world_model.specs.declared.parts.Item.{Item};
 ghost use Rattle.world_model.specs.declared.parts.Known.{Known};
 ghost use Rattle.world_model.specs.Expansions.{expansion_by, moves_but};
 ghost use Rattle.world_model.specs.Turns.{turn, refusal_in};
 ghost use Rattle.world_model.specs.Workers.{Role, KnowsAs};
-ghost use Rattle.world_model.specs.WorkerSteps.{ExpandOnwardStep, ExpandStep, ExpandStepBy};
-ghost use Rattle.worker_core.specs.Expanding.{IsReady, stock, AddsUpBy, all_taken, in_turn, role_by};
-ghost use Rattle.worker_core.specs.Expanding.{left_out_if, HasPlaces, HasAllPlaces};
-ghost use Rattle.worker_core.specs.Roles.{IsGuided, WereReached, task_of};
+ghost use Rattle.worker_core.specs.Contexts.{role_from};
+ghost use Rattle.worker_core.specs.Expanding.{IsReady, stock, AddsUpBy, all_taken, in_turn};
+ghost use Rattle.worker_core.specs.Expanding.{left_out_by, ExpandStepFor, HasPlaces, HasAllPlaces};
+ghost use Rattle.worker_core.specs.Roles.{IsGuided};
+ghost use Rattle.worker_core.specs.Serving.{Serves, KeepsServing};
 ghost use Rattle.worker_core.specs.Workers.{state_of, packets_of};
 
-use crate::goal::Goal;
+use crate::context::Context;
 use crate::worker::Worker;
-use board::{Move, Shape, Weights};
-use lower_bound::Bound;
+use board::Move;
 use memory::OutOfMemory;
 use message_ledger::{Allowance, Counting};
 use offers::{Offer, has_room, no_offers, offers_of};
@@ -37,6 +36,16 @@ use search_lists::{Next, SearchLists};
 use std::alloc::Global;
 use successor_sums::{ByMoves, MOVES, UnpackedBoard};
 use world_model::Refusal;
+
+/// The successors of a board that an expansion takes.
+#[derive(Clone, Copy, Debug, PartialEq, Eq)]
+pub enum Successors {
+    /// Those by all moves.
+    All,
+    /// Those by all moves but the one back, to the board before the last move, where the board's
+    /// cost is above 0. Who made that cost known knows the board before.
+    Onward,
+}
 
 // What is known of fewer boards lies in the processor's caches: to read ahead gains nothing there.
 const BOARDS_IN_CACHE: usize = 1 << 12;
@@ -48,132 +57,14 @@ impl<C: Counting> Worker<C> {
     pub fn expand<S: Spread>(
         &mut self,
         alloc: Global,
-        me: usize,
-        goal: &Goal,
-        weights: &Weights,
-        bound: &Bound,
-        owners: &S,
+        context: &Context<'_, S>,
+        successors: Successors,
     ) -> Result<(), Refusal>
-        requires rule { weights.now.grid ≡ goal.now.grid }
-        requires sides { bound.now.split.grid ≡ goal.now.grid }
-        requires there { me < length self.old.unsent.items }
-        requires few { (to : ℕ)
-            → length (slice_index_or (packets_of self.old.unsent.items) to []) ≤ PACKET_LIMIT }
-        requires guided { (start : Position) × (guide : Guide)
-            × IsGuided (task_of start goal.now weights.now bound.now) guide self.old.lists }
+        requires { Serves context.now self.old }
         ensures step { (start : Position)
-            → ExpandStep (role_by (task_of start goal.now weights.now bound.now)
-            (S.hash_of owners.now) (length self.old.unsent.items) me)
+            → ExpandStepFor successors (role_from S.hash_of start context.now)
             (turn (state_of self.old) (refusal_in result) (state_of self.new)) }
-        ensures order { (start : Position) (guide : Guide)
-            → IsGuided (task_of start goal.now weights.now bound.now) guide self.old.lists
-            → IsGuided (task_of start goal.now weights.now bound.now) guide self.new.lists }
-        ensures few { (to : ℕ)
-            → length (slice_index_or (packets_of self.new.unsent.items) to []) ≤ PACKET_LIMIT }
-        ensures workers { length self.new.unsent.items ≡ length self.old.unsent.items }
-        ensures granted { self.new.allowance.granted ≡ self.old.allowance.granted }
-    {
-        self.expand_one(alloc, me, goal, weights, bound, owners, false)
-    }
-
-    /// Expands a board as `expand` does, but leaves the move back out, to the board before the last
-    /// move, where the board's cost is above 0. Who made that cost known knows the board before.
-    pub fn expand_onward<S: Spread>(
-        &mut self,
-        alloc: Global,
-        me: usize,
-        goal: &Goal,
-        weights: &Weights,
-        bound: &Bound,
-        owners: &S,
-    ) -> Result<(), Refusal>
-        requires rule { weights.now.grid ≡ goal.now.grid }
-        requires sides { bound.now.split.grid ≡ goal.now.grid }
-        requires there { me < length self.old.unsent.items }
-        requires few { (to : ℕ)
-            → length (slice_index_or (packets_of self.old.unsent.items) to []) ≤ PACKET_LIMIT }
-        requires guided { (start : Position) × (guide : Guide)
-            × IsGuided (task_of start goal.now weights.now bound.now) guide self.old.lists }
-        ensures step { (start : Position)
-            → ExpandOnwardStep (role_by (task_of start goal.now weights.now bound.now)
-            (S.hash_of owners.now) (length self.old.unsent.items) me)
-            (turn (state_of self.old) (refusal_in result) (state_of self.new)) }
-        ensures order { (start : Position) (guide : Guide)
-            → IsGuided (task_of start goal.now weights.now bound.now) guide self.old.lists
-            → IsGuided (task_of start goal.now weights.now bound.now) guide self.new.lists }
-        ensures few { (to : ℕ)
-            → length (slice_index_or (packets_of self.new.unsent.items) to []) ≤ PACKET_LIMIT }
-        ensures workers { length self.new.unsent.items ≡ length self.old.unsent.items }
-        ensures granted { self.new.allowance.granted ≡ self.old.allowance.granted }
-    {
-        self.expand_one(alloc, me, goal, weights, bound, owners, true)
-    }
-
-    /// Expands a board as `expand` does, where there is no other worker. The move back is left out
-    /// here too: the board before the last move is known, and cheaper.
-    pub fn expand_alone<S: Spread>(
-        &mut self,
-        alloc: Global,
-        me: usize,
-        goal: &Goal,
-        weights: &Weights,
-        bound: &Bound,
-        owners: &S,
-    ) -> Result<(), Refusal>
-        requires rule { weights.now.grid ≡ goal.now.grid }
-        requires sides { bound.now.split.grid ≡ goal.now.grid }
-        requires there { me < length self.old.unsent.items }
-        requires alone { length self.old.unsent.items ≡ 1 }
-        requires reached { WereReached weights.now self.old.lists.closed }
-        requires few { (to : ℕ)
-            → length (slice_index_or (packets_of self.old.unsent.items) to []) ≤ PACKET_LIMIT }
-        requires guided { (start : Position) × (guide : Guide)
-            × IsGuided (task_of start goal.now weights.now bound.now) guide self.old.lists }
-        ensures step { (start : Position)
-            → ExpandStep (role_by (task_of start goal.now weights.now bound.now)
-            (S.hash_of owners.now) (length self.old.unsent.items) me)
-            (turn (state_of self.old) (refusal_in result) (state_of self.new)) }
-        ensures order { (start : Position) (guide : Guide)
-            → IsGuided (task_of start goal.now weights.now bound.now) guide self.old.lists
-            → IsGuided (task_of start goal.now weights.now bound.now) guide self.new.lists }
-        ensures few { (to : ℕ)
-            → length (slice_index_or (packets_of self.new.unsent.items) to []) ≤ PACKET_LIMIT }
-        ensures workers { length self.new.unsent.items ≡ length self.old.unsent.items }
-        ensures granted { self.new.allowance.granted ≡ self.old.allowance.granted }
-    {
-        self.expand_onward(alloc, me, goal, weights, bound, owners)
-    }
-
-    // Expands a board, by all moves or by all but the one back.
-    fn expand_one<S: Spread>(
-        &mut self,
-        alloc: Global,
-        me: usize,
-        goal: &Goal,
-        weights: &Weights,
-        bound: &Bound,
-        owners: &S,
-        onward: bool,
-    ) -> Result<(), Refusal>
-        requires rule { weights.now.grid ≡ goal.now.grid }
-        requires sides { bound.now.split.grid ≡ goal.now.grid }
-        requires there { me < length self.old.unsent.items }
-        requires few { (to : ℕ)
-            → length (slice_index_or (packets_of self.old.unsent.items) to []) ≤ PACKET_LIMIT }
-        requires guided { (start : Position) × (guide : Guide)
-            × IsGuided (task_of start goal.now weights.now bound.now) guide self.old.lists }
-        ensures step { (start : Position)
-            → ExpandStepBy (λ known. moves_but (left_out_if onward known))
-            (role_by (task_of start goal.now weights.now bound.now)
-            (S.hash_of owners.now) (length self.old.unsent.items) me)
-            (turn (state_of self.old) (refusal_in result) (state_of self.new)) }
-        ensures order { (start : Position) (guide : Guide)
-            → IsGuided (task_of start goal.now weights.now bound.now) guide self.old.lists
-            → IsGuided (task_of start goal.now weights.now bound.now) guide self.new.lists }
-        ensures few { (to : ℕ)
-            → length (slice_index_or (packets_of self.new.unsent.items) to []) ≤ PACKET_LIMIT }
-        ensures workers { length self.new.unsent.items ≡ length self.old.unsent.items }
-        ensures granted { self.new.allowance.granted ≡ self.old.allowance.granted }
+        ensures keeps { KeepsServing context.now self.old self.new }
     {
         let Some(next) = self.lists.next(self.best.limit()) else {
             return Err(Refusal::NothingBelowLimit);
@@ -181,88 +72,89 @@ impl<C: Counting> Worker<C> {
         if self.allowance.left() == 0 {
             return Err(Refusal::NoAllowance);
         }
-        let unpacked = UnpackedBoard::of_key(goal.shape(), next.key);
+        let unpacked = UnpackedBoard::of_key(context.goal.shape(), next.key);
         let mut offers = no_offers();
         offers_of(
             &unpacked,
             next.cost,
             next.f - next.cost,
-            weights,
-            bound,
-            owners,
-            self.unsent.len(),
-            move_left_out(next, onward),
+            context.weights,
+            context.bound,
+            context.owners,
+            context.workers,
+            move_left_out(next, successors),
             &mut offers,
         );
-        if !has_room(&self.unsent, me, &offers) {
+        if !has_room(&self.unsent, context.me, &offers) {
             return Err(Refusal::NoRoom);
         }
-        if let Err(refused) = make_places(&mut self.lists, alloc, me, &offers) {
+        if let Err(refused) = make_places(&mut self.lists, alloc, context.me, &offers) {
             return Err(Refusal::Memory(refused));
         }
-        read_ahead(&mut self.lists, me, &offers);
-        self.expand_next(me, goal, next, &offers);
+        read_ahead(&mut self.lists, context.me, &offers);
+        self.expand_next(context, next, &offers);
         Ok(())
     }
 
     // Closes a board, which counts as an expansion, and takes what its moves offer.
-    fn expand_next(&mut self, me: usize, goal: &Goal, next: Next, offers: &ByMoves<Offer>)
+    fn expand_next<S: Spread>(
+        &mut self,
+        context: &Context<'_, S>,
+        next: Next,
+        offers: &ByMoves<Offer>,
+    )
         requires first { IsFirst self.old.lists next }
         requires allowed { 0 < self.old.allowance.left }
         requires granted { self.old.allowance.left ≤ self.old.allowance.granted }
-        requires ready { IsReady me goal.now.grid (stock self.old.lists
+        requires ready { IsReady context.now.me context.now.goal.grid (stock self.old.lists
             (packets_of self.old.unsent.items)) (in_turn offers.now) }
         ensures state { (role : Role) (sum : Position → ℕ) (b : Position) (known : Known)
-            (left_out : Option Move) → role.me ≡ me → IsBoard b → b.grid ≡ goal.now.grid
+            (left_out : Option Move) → role.me ≡ context.now.me → IsBoard b
+            → b.grid ≡ context.now.goal.grid
             → key_of b ≡ next.key → KnowsAs (state_of self.old) b known
             → AreOffered sum role.owner (but left_out (item_by role.task.rule b known.cost)) offers.now
             → state_of self.new
             ≡ expansion_by (moves_but left_out) role (state_of self.old) b known }
-        ensures guided { (task : Task) (guide : Guide) → task.goal ≡ goal.now
+        ensures guided { (task : Task) (guide : Guide) → task.goal ≡ context.now.goal
             → OfEach (AddsUpBy guide) offers.now
             → IsGuided task guide self.old.lists → IsGuided task guide self.new.lists }
-        ensures few { (to : ℕ)
-            → length (slice_index_or (packets_of self.new.unsent.items) to []) ≤ PACKET_LIMIT }
         ensures workers { length self.new.unsent.items ≡ length self.old.unsent.items }
         ensures granted { self.new.allowance.granted ≡ self.old.allowance.granted }
     {
         close_next(&mut self.lists, &mut self.allowance, next);
-        let shape = goal.shape();
-        let goal_key = goal.key();
-        self.take_all(me, shape, goal_key, offers);
+        self.take_all(context, offers);
     }
 
     // Takes what the moves offer, in their order.
-    fn take_all(&mut self, me: usize, shape: Shape, goal_key: u128, offers: &ByMoves<Offer>)
-        requires { IsReady me shape (stock self.old.lists (packets_of self.old.unsent.items))
-            (in_turn offers.now) }
-        ensures ready { IsReady me shape (stock self.new.lists
-            (packets_of self.new.unsent.items)) [] }
+    fn take_all<S: Spread>(&mut self, context: &Context<'_, S>, offers: &ByMoves<Offer>)
+        requires { IsReady context.now.me context.now.goal.grid (stock self.old.lists
+            (packets_of self.old.unsent.items)) (in_turn offers.now) }
         ensures state { (role : Role) (sum : Position → ℕ) (items : Move → Option Item)
-            → role.me ≡ me → AreOffered sum role.owner items offers.now
-            → ((m : Move) → IfSome (items m) (λ i. IsBoard i.board × (i.board.grid ≡ shape)))
+            → role.me ≡ context.now.me → AreOffered sum role.owner items offers.now
+            → ((m : Move) → IfSome (items m) (λ i. IsBoard i.board
+            × (i.board.grid ≡ context.now.goal.grid)))
             → ((m : Move) → IfSome (items m) (λ i. i.via ≡ m))
             → state_of self.new ≡ all_taken role (state_of self.old) items }
-        ensures guided { (task : Task) (guide : Guide) → task.goal.grid ≡ shape
-            → key_of task.goal ≡ goal_key → OfEach (AddsUpBy guide) offers.now
+        ensures guided { (task : Task) (guide : Guide) → task.goal ≡ context.now.goal
+            → OfEach (AddsUpBy guide) offers.now
             → IsGuided task guide self.old.lists → IsGuided task guide self.new.lists }
         ensures workers { length self.new.unsent.items ≡ length self.old.unsent.items }
         ensures allowance { self.new.allowance ≡ self.old.allowance }
     {
         'offers: for place in 0..offers.len() {
             let (via, offer) = offers.entry(place);
-            self.take(me, shape, goal_key, via, &offer);
+            self.take(context, via, &offer);
         }
     }
 }
 
 // The move from a board that is left out: the one back, where that is asked for and the cost of
 // the board is above 0.
-fn move_left_out(next: Next, onward: bool) -> Option<Move>
+fn move_left_out(next: Next, successors: Successors) -> Option<Move>
     ensures { (known : Known) → known.cost ≡ next.cost → known.via ≡ next.via
-        → result ≡ left_out_if onward known }
+        → result ≡ left_out_by successors known }
 {
-    if !onward {
+    if successors == Successors::All {
         return None;
     }
     if next.cost == 0 {

@@ -2,7 +2,7 @@
 
 ghost use Rattle.world_model.specs.Workers.{Lane};
 ghost use Rattle.worker_core.specs.Expanding.{FourPlacesAreEnough, ThreePlacesAreTooFew};
-ghost use Rattle.worker_core.specs.Expanding.{OthersNeedNoPlaces};
+ghost use Rattle.worker_core.specs.Expanding.{OthersNeedNoPlaces, OnwardStepsAloneAreWhole};
 ghost use Rattle.worker_core.specs.Lanes.{IsAtSender, IsAtReceiver};
 ghost use Rattle.worker_core.specs.Roles.{TasksHaveGuides};
 ghost use Rattle.worker_core.specs.Settling.{RefusedSettlesChangeNothing};
@@ -28,6 +28,11 @@ pub fn three_places_are_too_few()
 /// What other workers own needs no places.
 pub fn others_need_no_places()
     ensures { OthersNeedNoPlaces }
+{}
+
+/// Alone, a worker that leaves the move back out expands by all moves.
+pub fn onward_steps_alone_are_whole()
+    ensures { OnwardStepsAloneAreWhole }
 {}
 
 /// A settle that is refused changes nothing, and drops no item.

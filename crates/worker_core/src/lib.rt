@@ -4,6 +4,7 @@
 
 mod book_steps;
 mod closing;
+mod context;
 mod expanding;
 mod goal;
 mod lane_steps;
@@ -14,6 +15,8 @@ mod settling;
 mod taking;
 mod worker;
 
+pub use context::Context;
+pub use expanding::Successors;
 pub use goal::Goal;
 pub use lanes::{LaneIn, LaneOut, Queue};
 pub use worker::Worker;

@@ -1,27 +1,22 @@
 //! The step that takes an item in.
 
-ghost use Rattle.std.specs.Prelude.{◌≡◌, ◌<◌, ◌≤◌, OnOk, OnErr, IsTrue, IsFalse, length};
+ghost use Rattle.std.specs.Prelude.{◌≡◌, ◌<◌, ◌≤◌, OnOk, OnErr, IsTrue, IsFalse};
 ghost use Rattle.std.specs.FinMap as map;
 ghost use Rattle.board.specs.declared.costs.TheConstants.{GREATEST_COST};
 ghost use Rattle.board.specs.Positions.{Position};
-ghost use Rattle.board.specs.CostRules.{CostRule};
-ghost use Rattle.lower_bound.specs.Tables.{Tables};
 ghost use Rattle.open_buckets.specs.OpenLists.{places_at};
 ghost use Rattle.open_buckets.specs.declared.open.TheConstants.{GREATEST_F};
-ghost use Rattle.outcomes.specs.Outcomes.{Task};
 ghost use Rattle.search_lists.specs.Lists.{HasMoreRoom};
-ghost use Rattle.search_lists.specs.Orders.{Guide, IsInOrder};
 ghost use Rattle.world_model.specs.Knowledge.{is_news, relaxation};
 ghost use Rattle.world_model.specs.Turns.{turn, refusal_in};
-ghost use Rattle.worker_core.specs.Expanding.{role_by};
-ghost use Rattle.worker_core.specs.Roles.{IsGuideOf, IsGuided, AreTaskBoards, task_of};
+ghost use Rattle.worker_core.specs.Contexts.{role_from};
+ghost use Rattle.worker_core.specs.Serving.{StayInOrder};
 ghost use Rattle.worker_core.specs.Settling.{IsForeign, IsOwn, SettleOrDrop};
 ghost use Rattle.worker_core.specs.Workers.{state_of};
 
-use crate::goal::Goal;
+use crate::context::Context;
 use crate::worker::Worker;
 use board::GREATEST_COST;
-use lower_bound::Bound;
 use memory::OutOfMemory;
 use message_ledger::Counting;
 use owners::Spread;
@@ -37,37 +32,22 @@ impl<C: Counting> Worker<C> {
     pub fn settle<S: Spread>(
         &mut self,
         alloc: Global,
-        me: usize,
-        goal: &Goal,
-        bound: &Bound,
-        owners: &S,
+        context: &Context<'_, S>,
     ) -> Result<(), Refusal>
-        requires sides { bound.now.split.grid ≡ goal.now.grid }
-        requires some { 0 < length self.old.unsent.items }
-        ensures step { (start : Position) (rule : CostRule)
-            → SettleOrDrop (role_by (task_of start goal.now rule bound.now)
-            (S.hash_of owners.now) (length self.old.unsent.items) me)
+        ensures step { (start : Position) → SettleOrDrop (role_from S.hash_of start context.now)
             (turn (state_of self.old) (refusal_in result) (state_of self.new)) }
-        ensures order { (start : Position) (rule : CostRule) (guide : Guide)
-            → IsGuideOf (task_of start goal.now rule bound.now) guide
-            → IsInOrder guide self.old.lists → IsInOrder guide self.new.lists }
-        ensures boards { (task : Task) → task.goal ≡ goal.now
-            → AreTaskBoards task self.old.lists.closed
-            → AreTaskBoards task self.new.lists.closed }
-        ensures guided { (start : Position) (rule : CostRule) (guide : Guide)
-            → IsGuided (task_of start goal.now rule bound.now) guide self.old.lists
-            → IsGuided (task_of start goal.now rule bound.now) guide self.new.lists }
+        ensures lists { StayInOrder context.now self.old.lists self.new.lists }
         ensures unsent { self.new.unsent ≡ self.old.unsent }
         ensures allowance { self.new.allowance ≡ self.old.allowance }
     {
         let Some(item) = self.held.last() else {
             return Err(Refusal::NothingThere);
         };
-        if is_foreign(me, goal, owners, self.unsent.len(), item) {
+        if is_foreign(context, item) {
             self.held.pop();
             return Ok(());
         }
-        if let Err(refused) = relax_item(&mut self.lists, alloc, goal, bound, item) {
+        if let Err(refused) = relax_item(&mut self.lists, alloc, context, item) {
             return Err(Refusal::Memory(refused));
         }
         self.held.pop();
@@ -75,79 +55,57 @@ impl<C: Counting> Worker<C> {
     }
 
     /// Relaxes a board, as the start before the first step. After a refusal nothing has changed.
-    pub fn meet(
+    pub fn meet<S: Spread>(
         &mut self,
         alloc: Global,
-        goal: &Goal,
-        bound: &Bound,
+        context: &Context<'_, S>,
         item: &Item,
     ) -> Result<(), OutOfMemory>
-        requires sides { bound.now.split.grid ≡ goal.now.grid }
-        requires board { item.now.board.grid ≡ goal.now.grid }
+        requires board { item.now.board.grid ≡ context.now.goal.grid }
         requires cost { item.now.cost ≤ GREATEST_COST }
         ensures ok { OnOk result (state_of self.new ≡ record (state_of self.old) {
           known = relaxation (state_of self.old).known item.now;
         }) }
         ensures err { OnErr result (state_of self.new ≡ state_of self.old) }
-        ensures order { (start : Position) (rule : CostRule) (guide : Guide)
-            → IsGuideOf (task_of start goal.now rule bound.now) guide
-            → IsInOrder guide self.old.lists → IsInOrder guide self.new.lists }
-        ensures boards { (task : Task) → task.goal ≡ goal.now
-            → AreTaskBoards task self.old.lists.closed
-            → AreTaskBoards task self.new.lists.closed }
-        ensures guided { (start : Position) (rule : CostRule) (guide : Guide)
-            → IsGuided (task_of start goal.now rule bound.now) guide self.old.lists
-            → IsGuided (task_of start goal.now rule bound.now) guide self.new.lists }
+        ensures lists { StayInOrder context.now self.old.lists self.new.lists }
         ensures unsent { self.new.unsent ≡ self.old.unsent }
         ensures allowance { self.new.allowance ≡ self.old.allowance }
     {
-        relax_item(&mut self.lists, alloc, goal, bound, item)
+        relax_item(&mut self.lists, alloc, context, item)
     }
 }
 
-// Whether an item is foreign to worker `me` of n. One alone owns all boards, whatever their hashes.
-fn is_foreign<S: Spread>(me: usize, goal: &Goal, owners: &S, workers: usize, item: &Item) -> bool
-    requires { 0 < workers }
-    ensures yes { IsTrue result → (start : Position) (rule : CostRule) (tables : Tables)
-        → IsForeign (role_by (task_of start goal.now rule tables) (S.hash_of owners.now) workers me)
-        item.now }
-    ensures no { IsFalse result → (start : Position) (rule : CostRule) (tables : Tables)
-        → IsOwn (role_by (task_of start goal.now rule tables) (S.hash_of owners.now) workers me)
-        item.now }
+// Whether an item is foreign. One worker alone owns all boards, whatever their hashes.
+fn is_foreign<S: Spread>(context: &Context<'_, S>, item: &Item) -> bool
+    ensures yes { IsTrue result → (start : Position)
+        → IsForeign (role_from S.hash_of start context.now) item.now }
+    ensures no { IsFalse result → (start : Position)
+        → IsOwn (role_from S.hash_of start context.now) item.now }
 {
-    if item.board.shape() != goal.shape() {
+    if item.board.shape() != context.goal.shape() {
         return true;
     }
     if item.cost > GREATEST_COST {
         return true;
     }
-    if workers == 1 {
-        return me != 0;
+    if context.workers == 1 {
+        return false;
     }
-    owners.owner(&item.board, workers) != me
+    context.owners.owner(&item.board, context.workers) != context.me
 }
 
 // Relaxes the board of an item. All memory is taken before the first change.
-fn relax_item(
+fn relax_item<S: Spread>(
     lists: &mut SearchLists,
     alloc: Global,
-    goal: &Goal,
-    bound: &Bound,
+    context: &Context<'_, S>,
     item: &Item,
 ) -> Result<(), OutOfMemory>
-    requires sides { bound.now.split.grid ≡ goal.now.grid }
-    requires board { item.now.board.grid ≡ goal.now.grid }
+    requires board { item.now.board.grid ≡ context.now.goal.grid }
     requires cost { item.now.cost ≤ GREATEST_COST }
     ensures ok { OnOk result (lists.new.closed.known ≡ relaxation lists.old.closed.known item.now) }
     ensures err { OnErr result (lists.new.closed.known ≡ lists.old.closed.known) }
-    ensures order { (start : Position) (rule : CostRule) (guide : Guide)
-        → IsGuideOf (task_of start goal.now rule bound.now) guide
-        → IsInOrder guide lists.old → IsInOrder guide lists.new }
-    ensures boards { (task : Task) → task.goal ≡ goal.now
-        → AreTaskBoards task lists.old.closed → AreTaskBoards task lists.new.closed }
-    ensures guided { (start : Position) (rule : CostRule) (guide : Guide)
-        → IsGuided (task_of start goal.now rule bound.now) guide lists.old
-        → IsGuided (task_of start goal.now rule bound.now) guide lists.new }
+    ensures lists { StayInOrder context.now lists.old lists.new }
 {
     let key = item.board.key();
     if !brings_news(lists, key, item.cost) {
@@ -157,10 +115,10 @@ fn relax_item(
         key,
         cost: item.cost,
         via: item.via,
-        f: item.cost + UnpackedBoard::new(&item.board).sum(bound),
+        f: item.cost + UnpackedBoard::new(&item.board).sum(context.bound),
     };
     make_place(lists, alloc, met.f)?;
-    lists.relax(goal.key(), met);
+    lists.relax(context.goal.key(), met);
     Ok(())
 }
 

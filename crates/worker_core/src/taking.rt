@@ -2,7 +2,6 @@
 
 ghost use Rattle.std.specs.Prelude.{◌≡◌, ◌≢◌, ◌<◌, ◌≤◌, ◌∷◌, ◌++◌, [], List, Option, Some, IfSome, length};
 ghost use Rattle.std.specs.Prelude.{ℕ, slice_set, slice_index_or};
-ghost use Rattle.board.specs.Keys.{key_of};
 ghost use Rattle.board.specs.Positions.{Position, IsBoard};
 ghost use Rattle.outcomes.specs.Outcomes.{Task};
 ghost use Rattle.offers.specs.declared.offer.Offer.{Offer};
@@ -15,40 +14,43 @@ ghost use Rattle.worker_core.specs.Expanding.{IsReady, stock, AddsUpBy, taken};
 ghost use Rattle.worker_core.specs.Roles.{IsGuided};
 ghost use Rattle.worker_core.specs.Workers.{state_of, packets_of};
 
+use crate::context::Context;
 use crate::packets::Items;
 use crate::worker::Worker;
-use board::{Board, Move, Shape};
+use board::{Board, Move};
 use message_ledger::Counting;
 use offers::Offer;
+use owners::Spread;
 use search_lists::Met;
 use world_model::Item;
 
 impl<C: Counting> Worker<C> {
     // Takes what a move offers: its own is relaxed, another's goes to the end of the packet for that
     // one.
-    pub(crate) fn take(&mut self, me: usize, shape: Shape, goal_key: u128, via: Move, offer: &Offer)
-        requires { (rest : List (Option Offer)) × IsReady me shape (stock self.old.lists
-            (packets_of self.old.unsent.items)) (Some offer.now ∷ rest) }
-        ensures ready { (rest : List (Option Offer)) → IsReady me shape (stock self.old.lists
-            (packets_of self.old.unsent.items)) (Some offer.now ∷ rest)
-            → IsReady me shape (stock self.new.lists (packets_of self.new.unsent.items)) rest }
+    pub(crate) fn take<S: Spread>(&mut self, context: &Context<'_, S>, via: Move, offer: &Offer)
+        requires { (rest : List (Option Offer)) × IsReady context.now.me context.now.goal.grid
+            (stock self.old.lists (packets_of self.old.unsent.items)) (Some offer.now ∷ rest) }
+        ensures ready { (rest : List (Option Offer)) → IsReady context.now.me context.now.goal.grid
+            (stock self.old.lists (packets_of self.old.unsent.items)) (Some offer.now ∷ rest)
+            → IsReady context.now.me context.now.goal.grid
+            (stock self.new.lists (packets_of self.new.unsent.items)) rest }
         ensures state { (role : Role) (sum : Position → ℕ) (item : Option Item)
-            → role.me ≡ me → IsOffered sum role.owner item (Some offer.now)
-            → IfSome item (λ i. IsBoard i.board × (i.board.grid ≡ shape))
+            → role.me ≡ context.now.me → IsOffered sum role.owner item (Some offer.now)
+            → IfSome item (λ i. IsBoard i.board × (i.board.grid ≡ context.now.goal.grid))
             → IfSome item (λ i. i.via ≡ via)
             → state_of self.new ≡ taken role (state_of self.old) item }
         ensures allowance { self.new.allowance ≡ self.old.allowance }
-        ensures guided { (task : Task) (guide : Guide) → task.goal.grid ≡ shape
-            → key_of task.goal ≡ goal_key → AddsUpBy guide offer.now
+        ensures guided { (task : Task) (guide : Guide) → task.goal ≡ context.now.goal
+            → AddsUpBy guide offer.now
             → IsGuided task guide self.old.lists → IsGuided task guide self.new.lists }
         ensures workers { length self.new.unsent.items ≡ length self.old.unsent.items }
     {
-        if offer.owner == me {
-            self.lists.relax(goal_key, met_by(*offer, via));
+        if offer.owner == context.me {
+            self.lists.relax(context.goal.key(), met_by(*offer, via));
             return;
         }
         let item = Item {
-            board: Board::of_key(shape, offer.key),
+            board: Board::of_key(context.goal.shape(), offer.key),
             cost: offer.cost,
             via,
         };

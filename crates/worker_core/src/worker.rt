@@ -1,7 +1,6 @@
 //! A worker.
 
-ghost use Rattle.std.specs.Prelude.{ℕ, ◌≡◌, ◌<◌, ◌≤◌, ◌+◌, [], IfOk, replicate, length, slice_index_or};
-ghost use Rattle.std.specs.FinMap as map;
+ghost use Rattle.std.specs.Prelude.{◌≡◌, ◌<◌, ◌≤◌, ◌+◌, IfOk, length};
 ghost use Rattle.message_ledger.specs.Spending.{spent};
 ghost use Rattle.world_model.specs.declared.limits.TheConstants.{PACKET_LIMIT, WORKER_LIMIT};
 ghost use Rattle.world_model.specs.Costs.{limit_of};
@@ -11,7 +10,7 @@ ghost use Rattle.outcomes.specs.Outcomes.{Task};
 ghost use Rattle.search_lists.specs.Lists.{empty_lists};
 ghost use Rattle.search_lists.specs.Orders.{Guide};
 ghost use Rattle.worker_core.specs.Roles.{IsGuideOf, IsGuided};
-ghost use Rattle.worker_core.specs.Workers.{state_of, packets_of};
+ghost use Rattle.worker_core.specs.Workers.{state_of};
 
 use crate::packets::{Items, new_packets};
 use arrayvec::ArrayVec;
@@ -55,8 +54,6 @@ impl<C: Counting> Worker<C> {
         ensures lists { IfOk result (λ worker. worker.lists ≡ empty_lists) }
         ensures guided { IfOk result (λ worker. (task : Task) (guide : Guide)
             → IsGuideOf task guide → IsGuided task guide worker.lists) }
-        ensures few { IfOk result (λ worker. (to : ℕ)
-            → length (slice_index_or (packets_of worker.unsent.items) to []) ≤ PACKET_LIMIT) }
         ensures allowance { IfOk result (λ worker. worker.allowance ≡ allowance) }
         ensures workers { IfOk result (λ worker. length worker.unsent.items ≡ workers) }
     {

@@ -1,10 +1,20 @@
-use Rattle.worker_core.specs.Roles.{guide_of, task_of}
+use Rattle.std.proofs.Common.{◌∙◌, ap, length, subst, sym}
+use Rattle.board.specs.Positions.{IsBoard}
+use Rattle.owners.specs.declared.spread.ByBlank.{ByBlank}
+use Rattle.worker_core.specs.Contexts.{ContextModel, task_from}
+use Rattle.worker_core.specs.Roles.{guide_of}
+use Rattle.worker_core.proofs.GuideLemmas.{stays_guided}
 use Rattle.bench_searches.proofs.expand.begin.Goals as goal
 
-pub returns-clause-led : goal.returns-clause-led
-returns-clause-led c = λ rule.
+pub returns-clause-serves : goal.returns-clause-serves
+returns-clause-serves c =
+    let context = c.args.context.now in
     let start = c.args.start in
-    let task = task_of start c.args.goal.now rule c.args.bound.now in
+    let task = task_from start context in
     let guide = guide_of task in
-    let leads = c.tasks_have_guides.ensures task c.shape.ensures.board in
-    (start, guide, c.meet.ensures.guided start rule guide (c.in-Ok.ensures.guided task guide leads))
+    let board = subst IsBoard (ap (λ (x : ContextModel ByBlank). x.goal) c.context.view_is) c.shape.ensures.board in
+    let leads = c.tasks_have_guides.ensures task board in
+    record {
+      workers = ap (λ u. length u.items) c.meet.ensures.unsent ∙ c.in-Ok.ensures.workers ∙ sym c.requires.one;
+      guided = (start, guide, stays_guided context c.in-Ok.worker.lists c.meet.new.self.lists c.meet.ensures.lists start guide (c.in-Ok.ensures.guided task guide leads));
+    }

@@ -1,15 +1,18 @@
-use Rattle.std.proofs.Common.{length, refl, ap, arith}
+use Rattle.std.proofs.Common.{◌∙◌, length, refl, ap, arith, subst, sym}
 use Rattle.board.specs.Positions.{blank_of}
 use Rattle.message_ledger.specs.Spending.{Spending}
+use Rattle.search_lists.specs.Lists.{Lists}
+use Rattle.worker_core.specs.Contexts.{task_from}
 use Rattle.worker_core.specs.Expanding.{role_by}
-use Rattle.worker_core.specs.Roles.{task_of}
+use Rattle.worker_core.specs.Roles.{IsGuided, task_of}
 use Rattle.worker_core.specs.Workers.{state_of, with_book}
 use Rattle.bench_searches.proofs.SearchLemmas.{announced}
 use Rattle.bench_searches.proofs.expand.refill.Goals as goal
 
 pub grant-requires-clause-counted : goal.grant-requires-clause-counted
 grant-requires-clause-counted c κs =
-    let role = role_by (task_of c.requires.led.2.0 c.args.goal.now c.requires.led.0 c.requires.led.1) blank_of (length c.args.worker.now.unsent.items) 0 in
+    let inside = c.context.inside in
+    let role = role_by (task_of inside.goal.now inside.goal.now inside.weights.now inside.bound.now) blank_of (length c.args.worker.now.unsent.items) 0 in
     let same = announced role (with_book (state_of c.args.worker.now) c.args.book.now) (with_book (state_of c.announce.new.self) c.announce.new.book) _ (c.announce.ensures.step role (record { me = refl; ends = refl }) refl) in
     let kept = ap (λ (it : Spending). it.granted) c.announce.ensures.allowance in
     let counted = c.requires.counted in
@@ -17,9 +20,21 @@ grant-requires-clause-counted c κs =
 
 pub returns-clause-counted : goal.returns-clause-counted
 returns-clause-counted c =
-    let role = role_by (task_of c.requires.led.2.0 c.args.goal.now c.requires.led.0 c.requires.led.1) blank_of (length c.args.worker.now.unsent.items) 0 in
+    let inside = c.context.inside in
+    let role = role_by (task_of inside.goal.now inside.goal.now inside.weights.now inside.bound.now) blank_of (length c.args.worker.now.unsent.items) 0 in
     let same = announced role (with_book (state_of c.args.worker.now) c.args.book.now) (with_book (state_of c.announce.new.self) c.announce.new.book) _ (c.announce.ensures.step role (record { me = refl; ends = refl }) refl) in
     let kept = ap (λ (it : Spending). it.granted) c.announce.ensures.allowance in
     let counted = c.requires.counted in
     let granted = c.grant.ensures.granted in
     omega (arith, same, kept, counted, granted)
+
+pub returns-clause-serves : goal.returns-clause-serves
+returns-clause-serves c =
+    let serves = c.requires.serves in
+    let task = task_from serves.guided.0 c.args.context.now in
+    let guide = serves.guided.1 in
+    let announced = subst (λ (lists : Lists). IsGuided task guide lists) (sym c.announce.ensures.lists) serves.guided.2 in
+    record {
+      workers = ap (λ u. length u.items) c.grant.ensures.unsent ∙ ap (λ u. length u.items) c.announce.ensures.unsent ∙ serves.workers;
+      guided = (serves.guided.0, guide, c.grant.ensures.guided task guide announced);
+    }

@@ -1,12 +1,18 @@
-use Rattle.std.proofs.Common.{◌≡◌, ◌%◌, ◌∙◌, ap}
+use Rattle.std.proofs.Common.{◌≡◌, ◌%◌, ◌∙◌, ap, subst, sym}
 use Rattle.board.specs.Positions.{Position}
-use Rattle.worker_core.specs.Roles.{guide_of}
+use Rattle.outcomes.specs.Outcomes.{Task}
+use Rattle.worker_core.specs.Contexts.{ContextModel, task_from}
+use Rattle.worker_core.specs.Roles.{IsGuided, guide_of}
 use Rattle.worker_core.specs.Workers.{state_of}
-use Rattle.world_model.specs.Openings.{opening}
+use Rattle.world_model.specs.Openings.{first_worker, opening}
 use Rattle.hda_run.specs.Problems.{task_in}
 use Rattle.hda_run.specs.Worlds.{job_of}
 use Rattle.hda_run.proofs.PartsLemmas.{opens}
 use Rattle.hda_run.proofs.opening.open_parts.Goals as goal
+
+pub first_worker-requires-clause-sides : goal.first_worker-requires-clause-sides
+first_worker-requires-clause-sides g c =
+    ap (λ (b : Position). b.grid) c.start-2.ensures ∙ c.goal.ensures.task.sides ∙ sym (ap (λ (x : ContextModel g.row.S.Denot). x.goal.grid) c.context-context.ensures.value)
 
 pub returns-clause-opening : goal.returns-clause-opening
 returns-clause-opening g c =
@@ -18,10 +24,12 @@ returns-clause-opening g c =
     let credit = c.workers_with.ensures.credit ∙ c.plain-credit.ensures.credit in
     let book : c.new-book.result ≡ opened.book = c.new-book.ensures ∙ (λ t. record opened.book { credit = credit t; limit = c.limit.ensures t }) in
     let owner = c.owner-owner.ensures.value ∙ ap (λ (b : Position). hash c.args.owners b % n) c.start.ensures in
-    (via, opens hash c.args.owners job n c.in_ok-all.all (state_of c.in_ok-first.first) c.owner-owner.result c.new-book.result c.in_ok-lanes.lanes via c.in_ok-all.ensures.states c.in_ok-first.ensures.state.1 owner book c.in_ok-lanes.ensures)
+    let first : state_of c.in_ok-first.first ≡ first_worker n (task_in job) via = c.in_ok-first.ensures.state.1 ∙ (λ t. first_worker (c.context-context.ensures.value t).workers (task_from (c.start-2.ensures t) (c.context-context.ensures.value t)) via) in
+    (via, opens hash c.args.owners job n c.in_ok-all.all (state_of c.in_ok-first.first) c.owner-owner.result c.new-book.result c.in_ok-lanes.lanes via c.in_ok-all.ensures.states first owner book c.in_ok-lanes.ensures)
 
 pub returns-clause-guided : goal.returns-clause-guided
 returns-clause-guided g c =
     let task = task_in c.args.job in
     let leads = c.tasks_have_guides.ensures task c.goal.ensures.task.goal in
-    c.in_ok-all.ensures.guided task (guide_of task) leads c.in_ok-first.ensures.guided
+    let same : task_from c.start-2.result.now c.context-context.result ≡ task = λ t. task_from (c.start-2.ensures t) (c.context-context.ensures.value t) in
+    c.in_ok-all.ensures.guided task (guide_of task) leads (subst (λ (asked : Task). IsGuided asked (guide_of asked) c.in_ok-first.first.lists) same c.in_ok-first.ensures.guided)

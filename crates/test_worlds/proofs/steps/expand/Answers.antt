@@ -1,13 +1,16 @@
-use Rattle.std.proofs.Common.{◌≡◌, sym, subst}
-use Rattle.board.specs.Positions.{Position}
-use Rattle.worker_core.specs.Roles.{IsGuided, task_of}
+use Rattle.std.proofs.Common.{rules, subst, sym}
+use Rattle.worker_core.specs.Contexts.{ContextModel}
+use Rattle.worker_core.specs.Serving.{Serves, StaysGuided}
 use Rattle.test_worlds.proofs.steps.expand.Goals as goal
+
+pub expand-requires-after_bounds : goal.expand-requires-after_bounds
+expand-requires-after_bounds g c κs within =
+    let led = c.requires.led in
+    subst (λ (x : ContextModel g.row.S.Denot). Serves x c.args.worker.now) (sym c.context_of-context.ensures) (record { workers = search rules; guided = led })
 
 pub returns : goal.returns
 returns g c =
-    let job = c.args.job.now in
     let led = c.requires.led in
-    let same : c.new.result ≡ job.goal = c.new.ensures in
-    let before = subst (λ (p : Position). IsGuided (task_of led.0 p job.weights job.bound) led.1 c.args.worker.now.lists) (sym same) led.2 in
-    let after = c.expand.ensures.order led.0 led.1 before in
-    record { led = (led.0, led.1, subst (λ (p : Position). IsGuided (task_of led.0 p job.weights job.bound) led.1 c.expand.new.self.lists) same after) }
+    let stays = c.expand.ensures.keeps.guided in
+    let after = subst (λ (x : ContextModel g.row.S.Denot). StaysGuided x c.args.worker.now.lists c.expand.new.self.lists) c.context_of-context.ensures stays led.0 led.1 led.2 in
+    record { led = (led.0, led.1, after) }

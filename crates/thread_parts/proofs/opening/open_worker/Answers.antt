@@ -1,15 +1,18 @@
-use Rattle.std.proofs.Common.{◌≡◌, refl}
+use Rattle.std.proofs.Common.{refl, subst}
 use Rattle.board.specs.declared.moves.Move.TheVariants.{U}
-use Rattle.worker_core.specs.Roles.{guide_of, task_of}
+use Rattle.worker_core.specs.Contexts.{ContextModel}
+use Rattle.worker_core.specs.Roles.{guide_of}
+use Rattle.worker_core.specs.Serving.{StaysGuided}
 use Rattle.worker_core.specs.Workers.{state_of}
+use Rattle.worker_core.proofs.GuideLemmas.{stays_guided}
 use Rattle.hda_run.specs.Problems.{task_in}
-use Rattle.thread_parts.proofs.PartLemmas.{first_is, guided_for}
+use Rattle.thread_parts.proofs.PartLemmas.{first_is}
 use Rattle.thread_parts.proofs.opening.open_worker.Goals as goal
 
 pub returns-then-owner-me-clause-guided : goal.returns-then-owner-me-clause-guided
 returns-then-owner-me-clause-guided g c =
     let task = task_in c.args.job.now in
-    c.in_ok-worker.ensures.guided task (guide_of task) (c.tasks_have_guides.ensures task c.keyed_goal-goal.ensures.task.goal)
+    c.in_ok-worker.ensures.guided task (guide_of task) (c.tasks_have_guides.ensures task c.context-context.ensures.task.goal)
 
 pub returns-clause-first : goal.returns-clause-first
 returns-clause-first g c = λ own.
@@ -21,8 +24,7 @@ pub returns-clause-guided : goal.returns-clause-guided
 returns-clause-guided g c =
     let job = c.args.job.now in
     let task = task_in job in
-    let guide = guide_of task in
-    let lent = task_of job.start c.keyed_goal-goal.result.now job.rule c.bound.result.now in
-    let same : lent ≡ task = λ t. task_of job.start (c.keyed_goal-goal.ensures.value t) job.rule (c.bound.ensures.value t) in
-    let leads = c.tasks_have_guides.ensures task c.keyed_goal-goal.ensures.task.goal in
-    guided_for lent task same guide c.in_ok-worker.worker.lists c.meet.new.self.lists (c.meet.ensures.guided job.start job.rule guide) (c.in_ok-worker.ensures.guided task guide leads)
+    let worker = c.in_ok-worker.worker in
+    let leads = c.tasks_have_guides.ensures task c.context-context.ensures.task.goal in
+    let stays = stays_guided c.context-context.result worker.lists c.meet.new.self.lists c.meet.ensures.lists in
+    subst (λ (x : ContextModel g.row.S.Denot). StaysGuided x worker.lists c.meet.new.self.lists) c.context-context.ensures.value stays job.start (guide_of task) (c.in_ok-worker.ensures.guided task (guide_of task) leads)

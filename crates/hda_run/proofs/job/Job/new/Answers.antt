@@ -12,5 +12,6 @@ invariant_of-result c =
     subst (λ (goal : Position). IsProblem (problem a.start goal a.weights a.bound.now a.limit)) (sym c.new.ensures) (record {
       task = record { start = c.shape.ensures.board; goal = c.shape-shape.ensures.board; sides = start; rule = c.shape-2.ensures.rule; costs = rule };
       sides = tables;
+      potentials = c.requires;
       lower = c.sums_are_lower_bounds.ensures.tables a.weights a.goal a.bound.now c.partition.ensures.tables (search rules) c.requires;
     })

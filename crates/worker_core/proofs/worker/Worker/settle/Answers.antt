@@ -1,60 +1,39 @@
-use Rattle.std.proofs.Common.{◌≡◌, ℕ, [], length, refl, ◌∙◌, subst}
-use Rattle.board.specs.CostRules.{CostRule}
-use Rattle.worker_core.specs.Expanding.{role_by}
-use Rattle.worker_core.specs.Roles.{task_of}
-use Rattle.worker_core.specs.Settling.{IsForeign, IsOwn}
+use Rattle.std.proofs.Common.{refl}
+use Rattle.worker_core.specs.Contexts.{role_from}
 use Rattle.worker_core.specs.Workers.{state_of}
 use Rattle.worker_core.proofs.GuideLemmas.{last_held, last_taken, drops, settles, settles_not}
 use Rattle.worker_core.proofs.worker.Worker.settle.Goals as goal
 
 -- a foreign item is dropped
 pub returns-then-is_foreign-clause-step : goal.returns-then-is_foreign-clause-step
-returns-then-is_foreign-clause-step g c = λ start rule.
+returns-then-is_foreign-clause-step g c = λ start.
     let old = c.args.self.now in
     let item = c.in-Some.item.now in
-    let hash = g.S.Spread.hash_of c.args.owners.now in
-    let task = task_of start c.args.goal.now rule c.args.bound.now in
-    let role = role_by task hash (length old.unsent.items) c.args.me in
-    let count : c.len.result ≡ length old.unsent.items = c.len.ensures ∙ old.unsent.ok.0 in
-    let foreign = subst (λ (n : ℕ). IsForeign (role_by task hash n c.args.me) item) count (c.if-is_foreign.ensures.yes refl start rule c.args.bound.now) in
+    let role = role_from g.S.Spread.hash_of start c.args.context.now in
     let held = last_taken old.held.items c.deref.result.now c.pop.new.self.items item c.pop.result c.deref.ensures.0 c.in-Some.ensures.value c.pop.ensures.value c.pop.ensures.items in
-    drops role (state_of old) c.pop.new.self.items item held _ foreign refl
+    drops role (state_of old) c.pop.new.self.items item held _ (c.if-is_foreign.ensures.yes refl start) refl
 
--- the item's own sides and cost, whatever the start, the weights and the tables are
+-- the item's own sides and cost, whatever the start is
 pub relax_item-requires-clause-board : goal.relax_item-requires-clause-board
-relax_item-requires-clause-board g c =
-    let ends = c.args.goal.now in
-    let rule : CostRule = record { grid = ends.grid; weights = [] } in
-    (c.if-is_foreign.ensures.no refl ends rule c.args.bound.now).0.1
+relax_item-requires-clause-board g c = (c.if-is_foreign.ensures.no refl c.args.context.now.goal).0.1
 
 pub relax_item-requires-clause-cost : goal.relax_item-requires-clause-cost
-relax_item-requires-clause-cost g c =
-    let ends = c.args.goal.now in
-    let rule : CostRule = record { grid = ends.grid; weights = [] } in
-    (c.if-is_foreign.ensures.no refl ends rule c.args.bound.now).2
+relax_item-requires-clause-cost g c = (c.if-is_foreign.ensures.no refl c.args.context.now.goal).2
 
 -- without memory nothing is taken out
 pub returns-in-Err-clause-step : goal.returns-in-Err-clause-step
-returns-in-Err-clause-step g c = λ start rule.
+returns-in-Err-clause-step g c = λ start.
     let old = c.args.self.now in
     let item = c.in-Some.item.now in
-    let hash = g.S.Spread.hash_of c.args.owners.now in
-    let task = task_of start c.args.goal.now rule c.args.bound.now in
-    let role = role_by task hash (length old.unsent.items) c.args.me in
-    let count : c.len.result ≡ length old.unsent.items = c.len.ensures ∙ old.unsent.ok.0 in
-    let own = subst (λ (n : ℕ). IsOwn (role_by task hash n c.args.me) item) count (c.if-is_foreign.ensures.no refl start rule c.args.bound.now) in
+    let role = role_from g.S.Spread.hash_of start c.args.context.now in
     let last = last_held old.held.items c.deref.result.now item c.deref.ensures.0 c.in-Some.ensures.value in
-    settles_not role (state_of old) last.0 item last.1 _ c.in-Err.refused own (λ t. record (state_of old) { known = c.in-Err.ensures.err t })
+    settles_not role (state_of old) last.0 item last.1 _ c.in-Err.refused (c.if-is_foreign.ensures.no refl start) (λ t. record (state_of old) { known = c.in-Err.ensures.err t })
 
 -- and else it is taken out and relaxed
 pub returns-clause-step : goal.returns-clause-step
-returns-clause-step g c = λ start rule.
+returns-clause-step g c = λ start.
     let old = c.args.self.now in
     let item = c.in-Some.item.now in
-    let hash = g.S.Spread.hash_of c.args.owners.now in
-    let task = task_of start c.args.goal.now rule c.args.bound.now in
-    let role = role_by task hash (length old.unsent.items) c.args.me in
-    let count : c.len.result ≡ length old.unsent.items = c.len.ensures ∙ old.unsent.ok.0 in
-    let own = subst (λ (n : ℕ). IsOwn (role_by task hash n c.args.me) item) count (c.if-is_foreign.ensures.no refl start rule c.args.bound.now) in
+    let role = role_from g.S.Spread.hash_of start c.args.context.now in
     let held = last_taken old.held.items c.deref.result.now c.pop-2.new.self.items item c.pop-2.result c.deref.ensures.0 c.in-Some.ensures.value c.pop-2.ensures.value c.pop-2.ensures.items in
-    settles role (state_of old) c.pop-2.new.self.items item held _ own (λ t. record (state_of old) { held = c.pop-2.new.self.items; known = c.in_default-relax_item.ensures.ok t })
+    settles role (state_of old) c.pop-2.new.self.items item held _ (c.if-is_foreign.ensures.no refl start) (λ t. record (state_of old) { held = c.pop-2.new.self.items; known = c.in_default-relax_item.ensures.ok t })

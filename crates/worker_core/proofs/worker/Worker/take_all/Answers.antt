@@ -11,9 +11,9 @@ use Rattle.worker_core.proofs.worker.Worker.take_all.Goals as goal
 
 pub offers-init : goal.offers-init
 offers-init g c = record {
-  ready = ready_entries c.args.offers.now c.args.me c.args.shape c.args.self.now.lists (packets_of c.args.self.now.unsent.items) c.requires;
+  ready = ready_entries c.args.offers.now c.args.context.now.me c.args.context.now.goal.grid c.args.self.now.lists (packets_of c.args.self.now.unsent.items) c.requires;
   state = λ role sum items me offered boards last. taken_all role sum items (state_of c.args.self.now) c.args.offers.now offered;
-  guided = λ task guide sides ends adds is. is;
+  guided = λ task guide ends adds is. is;
   workers = refl;
   allowance = refl;
 }
@@ -26,7 +26,7 @@ take-requires-after_bounds g c κs bounds =
     let on = entries_on offers c.offers.place c.entry-via.result c.entry-via.ensures (omega (arith, size, within)) in (
       offered_in (drop (c.offers.place + 1) (entries_of offers)),
       subst
-          (λ (entries : List (Move × Offer)). IsReady c.args.me c.args.shape (stock c.offers.self.lists (packets_of c.offers.self.unsent.items)) (offered_in entries))
+          (λ (entries : List (Move × Offer)). IsReady c.args.context.now.me c.args.context.now.goal.grid (stock c.offers.self.lists (packets_of c.offers.self.unsent.items)) (offered_in entries))
           on
           c.offers.invariant.ready,
     )
@@ -42,14 +42,14 @@ offers-preserved g c =
     let rest = drop (c.offers.place + 1) (entries_of offers) in
     let worker = c.offers.self in
     record {
-      ready = c.take.ensures.ready (offered_in rest) (subst (λ (entries : List (Move × Offer)). IsReady c.args.me c.args.shape (stock worker.lists (packets_of worker.unsent.items)) (offered_in entries)) on c.offers.invariant.ready);
+      ready = c.take.ensures.ready (offered_in rest) (subst (λ (entries : List (Move × Offer)). IsReady c.args.context.now.me c.args.context.now.goal.grid (stock worker.lists (packets_of worker.unsent.items)) (offered_in entries)) on c.offers.invariant.ready);
       state = λ role sum items me offered boards last.
           let one = c.take.ensures.state role sum (items entry.0) me (entry_offered role sum items offers c.offers.place entry c.entry-via.ensures within offered) (boards entry.0) (last entry.0) in
           ap (λ (w : WorkerState). entries_taken role items w rest) one
           ∙ ap (λ (entries : List (Move × Offer)). entries_taken role items (state_of worker) entries) (sym on)
           ∙ c.offers.invariant.state role sum items me offered boards last;
-      guided = λ task guide sides ends adds is.
-          c.take.ensures.guided task guide sides ends (entry_has (AddsUpBy guide) offers c.offers.place entry c.entry-via.ensures within adds) (c.offers.invariant.guided task guide sides ends adds is);
+      guided = λ task guide ends adds is.
+          c.take.ensures.guided task guide ends (entry_has (AddsUpBy guide) offers c.offers.place entry c.entry-via.ensures within adds) (c.offers.invariant.guided task guide ends adds is);
       workers = c.take.ensures.workers ∙ c.offers.invariant.workers;
       allowance = c.take.ensures.allowance ∙ c.offers.invariant.allowance;
     }

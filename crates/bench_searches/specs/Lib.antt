@@ -1,2 +1,0 @@
--- How the worker stands while it searches.
-pub mod Searches
