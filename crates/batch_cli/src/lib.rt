@@ -12,9 +12,10 @@ mod setups;
 pub use batch_lines::{
     Entry, EntryFault, INPUT_LIMIT, LINE_LIMIT, Line, LineKind, LineReader, read_entry,
 };
-pub use batch_runs::{LinesFault, Ruled, Setup, SpreadKind, Summary, run_lines};
+pub use batch_runs::{LinesFault, Ruled, Setup, Solver, SpreadKind, Summary, run_lines};
 pub use certificate_runs::{
-    CertifyFault, CheckFault, ProofRuled, UpgradeFault, certify_first, run_check, run_upgrade,
+    CertifyFault, CheckFault, ProofRuled, Prover, UpgradeFault, certify_first, run_check,
+    run_upgrade,
 };
 pub use command_line::NoRequest;
 pub use endings::Ending;

@@ -1,2 +1,3 @@
 pub mod TruthLemmas
 pub mod BatchLemmas
+pub mod FindingLemmas

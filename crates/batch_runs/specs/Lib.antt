@@ -1,5 +1,6 @@
 pub mod Faults
 pub mod Batches
+pub mod FirstLines
 pub mod Setups
 pub mod Meanings
 pub mod Headline

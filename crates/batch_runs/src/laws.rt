@@ -5,7 +5,7 @@ ghost use Rattle.batch_runs.specs.Headline.{OutputsTellTheTruth, BeginningsTellT
 ghost use Rattle.batch_runs.specs.Laws.{LinesAreLostToFailures, OutputsAreAnswers};
 ghost use Rattle.batch_runs.specs.Laws.{FailedWritesAreTold};
 
-use crate::batch::Ruled;
+use crate::answering::Ruled;
 
 /// What is written of the answers of a truthful solver tells the truth of each line.
 pub fn answers_tell_the_truth<A: Ruled>(asked: &A)

@@ -2,11 +2,15 @@
 //! is run with any solver.
 #![tactic(auto)]
 
+mod answering;
 mod batch;
 mod faults;
+mod finding;
 pub mod laws;
 mod setup;
 
-pub use batch::{Ruled, Summary, run_lines, send_report};
+pub use answering::{Ruled, Solver};
+pub use batch::{Summary, run_lines, send_report};
 pub use faults::LinesFault;
+pub use finding::find_line;
 pub use setup::{Setup, SpreadKind};

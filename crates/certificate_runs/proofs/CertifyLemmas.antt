@@ -30,7 +30,7 @@ use Rattle.lower_bound.specs.Tables.{Tables, IsTables, AreTablesOf, ArePotential
 use Rattle.lower_bound.proofs.PartLemmas.{each_lookup, table_grids, whole_each, whole_parts, all_folded_parts}
 use Rattle.byte_streams.specs.Streams.{SourceState, SinkState, Change}
 use Rattle.batch_lines.specs.Lines.{without_return}
-use Rattle.batch_lines.specs.Readings.{IsJudged}
+use Rattle.batch_lines.specs.Readings.{IsJudged, Reading}
 use Rattle.batch_lines.specs.Words.{IsEntry, IsFirstEntryFault, entry_code}
 use Rattle.batch_lines.specs.declared.words.EntryFault.{EntryFault}
 use Rattle.batch_lines.specs.declared.lines.Line.{Line}
@@ -52,6 +52,7 @@ use Rattle.certificate_check.specs.Refusals.{ItsPlanLeads, IsProved}
 use Rattle.batch_runs.specs.Batches.Answer.{refused, answered}
 use Rattle.batch_runs.specs.Batches.{HasFailed, no_lines, with_outcome, status_of_counts}
 use Rattle.batch_runs.specs.Batches.AnswersEntry.{by_fault, by_outcome, by_want}
+use Rattle.batch_runs.specs.FirstLines.{FindsFirst, FindsLine}
 use Rattle.batch_runs.specs.Setups.{SetupState, Guides, task_of}
 use Rattle.batch_runs.proofs.BatchLemmas.{answer_is}
 use Rattle.certificate_runs.specs.Built.{HasSmallEntries, HasSmallFolds, HaveSmallEntries, AreBuiltFor}
@@ -61,7 +62,7 @@ use Rattle.certificate_runs.specs.declared.faults.CertifyFault.TheVariants.{Read
 use Rattle.certificate_runs.specs.declared.certifying.Reply.{Reply}
 use Rattle.certificate_runs.specs.declared.certifying.Reply.TheVariants.{Certified, Reported}
 use Rattle.certificate_runs.specs.Outputs.{Output}
-use Rattle.certificate_runs.specs.Certifying.{IsAnswerOf, IsCertificateOf, IsCertificateFor, IsUncertified, NamesCertifiable, HasNoReply, ReportsLine, IsReply, IsRefusal, FindsFirst, FindsLine, PutsReply, EndsReplying, first_line, report_of, reply_output}
+use Rattle.certificate_runs.specs.Certifying.{IsAnswerOf, IsCertificateOf, IsCertificateFor, IsUncertified, NamesCertifiable, HasNoReply, ReportsLine, IsReply, IsRefusal, HasFirst, PutsReply, EndsReplying, first_line, report_of, reply_output}
 use Rattle.certificate_runs.specs.declared.faults.CheckFault.{CheckFault}
 use Rattle.certificate_runs.specs.Checking.{IsVerdict, PutsVerdict, EndsCheck, Checks}
 use Rattle.certificate_runs.specs.Headline.AnswersFirst.{by_none, by_certificate, by_report}
@@ -257,35 +258,39 @@ refused_line split rules n TooLong bytes (Certified c) here long is = absurd (no
 refused_line split rules n TooLong bytes (Reported text status) here long is = (refused (codes "E12"), refl, tt, is)
 
 -- the reply to the bytes that were kept is one to the first line
-reply_is : (split : Split) (rules : ProofRules) (source : Change SourceState) (first : FindsFirst source) (line : Line) (kept : List ℕ) (reply : Reply) → IsJudged first.line line.kind kept → line.number ≡ length first.passed + 1 → IsReply split rules line kept reply
+reply_is : (split : Split) (rules : ProofRules) (source : Change SourceState) (first : HasFirst source) (line : Line) (kept : List ℕ) (reply : Reply) → IsJudged first.line line.kind kept → line.number ≡ length first.passed + 1 → IsReply split rules line kept reply
     → IsReply split rules (first_line source first) (without_return first.line) reply
 reply_is split rules source first line kept (Certified c) judged at (is, named) = (sym judged.judged ∙ is, subst (λ (bytes : List ℕ). IsCertificateFor split rules bytes c) (judged.whole is) named)
 reply_is split rules source first line kept (Reported text status) judged at (answer, is, other, output) =
     (answer, answer_is (report_rules rules) first.line line.kind kept answer judged is, other, output ∙ ap (λ (n : ℕ). report_of n answer) at)
 
+-- the first line, with what was found of it
+abbrev first_of : (source : Change SourceState) (passed : List (List ℕ)) (bytes : List ℕ) → FindsFirst source passed bytes → HasFirst source
+first_of source passed bytes finds = record { passed = passed; line = bytes; finds = finds }
+
 -- a reply to the line that was found is written, or a beginning of it
-pub replied : (split : Split) (rules : ProofRules) (source : Change SourceState) (sink : Change SinkState) (line : Line) (kept : List ℕ) (reply : Reply) (result : Result ℕ CertifyFault) → FindsLine source kept (Ok (Some line)) → IsReply split rules line kept reply → PutsReply sink reply result → EndsReplying split rules source sink result
-replied split rules source sink line kept (Certified c) (Ok status) (readable, (first, judged, at)) reply put =
-    let named = reply_is split rules source first line kept (Certified c) judged at reply in
-    (readable, inr (reply_output (Certified c), (first, inl (named.0, (c, named.1, refl))), put.0, put.1))
-replied split rules source sink line kept (Certified c) (Err fault) (readable, (first, judged, at)) reply put =
-    let named = reply_is split rules source first line kept (Certified c) judged at reply in
-    subst (λ (f : CertifyFault). EndsReplying split rules source sink (Err f)) (sym put.1) (readable, (reply_output (Certified c), (first, named.0, (c, named.1, refl)), put.0))
-replied split rules source sink line kept (Reported text told) (Ok status) (readable, (first, judged, at)) reply put =
-    let reported = reply_is split rules source first line kept (Reported text told) judged at reply in
-    (readable, inr (reply_output (Reported text told), (first, inr reported), put.0, put.1))
-replied split rules source sink line kept (Reported text told) (Err fault) (readable, (first, judged, at)) reply put =
-    let reported = reply_is split rules source first line kept (Reported text told) judged at reply in
-    subst (λ (f : CertifyFault). EndsReplying split rules source sink (Err f)) (sym put.1) (readable, (reply_output (Reported text told), (first, reported), put.0))
+pub replied : (split : Split) (rules : ProofRules) (source : Change SourceState) (sink : Change SinkState) (line : Line) (reader : Reading) (reply : Reply) (result : Result ℕ CertifyFault) → FindsLine source reader (Ok (Some line)) → IsReply split rules line reader.kept reply → PutsReply sink reply result → EndsReplying split rules source sink result
+replied split rules source sink line reader (Certified c) (Ok status) (readable, (passed, bytes, finds, has, judged, at)) reply put =
+    let named = reply_is split rules source (first_of source passed bytes finds) line reader.kept (Certified c) judged at reply in
+    (readable, inr (reply_output (Certified c), (first_of source passed bytes finds, inl (named.0, (c, named.1, refl))), put.0, put.1))
+replied split rules source sink line reader (Certified c) (Err fault) (readable, (passed, bytes, finds, has, judged, at)) reply put =
+    let named = reply_is split rules source (first_of source passed bytes finds) line reader.kept (Certified c) judged at reply in
+    subst (λ (f : CertifyFault). EndsReplying split rules source sink (Err f)) (sym put.1) (readable, (reply_output (Certified c), (first_of source passed bytes finds, named.0, (c, named.1, refl)), put.0))
+replied split rules source sink line reader (Reported text told) (Ok status) (readable, (passed, bytes, finds, has, judged, at)) reply put =
+    let reported = reply_is split rules source (first_of source passed bytes finds) line reader.kept (Reported text told) judged at reply in
+    (readable, inr (reply_output (Reported text told), (first_of source passed bytes finds, inr reported), put.0, put.1))
+replied split rules source sink line reader (Reported text told) (Err fault) (readable, (passed, bytes, finds, has, judged, at)) reply put =
+    let reported = reply_is split rules source (first_of source passed bytes finds) line reader.kept (Reported text told) judged at reply in
+    subst (λ (f : CertifyFault). EndsReplying split rules source sink (Err f)) (sym put.1) (readable, (reply_output (Reported text told), (first_of source passed bytes finds, reported), put.0))
 
 -- there is no reply to the line that was found
-pub unreplied : (split : Split) (rules : ProofRules) (source : Change SourceState) (sink : Change SinkState) (line : Line) (kept : List ℕ) (fault : CertifyFault) → FindsLine source kept (Ok (Some line)) → HasNoReply rules line kept fault → sink.after ≡ sink.before → EndsReplying split rules source sink (Err fault)
-unreplied split rules source sink line kept Read (readable, (first, judged, at)) lack same = absurd lack
-unreplied split rules source sink line kept Write (readable, (first, judged, at)) lack same = absurd lack
-unreplied split rules source sink line kept (Memory lacking) (readable, (first, judged, at)) lack same = (readable, (first, tt), same)
-unreplied split rules source sink line kept (GroupsMemory wanting) (readable, (first, judged, at)) (within, named) same =
-    (readable, (first, (sym judged.judged ∙ within, subst (NamesCertifiable rules) (judged.whole within) named)), same)
-unreplied split rules source sink line kept CertificateWrite (readable, (first, judged, at)) lack same = absurd lack
+pub unreplied : (split : Split) (rules : ProofRules) (source : Change SourceState) (sink : Change SinkState) (line : Line) (reader : Reading) (fault : CertifyFault) → FindsLine source reader (Ok (Some line)) → HasNoReply rules line reader.kept fault → sink.after ≡ sink.before → EndsReplying split rules source sink (Err fault)
+unreplied split rules source sink line reader Read (readable, (passed, bytes, finds, has, judged, at)) lack same = absurd lack
+unreplied split rules source sink line reader Write (readable, (passed, bytes, finds, has, judged, at)) lack same = absurd lack
+unreplied split rules source sink line reader (Memory lacking) (readable, (passed, bytes, finds, has, judged, at)) lack same = (readable, (first_of source passed bytes finds, tt), same)
+unreplied split rules source sink line reader (GroupsMemory wanting) (readable, (passed, bytes, finds, has, judged, at)) (within, named) same =
+    (readable, (first_of source passed bytes finds, (sym judged.judged ∙ within, subst (NamesCertifiable rules) (judged.whole within) named)), same)
+unreplied split rules source sink line reader CertificateWrite (readable, (passed, bytes, finds, has, judged, at)) lack same = absurd lack
 
 -- a fault of a report is one for which there is no reply
 pub report_lacks : (rules : ProofRules) (line : Line) (bytes : List ℕ) (fault : CertifyFault) → (lacking : NoReport) × (fault ≡ Memory lacking) → HasNoReply rules line bytes fault

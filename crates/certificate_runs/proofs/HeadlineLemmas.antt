@@ -1,8 +1,8 @@
 -- What was written for a line, or of a certificate, is true.
-use Rattle.std.proofs.Common.{ℕ, ◌≡◌, List, Option, None, Some, Vec, inl, inr, Ok, Err, refl, sym, subst, arith, ap, ◌⊎◌, true, ◌<◌, ◌+◌, [], ◌∷◌, ◌++◌, All, length, ◌∙◌, length-append, ◌≢◌, suc, ◌^◌, Bool, false, cond, Result, append-nil, get_or, not, slice_get}
+use Rattle.std.proofs.Common.{ℕ, ◌≡◌, List, Option, None, Some, Vec, inl, inr, Ok, Err, refl, sym, subst, arith, ap, true, ◌<◌, ◌+◌, [], ◌∷◌, ◌++◌, length, ◌∙◌, length-append, ◌≢◌, suc, ◌^◌, Bool, false, cond, Result, append-nil, get_or, not, slice_get}
 use Rattle.std.specs.declared.alloc.Global.{Global}
-use Rattle.std.proofs.KnownBytes.{Consumes-trans, Appends-nil, Keeps-refl}
-use Rattle.std.proofs.lemmas.List.Elements.{All-nil, All-cons, All-append, recursion_from_All}
+use Rattle.std.proofs.KnownBytes.{Appends-nil, Keeps-refl}
+use Rattle.std.proofs.lemmas.List.Elements.{recursion_from_All}
 use Rattle.std.specs.Prelude.{◌↔◌, IsSome, ◌≤◌, IfSome, codes, nat_lt}
 use Rattle.std.specs.List.{AllByRecursion}
 use Rattle.std.proofs.lemmas.Bool.{ne_eqb}
@@ -23,10 +23,9 @@ use Rattle.outcomes.specs.Outcomes.{Answers, Task}
 use Rattle.outcomes.specs.declared.outcome.Cause.TheVariants.{Memory}
 use Rattle.outcomes.specs.declared.outcome.Want.TheVariants.{Refused}
 use Rattle.pattern_index.specs.Splits.{Split}
-use Rattle.byte_streams.specs.Streams.{SourceState, from_to, SinkState, Change}
+use Rattle.byte_streams.specs.Streams.{SourceState, SinkState, Change}
 use Rattle.byte_streams.specs.Sink.{Puts, PutsNone}
-use Rattle.batch_lines.specs.Readings.{TakesKnown, TakesNoLine, CountsKnown, Stops, IsJudged}
-use Rattle.batch_lines.specs.declared.lines.TheConstants.{INPUT_LIMIT, LINE_LIMIT}
+use Rattle.batch_lines.specs.declared.lines.TheConstants.{LINE_LIMIT}
 use Rattle.batch_lines.specs.declared.lines.LineKind.{LineKind}
 use Rattle.batch_lines.specs.declared.lines.LineKind.TheVariants.{PassedOver, TooLong, Within}
 use Rattle.batch_lines.specs.Words.{entry_code}
@@ -44,15 +43,16 @@ use Rattle.certificate.specs.declared.faults.ReadFault.{ReadFault}
 use Rattle.certificate.specs.declared.faults.ReadFault.TheVariants.{Format, Failed, NoMemory}
 use Rattle.certificate.proofs.LawLemmas.{spelled_read}
 use Rattle.certificate_check.specs.Refusals.{ItsPlanLeads, refusal_code}
-use Rattle.batch_runs.specs.Batches.{AnswersEntry, AnswersKind, AnswersLine, AreRead, TakesSome, IsTooLong, Rules, IsTruthful, Answer, AnswersLines, AreAll, AreFirst, answer_text, answers_text}
-use Rattle.batch_runs.proofs.BatchLemmas.{AreRead-more, AreFirst-read}
+use Rattle.batch_runs.specs.Batches.{AnswersEntry, AnswersKind, AnswersLine, Rules, IsTruthful, Answer, AnswersLines, AreAll, AreFirst, answer_text, answers_text}
+use Rattle.batch_runs.proofs.BatchLemmas.{AreFirst-read}
 use Rattle.batch_runs.specs.Batches.AnswersEntry.{by_outcome, by_fault, by_want}
 use Rattle.batch_runs.specs.Batches.Answer.{answered, passed_over}
 use Rattle.batch_runs.specs.Meanings.{Names, IsReply, asks, questions}
 use Rattle.batch_runs.specs.Headline.{TellsTheTruth}
 use Rattle.batch_runs.proofs.TruthLemmas.{same_name, truth}
 use Rattle.certificate_runs.specs.Rules.{ProofRules, report_rules, rows_of, MayReport, ProvesTruly}
-use Rattle.certificate_runs.specs.Certifying.{claim_status, IsPassedOver, IsUncertified, NeedsReport, IsCertificateOf, FindsFirst, PassesAll, RepliesTo, Replies, first_line}
+use Rattle.certificate_runs.specs.Certifying.{claim_status, IsUncertified, NeedsReport, IsCertificateOf, HasFirst, RepliesTo, Replies, first_line}
+use Rattle.batch_runs.specs.FirstLines.{IsPassedOver, PassesAll}
 use Rattle.certificate_runs.specs.Outputs.{Output, IsUntouched}
 use Rattle.certificate_runs.specs.declared.faults.CertifyFault.{CertifyFault}
 use Rattle.certificate_runs.specs.declared.faults.CheckFault.{CheckFault}
@@ -88,49 +88,6 @@ ends_answered task (outcome.Optimal cost plan rows) answers = (answers.0, answer
 ends_answered task (outcome.Unsolvable why) answers = answers
 ends_answered task (outcome.Bounded bound best cause (Some rows)) answers = (answers.0, (rows.items, answers.1))
 ends_answered task (outcome.Bounded bound best cause None) answers = (answers.0, answers.2)
-
--- ---- the lines that are passed over before the first other one
-
--- so many lines were read, and all are passed over
-pub record IsSearching (input now : Option (List ℕ)) (numbered : ℕ) : Type 0 where
-  pub lines : List (List ℕ)
-  pub read : AreRead input now lines
-  pub passed : All IsPassedOver lines
-  pub counted : numbered ≡ length lines
-
-read_none : (input : Option (List ℕ)) → AreRead input input []
-read_none None = tt
-read_none (Some bytes) = refl
-
-pub searching_begins : (input : Option (List ℕ)) → IsSearching input input 0
-searching_begins input = record { lines = []; read = read_none input; passed = All-nil IsPassedOver; counted = refl }
-
--- one line more is passed over
-pub searching_on : (input now new : Option (List ℕ)) (n m : ℕ) (bytes kept : List ℕ) (kind : LineKind) → IsSearching input now n → TakesKnown now new bytes → IsJudged bytes kind kept → kind ≡ PassedOver → m ≡ n + 1 → IsSearching input new m
-searching_on input now new n m bytes kept kind searching taken judged passed next =
-    let longer = length-append searching.lines (bytes ∷ []) in
-    record {
-      lines = searching.lines ++ bytes ∷ [];
-      read = AreRead-more input now new searching.lines bytes searching.read taken;
-      passed = All-append IsPassedOver searching.lines (bytes ∷ []) searching.passed (All-cons IsPassedOver bytes [] (sym judged.judged ∙ passed) (All-nil IsPassedOver));
-      counted = omega (arith, next, searching.counted, longer);
-    }
-
--- what was taken, and then of a line that was lost
-pub TakesSome-lost : (a b c : SourceState) (room : ℕ) → TakesSome (from_to a b) → TakesNoLine (from_to b c) room → TakesSome (from_to a c)
-TakesSome-lost a b c room before (seen, taken, none) = (before.0 ++ seen, Consumes-trans a.left b.left c.left before.0 seen before.1 taken)
-
--- an input is too long of which more was counted than the limit
-too_long : (a b c : Option (List ℕ)) (x y : ℕ) → CountsKnown a b 0 x → CountsKnown b c x y → INPUT_LIMIT < y → IsTooLong a
-too_long None b c x y p q past = tt
-too_long (Some input) None c x y p q past = absurd p
-too_long (Some input) (Some left) None x y p q past = absurd q
-too_long (Some input) (Some left) (Some rest) x y p q past = omega (arith, p, q, past)
-
--- why a line is lost
-pub lost_for : (a b c : SourceState) (x y : ℕ) → CountsKnown a.left b.left 0 x → CountsKnown b.left c.left x y → Stops (from_to b c) y → (c.has_failed ≡ true) ⊎ IsTooLong a.left
-lost_for a b c x y before now (inl failed) = inl failed
-lost_for a b c x y before now (inr past) = inr (too_long a.left b.left c.left x y before now past)
 
 -- ---- what was written is true: the lines that ask
 
@@ -317,23 +274,23 @@ module _ (split : Split) (rules : ProofRules) (truthful : ProvesTruly rules) (so
     answer = by_none (none_ask 1 lines (recursion_from_All IsPassedOver lines over)) refl;
   }
 
-  first_answered : (output : Output) (first : FindsFirst source) → RepliesTo split rules (first_line source first) (without_return first.line) output → AnswersFirst split rules (first.passed ++ first.line ∷ []) output.text
+  first_answered : (output : Output) (first : HasFirst source) → RepliesTo split rules (first_line source first) (without_return first.line) output → AnswersFirst split rules (first.passed ++ first.line ∷ []) output.text
   first_answered output first (inl (within, (c, (id, b, given, entry, allowed, claims, rows, of), written))) =
-      let over = recursion_from_All IsPassedOver first.passed first.before in
-      by_certificate (1 + length first.passed) first.line id b c (one_asks 1 first.passed first.line over first.here) (within, entry)
+      let over = recursion_from_All IsPassedOver first.passed first.finds.before in
+      by_certificate (1 + length first.passed) first.line id b c (one_asks 1 first.passed first.line over first.finds.here) (within, entry)
       (subst (CertifiesTruly split (rules.task b) c) (sym (ap (λ (o : Output). o.text) written)) (certifies_truly split (rules.task b) c of))
   first_answered output first (inr (answer, is, needs, written)) =
-      let over = recursion_from_All IsPassedOver first.passed first.before in
-      by_report (1 + length first.passed) first.line (one_asks 1 first.passed first.line over first.here)
-      (subst (TellsTheTruth (report_rules rules) (first.passed ++ first.line ∷ [])) (sym (ap (λ (o : Output). o.text) written)) (last_true (report_rules rules) (reports_truthful rules truthful) first.passed first.line answer first.few over is))
-      (subst (BoundsLackRows rules first.line) (sym (ap (λ (o : Output). o.text) written)) (line_lacks rules first.line (length first.passed + 1) first.few answer first.here is needs))
+      let over = recursion_from_All IsPassedOver first.passed first.finds.before in
+      by_report (1 + length first.passed) first.line (one_asks 1 first.passed first.line over first.finds.here)
+      (subst (TellsTheTruth (report_rules rules) (first.passed ++ first.line ∷ [])) (sym (ap (λ (o : Output). o.text) written)) (last_true (report_rules rules) (reports_truthful rules truthful) first.passed first.line answer first.finds.few over is))
+      (subst (BoundsLackRows rules first.line) (sym (ap (λ (o : Output). o.text) written)) (line_lacks rules first.line (length first.passed + 1) first.finds.few answer first.finds.here is needs))
 
   pub answer_true : (result : Result ℕ CertifyFault) → Replies split rules source sink result → IsTrueAnswer split rules source sink result
   answer_true (Ok status) (some, (readable, inl (all, same, told))) = none_answered all same
   answer_true (Ok status) (some, (readable, inr (output, (first, replies), put, told))) = record {
     lines = first.passed ++ first.line ∷ [];
     output = output.text;
-    first = AreFirst-read source.before.left source.after.left (first.passed ++ first.line ∷ []) first.read;
+    first = AreFirst-read source.before.left source.after.left (first.passed ++ first.line ∷ []) first.finds.read;
     put = put.0;
     answer = first_answered output first replies;
   }

@@ -1,17 +1,15 @@
 -- What is written for the first line of an input that isn't passed over: a certificate, or a report.
-use Rattle.std.specs.Prelude.{ℕ, ◌≡◌, ◌⊎◌, ◌+◌, ◌^◌, ◌<◌, ◌≤◌, List, [], ◌∷◌, ◌++◌, length, Option, None, Some, Result, Ok, Err, All, IfSome, IsSome, string_bytes, ⊤}
+use Rattle.std.specs.Prelude.{ℕ, ◌≡◌, ◌⊎◌, ◌+◌, ◌≤◌, List, length, Option, None, Some, Result, Ok, Err, IfSome, IsSome, string_bytes, ⊤}
 use Rattle.byte_streams.specs.Streams.{SourceState, SinkState, Change}
 use Rattle.byte_streams.specs.Sink.{WritesAll, FailsWriting}
-use Rattle.byte_streams.specs.declared.source.ReadFailed.{ReadFailed}
 use Rattle.board.specs.declared.moves.Move.{Move}
 use Rattle.board.specs.Positions.{Position}
 use Rattle.board.specs.declared.costs.TheConstants.{GREATEST_COST}
 use Rattle.board.specs.Plans.{Leads, NothingBelow}
 use Rattle.batch_lines.specs.Lines.{without_return, kind_of}
-use Rattle.batch_lines.specs.Readings.{IsJudged}
 use Rattle.batch_lines.specs.Words.{IsEntry}
 use Rattle.batch_lines.specs.declared.lines.Line.{Line}
-use Rattle.batch_lines.specs.declared.lines.LineKind.TheVariants.{PassedOver, Within}
+use Rattle.batch_lines.specs.declared.lines.LineKind.TheVariants.{Within}
 use Rattle.certificate.specs.declared.certificate.Version.TheVariants.{Two}
 use Rattle.certificate.specs.Certificates.{Statement, IsCertificate}
 use Rattle.certificate.specs.Spellings.{spelling}
@@ -22,8 +20,9 @@ use Rattle.outcomes.specs.declared.outcome.Ending.TheVariants.{Optimal, Unsolvab
 use Rattle.outcomes.specs.declared.outcome.Outcome.{Outcome}
 use Rattle.outcomes.specs.Endings.{without_rows}
 use Rattle.outcomes.specs.Outcomes.{Task, AreRowsOf, IsAboveSums, StandsAlone}
-use Rattle.batch_runs.specs.Batches.{Answer, AnswersKind, AreRead, AreAll, TakesSome, LosesLine, IsReadable, answer_text, with_answer, no_lines, status_of_counts}
+use Rattle.batch_runs.specs.Batches.{Answer, AnswersKind, TakesSome, IsReadable, answer_text, with_answer, no_lines, status_of_counts}
 use Rattle.batch_runs.specs.Batches.Answer.{passed_over, refused, answered}
+use Rattle.batch_runs.specs.FirstLines.{FindsFirst, PassesAll, LosesFirst}
 use Rattle.batch_runs.specs.Setups.{SetupState, task_of}
 use Rattle.lower_bound.specs.Tables.{Tables}
 use Rattle.certificate_runs.specs.Outputs.{Output, IsUntouched}
@@ -159,55 +158,31 @@ IsRefusal code n reply = reply_output reply ≡ report_of n (refused code)
 
 -- ---- the first line that isn't passed over
 
-abbrev pub IsPassedOver : List ℕ → Type 0
-IsPassedOver line = kind_of line ≡ PassedOver
-
--- all lines are passed over
-abbrev pub PassesAll : Change SourceState → Type 0
-PassesAll source = (lines : List (List ℕ)) × AreAll source.before.left lines × All IsPassedOver lines
-
--- some lines were read that are passed over, and one that isn't, and nothing behind it
-pub record FindsFirst (source : Change SourceState) : Type 0 where
+-- it is found behind some lines that are passed over, and nothing behind it is taken
+pub record HasFirst (source : Change SourceState) : Type 0 where
   pub passed : List (List ℕ)
   pub line : List ℕ
-  pub few : length passed + 1 < 2 ^ 64
-  pub read : AreRead source.before.left source.after.left (passed ++ line ∷ [])
-  pub before : All IsPassedOver passed
-  pub here : ¬ IsPassedOver line
+  pub finds : FindsFirst source passed line
 
 -- its number, and what is to be done with it
-abbrev pub first_line : (source : Change SourceState) → FindsFirst source → Line
+abbrev pub first_line : (source : Change SourceState) → HasFirst source → Line
 first_line source first = record { number = length first.passed + 1; kind = kind_of first.line }
-
--- the lines that were read whole are passed over, and the next one is lost
-abbrev pub LosesFirst : Change SourceState → Type 0
-LosesFirst source = (passed : List (List ℕ)) × All IsPassedOver passed × LosesLine source passed
-
--- the search for it: it is found, and its bytes are kept where they are to be read; or there is none; or it is lost
-abbrev pub FindsLine : Change SourceState → List ℕ → Result (Option Line) ReadFailed → Type 0
-FindsLine source kept (Ok None) = IsReadable source × PassesAll source
-FindsLine source kept (Ok (Some line)) = IsReadable source × ((first : FindsFirst source) × IsJudged first.line line.kind kept × (line.number ≡ length first.passed + 1))
-FindsLine source kept (Err failure) = LosesFirst source
-
--- some bytes are taken, from the front, and the search ends so
-abbrev pub SeeksFirst : Change SourceState → List ℕ → Result (Option Line) ReadFailed → Type 0
-SeeksFirst source kept result = TakesSome source × FindsLine source kept result
 
 -- ---- how the run ends
 
 -- this is written for the first line
 abbrev pub RepliesToFirst : Split → ProofRules → Change SourceState → Output → Type 0
-RepliesToFirst split rules source output = (first : FindsFirst source) × RepliesTo split rules (first_line source first) (without_return first.line) output
+RepliesToFirst split rules source output = (first : HasFirst source) × RepliesTo split rules (first_line source first) (without_return first.line) output
 
 abbrev pub ReportsFirst : ProofRules → Change SourceState → Output → Type 0
-ReportsFirst rules source output = (first : FindsFirst source) × ReportsLine rules (first_line source first) (without_return first.line) output
+ReportsFirst rules source output = (first : HasFirst source) × ReportsLine rules (first_line source first) (without_return first.line) output
 
 abbrev pub CertifiesFirst : Split → ProofRules → Change SourceState → Output → Type 0
-CertifiesFirst split rules source output = (first : FindsFirst source) × (kind_of first.line ≡ Within) × Certifies split rules (without_return first.line) output
+CertifiesFirst split rules source output = (first : HasFirst source) × (kind_of first.line ≡ Within) × Certifies split rules (without_return first.line) output
 
 -- there is no reply to the first line, by this fault
 abbrev pub LacksReply : ProofRules → Change SourceState → CertifyFault → Type 0
-LacksReply rules source fault = (first : FindsFirst source) × HasNoReply rules (first_line source first) (without_return first.line) fault
+LacksReply rules source fault = (first : HasFirst source) × HasNoReply rules (first_line source first) (without_return first.line) fault
 
 -- How the run ends: all lines are passed over, and nothing is written; or the first other one is replied to. Else the line was lost, or memory was wanting, and nothing was written; or writing failed.
 abbrev pub EndsReplying : Split → ProofRules → Change SourceState → Change SinkState → Result ℕ CertifyFault → Type 0

@@ -1,6 +1,6 @@
 //! A line in, a certificate out.
 
-ghost use Rattle.std.specs.Prelude.{ℕ, ◌≡◌, ◌≢◌, ◌≤◌, ◌⊎◌, [], All, Some, None, IfOk, IfErr, OnOk, OnErr, slice_index};
+ghost use Rattle.std.specs.Prelude.{ℕ, ◌≡◌, ◌≢◌, ◌≤◌, ◌⊎◌, All, IfOk, IfErr, OnOk, OnErr, slice_index};
 ghost use Rattle.database_build.specs.declared.table.TheConstants.{NO_VALUE};
 ghost use Rattle.byte_streams.specs.Streams.{change};
 ghost use Rattle.byte_streams.specs.Sink.{Writes};
@@ -12,9 +12,9 @@ ghost use Rattle.certificate.specs.Certificates.{IsBoardOf, cost_of, plan_of};
 ghost use Rattle.certificate.specs.Spellings.{spelling};
 ghost use Rattle.certificate_runs.specs.declared.faults.CertifyFault.{CertifyFault};
 ghost use Rattle.batch_runs.specs.Batches.{HasFailed, no_lines, with_outcome, status_of_counts};
-ghost use Rattle.batch_runs.specs.Setups.{task_of};
+ghost use Rattle.batch_runs.specs.Setups.{SetupState, task_of};
 ghost use Rattle.certificate_runs.specs.Rules.{ProofRules, MayProve};
-ghost use Rattle.certificate_runs.specs.Certifying.{Replies, SeeksFirst, PutsReply};
+ghost use Rattle.certificate_runs.specs.Certifying.{Replies, PutsReply};
 ghost use Rattle.certificate_runs.specs.Headline.{IsTrueAnswer};
 ghost use Rattle.certificate_runs.specs.Certifying.{AreRulesFor, IsCertificateOf, IsReply};
 ghost use Rattle.certificate_runs.specs.Certifying.{IsMadeOf, IsCertifiable, IsAnswerOf};
@@ -24,10 +24,10 @@ ghost use Rattle.certificate_runs.specs.Built.{HasSmallEntries, HasSmallFolds, H
 
 use crate::faults::CertifyFault;
 use batch_lines::{EntryFault, Line, LineKind, LineReader, read_entry};
-use batch_runs::{Setup, send_report};
+use batch_runs::{Setup, find_line, send_report};
 use board::laws::keys_are_in_order;
 use board::{Board, Move};
-use byte_streams::{ReadFailed, Sink, Source};
+use byte_streams::{Sink, Source};
 use certificate::{Certificate, Claim, Parts, Version, WriteFault, write};
 use database_build::{Folded, Table};
 use lower_bound::{Bound, TableList};
@@ -42,12 +42,32 @@ pub trait ProofRuled {
     ghost rules: { Self → ProofRules };
 }
 
+/// Who answers a setup's boards with rows, as the rules allow.
+pub trait Prover: ProofRuled {
+    // The setup: its tables guide the search.
+    ghost setup: { Self → SetupState };
+
+    // What each call takes for granted: of a prover that has a closure, what it takes and answers.
+    ghost is_callable: { Self → Type 0 };
+
+    /// The setup.
+    fn setup(&self) -> &Setup
+        ensures { result.now ≡ setup self.now };
+
+    /// The outcome of a board: where it is a plan of least cost or a bound, with the rows that prove
+    /// it. The error tells a want of memory before the first step.
+    fn prove(&self, start: &Board) -> Result<Outcome, OutOfMemory>
+        requires callable { is_callable self.now }
+        requires grid { start.now.grid ≡ (Self.rules self.now).grid }
+        ensures { MayProve (Self.rules self.now) start.now result };
+
+    // The rules are for its boards, and its outcomes answer what is asked.
+    ghost fits: { (prover : Self) → AreRulesFor (setup prover) (Self.rules prover) };
+}
+
 /// Answers the first line of the source that isn't passed over, and takes nothing behind it: where
 /// a plan of least cost is found, or a bound with its rows, its certificate is written, else the
 /// line's report. A certificate names the groups of the setup's tables.
-///
-/// A board is solved by the closure, which answers what the rules allow and, where that is a plan of
-/// least cost or a bound, the rows that prove it; or it tells a want of memory before the first step.
 ///
 /// Answers the status: 0 for a certificate of a plan, for a board without a plan, and where no line
 /// is to be answered; 1 for a bound, certified or not, and for a line that is refused. Nothing is
@@ -55,54 +75,39 @@ pub trait ProofRuled {
 /// fails, so has the write.
 ///
 /// What is written tells the truth: so says the clause `truth`, in words of what a reader sees.
-pub fn certify_first<
-    S: Source,
-    K: Sink,
-    A: ProofRuled,
-    F: Fn(&Board) -> Result<Outcome, OutOfMemory> + Drop,
->(
+pub fn certify_first<S: Source, K: Sink, A: Prover>(
     alloc: Global,
     source: &mut S,
     sink: &mut K,
-    setup: &Setup,
-    asked: &A,
-    prover: F,
+    prover: &A,
 ) -> Result<u8, CertifyFault>
-    requires rules { AreRulesFor setup.now (A.rules asked.now) }
-    requires callable { (start : _) → start.now.grid ≡ setup.now.goal.grid → F.pre prover start }
-    requires gives { (start result : _) → start.now.grid ≡ setup.now.goal.grid
-        → F.post prover start result → MayProve (A.rules asked.now) start.now result }
-    ensures replies { Replies setup.now.tables.split (A.rules asked.now)
+    requires callable { A.is_callable prover.now }
+    ensures replies { Replies (A.setup prover.now).tables.split (A.rules prover.now)
         (change S.state source.old source.new) (change K.state sink.old sink.new) result }
-    ensures truth { IsTrueAnswer setup.now.tables.split (A.rules asked.now)
+    ensures truth { IsTrueAnswer (A.setup prover.now).tables.split (A.rules prover.now)
         (change S.state source.old source.new) (change K.state sink.old sink.new) result }
     ensures flushed { K.is_flushed sink.new ⊎ (sink.new ≡ sink.old)
         ⊎ HasFailed (K.state sink.new) }
 {
-    reply_to_first(alloc, source, sink, setup, asked, &prover)
+    reply_to_first(alloc, source, sink, prover)
 }
 
 // The same, by what was replied.
-fn reply_to_first<S: Source, K: Sink, A: ProofRuled, F: Fn(&Board) -> Result<Outcome, OutOfMemory>>(
+fn reply_to_first<S: Source, K: Sink, A: Prover>(
     alloc: Global,
     source: &mut S,
     sink: &mut K,
-    setup: &Setup,
-    asked: &A,
-    prover: &F,
+    prover: &A,
 ) -> Result<u8, CertifyFault>
-    requires rules { AreRulesFor setup.now (A.rules asked.now) }
-    requires callable { (start : _) → start.now.grid ≡ setup.now.goal.grid → F.pre prover.now start }
-    requires gives { (start result : _) → start.now.grid ≡ setup.now.goal.grid
-        → F.post prover.now start result → MayProve (A.rules asked.now) start.now result }
-    ensures replies { Replies setup.now.tables.split (A.rules asked.now)
+    requires callable { A.is_callable prover.now }
+    ensures replies { Replies (A.setup prover.now).tables.split (A.rules prover.now)
         (change S.state source.old source.new) (change K.state sink.old sink.new) result }
     ensures flushed { K.is_flushed sink.new ⊎ (sink.new ≡ sink.old)
         ⊎ HasFailed (K.state sink.new) }
 {
     let mut reader = LineReader::new();
     match find_line(source, &mut reader) {
-        Ok(Some(line)) => match reply_to_line(alloc, setup, asked, prover, line, reader.bytes()) {
+        Ok(Some(line)) => match reply_to_line(alloc, prover, line, reader.bytes()) {
             Ok(reply) => put_reply(sink, &reply),
             Err(fault) => Err(fault),
         },
@@ -118,73 +123,44 @@ enum Reply {
     Reported(String, u8),
 }
 
-// The next line that isn't passed over.
-fn find_line<S: Source>(source: &mut S, reader: &mut LineReader) -> Result<Option<Line>, ReadFailed>
-    requires { reader.old ≡ record { lines = 0; taken = 0; kept = [] } }
-    ensures { SeeksFirst (change S.state source.old source.new) reader.new.kept result }
-{
-    'lines: loop {
-        let next = match reader.next_line(source) {
-            Ok(next) => next,
-            Err(failure) => return Err(failure),
-        };
-        let Some(line) = next else {
-            return Ok(None);
-        };
-        match line.kind {
-            LineKind::PassedOver => {}
-            _ => return Ok(Some(line)),
-        }
-    }
-}
-
 // The reply to a line that isn't passed over, whose bytes are given where it is to be read.
-fn reply_to_line<A: ProofRuled, F: Fn(&Board) -> Result<Outcome, OutOfMemory>>(
+fn reply_to_line<A: Prover>(
     alloc: Global,
-    setup: &Setup,
-    asked: &A,
-    prover: &F,
+    prover: &A,
     line: Line,
     bytes: &[u8],
 ) -> Result<Reply, CertifyFault>
-    requires rules { AreRulesFor setup.now (A.rules asked.now) }
-    requires callable { (start : _) → start.now.grid ≡ setup.now.goal.grid → F.pre prover.now start }
-    requires gives { (start result : _) → start.now.grid ≡ setup.now.goal.grid
-        → F.post prover.now start result → MayProve (A.rules asked.now) start.now result }
+    requires callable { A.is_callable prover.now }
     requires kind { line.kind ≢ PassedOver }
     ensures reply { IfOk result
-        (IsReply setup.now.tables.split (A.rules asked.now) line bytes.now) }
-    ensures lacking { IfErr result (HasNoReply (A.rules asked.now) line bytes.now) }
+        (IsReply (A.setup prover.now).tables.split (A.rules prover.now) line bytes.now) }
+    ensures lacking { IfErr result (HasNoReply (A.rules prover.now) line bytes.now) }
 {
     match line.kind {
-        LineKind::Within => reply_to_entry(alloc, setup, asked, prover, line.number, bytes),
+        LineKind::Within => reply_to_entry(alloc, prover, line.number, bytes),
         _ => refuse(alloc, EntryFault::NoText.code(), line.number),
     }
 }
 
 // The reply to a line that is to be read.
-fn reply_to_entry<A: ProofRuled, F: Fn(&Board) -> Result<Outcome, OutOfMemory>>(
+fn reply_to_entry<A: Prover>(
     alloc: Global,
-    setup: &Setup,
-    asked: &A,
-    prover: &F,
+    prover: &A,
     number: u64,
     bytes: &[u8],
 ) -> Result<Reply, CertifyFault>
-    requires rules { AreRulesFor setup.now (A.rules asked.now) }
-    requires callable { (start : _) → start.now.grid ≡ setup.now.goal.grid → F.pre prover.now start }
-    requires gives { (start result : _) → start.now.grid ≡ setup.now.goal.grid
-        → F.post prover.now start result → MayProve (A.rules asked.now) start.now result }
-    ensures reply { IfOk result (IsReply setup.now.tables.split (A.rules asked.now)
+    requires callable { A.is_callable prover.now }
+    ensures reply { IfOk result (IsReply (A.setup prover.now).tables.split (A.rules prover.now)
         (record { number = number; kind = Within }) bytes.now) }
-    ensures lacking { IfErr result (HasNoReply (A.rules asked.now)
+    ensures lacking { IfErr result (HasNoReply (A.rules prover.now)
         (record { number = number; kind = Within }) bytes.now) }
 {
+    let setup = prover.setup();
     let entry = match read_entry(setup.shape(), bytes) {
         Ok(entry) => entry,
         Err(fault) => return refuse(alloc, fault.code(), number),
     };
-    let outcome = match prove(setup, asked, prover, &entry.board) {
+    let outcome = match prover.prove(&entry.board) {
         Ok(outcome) => outcome,
         Err(refused) => return refuse(alloc, SolveFault::Memory(refused).code(), number),
     };
@@ -199,26 +175,6 @@ fn reply_to_entry<A: ProofRuled, F: Fn(&Board) -> Result<Outcome, OutOfMemory>>(
             Err(lacking) => Err(CertifyFault::Memory(lacking)),
         },
     }
-}
-
-// What is answered of a board.
-fn prove<A: ProofRuled, F: Fn(&Board) -> Result<Outcome, OutOfMemory>>(
-    setup: &Setup,
-    asked: &A,
-    prover: &F,
-    start: &Board,
-) -> Result<Outcome, OutOfMemory>
-    requires grid { start.now.grid ≡ setup.now.goal.grid }
-    requires callable { (start : _) → start.now.grid ≡ setup.now.goal.grid → F.pre prover.now start }
-    requires gives { (start result : _) → start.now.grid ≡ setup.now.goal.grid
-        → F.post prover.now start result → MayProve (A.rules asked.now) start.now result }
-    ensures allowed { IfOk result (λ outcome. (A.rules asked.now).allows start.now (Some outcome)) }
-    ensures lacking { OnErr result ((A.rules asked.now).allows start.now None) }
-{
-    // What is known of the setup and of the rules is for the clauses alone.
-    let _ = setup;
-    let _ = asked;
-    prover(start)
 }
 
 // The report of a line that is refused.

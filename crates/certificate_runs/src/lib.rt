@@ -8,7 +8,7 @@ mod faults;
 pub mod laws;
 mod upgrading;
 
-pub use certifying::{ProofRuled, certify_first};
+pub use certifying::{ProofRuled, Prover, certify_first};
 pub use checking::run_check;
 pub use faults::{CertifyFault, CheckFault, UpgradeFault};
 pub use upgrading::run_upgrade;

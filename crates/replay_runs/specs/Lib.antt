@@ -1,5 +1,4 @@
 -- Replays: a board line, the steps that follow it, and what is written for each.
-pub mod Lines
 pub mod Replies
 pub mod Stepping
 pub mod Replays

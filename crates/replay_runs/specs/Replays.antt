@@ -16,7 +16,7 @@ use Rattle.batch_runs.specs.Batches.{AreAll, AreFirst, LosesLine, IsReadable, Ha
 use Rattle.batch_runs.specs.Meanings.{Names, HasFault}
 use Rattle.batch_runs.specs.declared.faults.LinesFault.{LinesFault}
 use Rattle.batch_runs.specs.declared.faults.LinesFault.TheVariants.{Read, Write, Memory}
-use Rattle.replay_runs.specs.Lines.{IsPassedOver, FindsFirst}
+use Rattle.batch_runs.specs.FirstLines.{IsPassedOver, FindsFirst}
 use Rattle.replay_runs.specs.Replies.{Reply, replies_text, are_fine, status_of}
 use Rattle.replay_runs.specs.Stepping.{IsReplied, IsReportOf, output_of}
 

@@ -7,15 +7,14 @@ ghost use Rattle.batch_lines.specs.Lines.{kind_of, without_return};
 ghost use Rattle.batch_lines.specs.declared.lines.LineKind.TheVariants.{Within};
 ghost use Rattle.world_model.specs.Openings.{opening};
 ghost use Rattle.batch_runs.specs.Batches.{HasFailed};
-ghost use Rattle.replay_runs.specs.Lines.{FindsFirst, HasRead};
+ghost use Rattle.batch_runs.specs.FirstLines.{FindsFirst, HasRead};
 ghost use Rattle.replay_runs.specs.Replays.{Jobs, IsGuidedJob, Replays, Refuses};
 
-use crate::finding::find_line;
 use crate::sending::send;
 use crate::stepping::{Run, replay_steps};
 use arrayvec::ArrayVec;
 use batch_lines::{EntryFault, LINE_LIMIT, LineKind, LineReader, read_entry};
-use batch_runs::LinesFault;
+use batch_runs::{LinesFault, find_line};
 use board::{Board, Shape};
 use byte_streams::{Sink, Source};
 use memory::OutOfMemory;

@@ -2,7 +2,6 @@
 #![tactic(auto)]
 
 mod board_line;
-mod finding;
 mod replay;
 mod sending;
 mod stepping;

@@ -8,7 +8,7 @@ ghost use Rattle.world_model.specs.Worlds.{WorldState};
 ghost use Rattle.world_model.specs.Steps.{Next};
 ghost use Rattle.world_model.specs.Outcomes.{IsGiven};
 ghost use Rattle.batch_runs.specs.Batches.{HasFailed};
-ghost use Rattle.replay_runs.specs.Lines.{HasRead};
+ghost use Rattle.batch_runs.specs.FirstLines.{HasRead};
 ghost use Rattle.replay_runs.specs.Replies.{Reply, GivesReply, WritesReply, WritesLine, line_of};
 ghost use Rattle.replay_runs.specs.Replies.{status_of};
 ghost use Rattle.replay_runs.specs.Stepping.{AnswersLines, Finishes};

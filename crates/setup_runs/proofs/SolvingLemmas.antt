@@ -34,7 +34,7 @@ use Rattle.outcomes.specs.Outcomes.{Answers}
 use Rattle.world_model.specs.Outcomes.{IsGiven}
 use Rattle.thread_runs.specs.Laws.{HasItsRows}
 use Rattle.thread_runs.proofs.LawLemmas.{solved_ends}
-use Rattle.certificate_runs.specs.Rules.{MayProve, ProvesTruly}
+use Rattle.certificate_runs.specs.Rules.{MayProve}
 use Rattle.certificate_runs.proofs.HeadlineLemmas.{ends_answered}
 use Rattle.setup_runs.specs.Laws.{CertifiedEndsAreAnswered, IsAloneBound, ParityIsCertified}
 use Rattle.outcomes.specs.declared.outcome.Outcome.TheVariants as outcome
@@ -196,10 +196,6 @@ module _ (setup : SetupState) (start : Position) where
       of_class : SameClass start setup.goal ⊎ (¬ SameClass start setup.goal) → (SameClass start setup.goal × IsOfProvedRun setup start o) ⊎ ((¬ SameClass start setup.goal) × (o ≡ outcome.Unsolvable Parity))
       of_class (inl together) = inl (together, (solved_any hash_of owners hash_by setup.spread o same (run together), kept))
       of_class (inr other) = inr (other, ap (outcome_or o) (parity.1 other))
-
--- what a setup allows with rows is true
-pub certified_truthful : (setup : SetupState) → ProvesTruly (certifying_rules_of setup)
-certified_truthful setup b o allowed = allowed.0
 
 pub parity_certified : ParityIsCertified
 parity_certified setup b apart = ((λ together. apart together), by_class)

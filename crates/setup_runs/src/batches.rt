@@ -7,9 +7,9 @@ ghost use Rattle.batch_runs.specs.Headline.{IsTrueRun};
 ghost use Rattle.setup_runs.specs.Solving.{rules_of};
 
 use crate::ahead::end_ahead;
-use crate::solving::{Guided, end_board};
-use batch_runs::{LinesFault, Setup, Summary, run_lines};
-use board::Board;
+use crate::solving::end_board;
+use batch_runs::{LinesFault, Ruled, Setup, Solver, Summary, run_lines};
+use board::{Board, Shape};
 use byte_streams::{Sink, Source};
 use hda_run::Gate;
 use memory::OutOfMemory;
@@ -17,6 +17,50 @@ use outcomes::Ending;
 use std::alloc::Global;
 use std::sync::Wait;
 use std::thread::Threads;
+
+// A setup, and the closures by which its workers answer boards: threads start under the bounds of the
+// function that makes these, which no trait's method has.
+#[derive(Drop)]
+struct Guided<'a, F, P> {
+    setup: &'a Setup,
+    solve: F,
+    ahead: P,
+}
+
+impl<'a, F, P> Ruled for Guided<'a, F, P> {
+    ghost use Rattle.setup_runs.specs.Solving.{rules_of};
+
+    ghost rules = { λ guided. rules_of guided.setup.now };
+}
+
+impl<
+    'a,
+    F: Fn(&Board) -> Result<Ending, OutOfMemory>,
+    P: Fn(&Board, &[u8]) -> Vec<(Board, Ending)>,
+> Solver for Guided<'a, F, P> {
+    ghost is_callable = { λ guided.
+        ((start : _) → start.now.grid ≡ guided.setup.now.goal.grid → F.pre guided.solve start)
+        × ((start result : _) → start.now.grid ≡ guided.setup.now.goal.grid
+        → F.post guided.solve start result
+        → MayGive (rules_of guided.setup.now) start.now result)
+        × ((start held : _) → start.now.grid ≡ guided.setup.now.goal.grid
+        → P.pre guided.ahead start held)
+        × ((start held result : _) → start.now.grid ≡ guided.setup.now.goal.grid
+        → P.post guided.ahead start held result
+        → AreAllowed (rules_of guided.setup.now) result.items) };
+
+    fn shape(&self) -> Shape {
+        self.setup.shape()
+    }
+
+    fn solve(&self, start: &Board) -> Result<Ending, OutOfMemory> {
+        (self.solve)(start)
+    }
+
+    fn solve_ahead(&self, start: &Board, held: &[u8]) -> Vec<(Board, Ending)> {
+        (self.ahead)(start, held)
+    }
+}
 
 /// Writes a report for each line of the source that isn't passed over, in order: that of its first
 /// fault, or of an ending that answers its board. A board that isn't in the goal's class is
@@ -51,7 +95,6 @@ pub fn run_batch<R: Threads + Wait + Sync, S: Source, K: Sink, G: Gate + Sync>(
     ensures flushed { K.is_flushed sink.new ⊎ (sink.new ≡ sink.old)
         ⊎ HasFailed (K.state sink.new) }
 {
-    let guided = Guided { setup };
     let solve = |start: &Board| -> Result<Ending, OutOfMemory>
         requires { start.now.grid ≡ setup.now.goal.grid }
         ensures { MayGive (rules_of setup.entry.now) start.now result }
@@ -60,6 +103,10 @@ pub fn run_batch<R: Threads + Wait + Sync, S: Source, K: Sink, G: Gate + Sync>(
         requires { start.now.grid ≡ setup.now.goal.grid }
         ensures { AreAllowed (rules_of setup.entry.now) result.items }
     { end_ahead(rt, alloc, setup, start, held, gate) };
-    let shape = setup.shape();
-    run_lines(alloc, source, sink, shape, &guided, solve, ahead)
+    let guided = Guided {
+        setup,
+        solve,
+        ahead,
+    };
+    run_lines(alloc, source, sink, &guided)
 }

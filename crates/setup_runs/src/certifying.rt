@@ -14,7 +14,7 @@ use crate::solving::job_for;
 use batch_runs::{Setup, SpreadKind};
 use board::Board;
 use byte_streams::{Sink, Source};
-use certificate_runs::{CertifyFault, ProofRuled, certify_first};
+use certificate_runs::{CertifyFault, ProofRuled, Prover, certify_first};
 use hda_run::Gate;
 use memory::OutOfMemory;
 use outcomes::Outcome;
@@ -24,16 +24,43 @@ use std::sync::Wait;
 use std::thread::Threads;
 use thread_runs::solve_by_workers;
 
-// The boards of a setup, and how its workers may answer them with rows.
+// A setup, and the closure by which its workers answer boards with rows, as `Guided` has two.
 #[derive(Drop)]
-struct Proving<'a> {
+struct Proving<'a, F> {
     setup: &'a Setup,
+    prove: F,
 }
 
-impl<'a> ProofRuled for Proving<'a> {
+impl<'a, F> ProofRuled for Proving<'a, F> {
     ghost use Rattle.setup_runs.specs.Solving.{certifying_rules_of};
 
     ghost rules = { λ proving. certifying_rules_of proving.setup.now };
+}
+
+impl<'a, F: Fn(&Board) -> Result<Outcome, OutOfMemory>> Prover for Proving<'a, F> {
+    ghost use Rattle.std.specs.Prelude.{refl};
+
+    ghost setup = { λ proving. proving.setup.now };
+
+    ghost is_callable = { λ proving.
+        ((start : _) → start.now.grid ≡ proving.setup.now.goal.grid → F.pre proving.prove start)
+        × ((start result : _) → start.now.grid ≡ proving.setup.now.goal.grid
+        → F.post proving.prove start result
+        → MayProve (certifying_rules_of proving.setup.now) start.now result) };
+
+    ghost fits = { λ proving. record {
+      grid = refl;
+      task = refl;
+      truthful = λ start given allowed. allowed.0;
+    } };
+
+    fn setup(&self) -> &Setup {
+        self.setup
+    }
+
+    fn prove(&self, start: &Board) -> Result<Outcome, OutOfMemory> {
+        (self.prove)(start)
+    }
 }
 
 // The outcome of a board by the setup's workers, as `end_board` has its ending.
@@ -104,10 +131,10 @@ pub fn run_cert<R: Threads + Wait + Sync, S: Source, K: Sink, G: Gate + Sync>(
     ensures flushed { K.is_flushed sink.new ⊎ (sink.new ≡ sink.old)
         ⊎ HasFailed (K.state sink.new) }
 {
-    let proving = Proving { setup };
     let prove = |start: &Board| -> Result<Outcome, OutOfMemory>
         requires { start.now.grid ≡ setup.now.goal.grid }
         ensures { MayProve (certifying_rules_of setup.entry.now) start.now result }
     { prove_board(rt, alloc, setup, start, gate) };
-    certify_first(alloc, source, sink, setup, &proving, prove)
+    let proving = Proving { setup, prove };
+    certify_first(alloc, source, sink, &proving)
 }

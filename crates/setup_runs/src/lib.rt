@@ -10,4 +10,3 @@ mod solving;
 
 pub use batches::run_batch;
 pub use certifying::run_cert;
-pub use solving::Guided;

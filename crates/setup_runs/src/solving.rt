@@ -6,7 +6,7 @@ ghost use Rattle.batch_runs.specs.Setups.{hash_by};
 ghost use Rattle.batch_runs.specs.Batches.{MayGive};
 ghost use Rattle.setup_runs.specs.Solving.{problem_of, rules_of};
 
-use batch_runs::{Ruled, Setup, SpreadKind};
+use batch_runs::{Setup, SpreadKind};
 use board::Board;
 use hda_run::{Gate, Job};
 use memory::OutOfMemory;
@@ -16,18 +16,6 @@ use std::alloc::Global;
 use std::sync::Wait;
 use std::thread::Threads;
 use thread_runs::end_by_workers;
-
-/// The boards of a setup, and how its workers may answer them.
-#[derive(Drop)]
-pub struct Guided<'a> {
-    pub setup: &'a Setup,
-}
-
-impl<'a> Ruled for Guided<'a> {
-    ghost use Rattle.setup_runs.specs.Solving.{rules_of};
-
-    ghost rules = { λ guided. rules_of guided.setup.now };
-}
 
 /// The ending of a board by the setup's workers: one alone in the calling thread, more in threads of
 /// their own. The error tells a want of memory before the first step.

@@ -6,7 +6,7 @@ ghost use Rattle.board.specs.CostRules.{unit_rule};
 
 use crate::certificates::{BOUND, ONE_MOVE, ONE_MOVE_ONE, SOLVED, THREE_MOVES};
 use batch_cli::{
-    BatchFault, Cause, Free, LinesFault, Ruled, Setup, Summary, Why, run_batch, run_cert,
+    BatchFault, Cause, Free, LinesFault, Ruled, Setup, Solver, Summary, Why, run_batch, run_cert,
     run_check, run_lines, run_program, run_replay, run_upgrade,
 };
 use board::{Board, Move, Shape, Weights};
@@ -22,9 +22,10 @@ use test_support::{FailingReader, FailingWriter, NEVER};
 // So large that memory for 2^27 of it is refused: a want of memory can't be made up.
 type TooLarge = [u64; 1 << 18];
 
-// Answers by the blank's cell alone.
-#[derive(Clone, Copy)]
+// Answers by the blank's cell alone, and none ahead.
+#[derive(Drop)]
 struct ByBlank {
+    alloc: Global,
     shape: Shape,
 }
 
@@ -34,6 +35,22 @@ impl Ruled for ByBlank {
       task = λ b. record { start = b; goal = b; rule = unit_rule s.shape; sum = λ _. 0 };
       allows = λ _ _. Unit {0};
     } };
+}
+
+impl Solver for ByBlank {
+    ghost is_callable = { λ _. Unit {0} };
+
+    fn shape(&self) -> Shape {
+        self.shape
+    }
+
+    fn solve(&self, start: &Board) -> Result<Ending, OutOfMemory> {
+        answer_by_blank(self.alloc, start)
+    }
+
+    fn solve_ahead(&self, _start: &Board, _held: &[u8]) -> Vec<(Board, Ending)> {
+        Vec::new(self.alloc)
+    }
 }
 
 fn answer_by_blank(alloc: Global, start: &Board) -> Result<Ending, OutOfMemory> {
@@ -402,8 +419,8 @@ fn start<R: Threads + Wait + AllocGlobal + Sync>(
     match run {
         Run::Lines => {
             let shape = square();
-            let asked = ByBlank { shape };
-            tell_counts(lines_by_blank(alloc, source, sink, shape, &asked), errors)
+            let solver = ByBlank { alloc, shape };
+            tell_counts(run_lines(alloc, source, sink, &solver), errors)
         }
         Run::Batch => match setup_of_faces(alloc) {
             Some(setup) => {
@@ -527,33 +544,12 @@ fn each_call_of_a_run_fails_in_turn(rt: HostRuntime) {
     }
 }
 
-// A run over lines, answered by the blank's cell alone, of which none is answered ahead.
-fn lines_by_blank<S: Source, K: Sink>(
-    alloc: Global,
-    source: &mut S,
-    sink: &mut K,
-    shape: Shape,
-    asked: &ByBlank,
-) -> Result<Summary, LinesFault>
-    requires { asked.now.shape ≡ shape }
-{
-    run_lines(
-        alloc,
-        source,
-        sink,
-        shape,
-        asked,
-        |start: &Board| { answer_by_blank(alloc, start) },
-        |_: &Board, _: &[u8]| -> Vec<(Board, Ending)> { Vec::new(alloc) },
-    )
-}
-
 // The counts of the answers to `LINES`.
 fn counts_of_lines(alloc: Global) -> Result<Summary, LinesFault> {
     let shape = square();
     let mut source = ByteSource::new(LINES);
     let mut sink = ByteSink::new(Vec::new(alloc));
-    lines_by_blank(alloc, &mut source, &mut sink, shape, &ByBlank { shape })
+    run_lines(alloc, &mut source, &mut sink, &ByBlank { alloc, shape })
 }
 
 #[test]

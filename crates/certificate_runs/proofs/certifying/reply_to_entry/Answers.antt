@@ -13,59 +13,67 @@ use Rattle.certificate_runs.proofs.certifying.reply_to_entry.Goals as goal
 
 pub certify-requires-clause-answers : goal.certify-requires-clause-answers
 certify-requires-clause-answers g c =
-    subst (λ (task : Position → Task). Answers (task c.in-Ok.entry.board) c.in-Ok-prove.outcome) c.requires.rules.task (c.requires.rules.truthful c.in-Ok.entry.board c.in-Ok-prove.outcome c.in-Ok-prove.ensures.allowed)
+    let fits = g.met.A.Prover.fits c.args.prover.now in
+    rw c.setup-setup.ensures (subst (λ (task : Position → Task). Answers (task c.in-Ok.entry.board) c.in-Ok-prove.outcome) fits.task (fits.truthful c.in-Ok.entry.board c.in-Ok-prove.outcome c.in-Ok-prove.ensures))
 
 pub returns-in-Err-clause-reply : goal.returns-in-Err-clause-reply
 returns-in-Err-clause-reply g c =
-    let split = c.args.setup.now.tables.split in
-    let prover = g.A.ProofRuled.rules c.args.asked.now in
-    let fault = subst (λ (grid : Grid). IsFirstEntryFault grid c.args.bytes.now c.in-Err.fault) (sym c.requires.rules.grid) (rw c.shape.ensures at (c.in-Err.ensures.fault c.in-Err.fault).0 refl) in
+    let split = (g.A.Prover.setup c.args.prover.now).tables.split in
+    let prover = g.A.ProofRuled.rules c.args.prover.now in
+    let fits = g.met.A.Prover.fits c.args.prover.now in
+    let fault = subst (λ (grid : Grid). IsFirstEntryFault grid c.args.bytes.now c.in-Err.fault) (sym fits.grid) (rw (c.shape.ensures, c.setup-setup.ensures) at (c.in-Err.ensures.fault c.in-Err.fault).0 refl) in
     IfOk-weaker c.refuse.result (IsRefusal c.code.result.now c.args.number) (IsReply split prover (within c.args.number) c.args.bytes.now)
     (λ reply refused. refused_entry split prover c.args.number c.args.bytes.now c.in-Err.fault reply fault (rw c.code.ensures at refused)) c.refuse.ensures.refusal
 
 pub returns-in-Err-clause-lacking : goal.returns-in-Err-clause-lacking
 returns-in-Err-clause-lacking g c =
-    let prover = g.A.ProofRuled.rules c.args.asked.now in
+    let prover = g.A.ProofRuled.rules c.args.prover.now in
+    let fits = g.met.A.Prover.fits c.args.prover.now in
     IfErr-weaker c.refuse.result (λ fault. (lacking : NoReport) × (fault ≡ Memory lacking)) (HasNoReply prover (within c.args.number) c.args.bytes.now)
     (λ fault lacks. report_lacks prover (within c.args.number) c.args.bytes.now fault lacks) c.refuse.ensures.lacking
 
 pub returns-in-Err-prove-clause-reply : goal.returns-in-Err-prove-clause-reply
 returns-in-Err-prove-clause-reply g c =
-    let split = c.args.setup.now.tables.split in
-    let prover = g.A.ProofRuled.rules c.args.asked.now in
-    let entry = subst (λ (grid : Grid). IsEntry grid c.args.bytes.now c.in-Ok.entry.id.now c.in-Ok.entry.board) (sym c.requires.rules.grid) (rw c.shape.ensures at c.in-Ok.ensures.entry) in
+    let split = (g.A.Prover.setup c.args.prover.now).tables.split in
+    let prover = g.A.ProofRuled.rules c.args.prover.now in
+    let fits = g.met.A.Prover.fits c.args.prover.now in
+    let entry = subst (λ (grid : Grid). IsEntry grid c.args.bytes.now c.in-Ok.entry.id.now c.in-Ok.entry.board) (sym fits.grid) (rw (c.shape.ensures, c.setup-setup.ensures) at c.in-Ok.ensures.entry) in
     IfOk-weaker c.refuse-in-Err-prove.result (IsRefusal c.code-in-Err-prove.result.now c.args.number) (IsReply split prover (within c.args.number) c.args.bytes.now)
-    (λ reply refused. refused_board split prover c.args.number c.args.bytes.now c.in-Ok.entry.id.now c.in-Ok.entry.board reply entry c.in-Err-prove.ensures.lacking (rw c.code-in-Err-prove.ensures at refused)) c.refuse-in-Err-prove.ensures.refusal
+    (λ reply refused. refused_board split prover c.args.number c.args.bytes.now c.in-Ok.entry.id.now c.in-Ok.entry.board reply entry c.in-Err-prove.ensures (rw c.code-in-Err-prove.ensures at refused)) c.refuse-in-Err-prove.ensures.refusal
 
 pub returns-in-Err-prove-clause-lacking : goal.returns-in-Err-prove-clause-lacking
 returns-in-Err-prove-clause-lacking g c =
-    let prover = g.A.ProofRuled.rules c.args.asked.now in
+    let prover = g.A.ProofRuled.rules c.args.prover.now in
+    let fits = g.met.A.Prover.fits c.args.prover.now in
     IfErr-weaker c.refuse-in-Err-prove.result (λ fault. (lacking : NoReport) × (fault ≡ Memory lacking)) (HasNoReply prover (within c.args.number) c.args.bytes.now)
     (λ fault lacks. report_lacks prover (within c.args.number) c.args.bytes.now fault lacks) c.refuse-in-Err-prove.ensures.lacking
 
 pub returns-in-Err-certify-clause-lacking : goal.returns-in-Err-certify-clause-lacking
 returns-in-Err-certify-clause-lacking g c =
-    let prover = g.A.ProofRuled.rules c.args.asked.now in
+    let prover = g.A.ProofRuled.rules c.args.prover.now in
+    let fits = g.met.A.Prover.fits c.args.prover.now in
     let entry = c.in-Ok.entry in
-    let named = subst (λ (grid : Grid). IsEntry grid c.args.bytes.now entry.id.now entry.board) (sym c.requires.rules.grid) (rw c.shape.ensures at c.in-Ok.ensures.entry) in
-    (refl, (entry.id.now, entry.board, c.in-Ok-prove.outcome, named, c.in-Ok-prove.ensures.allowed, c.in-Err-certify.ensures.lacking))
+    let named = subst (λ (grid : Grid). IsEntry grid c.args.bytes.now entry.id.now entry.board) (sym fits.grid) (rw (c.shape.ensures, c.setup-setup.ensures) at c.in-Ok.ensures.entry) in
+    (refl, (entry.id.now, entry.board, c.in-Ok-prove.outcome, named, c.in-Ok-prove.ensures, c.in-Err-certify.ensures.lacking))
 
 pub returns-in-Certificate-clause-reply : goal.returns-in-Certificate-clause-reply
 returns-in-Certificate-clause-reply g c =
-    let prover = g.A.ProofRuled.rules c.args.asked.now in
+    let prover = g.A.ProofRuled.rules c.args.prover.now in
+    let fits = g.met.A.Prover.fits c.args.prover.now in
     let entry = c.in-Ok.entry in
-    let named = subst (λ (grid : Grid). IsEntry grid c.args.bytes.now entry.id.now entry.board) (sym c.requires.rules.grid) (rw c.shape.ensures at c.in-Ok.ensures.entry) in
-    let made = rw c.in-Certificate.is at c.in-Ok-certify.ensures.made in
-    (refl, (entry.id.now, entry.board, c.in-Ok-prove.outcome, named, c.in-Ok-prove.ensures.allowed, made.0, made.1, subst (λ (task : Position → Task). IsCertificateOf c.args.setup.now.tables.split (task entry.board) c.in-Certificate.certificate) (sym c.requires.rules.task) made.2))
+    let named = subst (λ (grid : Grid). IsEntry grid c.args.bytes.now entry.id.now entry.board) (sym fits.grid) (rw (c.shape.ensures, c.setup-setup.ensures) at c.in-Ok.ensures.entry) in
+    let made = rw (c.in-Certificate.is, c.setup-setup.ensures) at c.in-Ok-certify.ensures.made in
+    (refl, (entry.id.now, entry.board, c.in-Ok-prove.outcome, named, c.in-Ok-prove.ensures, made.0, made.1, subst (λ (task : Position → Task). IsCertificateOf (g.A.Prover.setup c.args.prover.now).tables.split (task entry.board) c.in-Certificate.certificate) (sym fits.task) made.2))
 
 pub returns-in-Ok-outcome_report : goal.returns-in-Ok-outcome_report
 returns-in-Ok-outcome_report g c =
-    let prover = g.A.ProofRuled.rules c.args.asked.now in
+    let prover = g.A.ProofRuled.rules c.args.prover.now in
+    let fits = g.met.A.Prover.fits c.args.prover.now in
     let entry = c.in-Ok.entry in
     let ending = c.in-Plain.ending in
-    let named = subst (λ (grid : Grid). IsEntry grid c.args.bytes.now entry.id.now entry.board) (sym c.requires.rules.grid) (rw c.shape.ensures at c.in-Ok.ensures.entry) in
+    let named = subst (λ (grid : Grid). IsEntry grid c.args.bytes.now entry.id.now entry.board) (sym fits.grid) (rw (c.shape.ensures, c.setup-setup.ensures) at c.in-Ok.ensures.entry) in
     let made = rw c.in-Plain.is at c.in-Ok-certify.ensures.made in
-    let allowed : MayReport prover entry.board (Some ending) = (c.in-Ok-prove.outcome, c.in-Ok-prove.ensures.allowed, sym made.0, made.1) in
+    let allowed : MayReport prover entry.board (Some ending) = (c.in-Ok-prove.outcome, c.in-Ok-prove.ensures, sym made.0, made.1) in
     record {
       reply = reported_entry prover c.args.number c.args.bytes.now entry.id.now (string_bytes c.in-Ok-outcome_report.text) entry.board ending c.status_of.result named allowed c.in-Ok-outcome_report.ensures.small made.2 c.in-Ok-outcome_report.ensures.text c.status_of.ensures;
       lacking = tt;

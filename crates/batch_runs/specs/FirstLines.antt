@@ -26,10 +26,22 @@ pub record FindsFirst (source : Change SourceState) (passed : List (List ℕ)) (
   pub here : ¬ IsPassedOver line
   pub few : length passed + 1 < 2 ^ 64
 
--- the first line that isn't passed over is found, with its number, and its bytes are kept where they are to be read; or there is none; or a line is lost
+-- every line is passed over
+abbrev pub PassesAll : Change SourceState → Type 0
+PassesAll source = (lines : List (List ℕ)) × AreAll source.before.left lines × All IsPassedOver lines
+
+-- the lines that were read whole are passed over, and the next one is lost
+abbrev pub LosesFirst : Change SourceState → Type 0
+LosesFirst source = (lines : List (List ℕ)) × LosesLine source lines × All IsPassedOver lines
+
+-- the first line that isn't passed over is found, with its number, and its bytes are kept where they are to be read; or there is none; or it is lost
 abbrev pub FindsLine : Change SourceState → Reading → Result (Option Line) ReadFailed → Type 0
-FindsLine source reader (Ok None) = IsReadable source × ((lines : List (List ℕ)) × AreAll source.before.left lines × All IsPassedOver lines)
+FindsLine source reader (Ok None) = IsReadable source × PassesAll source
 FindsLine source reader (Ok (Some line)) =
     IsReadable source
     × ((passed : List (List ℕ)) × (bytes : List ℕ) × FindsFirst source passed bytes × HasRead source reader (passed ++ bytes ∷ []) × IsJudged bytes line.kind reader.kept × (line.number ≡ length passed + 1))
-FindsLine source reader (Err failure) = (lines : List (List ℕ)) × LosesLine source lines × All IsPassedOver lines
+FindsLine source reader (Err failure) = LosesFirst source
+
+-- some bytes are taken, from the front, and the search ends so
+abbrev pub SeeksFirst : Change SourceState → Reading → Result (Option Line) ReadFailed → Type 0
+SeeksFirst source reader result = TakesSome source × FindsLine source reader result

@@ -2,18 +2,19 @@
 
 ghost use Rattle.std.specs.Prelude.{◌≡◌, []};
 ghost use Rattle.byte_streams.specs.Streams.{change};
-ghost use Rattle.replay_runs.specs.Lines.{FindsLine};
+ghost use Rattle.batch_runs.specs.FirstLines.{SeeksFirst};
 
 use batch_lines::{Line, LineKind, LineReader};
 use byte_streams::{ReadFailed, Source};
 
-/// The next line that isn't passed over.
-pub(crate) fn find_line<S: Source>(
+/// Reads up to the first line that isn't passed over, and nothing behind it. The reader keeps its
+/// bytes where it is to be read. There is none where all lines are passed over.
+pub fn find_line<S: Source>(
     source: &mut S,
     reader: &mut LineReader,
 ) -> Result<Option<Line>, ReadFailed>
     requires { reader.old ≡ record { lines = 0; taken = 0; kept = [] } }
-    ensures { FindsLine (change S.state source.old source.new) reader.new result }
+    ensures { SeeksFirst (change S.state source.old source.new) reader.new result }
 {
     'lines: loop {
         let next = match reader.next_line(source) {

@@ -1,0 +1,25 @@
+use Rattle.std.proofs.Common.{refl}
+use Rattle.std.specs.Prelude.{codes}
+use Rattle.batch_lines.specs.Words.{entry_code}
+use Rattle.batch_runs.specs.Batches.Answer.{refused, answered}
+use Rattle.batch_runs.specs.Batches.AnswersEntry.{by_fault, by_outcome, by_want}
+use Rattle.batch_runs.proofs.answering.Answerer.answer_line.Goals as goal
+
+pub returns-in-Err-clause-report : goal.returns-in-Err-clause-report
+returns-in-Err-clause-report g c =
+    let fault = c.in-Err.fault in
+    let first = rw (c.shape.ensures, c.self.view_is) at (c.in-Err.ensures.fault fault).0 refl in
+    (refused (entry_code fault), by_fault fault first, rw c.code.ensures at c.in_ok-text-in-Err.ensures, c.with_refused.ensures)
+
+pub returns-in-Err-end_board-clause-report : goal.returns-in-Err-end_board-clause-report
+returns-in-Err-end_board-clause-report g c =
+    let entry = c.in-Ok.entry in
+    let named = rw (c.shape.ensures, c.self.view_is) at c.in-Ok.ensures.entry in
+    (refused (codes "V3"), by_want entry.id.now entry.board named c.in-Err-end_board.ensures.lacking, rw c.code-code.ensures at c.in_ok-text-in-Err-end_board.ensures, c.with_refused-in-Err-end_board.ensures)
+
+pub returns-clause-report : goal.returns-clause-report
+returns-clause-report g c =
+    let entry = c.in-Ok.entry in
+    let named = rw (c.shape.ensures, c.self.view_is) at c.in-Ok.ensures.entry in
+    let ending = c.in-Ok-end_board.ending in
+    (answered entry.id.now ending, by_outcome entry.id.now entry.board ending named c.in-Ok-end_board.ensures.answered c.in_ok-text.ensures.small, c.in_ok-text.ensures.text, c.with_outcome.ensures)

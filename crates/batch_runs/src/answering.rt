@@ -1,0 +1,169 @@
+//! Who answers boards, and what is answered of each line.
+
+ghost use Rattle.std.specs.Prelude.{◌≡◌, ◌≢◌, IfOk, IfSome, OnErr, Some, None, string_bytes};
+ghost use Rattle.batch_lines.specs.declared.lines.LineKind.TheVariants.{PassedOver};
+ghost use Rattle.batch_runs.specs.Batches.{Rules, Answer, AnswersKind, AnswersEntry};
+ghost use Rattle.batch_runs.specs.Batches.{HasRoom, MayGive, AreAllowed};
+ghost use Rattle.batch_runs.specs.Batches.{answer_text, with_answer};
+
+use crate::batch::Summary;
+use batch_lines::{EntryFault, Line, LineKind, read_entry};
+use board::{Board, Shape};
+use memory::OutOfMemory;
+use outcomes::{Ending, SolveFault};
+use reports::{NoReport, outcome_report, refused_report};
+use std::alloc::Global;
+use std::marker::Model;
+
+/// What says how boards are answered.
+pub trait Ruled {
+    // The shape of the boards, what is asked of a board, and what it may be answered by.
+    ghost rules: { Self → Rules };
+}
+
+/// Who answers boards, as the rules allow.
+pub trait Solver: Ruled {
+    // What each call takes for granted: of a solver of closures, what these take and answer.
+    ghost is_callable: { Self → Type 0 };
+
+    /// The shape of the boards.
+    fn shape(&self) -> Shape
+        ensures { result ≡ (Self.rules self.now).grid };
+
+    /// The ending of a board. The error tells a want of memory before the first step.
+    fn solve(&self, start: &Board) -> Result<Ending, OutOfMemory>
+        requires callable { is_callable self.now }
+        requires grid { start.now.grid ≡ (Self.rules self.now).grid }
+        ensures { MayGive (Self.rules self.now) start.now result };
+
+    /// Boards with their endings, the first one last: this board, and boards of the lines among the
+    /// bytes that the source holds behind its line. There may be none.
+    fn solve_ahead(&self, start: &Board, held: &[u8]) -> Vec<(Board, Ending)>
+        requires callable { is_callable self.now }
+        requires grid { start.now.grid ≡ (Self.rules self.now).grid }
+        ensures { AreAllowed (Self.rules self.now) result.items };
+}
+
+/// A solver, and the endings that are ready: of boards whose lines are not taken yet, the first one
+/// last.
+#[derive(Drop)]
+pub(crate) struct Answerer<'a, A: Solver> {
+    alloc: Global,
+    solver: &'a A,
+    ready: Vec<(Board, Ending)>,
+}
+
+// A clause sees the solver: it may be called, and allows what is ready.
+impl<'a, A: Solver> Model for Answerer<'a, A> {
+    ghost Value = { A };
+
+    ghost view = { λ answerer. answerer.solver.now };
+
+    ghost invariant = { λ answerer. A.is_callable answerer.solver.now
+        × AreAllowed (A.rules answerer.solver.now) answerer.ready.items };
+}
+
+impl<'a, A: Solver> Answerer<'a, A> {
+    /// An answerer for which nothing is ready.
+    pub(crate) fn new(alloc: Global, solver: &'a A) -> Self
+        requires { A.is_callable solver.now }
+        ensures { result ≡ solver.now }
+    {
+        Answerer {
+            alloc,
+            solver,
+            ready: Vec::new(alloc),
+        }
+    }
+
+    /// What is written for a line that isn't passed over, and the counts after it. Its bytes are given
+    /// where it is to be read, and those that the source holds behind it.
+    pub(crate) fn report_line(
+        &mut self,
+        line: Line,
+        bytes: &[u8],
+        held: &[u8],
+        summary: Summary,
+    ) -> Result<(String, Summary), NoReport>
+        requires room { HasRoom summary }
+        requires kind { line.kind ≢ PassedOver }
+        ensures same { self.new ≡ self.old }
+        ensures report { IfOk result (λ report. (answer : Answer)
+            × AnswersKind (A.rules self.old) line.kind bytes.now answer
+            × (string_bytes report.0 ≡ answer_text line.number answer)
+            × (report.1 ≡ with_answer summary answer)) }
+    {
+        let LineKind::Within = line.kind else {
+            let text = refused_report(self.alloc, EntryFault::NoText.code(), line.number)?;
+            return Ok((text, summary.with_refused()));
+        };
+        self.answer_line(line.number, bytes, held, summary)
+    }
+
+    // What is written for a line that is to be read, and the counts after it.
+    fn answer_line(
+        &mut self,
+        number: u64,
+        bytes: &[u8],
+        held: &[u8],
+        summary: Summary,
+    ) -> Result<(String, Summary), NoReport>
+        requires { HasRoom summary }
+        ensures same { self.new ≡ self.old }
+        ensures report { IfOk result (λ report. (answer : Answer)
+            × AnswersEntry (A.rules self.old) bytes.now answer
+            × (string_bytes report.0 ≡ answer_text number answer)
+            × (report.1 ≡ with_answer summary answer)) }
+    {
+        let entry = match read_entry(self.solver.shape(), bytes) {
+            Ok(entry) => entry,
+            Err(fault) => {
+                let text = refused_report(self.alloc, fault.code(), number)?;
+                return Ok((text, summary.with_refused()));
+            }
+        };
+        let ending = match self.end_board(&entry.board, held) {
+            Ok(ending) => ending,
+            Err(refused) => {
+                let code = SolveFault::Memory(refused).code();
+                let text = refused_report(self.alloc, code, number)?;
+                return Ok((text, summary.with_refused()));
+            }
+        };
+        let text = outcome_report(self.alloc, entry.id, &ending)?;
+        Ok((text, summary.with_outcome(&ending)))
+    }
+
+    // What is answered of a board: what is ready, or what the solver says. Where nothing is ready, it
+    // and boards behind it may be solved now.
+    fn end_board(&mut self, start: &Board, held: &[u8]) -> Result<Ending, OutOfMemory>
+        requires { start.now.grid ≡ (A.rules self.old).grid }
+        ensures same { self.new ≡ self.old }
+        ensures answered { IfOk result (λ ending. (A.rules self.old).allows start.now (Some ending)) }
+        ensures lacking { OnErr result ((A.rules self.old).allows start.now None) }
+    {
+        if self.ready.is_empty() {
+            self.ready = self.solver.solve_ahead(start, held);
+        }
+        if let Some(ending) = self.take_ready(start) {
+            return Ok(ending);
+        }
+        self.solver.solve(start)
+    }
+
+    // The ending that is ready next, if it is this board's. Else it is given up: the board that it is
+    // of is solved again.
+    fn take_ready(&mut self, start: &Board) -> Option<Ending>
+        ensures same { self.new ≡ self.old }
+        ensures answered { IfSome result
+            (λ ending. (A.rules self.old).allows start.now (Some ending)) }
+    {
+        let Some(next) = self.ready.pop() else {
+            return None;
+        };
+        if next.0 == *start {
+            return Some(next.1);
+        }
+        None
+    }
+}
