@@ -39,7 +39,7 @@ pub record ArePlaces (g : Selection) (none : ℕ) (entries : List ℕ) : Type 0 
   pub size : length entries ≡ sparse_size_of g
   pub others : (sparse entry : ℕ) → HasNoView g sparse → slice_get entries sparse ≡ Some entry → entry ≡ none
 
--- there is an entry for each sparse place where they are not too many, else one for each value; it is a word only where some value needs one
+-- Entries are by sparse place where these are not too many, else by place. Those by sparse place are words only where some value needs one.
 abbrev pub HasLeast : Selection → Entries → Type 0
 HasLeast g (Ranked least) = (most_places g < sparse_size_of g) × (length least.items ≡ folded_size_of g)
 HasLeast g (Bytes bytes) = ArePlaces g 255 bytes.items

@@ -12,7 +12,7 @@ use Rattle.database_build.specs.declared.edges.Edge.{Edge}
 use Rattle.database_build.specs.declared.edges.Edges.{Edges}
 use Rattle.database_build.specs.declared.regions.Regions.{Regions}
 
--- what is kept for the orders of `count` tiles before one: the tile at each position, and the order after two are exchanged
+-- what is kept for the orders below `made`: the tile at each position, and the order after the tiles at two neighbouring positions are exchanged
 pub record HasPassesTo (count made : ℕ) (o : Orders) : Type 0 where
   pub number : o.count ≡ count
   pub some : 0 < count
@@ -23,7 +23,7 @@ pub record HasPassesTo (count made : ℕ) (o : Orders) : Type 0 where
   pub passes_length : length o.passes.items ≡ made * (count - 1)
   pub passes : (order position : ℕ) → order < made → suc position < count → slice_index o.passes.items (order * (count - 1) + position) ≡ order_of (map (exchanged position) (positions_at count order))
 
--- that for all orders
+-- the same for all orders
 abbrev pub HasPasses : ℕ → Orders → Type 0
 HasPasses count = HasPassesTo count (factorial count)
 

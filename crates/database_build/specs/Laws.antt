@@ -66,7 +66,7 @@ FoldedValuesAreDetermined = (table : Lookup) (v : Sight) (n k : ℕ) → IsFolde
 abbrev pub PlacesAreFew : Type 0
 PlacesAreFew = (g : Selection) → most_places g ≡ min (16 ^ 6) (4 * folded_size_of g)
 
--- the form in which values are kept best is determined: by rank, as bytes, or as words
+-- the values, and whether their places fit the limit, determine the form in which they are kept best
 abbrev pub FormsAreDetermined : Type 0
 FormsAreDetermined =
     (size limit : ℕ) (values : List ℕ) (one other : Entries)

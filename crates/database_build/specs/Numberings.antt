@@ -41,7 +41,7 @@ pub record AreNumberedTo (grid : Grid) (count : ℕ) (cells labels numbers : Lis
   pub are_homes : (region : ℕ) (home : Home) → slice_get homes region ≡ Some home → IsHome grid count numbers region home
   pub few : length homes + below cell cells ≤ set * (cell_count grid - count) + cell
 
--- these regions are of all sets of `count` cells of a grid, of which those below one are numbered
+-- the regions of the sets of `count` cells below one are numbered, and there are no more views than a group may have
 pub record AreBegun (grid : Grid) (count set : ℕ) (r : Regions) : Type 0 where
   pub shape : r.shape ≡ grid
   pub tiles : r.count ≡ count
@@ -51,13 +51,14 @@ pub record AreBegun (grid : Grid) (count set : ℕ) (r : Regions) : Type 0 where
   pub small : ways (cell_count grid) (suc count) ≤ MAX_SIZE
   pub numbered : AreNumbered grid count r.numbers.items r.homes.items set
 
--- both are of the sets of as many cells of one grid
+-- both have the same grid, count and choices
 pub record AreOfSameSets (r r' : Regions) : Type 0 where
   pub shape : r'.shape ≡ r.shape
   pub count : r'.count ≡ r.count
   pub choices : r'.choices ≡ r.choices
 
--- the cells of a set, in rising order, and the labels of free ones; sets are few enough to be numbered
+-- The cells of a set in rising order, and the labels of free cells. The set's number fits 32 bits, and the regions of the sets below it
+-- are at most `MAX_SIZE`.
 pub record IsLabelled (grid : Grid) (set : ℕ) (cells labels : List ℕ) : Type 0 where
   pub listing : IsListing (cell_count grid) cells
   pub cells_are : cells ≡ set_at (cell_count grid) (length cells) set

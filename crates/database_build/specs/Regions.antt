@@ -57,7 +57,7 @@ pub record IsRegions (grid : Grid) (count : ℕ) (r : Regions) : Type 0 where
   pub choices : IsChoices r.choices
   pub regions : HasRegions r
 
--- regions of which there are no more views than a group may have
+-- the regions of a group, which has at most `MAX_SIZE` views
 pub record AreGroupRegions (r : Regions) : Type 0 where
   pub regions : IsRegions r.shape r.count r
   pub small : ways (cell_count r.shape) (suc r.count) ≤ MAX_SIZE
@@ -78,7 +78,7 @@ pub record IsCrossing (grid : Grid) (cells : List ℕ) (m : Move) (from to : ℕ
   pub tile : Contains cells from
   pub towards : LiesTowards grid m to from
 
--- both positions of the edge are those of some of `count` tiles
+-- both positions of the edge are below `count`
 pub record HasPositions (count : ℕ) (e : Edge) : Type 0 where
   pub from : e.from < count
   pub to : e.to < count

@@ -66,8 +66,8 @@ impl Search {
         Ok(())
     }
 
-    // Lowers the node to which an edge leads from one of this order, where its value is more. (Most
-    // are passed over, so the test stands here.)
+    // Lowers the node to which an edge leads from one of this order, if its value is more. Most edges
+    // lower nothing, so the value is compared before the call.
     fn pass(&mut self, edge: &Edge, order: usize, cost: usize) -> Result<(), OutOfMemory>
         requires fits { IsFit self.old }
         requires order { order < factorial self.old.graph.regions.count }

@@ -8,7 +8,7 @@ use std::alloc::Global;
 use std::io::ErrorKind;
 use test_support::{FailingReader, FailingWriter};
 
-// What is answered where so many reads succeed.
+// What is answered if this many reads succeed.
 fn fault_after(alloc: Global, bytes: &[u8], reads_before: usize) -> Option<ReadFault> {
     let mut source = ByteSource::new(FailingReader {
         bytes,
@@ -34,8 +34,8 @@ fn each_read_fails_in_turn(rt: HostRuntime) {
     }
 }
 
-// Whether so many bytes are written, each by a write, where so many writes succeed.
-fn is_cut_off(alloc: Global, certificate: &Certificate, writes_before: usize) -> bool {
+// Whether as many bytes are written as writes succeed, each by one write.
+fn takes_as_many(alloc: Global, certificate: &Certificate, writes_before: usize) -> bool {
     let writer = FailingWriter::new(alloc, writes_before, Some(ErrorKind::Other));
     let mut sink = ByteSink::new(writer);
     let answer = write(&mut sink, certificate);
@@ -48,7 +48,7 @@ fn each_write_fails_in_turn(rt: HostRuntime) {
     let certificate = certificate_of(&rt, &ONE_MOVE);
     for writes_before in 0..=ONE_MOVE.len() {
         assert!(rt;
-            is_cut_off(rt.alloc(), &certificate, writes_before),
+            takes_as_many(rt.alloc(), &certificate, writes_before),
             "{writes_before}"
         );
     }

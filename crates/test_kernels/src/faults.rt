@@ -115,7 +115,7 @@ fn groups_of(rt: &(impl Abort + AllocGlobal), shape: Shape, lists: &[&[u8]]) -> 
     groups
 }
 
-// So many values.
+// This many zeros.
 fn zeros(rt: &(impl Abort + AllocGlobal), count: usize) -> Vec<u16> {
     let mut values = Vec::new(rt.alloc());
     for _ in 0..count {

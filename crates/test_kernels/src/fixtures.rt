@@ -6,7 +6,7 @@ use board::{Board, Shape};
 use pattern_index::{Group, Partition};
 use std::process::Abort;
 
-/// A shape of so many rows and columns.
+/// A shape of these rows and columns.
 pub fn shape_of(rt: &impl Abort, rows: u8, cols: u8) -> Shape {
     Shape::new(rows, cols).expect(rt, "a shape")
 }

@@ -13,7 +13,7 @@ const TILES: [u8; 24] = [
 
 // The group of the first tiles of a shape.
 fn first_tiles(rt: &impl Abort, rows: u8, cols: u8, count: usize) -> Group {
-    let tiles = TILES.get(..count).expect(rt, "so many tiles");
+    let tiles = TILES.get(..count).expect(rt, "this many tiles");
     group_of(rt, shape_of(rt, rows, cols), tiles)
 }
 
