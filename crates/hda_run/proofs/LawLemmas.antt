@@ -1,27 +1,34 @@
 -- The laws of runs by one worker, and what a reader may believe of an outcome.
-use Rattle.std.proofs.Common.{◌≡◌, ◌≢◌, ℕ, List, ◌++◌, subst, Option, Some, None, ◌⊎◌, [], ◌∷◌, length, map, get_or, refl, sym, ap, inl, inr, arith}
+use Rattle.std.proofs.Common.{Bool, true, false, ◌+◌, Result, Ok, Err, IfOk, ◌↔◌, ◌≡◌, ◌≢◌, ℕ, List, ◌++◌, subst, Option, Some, None, ◌⊎◌, [], ◌∷◌, length, map, get_or, refl, sym, ap, inl, inr, arith}
 use Rattle.std.specs.Prelude.{Vec, Contains}
 use Rattle.std.specs.declared.alloc.Global.{Global}
 use Rattle.std.proofs.lemmas.List.Elements.{All-contains, Contains-append_cases, Contains-append_right}
 use Rattle.board.specs.declared.moves.Move.{Move}
-use Rattle.board.specs.Positions.{Position}
+use Rattle.board.specs.Positions.{Position, blank_of}
 use Rattle.board.specs.Rows.{IsLowerBound}
 use Rattle.outcomes.specs.declared.outcome.Cause.{Cause}
-use Rattle.outcomes.specs.declared.outcome.Cause.TheVariants.{Cut, Start, Limit as ForLimit}
+use Rattle.outcomes.specs.declared.outcome.Cause.TheVariants.{Cut, Start, Memory, Limit as ForLimit}
+use Rattle.outcomes.specs.declared.outcome.Want.TheVariants.{Stated, Refused}
+use Rattle.memory.specs.declared.OutOfMemory.{OutOfMemory}
+use Rattle.board.specs.Classes.{SameClass, inversions, taxicab}
+use Rattle.std.specs.Bool.{Decides}
+use Rattle.std.specs.Prelude.{IsTrue, ◌%◌, ◌==◌}
+use Rattle.std.proofs.lemmas.Bool.Decides.{Decides-eqb, not_from_Decides}
+use Rattle.outcomes.specs.declared.outcome.Why.TheVariants.{Parity}
+use Rattle.board.specs.Laws.{PlansKeepTheClass}
 use Rattle.outcomes.specs.declared.outcome.Outcome.{Outcome}
 use Rattle.outcomes.specs.declared.outcome.Outcome.TheVariants as outcomes
 use Rattle.outcomes.specs.declared.outcome.Ending.{Ending}
 use Rattle.outcomes.specs.declared.outcome.Ending.TheVariants as endings
 use Rattle.outcomes.specs.declared.outcome.Outcome.TheVariants.{Optimal, Unsolvable, Bounded}
-use Rattle.outcomes.specs.Outcomes.{Answers, IsBestPlan, best_of}
+use Rattle.outcomes.specs.Outcomes.{Task, Answers, IsBestPlan, best_of}
 use Rattle.world_model.specs.declared.steps.Stop.{Stop}
 use Rattle.world_model.specs.declared.steps.Stop.TheVariants as stop_kinds
 use Rattle.world_model.specs.Openings.{Job, IsJob, opening}
 use Rattle.world_model.specs.Outcomes.{IsGiven, IsBounded}
-use Rattle.world_model.specs.Shapes.{IsShaped}
 use Rattle.world_model.specs.Soundness.{IsSound}
 use Rattle.world_model.specs.Worlds.{WorldState}
-use Rattle.world_model.proofs.KeptLemmas.{runs_kept, bounds_given, kept_never_cut, causes_stop}
+use Rattle.world_model.proofs.KeptLemmas.{runs_kept, kept_never_cut, causes_stop, memory_bounded}
 use Rattle.world_model.specs.declared.steps.HaltCause.{HaltCause}
 use Rattle.world_model.specs.declared.steps.Refusal.{Refusal}
 use Rattle.world_model.specs.declared.steps.Step.{Step}
@@ -29,8 +36,9 @@ use Rattle.world_model.specs.declared.steps.Step.TheVariants.{Rest, Halt}
 use Rattle.world_model.specs.Steps.{IsRun, Next}
 use Rattle.world_model.specs.Turns.{turn}
 use Rattle.world_model.proofs.ChangeLemmas.{cons_cases, none_in_empty}
-use Rattle.world_ends.specs.Endings.{EndsIn}
-use Rattle.world_ends.proofs.PartLemmas.{ends_bounded}
+use Rattle.world_model.specs.Shapes.{IsShaped, IsTask}
+use Rattle.world_ends.specs.Readings.{HasBoundOf, IsForParity}
+use Rattle.hda_run.specs.WholeRuns.{IsOfWholeRun, EndsWholeRun, HasWholeRun}
 use Rattle.hda_run.specs.Alone.{AreLast, IsRunAlone, HaltsNowhere, IsHalt}
 use Rattle.hda_run.specs.Headline.{TellsTruth, IsTrueOfBest}
 use Rattle.hda_run.specs.Problems.{Problem, task_in}
@@ -47,17 +55,82 @@ has_stopped last (Some stop_kinds.Limit) ends = ((λ e. absurd (cc)), (λ e. abs
 has_stopped last (Some (stop_kinds.Memory want)) ends = ((λ e. absurd (cc)), (λ e. absurd (cc)))
 has_stopped last (Some stop_kinds.Start) ends = absurd ends
 
+-- no list of steps stopped it
+no_list : (last : List Made) (stop : Option Stop) → AreLast last stop → stop ≢ Some (stop_kinds.Memory Stated)
+no_list last None ends = absurd ends
+no_list last (Some stop_kinds.Quiet) ends = λ e. absurd (cc)
+no_list last (Some stop_kinds.Limit) ends = λ e. absurd (cc)
+no_list last (Some (stop_kinds.Memory want)) ends = λ e. let is = ends.1 in absurd (cc)
+no_list last (Some stop_kinds.Start) ends = absurd ends
+
+-- a want of memory is stated only where a list of steps stopped the run for it
+pub never_stated : (w : WorldState) → w.book.stop ≢ Some (stop_kinds.Memory Stated) → (bound : ℕ) (best : Option (ℕ × Vec Move Global)) (cause : Cause) → IsBounded w bound best cause → cause ≢ Memory Stated
+never_stated w stop bound best cause given is = split (memory_bounded w bound best Stated (subst (IsBounded w bound best) is given))
+  where
+    split : (w.book.stop ≡ Some (stop_kinds.Memory Stated)) ⊎ ((best ≡ None) × ((refused : OutOfMemory) × (Stated ≡ Refused refused))) → ⊥
+    split (inl by) = stop by
+    split (inr lacks) = absurd (cc (lacks.1.1))
+
 module _ (job : Job) (w : WorldState) (is : IsJob job) (run : IsRunAlone job w) (shaped : IsShaped w) (sound : IsSound w) (lower : IsLowerBound w.task.rule w.task.sum w.task.goal) where
   never_cut : (bound : ℕ) (best : Option (ℕ × Vec Move Global)) (cause : Cause) → IsBounded w bound best cause → (cause ≢ Cut) × (cause ≢ Start)
   never_cut bound best cause given =
       let stopped = has_stopped run.last w.book.stop run.ends in
       kept_never_cut w bound best cause shaped sound (runs_kept job run.via (run.first ++ run.last) w is run.run stopped.0 stopped.1) lower given
 
-  pub outcome_kept : (outcome : Outcome) → IsGiven w outcome → (bound : ℕ) (best : Option (ℕ × Vec Move Global)) (cause : Cause) (rows : Option (Vec (Position × ℕ) Global)) → outcome ≡ outcomes.Bounded bound best cause rows → (cause ≢ Cut) × (cause ≢ Start)
-  outcome_kept outcome given bound best cause rows e = never_cut bound best cause (bounds_given w bound best cause rows (subst (IsGiven w) e given))
+  -- a bound that the world has is that of a whole run
+  pub found_whole : (ending : Ending) → HasBoundOf w ending → EndsWholeRun ending
+  found_whole (endings.Optimal cost plan) has = tt
+  found_whole (endings.Unsolvable why) has = tt
+  found_whole (endings.Bounded bound best cause) has =
+      let never = never_cut bound best cause has in
+      (never.0, never.1, never_stated w (no_list run.last w.book.stop run.ends) bound best cause has)
 
-  pub ending_kept : (ending : Ending) → EndsIn w ending → (bound : ℕ) (best : Option (ℕ × Vec Move Global)) (cause : Cause) → ending ≡ endings.Bounded bound best cause → (cause ≢ Cut) × (cause ≢ Start)
-  ending_kept ending given bound best cause e = never_cut bound best cause (ends_bounded w bound best cause (subst (EndsIn w) e given))
+-- a bound that the outcome names was not cut
+abbrev pub IsUncut : Outcome → Type 0
+IsUncut outcome = (bound : ℕ) (best : Option (ℕ × Vec Move Global)) (cause : Cause) (rows : Option (Vec (Position × ℕ) Global)) → outcome ≡ outcomes.Bounded bound best cause rows → (cause ≢ Cut) × (cause ≢ Start)
+
+-- none of a whole run was
+pub outcome_kept : (result : Result Outcome OutOfMemory) → IfOk result HasWholeRun → IfOk result IsUncut
+outcome_kept (Ok outcome) whole = λ bound best cause rows is. let kept : IsOfWholeRun cause = subst HasWholeRun is whole in (kept.0, kept.1)
+outcome_kept (Err refused) whole = whole
+
+-- ---- the answer for a start of another class
+
+decided : {P : Type 0} (r : Bool) → Decides r P → P ⊎ (¬ P)
+decided true decides = inl (decides.0 refl)
+decided false decides = inr (not_from_Decides false decides refl)
+
+-- two boards are of one class, or they are not
+pub one_class : (b q : Position) → SameClass b q ⊎ (¬ SameClass b q)
+one_class b q =
+    let left = (inversions b.tiles + inversions q.tiles) % 2 in
+    let right = taxicab b.grid (blank_of b) (blank_of q) % 2 in
+    decided (left == right) (Decides-eqb left right)
+
+-- those that are not told apart are of one
+pub not_apart : (b q : Position) (apart : Bool) → (IsTrue apart ↔ (¬ SameClass b q)) → apart ≡ false → SameClass b q
+not_apart b q apart tells same = by_class (one_class b q)
+  where
+    by_class : SameClass b q ⊎ (¬ SameClass b q) → SameClass b q
+    by_class (inl together) = together
+    by_class (inr other) = absurd (let yes : IsTrue false = subst IsTrue same (tells.1 other) in cc)
+
+-- it is no bound
+pub parity_whole : {X : Type 0} (end : X → Ending) (parity answer : X) → end parity ≡ endings.Unsolvable Parity → answer ≡ parity → EndsWholeRun (end answer)
+parity_whole end parity answer is same = subst (λ (it : _). EndsWholeRun (end it)) (sym same) (subst EndsWholeRun (sym is) tt)
+
+module _ {X : Type 0} (answers : Task → X → Type 0) (parity : X) (for_parity : IsForParity answers parity) (task : Task) where
+  -- it isn't given for a start of the goal's class
+  pub parity_differs : SameClass task.start task.goal → (result : Result X OutOfMemory) → IfOk result (answers task) → (result ≡ Ok parity) ↔ (¬ SameClass task.start task.goal)
+  parity_differs together result answered = (
+    λ is. absurd (((for_parity task).0 (subst (λ (r : Result X OutOfMemory). IfOk r (answers task)) is answered)).1 together),
+    λ other. absurd (other together),
+  )
+
+  -- and it answers each other one
+  pub parity_answers : PlansKeepTheClass → IsTask task → ¬ SameClass task.start task.goal → (answer : X) → answer ≡ parity → answers task answer
+  parity_answers plans is other answer same =
+      subst (answers task) (sym same) ((for_parity task).1 ((λ plan cost leads. other (plans task.rule task.start plan task.goal cost is.start leads)), other))
 
 -- ---- an outcome that answers a task tells the truth
 

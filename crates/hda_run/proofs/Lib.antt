@@ -2,4 +2,4 @@
 mod PartsLemmas
 mod AloneLemmas
 mod LowestLemmas
-mod LawLemmas
+pub mod LawLemmas

@@ -17,8 +17,6 @@ use Rattle.world_model.specs.Openings.{Job, opening}
 use Rattle.world_model.specs.Outcomes.{IsGiven}
 use Rattle.world_model.specs.Steps.{IsRun}
 use Rattle.world_model.specs.Worlds.{WorldState}
-use Rattle.outcomes.specs.declared.outcome.Ending.{Ending}
-use Rattle.world_ends.specs.Endings.{EndsIn}
 use Rattle.hda_run.specs.Problems.{Problem}
 use Rattle.hda_run.specs.Worlds.{job_of}
 
@@ -60,10 +58,10 @@ pub record IsRunAlone (job : Job) (w : WorldState) : Type 0 where
   pub within_limit : expansion_count w ≤ job.limit
   pub spent : w.book.stop ≡ Some stops.Limit → expansion_count w ≡ job.limit
 
--- the outcome is that of such a run by one worker
-abbrev pub IsByOne : {S : Type 0} → (S → Position → ℕ) → Problem → S → Outcome → Type 0
-IsByOne hash_of p owners outcome = (w : WorldState) × IsRunAlone (job_of hash_of p owners 1) w × IsGiven w outcome
+-- the answer is one that the world of such a run by one worker gives
+abbrev pub IsFoundAlone : {S X : Type 0} → (WorldState → X → Type 0) → (S → Position → ℕ) → Problem → S → X → Type 0
+IsFoundAlone gives hash_of p owners answer = (w : WorldState) × IsRunAlone (job_of hash_of p owners 1) w × gives w answer
 
--- such a run by one worker ends so
-abbrev pub EndsByOne : {S : Type 0} → (S → Position → ℕ) → Problem → S → Ending → Type 0
-EndsByOne hash_of p owners ending = (w : WorldState) × IsRunAlone (job_of hash_of p owners 1) w × EndsIn w ending
+-- the outcome is
+abbrev pub IsByOne : {S : Type 0} → (S → Position → ℕ) → Problem → S → Outcome → Type 0
+IsByOne hash_of p owners outcome = IsFoundAlone IsGiven hash_of p owners outcome

@@ -6,5 +6,6 @@ pub mod Worlds
 pub mod Kinds
 pub mod Headline
 pub mod Alone
+pub mod WholeRuns
 pub mod Rounds
 pub mod Laws

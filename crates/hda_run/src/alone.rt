@@ -10,16 +10,15 @@ ghost use Rattle.outcomes.specs.declared.outcome.Cause.{Cause};
 ghost use Rattle.outcomes.specs.declared.outcome.Cause.TheVariants.{Cut, Start};
 ghost use Rattle.outcomes.specs.declared.outcome.Outcome.TheVariants.{Bounded, Unsolvable};
 ghost use Rattle.outcomes.specs.declared.outcome.Why.TheVariants.{Parity};
-ghost use Rattle.outcomes.specs.Endings.{EndAnswers};
-ghost use Rattle.outcomes.specs.declared.outcome.Ending.TheVariants as ending;
 ghost use Rattle.world_model.specs.declared.steps.Refusal.{Refusal};
 ghost use Rattle.world_model.specs.declared.steps.Step.{Step};
 ghost use Rattle.world_model.specs.Steps.{Next};
 ghost use Rattle.world_model.specs.Turns.{turn, refusal_in};
-ghost use Rattle.hda_run.specs.Alone.{IsRunAlone, IsByOne, EndsByOne};
+ghost use Rattle.hda_run.specs.Alone.{IsRunAlone, IsFoundAlone, IsByOne};
 ghost use Rattle.hda_run.specs.Problems.{task_in};
 ghost use Rattle.hda_run.specs.Rounds.{IsLone, Reaches, work_left, Refuses, IsStuck};
 ghost use Rattle.hda_run.specs.Rounds.{Stops};
+ghost use Rattle.hda_run.specs.WholeRuns.{EndsWholeRun};
 ghost use Rattle.hda_run.specs.Worlds.{world_of, job_of};
 
 use crate::gates::{Gate, kind_of};
@@ -28,9 +27,10 @@ use crate::world::World;
 use board::laws::plans_keep_the_class;
 use board::same_class;
 use memory::OutOfMemory;
-use outcomes::{Ending, Outcome, Want, Why};
+use outcomes::{Outcome, Want};
 use owners::Spread;
 use std::alloc::Global;
+use world_ends::{Reading, WithRows};
 use world_model::{HaltCause, Refusal, Step};
 
 // Why the worker has no more to do.
@@ -62,47 +62,53 @@ pub fn solve_one<'a, S: Spread + Drop, G: Gate>(
         (cause : Cause) (rows : Option (Vec (Position × ℕ) Global))
         → outcome ≡ Bounded bound best cause rows → (cause ≢ Cut) × (cause ≢ Start)) }
 {
-    // By this law no plan leads from a board to another class.
-    plans_keep_the_class();
-    let _ = job.goal();
-    if are_apart(&job) {
-        return Ok(Outcome::Unsolvable { why: Why::Parity });
-    }
-    let world = run_alone(alloc, job, spread, gate)?;
-    // What each world keeps is told by this call.
-    let _ = world.workers();
-    Ok(world.finish(alloc))
+    read_one::<WithRows, S, G>(alloc, job, spread, gate)
 }
 
-/// The same without rows, for which no memory is taken.
-pub fn end_one<'a, S: Spread + Drop, G: Gate>(
+/// The same in each reading, without rows or with them.
+pub fn read_one<'a, A: Reading, S: Spread + Drop, G: Gate>(
     alloc: Global,
     job: Job<'a>,
     spread: S,
     gate: &G,
-) -> Result<Ending, OutOfMemory>
-    ensures parity { (result ≡ Ok (ending.Unsolvable Parity))
-        ↔ (¬ SameClass job.entry.start job.entry.goal) }
+) -> Result<A::Answer, OutOfMemory>
+    ensures parity { (result ≡ Ok A.parity) ↔ (¬ SameClass job.entry.start job.entry.goal) }
     ensures run { SameClass job.entry.start job.entry.goal
-        → IfOk result (EndsByOne S.hash_of job.entry spread) }
-    ensures answers { IfOk result (EndAnswers (task_in job.entry)) }
-    ensures kept { IfOk result (λ outcome. (bound : ℕ) (best : Option (ℕ × Vec Move Global))
-        (cause : Cause) → outcome ≡ ending.Bounded bound best cause
-        → (cause ≢ Cut) × (cause ≢ Start)) }
+        → IfOk result (IsFoundAlone A.gives S.hash_of job.entry spread) }
+    ensures answers { IfOk result (A.answers (task_in job.entry)) }
+    ensures kept { IfOk result (λ answer. EndsWholeRun (A.end answer)) }
 {
+    A::keep_laws();
     // By this law no plan leads from a board to another class.
     plans_keep_the_class();
     let _ = job.goal();
     if are_apart(&job) {
-        return Ok(Ending::Unsolvable { why: Why::Parity });
+        return Ok(A::of_parity());
     }
-    let world = run_alone(alloc, job, spread, gate)?;
-    let _ = world.workers();
-    Ok(world.end(alloc))
+    search_one::<A, S, G>(alloc, job, spread, gate)
 }
 
-// Whether the start isn't in the goal's class.
-fn are_apart(job: &Job<'_>) -> bool
+/// The same by a search, whatever the class of the start.
+pub fn search_one<'a, A: Reading, S: Spread + Drop, G: Gate>(
+    alloc: Global,
+    job: Job<'a>,
+    spread: S,
+    gate: &G,
+) -> Result<A::Answer, OutOfMemory>
+    ensures run { IfOk result (IsFoundAlone A.gives S.hash_of job.entry spread) }
+    ensures answers { IfOk result (A.answers (task_in job.entry)) }
+    ensures kept { IfOk result (λ answer. EndsWholeRun (A.end answer)) }
+{
+    A::keep_laws();
+    let _ = job.goal();
+    let world = run_alone(alloc, job, spread, gate)?;
+    // What each world keeps is told by this call.
+    let _ = world.workers();
+    Ok(world.read::<A>(alloc))
+}
+
+/// Whether the start isn't in the goal's class.
+pub fn are_apart(job: &Job<'_>) -> bool
     ensures { IsTrue result ↔ (¬ SameClass job.now.start job.now.goal) }
 {
     !same_class(job.start(), job.goal())

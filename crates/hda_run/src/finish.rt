@@ -8,8 +8,6 @@ ghost use Rattle.outcomes.specs.Outcomes.{Answers};
 ghost use Rattle.world_model.specs.Outcomes.{IsGiven};
 ghost use Rattle.world_model.specs.Workers.{Packet, Lane};
 ghost use Rattle.world_ends.specs.Lowest.{IsLeastBeside, IsOfItem, AreItemsOn};
-ghost use Rattle.outcomes.specs.Endings.{EndAnswers};
-ghost use Rattle.world_ends.specs.Endings.{EndsIn};
 ghost use Rattle.hda_run.specs.Problems.{task_in};
 ghost use Rattle.hda_run.specs.Lanes.{IsOfOne, IsInLane, IsInLanes};
 ghost use Rattle.hda_run.specs.Worlds.{world_of, IsLawful};
@@ -19,13 +17,12 @@ use crate::parts::Parts;
 use crate::world::World;
 use lower_bound::Bound;
 use message_ledger::Plain;
-use outcomes::{Ending, Outcome};
+use outcomes::Outcome;
 use owners::Spread;
 use std::alloc::Global;
 use worker_core::Queue;
-use world_ends::laws::endings_answer;
-use world_ends::{Asked, ending_of, lowest_of, outcome_of};
-use world_model::laws::{outcomes_answer, quiet_is_true};
+use world_ends::{Asked, Reading, WithRows, lowest_of, read};
+use world_model::laws::quiet_is_true;
 
 impl<'a, S: Spread + Drop> World<'a, S> {
     /// The outcome that the world gives, at any moment: a plan of least cost with rows that prove
@@ -36,30 +33,26 @@ impl<'a, S: Spread + Drop> World<'a, S> {
         ensures given { IsGiven (world_of S.hash_of self.entry) result }
         ensures answers { Answers (task_in self.entry.job) result }
     {
-        outcomes_answer();
-        quiet_is_true();
-        // That the sums are lower bounds is told by this call.
-        let _ = self.parts.job.bound();
-        finish_parts(alloc, self.parts)
+        self.read::<WithRows>(alloc)
     }
 
-    /// The same without rows, for which no memory is taken.
-    pub fn end(self, alloc: Global) -> Ending
-        ensures ends { EndsIn (world_of S.hash_of self.entry) result }
-        ensures answers { EndAnswers (task_in self.entry.job) result }
+    /// What the world gives at any moment, in a reading.
+    pub fn read<A: Reading>(self, alloc: Global) -> A::Answer
+        ensures given { A.gives (world_of S.hash_of self.entry) result }
+        ensures answers { A.answers (task_in self.entry.job) result }
     {
-        endings_answer();
+        A::keep_laws();
         quiet_is_true();
         // That the sums are lower bounds is told by this call.
         let _ = self.parts.job.bound();
-        end_parts(alloc, self.parts)
+        read_parts::<A, S>(alloc, self.parts)
     }
 }
 
-// The outcome that the parts of a world give.
-fn finish_parts<S: Spread + Drop>(alloc: Global, parts: Parts<'_, S>) -> Outcome
+// What the parts of a world give.
+fn read_parts<A: Reading, S: Spread + Drop>(alloc: Global, parts: Parts<'_, S>) -> A::Answer
     requires { IsLawful S.hash_of parts }
-    ensures { IsGiven (world_of S.hash_of parts.entry) result }
+    ensures { A.gives (world_of S.hash_of parts.entry) result }
 {
     let Parts {
         job,
@@ -71,29 +64,11 @@ fn finish_parts<S: Spread + Drop>(alloc: Global, parts: Parts<'_, S>) -> Outcome
     let mut workers = workers;
     let lowest = lowest_in_lanes(job.bound(), &lanes, None);
     let asked = asked_in(&job);
-    outcome_of(alloc, &asked, &owners, &mut workers, lowest, book.stop())
+    read::<A, Plain, S>(alloc, &asked, &owners, &mut workers, lowest, book.stop())
 }
 
-// The same without rows.
-fn end_parts<S: Spread + Drop>(alloc: Global, parts: Parts<'_, S>) -> Ending
-    requires { IsLawful S.hash_of parts }
-    ensures { EndsIn (world_of S.hash_of parts.entry) result }
-{
-    let Parts {
-        job,
-        owners,
-        workers,
-        book,
-        lanes,
-    } = parts;
-    let mut workers = workers;
-    let lowest = lowest_in_lanes(job.bound(), &lanes, None);
-    let asked = asked_in(&job);
-    ending_of(alloc, &asked, &owners, &mut workers, lowest, book.stop())
-}
-
-// What a job asks.
-fn asked_in<'b>(job: &'b Job<'_>) -> Asked<'b>
+/// What a job asks.
+pub fn asked_in<'b>(job: &'b Job<'_>) -> Asked<'b>
     ensures start { result.start ≡ job.now.start }
     ensures goal { result.goal ≡ job.now.goal }
     ensures weights { result.weights ≡ job.now.rule }

@@ -17,10 +17,11 @@ mod parts;
 mod runs;
 mod world;
 
-pub use alone::{end_one, solve_one};
+pub use alone::{are_apart, read_one, search_one, solve_one};
 pub use faults::{JobFault, WorldFault};
+pub use finish::asked_in;
 pub use gates::{Free, Gate, Kind, kind_of};
 pub use headline::run_and_finish;
 pub use job::Job;
 pub use runs::run_steps;
-pub use world::World;
+pub use world::{World, is_worker_count};

@@ -155,8 +155,8 @@ impl<'a, S: Spread> World<'a, S> {
     }
 }
 
-// Whether so many workers may share a job.
-fn is_worker_count(workers: usize) -> bool
+/// Whether so many workers may share a job.
+pub fn is_worker_count(workers: usize) -> bool
     ensures { IsTrue result ↔ IsWorkerCount workers }
 {
     0 < workers && workers <= WORKER_LIMIT

@@ -13,7 +13,7 @@ use Rattle.std.proofs.Math.Seq.{map-set_same}
 use Rattle.std.proofs.lemmas.Bool.Decides.{eqb_tells}
 use Rattle.board.specs.Grids.{Grid}
 use Rattle.board.specs.Positions.{Position}
-use Rattle.outcomes.specs.Outcomes.{Task, Answers}
+use Rattle.outcomes.specs.Outcomes.{Task}
 use Rattle.world_model.specs.declared.parts.Item.{Item}
 use Rattle.world_model.specs.Shapes.{IsShaped}
 use Rattle.world_model.specs.Workers.{WorkerState, Lane, Packet, IsTaskBoard, IsFloor, HasNothingBelow}
@@ -27,7 +27,7 @@ use Rattle.world_model.specs.declared.steps.Stop.{Stop}
 use Rattle.world_model.specs.Costs.{limit_of}
 use Rattle.world_model.specs.Frontiers.{IsInFrontier, IsReached}
 use Rattle.world_model.specs.Quiet.{IsQuiet, IsKept, IsKeptAt, HasBegun}
-use Rattle.world_model.proofs.OutcomeLemmas.{outcomes_answer, least_unique}
+use Rattle.world_model.proofs.OutcomeLemmas.{least_unique}
 use Rattle.thread_model.specs.Parts.{PartState, IsRole, Keeps}
 use Rattle.thread_model.specs.Joined.{AreParts, IsAt, Shared, role_in, world_with}
 use Rattle.thread_model.specs.Laws.{JoinedPartsAreSound}
@@ -39,6 +39,7 @@ use Rattle.worker_core.specs.Workers.{state_of}
 use Rattle.world_ends.specs.Lowest.{IsLeastBeside, IsLowestInLanes, AreItemsOn}
 use Rattle.world_ends.proofs.PartLemmas.{beside_none, beside_both, beside_same, beside_nothing, least_same, worker_at, worker_from, knows_of, known_from, reached_is}
 use Rattle.world_ends.specs.Parts.{AreGuided, HasParts, states_of, known_in}
+use Rattle.world_ends.specs.Readings.{WorldsAnswer}
 use Rattle.rings.specs.Rings.{ReceivingEnd, left_lanes, left_rows, lane_at, Ring, SendingEnd, in_rings, sent_lanes, received_lanes, rings_of_ins, sent_rows, received_rows}
 use Rattle.rings.proofs.GridLemmas.{get_end, get_before, length_end}
 use Rattle.hda_run.specs.Lanes.{IsOfOne}
@@ -575,10 +576,10 @@ no_credit job w joined quiet =
 pub still : QuietIsStill
 still job w joined quiet to item under_way = none_under_way w (joined.at_quiet quiet) to item under_way
 
-pub joined_answers : JoinedWorldsAnswer
-joined_answers job w outcome joined kept bound given =
+pub joined_answers : {X : Type 0} (gives : WorldState → X → Type 0) (answers : Task → X → Type 0) → WorldsAnswer gives answers → JoinedWorldsAnswer gives answers
+joined_answers gives answers worlds job w answer joined kept bound given =
     let below : IsLowerBound w.task.rule w.task.sum w.task.goal = subst (λ (t : Task). IsLowerBound t.rule t.sum t.goal) (sym joined.task) bound in
-    subst (λ (t : Task). Answers t outcome) joined.task (outcomes_answer w outcome joined.shaped joined.sound (kept_is_quiet w kept) below given)
+    subst (λ (t : Task). answers t answer) joined.task (worlds w answer joined.shaped joined.sound (kept_is_quiet w kept) below given)
 
 pub no_list_stops : NoListStopsThreads
 no_list_stops job w joined = joined.no_list

@@ -2,15 +2,13 @@
 use Rattle.std.specs.Prelude.{ℕ, ◌≡◌, ◌≢◌, ◌+◌, ◌*◌, ◌≤◌, ◌<◌, length, Some}
 use Rattle.board.specs.Positions.{Position}
 use Rattle.board.specs.Rows.{IsLowerBound}
-use Rattle.outcomes.specs.declared.outcome.Outcome.{Outcome}
 use Rattle.outcomes.specs.declared.outcome.Want.TheVariants.{Stated}
-use Rattle.outcomes.specs.Outcomes.{Answers}
+use Rattle.outcomes.specs.Outcomes.{Task}
 use Rattle.world_model.specs.declared.limits.TheConstants.{GREATEST_GRANT}
 use Rattle.world_model.specs.declared.parts.Item.{Item}
 use Rattle.world_model.specs.declared.steps.Stop.TheVariants.{Quiet, Limit, Memory}
 use Rattle.world_model.specs.Credit.{expansion_count, packet_count, purse_total}
 use Rattle.world_model.specs.Openings.{Job}
-use Rattle.world_model.specs.Outcomes.{IsGiven}
 use Rattle.world_model.specs.Quiet.{IsKept}
 use Rattle.world_model.specs.Worlds.{WorldState, IsUnderWay}
 use Rattle.thread_joins.specs.Threads.{IsJoined}
@@ -39,15 +37,16 @@ QuietHasNoCredit = (job : Job) (w : WorldState) → IsJoined job w → w.book.st
 abbrev pub QuietIsStill : Type 0
 QuietIsStill = (job : Job) (w : WorldState) → IsJoined job w → w.book.stop ≡ Some Quiet → (to : ℕ) (item : Item) → ¬ IsUnderWay w to item
 
--- what a joined world that is kept gives answers the job, where its sums are lower bounds
-abbrev pub JoinedWorldsAnswer : Type 0
-JoinedWorldsAnswer =
-    (job : Job) (w : WorldState) (outcome : Outcome)
-    → IsJoined job w
-    → IsKept w
-    → IsLowerBound job.task.rule job.task.sum job.task.goal
-    → IsGiven w outcome
-    → Answers job.task outcome
+module _ {X : Type 0} (gives : WorldState → X → Type 0) (answers : Task → X → Type 0) where
+  -- what a joined world that is kept gives answers the job, where its sums are lower bounds
+  abbrev pub JoinedWorldsAnswer : Type 0
+  JoinedWorldsAnswer =
+      (job : Job) (w : WorldState) (answer : X)
+      → IsJoined job w
+      → IsKept w
+      → IsLowerBound job.task.rule job.task.sum job.task.goal
+      → gives w answer
+      → answers job.task answer
 
 -- no list of steps stopped it
 abbrev pub NoListStopsThreads : Type 0

@@ -1,19 +1,15 @@
 -- Runs by threads.
 use Rattle.std.specs.Prelude.{ℕ, ◌≡◌, ◌≢◌, ◌+◌, ◌*◌, ◌≤◌, length, Option, None, Some}
 use Rattle.board.specs.Positions.{Position}
-use Rattle.outcomes.specs.declared.outcome.Ending.{Ending}
-use Rattle.outcomes.specs.declared.outcome.Outcome.{Outcome}
 use Rattle.outcomes.specs.declared.outcome.Want.TheVariants.{Stated}
 use Rattle.world_model.specs.declared.limits.TheConstants.{GREATEST_GRANT}
 use Rattle.world_model.specs.declared.steps.Stop.TheVariants.{Quiet, Limit, Memory}
 use Rattle.world_model.specs.Credit.{expansion_count}
 use Rattle.world_model.specs.Openings.{Job}
-use Rattle.world_model.specs.Outcomes.{IsGiven}
 use Rattle.world_model.specs.Quiet.{IsKept}
 use Rattle.world_model.specs.Shapes.{IsShaped}
 use Rattle.world_model.specs.Soundness.{IsSound}
 use Rattle.world_model.specs.Worlds.{WorldState}
-use Rattle.world_ends.specs.Endings.{EndsIn}
 use Rattle.hda_run.specs.Problems.{Problem}
 use Rattle.hda_run.specs.Worlds.{job_of}
 use Rattle.thread_joins.specs.Worlds.{AreAtRest}
@@ -41,11 +37,3 @@ GivesIfKept gives w (Some answer) = IsKept w × gives w answer
 -- What is found of n threads: their joined workers make a world, of which this is found.
 abbrev pub IsFoundByThreads : {S X : Type 0} → (WorldState → X → Type 0) → (S → Position → ℕ) → Problem → S → ℕ → Option X → Type 0
 IsFoundByThreads gives hash_of p owners n found = (w : WorldState) × IsJoined (job_of hash_of p owners n) w × GivesIfKept gives w found
-
--- The outcome is that of n threads: their joined workers make a world that is kept, and it gives the outcome.
-abbrev pub IsByThreads : {S : Type 0} → (S → Position → ℕ) → Problem → S → ℕ → Outcome → Type 0
-IsByThreads hash_of p owners n outcome = (w : WorldState) × IsJoined (job_of hash_of p owners n) w × IsKept w × IsGiven w outcome
-
--- The ending is that of n threads: their joined workers make a world that is kept, and it ends so.
-abbrev pub EndsByThreads : {S : Type 0} → (S → Position → ℕ) → Problem → S → ℕ → Ending → Type 0
-EndsByThreads hash_of p owners n ending = (w : WorldState) × IsJoined (job_of hash_of p owners n) w × IsKept w × EndsIn w ending

@@ -4,6 +4,8 @@ ghost use Rattle.thread_joins.specs.Laws.{BoardsHaveOwners, LimitsAreKept, Limit
 ghost use Rattle.thread_joins.specs.Laws.{QuietHasNoCredit, QuietIsStill};
 ghost use Rattle.thread_joins.specs.Laws.{JoinedWorldsAnswer, NoListStopsThreads};
 
+use world_ends::Reading;
+
 /// Each board is owned in a joined world by whom the job says, one of as many workers as the job
 /// has.
 pub fn boards_have_owners()
@@ -22,8 +24,11 @@ pub fn quiet_is_at_rest()
     ensures still { QuietIsStill }
 {}
 
-/// What a joined world that is kept gives answers its job. No list of steps stopped a joined world.
-pub fn joined_worlds_answer()
-    ensures answers { JoinedWorldsAnswer }
+/// What a joined world that is kept gives answers its job, in each reading. No list of steps stopped
+/// a joined world.
+pub fn joined_worlds_answer<A: Reading>()
+    ensures answers { JoinedWorldsAnswer A.gives A.answers }
     ensures no_list { NoListStopsThreads }
-{}
+{
+    A::keep_laws();
+}

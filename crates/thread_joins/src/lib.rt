@@ -8,9 +8,7 @@ pub mod laws;
 mod looks;
 mod lowest;
 mod outcome;
-mod reading;
 mod ties;
 mod world;
 
 pub use outcome::outcome_of_joined;
-pub use reading::{Reading, WithRows, WithoutRows};

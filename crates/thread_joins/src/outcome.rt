@@ -13,9 +13,8 @@ use crate::apart::Joined;
 use crate::counting::count_expanded;
 use crate::looks::is_kept;
 use crate::lowest::lowest_in_rows;
-use crate::reading::{Reading, read};
 use crate::world::join_world;
-use hda_run::Job;
+use hda_run::{Job, asked_in};
 use memory::OutOfMemory;
 use message_ledger::{Capped, Shares, Tickets, Tokens};
 use owners::Spread;
@@ -25,7 +24,7 @@ use std::alloc::Global;
 use std::sync::ledger::Ledger;
 use thread_parts::Sealed;
 use worker_core::Worker;
-use world_ends::Asked;
+use world_ends::{Reading, read};
 use world_model::Stop;
 
 /// The outcome of a run whose threads were all joined, by their parts, the book, and the tickets of
@@ -105,19 +104,4 @@ fn outcome_with<A: Reading, C: Tokens, S: Spread>(
     let lowest = lowest_in_rows(job.bound(), ins, None);
     let asked = asked_in(job);
     read::<A, C, S>(alloc, &asked, owners, workers, lowest, stop)
-}
-
-// What a job asks.
-fn asked_in<'b>(job: &'b Job<'_>) -> Asked<'b>
-    ensures start { result.start ≡ job.now.start }
-    ensures goal { result.goal ≡ job.now.goal }
-    ensures weights { result.weights ≡ job.now.rule }
-    ensures bound { result.bound.now ≡ job.now.tables }
-{
-    Asked {
-        start: *job.start(),
-        goal: *job.goal(),
-        weights: *job.weights(),
-        bound: job.bound(),
-    }
 }

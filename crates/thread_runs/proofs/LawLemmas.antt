@@ -11,8 +11,8 @@ use Rattle.world_model.specs.Outcomes.{IsGiven}
 use Rattle.world_model.specs.Worlds.{WorldState}
 use Rattle.world_ends.specs.Endings.{EndsIn}
 use Rattle.world_ends.proofs.PartLemmas.{bounds_alone, rows_alone}
-use Rattle.thread_runs.specs.Solved.{IsOfWholeRun}
-use Rattle.thread_runs.specs.Laws.{HasItsRows, IsLimitCostOrMemory, WholeRunsSayWhy, WholeEndsSayWhy, OneSolvesAlone, OneEndsAlone, SolvedRunsEnd, LimitsAreKept, ThreadsAreAsAsked, EndsAreAsAsked}
+use Rattle.hda_run.specs.WholeRuns.{IsOfWholeRun}
+use Rattle.thread_runs.specs.Laws.{HasItsRows, IsLimitCostOrMemory, WholeRunsSayWhy, OneIsAlone, SolvedRunsEnd, LimitsAreKept, ThreadsAreAsAsked}
 
 named : (cause : Cause) → IsOfWholeRun cause → IsLimitCostOrMemory cause
 named Limit whole = inl refl
@@ -23,10 +23,7 @@ named Start whole = absurd (whole.1 refl)
 named Cut whole = absurd (whole.0 refl)
 
 pub runs_say_why : WholeRunsSayWhy
-runs_say_why bound best cause rows kept = named cause (kept bound best cause rows refl)
-
-pub ends_say_why : WholeEndsSayWhy
-ends_say_why bound best cause kept = named cause (kept bound best cause refl)
+runs_say_why bound best cause kept = named cause kept
 
 -- a world that gives an outcome with its rows ends with what it says, but for these
 ends_in : (w : WorldState) (it : Outcome) → IsGiven w it → HasItsRows it → EndsIn w (without_rows it)
@@ -36,24 +33,18 @@ ends_in w (outcome.Bounded bound best cause (Some rows)) given has = (bounds_alo
 ends_in w (outcome.Bounded bound best cause None) given has = absurd (cc has)
 
 module _ {S : Type 0} (hash_of : S → Position → ℕ) where
-  pub one_solves : OneSolvesAlone hash_of
-  one_solves p owners it (inl (several, by)) = absurd (omega (arith, several))
-  one_solves p owners it (inr (run, left)) = run
-
-  pub one_ends : OneEndsAlone hash_of
-  one_ends p owners it (inl (several, by)) = absurd (omega (arith, several))
-  one_ends p owners it (inr (run, left)) = run
-
   pub solved_ends : SolvedRunsEnd hash_of
-  solved_ends p owners n it (inl (several, (w, joined, kept, given))) has = inl (several, (w, joined, kept, ends_in w it given has))
+  solved_ends p owners n it (inl (several, (w, joined, (kept, given)))) has = inl (several, (w, joined, (kept, ends_in w it given has)))
   solved_ends p owners n it (inr ((w, run, given), left)) has = inr ((w, run, ends_in w it given has), left)
 
-  pub limits_kept : LimitsAreKept hash_of
-  limits_kept p owners n it (inl (several, (w, joined, kept, given))) = (w, given, joined.within_limit)
+module _ {S X : Type 0} (gives : WorldState → X → Type 0) (hash_of : S → Position → ℕ) where
+  pub one_alone : OneIsAlone gives hash_of
+  one_alone p owners it (inl (several, by)) = absurd (omega (arith, several))
+  one_alone p owners it (inr (run, left)) = run
+
+  pub limits_kept : LimitsAreKept gives hash_of
+  limits_kept p owners n it (inl (several, (w, joined, (kept, given)))) = (w, given, joined.within_limit)
   limits_kept p owners n it (inr ((w, run, given), left)) = (w, given, run.within_limit)
 
-  pub as_asked : ThreadsAreAsAsked hash_of
-  as_asked p owners n it (w, joined, kept, given) = (w, given, joined.count, joined.owners)
-
-  pub ends_as_asked : EndsAreAsAsked hash_of
-  ends_as_asked p owners n it (w, joined, kept, ends) = (w, ends, joined.count, joined.owners)
+  pub as_asked : ThreadsAreAsAsked gives hash_of
+  as_asked p owners n it (w, joined, (kept, given)) = (w, given, joined.count, joined.owners)

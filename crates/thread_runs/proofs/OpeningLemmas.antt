@@ -1,6 +1,6 @@
 -- The parts of a run, one after another.
-use Rattle.std.proofs.Common.{◌≡◌, ◌≢◌, ◌⊎◌, ℕ, refl, sym, ◌∙◌, subst, inl, inr, Option, Some, None, replicate, zero, suc, List, [], ◌∷◌, ◌++◌, map, length, ap, arith}
-use Rattle.std.specs.Prelude.{IfNone, IfSome, Vec, slice_get, slice_index_or, option_map}
+use Rattle.std.proofs.Common.{◌≡◌, ℕ, refl, sym, ◌∙◌, subst, inr, Option, Some, None, replicate, zero, suc, List, [], ◌∷◌, ◌++◌, map, length, ap, arith}
+use Rattle.std.specs.Prelude.{◌≤◌, IfNone, IfSome, slice_get, slice_index_or, option_map}
 use Rattle.std.proofs.lemmas.Option.{none-some, slice_get-map, get_or_from_slice_get}
 use Rattle.rings.specs.Rings.{Ring, ArePaired}
 use Rattle.hda_run.specs.Problems.{Problem, task_in}
@@ -8,32 +8,25 @@ use Rattle.thread_parts.specs.Parts.{Face, face}
 use Rattle.thread_joins.specs.Joints.{IsJoint}
 use Rattle.std.proofs.lemmas.List.{length-replicate, length-set}
 use Rattle.std.proofs.Math.Nat.{mod-lt}
-use Rattle.std.specs.declared.alloc.Global.{Global}
-use Rattle.memory.specs.declared.OutOfMemory.{OutOfMemory}
-use Rattle.board.specs.declared.moves.Move.{Move}
 use Rattle.board.specs.declared.moves.Move.TheVariants.{U}
 use Rattle.board.specs.Positions.{Position}
 use Rattle.board.specs.Rows.{IsLowerBound}
-use Rattle.outcomes.specs.Outcomes.{Task, Answers}
-use Rattle.outcomes.specs.Endings.{EndAnswers}
-use Rattle.outcomes.specs.declared.outcome.Cause.{Cause}
-use Rattle.outcomes.specs.declared.outcome.Cause.TheVariants.{Memory}
-use Rattle.outcomes.specs.declared.outcome.Want.TheVariants.{Stated, Refused}
-use Rattle.outcomes.specs.declared.outcome.Outcome.{Outcome}
+use Rattle.outcomes.specs.Outcomes.{Task}
+use Rattle.outcomes.specs.declared.outcome.Want.TheVariants.{Stated}
 use Rattle.outcomes.specs.declared.outcome.Ending.{Ending}
-use Rattle.world_ends.specs.Endings.{EndsIn}
-use Rattle.world_model.specs.Outcomes.{IsGiven, IsBounded}
-use Rattle.world_model.specs.Quiet.{IsKept}
+use Rattle.outcomes.specs.declared.outcome.Ending.TheVariants.{Optimal, Unsolvable, Bounded}
 use Rattle.world_model.specs.Openings.{IsJob, opening, idle_worker, first_worker}
 use Rattle.world_model.specs.Shapes.{IsTask}
 use Rattle.world_model.specs.Worlds.{WorldState}
 use Rattle.world_model.proofs.RunLemmas.{expansions_limited, openings_sound}
-use Rattle.world_ends.proofs.PartLemmas.{ends_answer, ends_bounded}
-use Rattle.world_model.proofs.KeptLemmas.{bounds_given, kept_never_cut, kept_quiet, memory_bounded}
-use Rattle.world_model.proofs.OutcomeLemmas.{outcomes_answer}
+use Rattle.world_ends.specs.Readings.{BoundsAreOfWorlds, HasBoundOf}
+use Rattle.world_model.proofs.KeptLemmas.{kept_never_cut}
+use Rattle.hda_run.specs.WholeRuns.{EndsWholeRun}
 use Rattle.hda_run.specs.Worlds.{job_of, IsWorkerCount}
-use Rattle.thread_joins.specs.Threads.{IsJoined, IsByThreads, IsFoundByThreads, EndsByThreads}
-use Rattle.thread_runs.specs.Solved.{IsLeftToOne, IsOfWholeRun, HasWholeRun, EndsWholeRun}
+use Rattle.hda_run.proofs.LawLemmas.{never_stated}
+use Rattle.thread_joins.specs.Laws.{JoinedWorldsAnswer}
+use Rattle.thread_joins.specs.Threads.{IsJoined, IsFoundByThreads}
+use Rattle.thread_runs.specs.Solved.{IsLeftToOne}
 use Rattle.world_model.specs.declared.steps.Stop.TheVariants as stops
 
 some_is : {X : Type 0} (a b : X) → Some a ≡ Some b → a ≡ b
@@ -89,48 +82,37 @@ module _ {S : Type 0} (p : Problem) (owners : S) where
         paired = subst (λ (both : List (List Ring) × List (List Ring)). ArePaired n both.0 both.1) (λ t. (sym to_each t, sym from_each t)) paired;
       }
 
--- ---- The causes of bounds of runs that stopped by themselves.
-
--- a want of memory is stated only where a list of steps stopped the run for it
-never_stated : (w : WorldState) → w.book.stop ≢ Some (stops.Memory Stated) → (bound : ℕ) (best : Option (ℕ × Vec Move Global)) (cause : Cause) → IsBounded w bound best cause → cause ≢ Memory Stated
-never_stated w stop bound best cause given is = split (memory_bounded w bound best Stated (subst (IsBounded w bound best) is given))
-  where
-    split : (w.book.stop ≡ Some (stops.Memory Stated)) ⊎ ((best ≡ None) × ((refused : OutOfMemory) × (Stated ≡ Refused refused))) → ⊥
-    split (inl by) = stop by
-    split (inr lacks) = absurd (cc (lacks.1.1))
+-- ---- What is found of threads.
 
 module _ {S X : Type 0} (gives : WorldState → X → Type 0) (hash_of : S → Position → ℕ) (p : Problem) (owners : S) (n : ℕ) where
-  -- what is found of a world that is kept, it gives
-  pub found_given : (found : Option X) → IsFoundByThreads gives hash_of p owners n found → IfSome found (λ answer. (w : WorldState) × IsJoined (job_of hash_of p owners n) w × IsKept w × gives w answer)
+  -- what is found of a world that is kept, its threads have found
+  pub found_given : (found : Option X) → IsFoundByThreads gives hash_of p owners n found → IfSome found (λ answer. IsFoundByThreads gives hash_of p owners n (Some answer))
   found_given None by = tt
-  found_given (Some answer) (w, joined, (kept, given)) = (w, joined, kept, given)
+  found_given (Some answer) by = by
+
+  pub several_found : (2 ≤ n) → (found : Option X) → IsFoundByThreads gives hash_of p owners n found → IfSome found (λ answer. (2 ≤ n) × IsFoundByThreads gives hash_of p owners n (Some answer))
+  several_found several None by = tt
+  several_found several (Some answer) by = (several, by)
 
   -- and where nothing is, it isn't kept
   pub none_left : (found : Option X) → IsFoundByThreads gives hash_of p owners n found → IfNone found (IsLeftToOne hash_of p owners n)
   none_left None (w, joined, dropped) = inr (w, joined, dropped)
   none_left (Some answer) by = tt
 
-module _ {S : Type 0} (hash_of : S → Position → ℕ) (p : Problem) (owners : S) (n : ℕ) (lower : IsLowerBound p.rule (task_in p).sum p.goal) where
-  lower_in : (w : WorldState) → IsJoined (job_of hash_of p owners n) w → IsLowerBound w.task.rule w.task.sum w.task.goal
-  lower_in w joined = subst (λ (task : Task). IsLowerBound task.rule task.sum task.goal) (sym joined.task) lower
+  module _ (lower : IsLowerBound p.rule (task_in p).sum p.goal) where
+    pub found_answers : (answers : Task → X → Type 0) → JoinedWorldsAnswer gives answers → (answer : X) → IsFoundByThreads gives hash_of p owners n (Some answer) → answers (task_in p) answer
+    found_answers answers joined_answer answer (w, joined, (kept, given)) = joined_answer (job_of hash_of p owners n) w answer joined kept lower given
 
-  whole : (w : WorldState) → IsJoined (job_of hash_of p owners n) w → IsKept w → (bound : ℕ) (best : Option (ℕ × Vec Move Global)) (cause : Cause) → IsBounded w bound best cause → IsOfWholeRun cause
-  whole w joined kept bound best cause given =
-      let never = kept_never_cut w bound best cause joined.shaped joined.sound kept (lower_in w joined) given in
-      (never.0, never.1, never_stated w joined.no_list bound best cause given)
-
-  pub outcome_answers : (it : Outcome) → IsByThreads hash_of p owners n it → Answers (task_in p) it
-  outcome_answers it (w, joined, kept, given) = subst (λ (task : Task). Answers task it) joined.task (outcomes_answer w it joined.shaped joined.sound (kept_quiet w kept) (lower_in w joined) given)
-
-  pub ending_answers : (it : Ending) → EndsByThreads hash_of p owners n it → EndAnswers (task_in p) it
-  ending_answers it (w, joined, kept, ends) =
-      subst (λ (task : Task). EndAnswers task it) joined.task (ends_answer outcomes_answer w it joined.shaped joined.sound (kept_quiet w kept) (lower_in w joined) ends)
-
-  pub outcome_whole : (it : Outcome) → IsByThreads hash_of p owners n it → HasWholeRun it
-  outcome_whole it by bound best cause rows is = whole by.0 by.1 by.2 bound best cause (bounds_given by.0 bound best cause rows (subst (λ (o : Outcome). IsGiven by.0 o) is by.3))
-
-  pub ending_whole : (it : Ending) → EndsByThreads hash_of p owners n it → EndsWholeRun it
-  ending_whole it by bound best cause is = whole by.0 by.1 by.2 bound best cause (ends_bounded by.0 bound best cause (subst (λ (o : Ending). EndsIn by.0 o) is by.3))
+    pub found_whole : (ending : X → Ending) → BoundsAreOfWorlds gives ending → (answer : X) → IsFoundByThreads gives hash_of p owners n (Some answer) → EndsWholeRun (ending answer)
+    found_whole ending bounds answer (w, joined, (kept, given)) = whole (ending answer) (bounds w answer given)
+      where
+        whole : (it : Ending) → HasBoundOf w it → EndsWholeRun it
+        whole (Optimal cost plan) has = tt
+        whole (Unsolvable why) has = tt
+        whole (Bounded bound best cause) has =
+            let below = subst (λ (task : Task). IsLowerBound task.rule task.sum task.goal) (sym joined.task) lower in
+            let never = kept_never_cut w bound best cause joined.shaped joined.sound kept below has in
+            (never.0, never.1, never_stated w joined.no_list bound best cause has)
 
 -- where no thread has started, the world is the opening one, which isn't kept
 pub none_started : {S : Type 0} (hash_of : S → Position → ℕ) (p : Problem) (owners : S) (n : ℕ) → IsTask (task_in p) → IsWorkerCount n → IsLeftToOne hash_of p owners n

@@ -14,7 +14,8 @@ use std::marker::Brand;
 use std::sync::Wait;
 use std::sync::ledger::{Blank, Ledger};
 use std::thread::Threads;
-use thread_joins::{Reading, outcome_of_joined};
+use thread_joins::outcome_of_joined;
+use world_ends::Reading;
 
 /// What is found of a run by `workers` threads, in this reading. None exactly where the world of their
 /// joined workers is not kept. The error is that memory was refused for what threads begin or end

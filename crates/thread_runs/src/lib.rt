@@ -10,4 +10,4 @@ mod solving;
 mod teams;
 
 pub use ledgers::run_by_threads;
-pub use solving::{end, end_by_workers, solve, solve_by_workers};
+pub use solving::{search_by_workers, solve};

@@ -1,32 +1,27 @@
 //! Jobs that so many workers solve.
 
-ghost use Rattle.std.specs.Prelude.{◌≡◌, ◌↔◌, ◌≤◌, Ok, IfOk, IfSome, IfNone, IsErrOf, IsTrue};
+ghost use Rattle.std.specs.Prelude.{◌≡◌, ◌↔◌, ◌≤◌, Ok, IfOk, IfSome, IfNone, IsErrOf, Some};
 ghost use Rattle.board.specs.Classes.{SameClass};
 ghost use Rattle.outcomes.specs.Outcomes.{Answers};
-ghost use Rattle.outcomes.specs.Endings.{EndAnswers};
-ghost use Rattle.outcomes.specs.declared.outcome.Ending.TheVariants as ending;
 ghost use Rattle.outcomes.specs.declared.outcome.Outcome.TheVariants.{Unsolvable};
 ghost use Rattle.outcomes.specs.declared.outcome.Why.TheVariants.{Parity};
-ghost use Rattle.world_model.specs.Quiet.{IsKept};
-ghost use Rattle.world_model.specs.Worlds.{WorldState};
-ghost use Rattle.hda_run.specs.Alone.{IsByOne, EndsByOne};
 ghost use Rattle.hda_run.specs.Problems.{task_in};
-ghost use Rattle.hda_run.specs.Worlds.{IsWorkerCount, job_of};
-ghost use Rattle.thread_joins.specs.Threads.{IsJoined, IsByThreads, EndsByThreads};
-ghost use Rattle.thread_runs.specs.Solved.{IsSolved, IsEnded, IsLeftToOne, HasWholeRun, EndsWholeRun};
+ghost use Rattle.hda_run.specs.WholeRuns.{EndsWholeRun, HasWholeRun};
+ghost use Rattle.hda_run.specs.Worlds.{IsWorkerCount};
+ghost use Rattle.thread_joins.specs.Threads.{IsFoundByThreads};
+ghost use Rattle.thread_runs.specs.Solved.{IsFoundByWorkers, IsSolved, IsLeftToOne};
 
 use crate::ledgers::run_by_threads;
 use board::laws::plans_keep_the_class;
-use board::same_class;
-use hda_run::{Gate, Job, WorldFault, end_one, solve_one};
+use hda_run::{Gate, Job, WorldFault, are_apart, is_worker_count, search_one};
 use memory::OutOfMemory;
-use outcomes::{Ending, Outcome, Why};
+use outcomes::Outcome;
 use owners::Spread;
 use std::alloc::Global;
 use std::sync::Wait;
 use std::thread::Threads;
-use thread_joins::{Reading, WithRows, WithoutRows};
-use world_model::WORKER_LIMIT;
+use thread_joins::laws::joined_worlds_answer;
+use world_ends::{Reading, WithRows};
 
 /// Solves a job by so many workers, each in a thread of its own; one worker alone does so in the
 /// calling thread, and so does one where memory was refused for what threads begin or end with, or
@@ -55,154 +50,49 @@ pub fn solve<'a, R: Threads + Wait + Sync, S: Spread + Drop + Sync, G: Gate + Sy
     if !is_worker_count(workers) {
         return Err(WorldFault::WorkerCount);
     }
-    match solve_by_workers(rt, alloc, job, workers, spread, gate) {
+    match search_by_workers::<WithRows, R, S, G>(rt, alloc, job, workers, spread, gate) {
         Ok(outcome) => Ok(outcome),
         Err(refused) => Err(WorldFault::Memory(refused)),
     }
 }
 
-/// The same without rows, for which no memory is taken.
-pub fn end<'a, R: Threads + Wait + Sync, S: Spread + Drop + Sync, G: Gate + Sync>(
+/// The same in each reading, without rows or with them, for a count of workers that is known to be
+/// one. The error tells a want of memory before the first step.
+pub fn search_by_workers<
+    'a,
+    A: Reading,
+    R: Threads + Wait + Sync,
+    S: Spread + Drop + Sync,
+    G: Gate + Sync,
+>(
     rt: &R,
     alloc: Global,
     job: Job<'a>,
     workers: usize,
     spread: S,
     gate: &G,
-) -> Result<Ending, WorldFault>
-    ensures count { IsErrOf result WorldFault.WorkerCount ↔ (¬ IsWorkerCount workers) }
-    ensures parity { IsWorkerCount workers → (result ≡ Ok (ending.Unsolvable Parity))
-        ↔ (¬ SameClass job.entry.start job.entry.goal) }
-    ensures run { SameClass job.entry.start job.entry.goal
-        → IfOk result (IsEnded S.hash_of job.entry spread workers) }
-    ensures answers { IfOk result (EndAnswers (task_in job.entry)) }
-    ensures kept { IfOk result EndsWholeRun }
-{
-    if !is_worker_count(workers) {
-        return Err(WorldFault::WorkerCount);
-    }
-    match end_by_workers(rt, alloc, job, workers, spread, gate) {
-        Ok(ending) => Ok(ending),
-        Err(refused) => Err(WorldFault::Memory(refused)),
-    }
-}
-
-/// `solve` for a count of workers that is known to be one. The error tells a want of memory before
-/// the first step.
-pub fn solve_by_workers<'a, R: Threads + Wait + Sync, S: Spread + Drop + Sync, G: Gate + Sync>(
-    rt: &R,
-    alloc: Global,
-    job: Job<'a>,
-    workers: usize,
-    spread: S,
-    gate: &G,
-) -> Result<Outcome, OutOfMemory>
+) -> Result<A::Answer, OutOfMemory>
     requires { IsWorkerCount workers }
-    ensures parity { (result ≡ Ok (Unsolvable Parity))
-        ↔ (¬ SameClass job.entry.start job.entry.goal) }
+    ensures parity { (result ≡ Ok A.parity) ↔ (¬ SameClass job.entry.start job.entry.goal) }
     ensures run { SameClass job.entry.start job.entry.goal
-        → IfOk result (IsSolved S.hash_of job.entry spread workers) }
-    ensures answers { IfOk result (Answers (task_in job.entry)) }
-    ensures kept { IfOk result HasWholeRun }
+        → IfOk result (IsFoundByWorkers A.gives S.hash_of job.entry spread workers) }
+    ensures answers { IfOk result (A.answers (task_in job.entry)) }
+    ensures kept { IfOk result (λ answer. EndsWholeRun (A.end answer)) }
 {
+    A::keep_laws();
     // By this law no plan leads from a board to another class.
     plans_keep_the_class();
     let _ = job.goal();
     if are_apart(&job) {
-        return Ok(Outcome::Unsolvable { why: Why::Parity });
+        return Ok(A::of_parity());
     }
-    if let Some(outcome) = solve_by_threads(rt, alloc, &job, workers, &spread, gate) {
-        return Ok(outcome);
+    if let Some(answer) = found_by_threads::<A, R, S, G>(rt, alloc, &job, workers, &spread, gate) {
+        return Ok(answer);
     }
-    solve_alone(alloc, job, spread, gate)
+    search_one::<A, S, G>(alloc, job, spread, gate)
 }
 
-/// The same without rows.
-pub fn end_by_workers<'a, R: Threads + Wait + Sync, S: Spread + Drop + Sync, G: Gate + Sync>(
-    rt: &R,
-    alloc: Global,
-    job: Job<'a>,
-    workers: usize,
-    spread: S,
-    gate: &G,
-) -> Result<Ending, OutOfMemory>
-    requires { IsWorkerCount workers }
-    ensures parity { (result ≡ Ok (ending.Unsolvable Parity))
-        ↔ (¬ SameClass job.entry.start job.entry.goal) }
-    ensures run { SameClass job.entry.start job.entry.goal
-        → IfOk result (IsEnded S.hash_of job.entry spread workers) }
-    ensures answers { IfOk result (EndAnswers (task_in job.entry)) }
-    ensures kept { IfOk result EndsWholeRun }
-{
-    // By this law no plan leads from a board to another class.
-    plans_keep_the_class();
-    let _ = job.goal();
-    if are_apart(&job) {
-        return Ok(Ending::Unsolvable { why: Why::Parity });
-    }
-    if let Some(ending) = end_by_threads(rt, alloc, &job, workers, &spread, gate) {
-        return Ok(ending);
-    }
-    end_alone(alloc, job, spread, gate)
-}
-
-// Whether there may be so many workers.
-fn is_worker_count(workers: usize) -> bool
-    ensures { IsTrue result ↔ IsWorkerCount workers }
-{
-    1 <= workers && workers <= WORKER_LIMIT
-}
-
-// Whether the start isn't in the goal's class.
-fn are_apart(job: &Job<'_>) -> bool
-    ensures { IsTrue result ↔ (¬ SameClass job.now.start job.now.goal) }
-{
-    !same_class(job.start(), job.goal())
-}
-
-// The outcome by more than one worker, where the world of their joined threads is kept.
-fn solve_by_threads<R: Threads + Wait + Sync, S: Spread + Sync, G: Gate + Sync>(
-    rt: &R,
-    alloc: Global,
-    job: &Job<'_>,
-    workers: usize,
-    spread: &S,
-    gate: &G,
-) -> Option<Outcome>
-    requires { IsWorkerCount workers }
-    ensures several { IfSome result (λ outcome. 2 ≤ workers) }
-    ensures run { IfSome result (IsByThreads S.hash_of job.now spread.now workers) }
-    ensures left { IfNone result (IsLeftToOne S.hash_of job.now spread.now workers) }
-    ensures answers { IfSome result (Answers (task_in job.now)) }
-    ensures kept { IfSome result HasWholeRun }
-{
-    // That the sums are lower bounds is told by this call.
-    let _ = job.bound();
-    found_by_threads::<WithRows, R, S, G>(rt, alloc, job, workers, spread, gate)
-}
-
-// The same without rows.
-fn end_by_threads<R: Threads + Wait + Sync, S: Spread + Sync, G: Gate + Sync>(
-    rt: &R,
-    alloc: Global,
-    job: &Job<'_>,
-    workers: usize,
-    spread: &S,
-    gate: &G,
-) -> Option<Ending>
-    requires { IsWorkerCount workers }
-    ensures several { IfSome result (λ ending. 2 ≤ workers) }
-    ensures run { IfSome result (EndsByThreads S.hash_of job.now spread.now workers) }
-    ensures left { IfNone result (IsLeftToOne S.hash_of job.now spread.now workers) }
-    ensures answers { IfSome result (EndAnswers (task_in job.now)) }
-    ensures kept { IfSome result EndsWholeRun }
-{
-    // That the sums are lower bounds is told by this call.
-    let _ = job.bound();
-    found_by_threads::<WithoutRows, R, S, G>(rt, alloc, job, workers, spread, gate)
-}
-
-// What is found of the threads of more than one worker, in either reading.
+// What more than one worker find, where the world of their joined threads is kept.
 fn found_by_threads<A: Reading, R: Threads + Wait + Sync, S: Spread + Sync, G: Gate + Sync>(
     rt: &R,
     alloc: Global,
@@ -212,11 +102,16 @@ fn found_by_threads<A: Reading, R: Threads + Wait + Sync, S: Spread + Sync, G: G
     gate: &G,
 ) -> Option<A::Answer>
     requires { IsWorkerCount workers }
-    ensures several { IfSome result (λ answer. 2 ≤ workers) }
-    ensures run { IfSome result (λ answer. (w : WorldState)
-        × IsJoined (job_of S.hash_of job.now spread.now workers) w × IsKept w × A.gives w answer) }
+    ensures run { IfSome result (λ answer. (2 ≤ workers)
+        × IsFoundByThreads A.gives S.hash_of job.now spread.now workers (Some answer)) }
     ensures left { IfNone result (IsLeftToOne S.hash_of job.now spread.now workers) }
+    ensures answers { IfSome result (A.answers (task_in job.now)) }
+    ensures kept { IfSome result (λ answer. EndsWholeRun (A.end answer)) }
 {
+    A::keep_laws();
+    joined_worlds_answer::<A>();
+    // That the sums are lower bounds is told by this call.
+    let _ = job.bound();
     if workers == 1 {
         return None;
     }
@@ -225,36 +120,4 @@ fn found_by_threads<A: Reading, R: Threads + Wait + Sync, S: Spread + Sync, G: G
         Ok(found) => found,
         Err(_refused) => None,
     }
-}
-
-// The outcome by one worker.
-fn solve_alone<'a, S: Spread + Drop, G: Gate>(
-    alloc: Global,
-    job: Job<'a>,
-    spread: S,
-    gate: &G,
-) -> Result<Outcome, OutOfMemory>
-    requires { SameClass job.start job.goal }
-    ensures parity { ¬ (result ≡ Ok (Unsolvable Parity)) }
-    ensures run { IfOk result (IsByOne S.hash_of job.entry spread) }
-    ensures answers { IfOk result (Answers (task_in job.entry)) }
-    ensures kept { IfOk result HasWholeRun }
-{
-    solve_one(alloc, job, spread, gate)
-}
-
-// The same without rows.
-fn end_alone<'a, S: Spread + Drop, G: Gate>(
-    alloc: Global,
-    job: Job<'a>,
-    spread: S,
-    gate: &G,
-) -> Result<Ending, OutOfMemory>
-    requires { SameClass job.start job.goal }
-    ensures parity { ¬ (result ≡ Ok (ending.Unsolvable Parity)) }
-    ensures run { IfOk result (EndsByOne S.hash_of job.entry spread) }
-    ensures answers { IfOk result (EndAnswers (task_in job.entry)) }
-    ensures kept { IfOk result EndsWholeRun }
-{
-    end_one(alloc, job, spread, gate)
 }

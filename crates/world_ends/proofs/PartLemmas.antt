@@ -45,6 +45,8 @@ use Rattle.world_model.specs.KeptLaws.{KnowsGoal}
 use Rattle.world_model.proofs.KeptLemmas.{bounds_given, goal_there, stopped_for_memory}
 use Rattle.world_model.proofs.OutcomeLemmas.{bounds_true}
 use Rattle.world_ends.specs.Endings.{EndsWhole, HasPlanAbove, EndsIn, IsProvedPlan, end_at}
+use Rattle.world_ends.specs.Readings.{BoundsAreOfWorlds}
+use Rattle.outcomes.specs.Endings.{without_rows}
 use Rattle.world_ends.specs.Laws.{EndingsLackRowsAlone, WantedRowsLeaveABound, BoundsLackRowsAlone, WantedRowsLeaveTheBound, EndsAreBounds, MemoryEndsAreWanted, RowsMakeAnAnswer, RowsMakeABoundAnswer, EndingsAnswer}
 use Rattle.outcomes.specs.declared.outcome.Outcome.TheVariants as outcome
 
@@ -482,6 +484,17 @@ memory_ends w bound best want (inr ((lowest, reached, low, at, is, some), none, 
   where
     same : ◌≡◌ {A = Cause} (Memory want) (Memory (Refused lacks.0)) → want ≡ Refused lacks.0
     same e = cc
+
+-- so it is of an ending that names one, and of an outcome without its rows
+pub ends_bounds : BoundsAreOfWorlds EndsIn (λ ending. ending)
+ends_bounds w (Optimal cost plan) ends = tt
+ends_bounds w (Unsolvable why) ends = tt
+ends_bounds w (Bounded bound best cause) ends = ends_bounded w bound best cause ends
+
+pub given_bounds : BoundsAreOfWorlds IsGiven without_rows
+given_bounds w (outcome.Optimal cost plan rows) given = tt
+given_bounds w (outcome.Unsolvable why) given = tt
+given_bounds w (outcome.Bounded bound best cause rows) given = bounds_given w bound best cause rows given
 
 -- a plan that is followed back costs no more than the goal is known at
 plan_low : (w : WorldState) (cost : ℕ) (plan : Vec Move Global) → IsShaped w → IsProvedPlan w cost plan.items → cost ≤ GREATEST_COST

@@ -4,24 +4,20 @@ use Rattle.std.specs.declared.alloc.Global.{Global}
 use Rattle.memory.specs.declared.OutOfMemory.{OutOfMemory}
 use Rattle.board.specs.declared.moves.Move.{Move}
 use Rattle.board.specs.Positions.{Position}
-use Rattle.board.specs.Rows.{IsLowerBound}
 use Rattle.outcomes.specs.declared.outcome.Cause.{Cause}
 use Rattle.outcomes.specs.declared.outcome.Cause.TheVariants.{Memory}
 use Rattle.outcomes.specs.declared.outcome.Want.{Want}
 use Rattle.outcomes.specs.declared.outcome.Want.TheVariants.{Refused}
 use Rattle.outcomes.specs.declared.outcome.Outcome.TheVariants as outcome
 use Rattle.outcomes.specs.Outcomes.{Task, Answers, AreRowsOf}
-use Rattle.world_model.specs.Quiet.{QuietIsTrueIn}
-use Rattle.world_model.specs.Shapes.{IsShaped}
-use Rattle.world_model.specs.Soundness.{IsSound}
 use Rattle.world_model.specs.Worlds.{WorldState}
 use Rattle.world_model.specs.Outcomes.{AreRowsFor, IsGiven, IsBounded}
 use Rattle.world_model.specs.KeptLaws.{KnowsGoal}
 use Rattle.world_model.specs.declared.steps.Stop.TheVariants as stops
-use Rattle.outcomes.specs.declared.outcome.Ending.{Ending}
 use Rattle.outcomes.specs.declared.outcome.Ending.TheVariants.{Optimal, Bounded}
 use Rattle.outcomes.specs.Endings.{EndAnswers}
 use Rattle.world_ends.specs.Endings.{EndsIn}
+use Rattle.world_ends.specs.Readings.{WorldsAnswer}
 
 -- a world ends with a plan just where it gives that plan with the rows that are due
 abbrev pub EndingsLackRowsAlone : Type 0
@@ -79,11 +75,4 @@ RowsMakeABoundAnswer =
 
 -- the ending that a sound world gives answers its task, if the world is quiet where the book says so
 abbrev pub EndingsAnswer : Type 0
-EndingsAnswer =
-    (w : WorldState) (ending : Ending)
-    → IsShaped w
-    → IsSound w
-    → QuietIsTrueIn w
-    → IsLowerBound w.task.rule w.task.sum w.task.goal
-    → EndsIn w ending
-    → EndAnswers w.task ending
+EndingsAnswer = WorldsAnswer EndsIn EndAnswers

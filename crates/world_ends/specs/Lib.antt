@@ -4,4 +4,5 @@ pub mod Lowest
 pub mod Plans
 pub mod Rows
 pub mod Endings
+pub mod Readings
 pub mod Laws

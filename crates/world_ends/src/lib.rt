@@ -6,9 +6,10 @@ pub mod laws;
 mod lowest;
 mod outcome;
 mod plan;
+mod reading;
 mod rows;
 
 pub use asked::Asked;
 pub use lowest::lowest_of;
-pub use outcome::{ending_of, outcome_of};
+pub use reading::{Reading, WithRows, WithoutRows, read};
 pub use rows::rows_for;

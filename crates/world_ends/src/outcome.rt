@@ -25,7 +25,7 @@ use world_model::{Known, Stop};
 
 /// The outcome that the workers of a world give, at any moment. `lanes` is the least cost plus sum
 /// of the items in the lanes, and `stop` what stopped the run.
-pub fn outcome_of<C: Counting, S: Spread>(
+pub(crate) fn outcome_of<C: Counting, S: Spread>(
     alloc: Global,
     asked: &Asked<'_>,
     owners: &S,
@@ -77,7 +77,7 @@ fn bound_alone(bound: u32, refused: OutOfMemory) -> Outcome
 }
 
 /// The same without rows, for which no memory is taken.
-pub fn ending_of<C: Counting, S: Spread>(
+pub(crate) fn ending_of<C: Counting, S: Spread>(
     alloc: Global,
     asked: &Asked<'_>,
     owners: &S,

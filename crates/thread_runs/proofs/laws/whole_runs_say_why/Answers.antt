@@ -1,5 +1,5 @@
-use Rattle.thread_runs.proofs.LawLemmas.{runs_say_why, ends_say_why}
+use Rattle.thread_runs.proofs.LawLemmas.{runs_say_why}
 use Rattle.thread_runs.proofs.laws.whole_runs_say_why.Goals as goal
 
 pub returns : goal.returns
-returns c = record { solved = runs_say_why; ended = ends_say_why }
+returns c = runs_say_why

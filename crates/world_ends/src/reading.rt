@@ -1,23 +1,31 @@
-//! What is read of joined workers: an outcome, with its rows or without.
+//! What is read of the workers of a world: its outcome, with the rows or without.
 
 ghost use Rattle.std.specs.Prelude.{◌≡◌, Bool, true, false};
+ghost use Rattle.outcomes.specs.declared.outcome.Ending.TheVariants.{Unsolvable};
+ghost use Rattle.outcomes.specs.declared.outcome.Why.TheVariants.{Parity};
 ghost use Rattle.search_lists.specs.Orders.{Guide};
 ghost use Rattle.world_model.specs.Outcomes.{IsGiven};
 ghost use Rattle.world_model.specs.Worlds.{WorldState};
 ghost use Rattle.world_ends.specs.Endings.{EndsIn};
 ghost use Rattle.world_ends.specs.Lowest.{IsLowestInLanes};
 ghost use Rattle.world_ends.specs.Parts.{states_of, task_in, AreGuided, HasParts};
+ghost use Rattle.world_ends.specs.Readings.{WorldsAnswer, BoundsAreOfWorlds, IsForParity};
 
+use crate::asked::Asked;
+use crate::outcome::{ending_of, outcome_of};
 use message_ledger::Counting;
 use outcomes::{Ending, Outcome, Why};
 use owners::Spread;
 use std::alloc::Global;
 use worker_core::Worker;
-use world_ends::{Asked, ending_of, outcome_of};
 use world_model::Stop;
+use world_model::laws::outcomes_answer;
 
-/// A reading of workers whose world is kept: of its outcome with the rows, or of its ending.
+/// A reading of workers: of the outcome that their world gives, with its rows or without.
 pub trait Reading {
+    ghost use Rattle.outcomes.specs.Outcomes.{Task};
+    ghost use Rattle.outcomes.specs.declared.outcome.Ending.{Ending};
+
     /// What is read.
     type Answer: Drop;
 
@@ -26,6 +34,15 @@ pub trait Reading {
 
     /// The world gives the answer.
     ghost gives: { WorldState → Self.Answer → Type 0 };
+
+    /// The answer is a true one to the task.
+    ghost answers: { Task → Self.Answer → Type 0 };
+
+    /// The answer without rows.
+    ghost end: { Self.Answer → Ending };
+
+    /// The answer for a start that isn't in the goal's class.
+    ghost parity: { Self.Answer };
 
     /// Whether rows are read.
     fn takes_rows() -> bool
@@ -38,17 +55,38 @@ pub trait Reading {
     /// An ending, where none are. Else nothing is said of the answer.
     fn of_ending(ending: Ending) -> Self::Answer
         ensures { has_rows ≡ false → (w : WorldState) → EndsIn w ending → gives w result };
+
+    /// The answer for a start that isn't in the goal's class.
+    fn of_parity() -> Self::Answer
+        ensures { result ≡ parity };
+
+    /// The laws of a reading. A function that does nothing has them as its contract.
+    fn keep_laws()
+        ensures answers { WorldsAnswer gives answers }
+        ensures bounds { BoundsAreOfWorlds gives end }
+        ensures parity { IsForParity answers parity }
+        ensures end { end parity ≡ Unsolvable Parity };
 }
 
-/// The outcome with its rows.
+/// The outcome with its rows. A bound stands alone where memory is refused for its plan or rows.
 pub struct WithRows;
 
 impl Reading for WithRows {
+    ghost use Rattle.outcomes.specs.Endings.{without_rows};
+    ghost use Rattle.outcomes.specs.Outcomes.{Answers};
+    ghost use Rattle.outcomes.specs.declared.outcome.Outcome.TheVariants as outcome;
+
     type Answer = Outcome;
 
     ghost has_rows = { true };
 
     ghost gives = { λ w outcome. IsGiven w outcome };
+
+    ghost answers = { λ task outcome. Answers task outcome };
+
+    ghost end = { λ outcome. without_rows outcome };
+
+    ghost parity = { outcome.Unsolvable Parity };
 
     fn takes_rows() -> bool {
         true
@@ -64,17 +102,33 @@ impl Reading for WithRows {
             why: Why::Exhausted,
         }
     }
+
+    fn of_parity() -> Outcome {
+        Outcome::Unsolvable { why: Why::Parity }
+    }
+
+    fn keep_laws() {
+        outcomes_answer();
+    }
 }
 
 /// The ending, for which no memory is taken for rows.
 pub struct WithoutRows;
 
 impl Reading for WithoutRows {
+    ghost use Rattle.outcomes.specs.Endings.{EndAnswers};
+
     type Answer = Ending;
 
     ghost has_rows = { false };
 
     ghost gives = { λ w ending. EndsIn w ending };
+
+    ghost answers = { λ task ending. EndAnswers task ending };
+
+    ghost end = { λ ending. ending };
+
+    ghost parity = { Unsolvable Parity };
 
     fn takes_rows() -> bool {
         false
@@ -90,11 +144,19 @@ impl Reading for WithoutRows {
     fn of_ending(ending: Ending) -> Ending {
         ending
     }
+
+    fn of_parity() -> Ending {
+        Ending::Unsolvable { why: Why::Parity }
+    }
+
+    fn keep_laws() {
+        outcomes_answer();
+    }
 }
 
-/// Reads workers, where `lanes` is the least cost plus sum of what is in their lanes, and `stop` is
-/// what stopped their book.
-pub(crate) fn read<A: Reading, C: Counting, S: Spread>(
+/// Reads the workers of a world, at any moment. `lanes` is the least cost plus sum of the items in the
+/// lanes, and `stop` what stopped the run.
+pub fn read<A: Reading, C: Counting, S: Spread>(
     alloc: Global,
     asked: &Asked<'_>,
     owners: &S,
