@@ -51,7 +51,7 @@ module _ (p : Problem) (cost cost' : ℕ) (plan plan' : Vec Move Global) (rows r
 
   -- so do the workers
   pub solved_again : {S : Type 0} (hash_of : S → Position → ℕ) (owners : S) (n : ℕ) → IsSolved hash_of p owners n (Optimal cost plan rows) → IsSolved hash_of p owners n (Optimal cost' plan' rows')
-  solved_again hash_of owners n (inl (several, (w, joined, kept, given))) = inl (several, (w, joined, kept, given_again w given))
+  solved_again hash_of owners n (inl (several, (w, joined, (kept, given)))) = inl (several, (w, joined, (kept, given_again w given)))
   solved_again hash_of owners n (inr ((w, run, given), left)) = inr ((w, run, given_again w given), left)
 
 -- what names no least plan claims nothing

@@ -7,7 +7,7 @@ ghost use Rattle.outcomes.specs.declared.outcome.Outcome.TheVariants.{Unsolvable
 ghost use Rattle.outcomes.specs.declared.outcome.Why.TheVariants.{Parity};
 ghost use Rattle.hda_run.specs.Problems.{task_in};
 ghost use Rattle.hda_run.specs.Worlds.{IsWorkerCount};
-ghost use Rattle.thread_runs.specs.Solved.{HasWholeRun};
+ghost use Rattle.hda_run.specs.WholeRuns.{HasWholeRun};
 ghost use Rattle.certificate_check.specs.declared.refusals.Refusal.{Refusal};
 ghost use Rattle.checked_runs.specs.Certificates.{AreAsGood};
 ghost use Rattle.checked_runs.specs.Checked.{IsProvedWith, IsCheckedRun, IsRefusedRun};

@@ -10,7 +10,7 @@ use Rattle.world_model.specs.Openings.{opening}
 use Rattle.world_model.specs.Steps.{IsRun}
 use Rattle.world_model.specs.Worlds.{WorldState}
 use Rattle.world_ends.specs.Endings.{EndsIn}
-use Rattle.hda_run.specs.Alone.{EndsByOne}
+use Rattle.hda_run.specs.Alone.{IsFoundAlone}
 use Rattle.outcomes.specs.declared.outcome.Cause.TheVariants.{Limit}
 use Rattle.hda_run.specs.Worlds.{job_of}
 use Rattle.world_model.specs.Credit.{expansion_count}
@@ -22,13 +22,13 @@ use Rattle.setup_runs.specs.Laws.{job_by, BoundsAreNeverCut, LimitsAreTheSetups,
 use Rattle.setup_runs.specs.Solving.{problem_of}
 
 pub never_cut : BoundsAreNeverCut
-never_cut setup b bound best cause (answers, inl (same, run)) = run.1 bound best cause refl
+never_cut setup b bound best cause (answers, inl (same, run)) = run.1
 never_cut setup b bound best cause (answers, inr (other, is)) = absurd (cc)
 
 -- what one worker ends is of steps that have expanded just as many boards
 limits_alone :
     (setup : SetupState) (b : Position) (bound : ℕ) (best : Option (ℕ × Vec Move Global))
-    → EndsByOne hash_by (problem_of setup b) setup.spread (Bounded bound best Limit)
+    → IsFoundAlone EndsIn hash_by (problem_of setup b) setup.spread (Bounded bound best Limit)
     → (owner : Position → ℕ) × (via : Move) × (made : List (Step × Option Refusal)) × (w : WorldState)
     × IsRun (opening (job_by owner setup b) via) made w × (expansion_count w ≡ setup.limit)
 limits_alone setup b bound best (w, run, given) =
@@ -46,14 +46,14 @@ all_spent limit spent more e = omega (arith, e)
 
 nearly_alone :
     (setup : SetupState) (b : Position) (bound : ℕ) (best : Option (ℕ × Vec Move Global))
-    → EndsByOne hash_by (problem_of setup b) setup.spread (Bounded bound best Limit)
+    → IsFoundAlone EndsIn hash_by (problem_of setup b) setup.spread (Bounded bound best Limit)
     → (w : WorldState) × EndsIn w (Bounded bound best Limit)
     × (expansion_count w ≤ setup.limit) × (setup.limit ≤ expansion_count w + GREATEST_GRANT * setup.workers)
 nearly_alone setup b bound best (w, run, given) =
     (w, given, run.within_limit, all_spent setup.limit (expansion_count w) (GREATEST_GRANT * setup.workers) (run.spent ((causes_stop w bound best Limit (ends_bounded w bound best Limit given)).0 refl)))
 
 pub limits_nearly : LimitsAreNearlySpent
-limits_nearly setup b bound best (answers, inl (same, (inl (inl (several, (w, joined, kept_world, given))), kept))) =
+limits_nearly setup b bound best (answers, inl (same, (inl (inl (several, (w, joined, (kept_world, given)))), kept))) =
     (w, given, joined.within_limit, (joined.at_limit ((causes_stop w bound best Limit (ends_bounded w bound best Limit given)).0 refl)).1)
 limits_nearly setup b bound best (answers, inl (same, (inl (inr (run, left)), kept))) = nearly_alone setup b bound best run
 limits_nearly setup b bound best (answers, inl (same, (inr (small, run), kept))) = nearly_alone setup b bound best run

@@ -1,25 +1,19 @@
 -- What the setup's workers answer is what its rules allow.
-use Rattle.std.proofs.Common.{ℕ, ◌≡◌, ◌⊎◌, ◌↔◌, ◌%◌, None, Some, Result, Ok, Err, IfOk, refl, ap, subst, inl, inr, ◌≢◌, Option, ◌+◌, ◌==◌, Bool, true, false, sym, ◌∙◌}
-use Rattle.std.specs.Bool.{Decides}
-use Rattle.std.specs.Prelude.{◌≤◌, Vec}
+use Rattle.std.proofs.Common.{ℕ, ◌≡◌, ◌⊎◌, ◌↔◌, ◌%◌, None, Some, Result, Ok, Err, IfOk, refl, ap, subst, inl, inr, sym, ◌∙◌}
+use Rattle.std.specs.Prelude.{◌≤◌}
 use Rattle.board.specs.Grids.{cell_count}
 use Rattle.std.proofs.Math.Nat.{mod-one}
-use Rattle.std.proofs.lemmas.Bool.Decides.{Decides-eqb, not_from_Decides}
-use Rattle.board.specs.Positions.{Position, blank_of}
-use Rattle.board.specs.Classes.{SameClass, inversions, taxicab}
+use Rattle.board.specs.Positions.{Position}
+use Rattle.board.specs.Classes.{SameClass}
 use Rattle.memory.specs.declared.OutOfMemory.{OutOfMemory}
 use Rattle.outcomes.specs.declared.outcome.Ending.{Ending}
-use Rattle.outcomes.specs.declared.outcome.Ending.TheVariants.{Optimal, Unsolvable, Bounded}
-use Rattle.outcomes.specs.declared.outcome.Cause.{Cause}
-use Rattle.outcomes.specs.declared.outcome.Cause.TheVariants.{Cut, Start, Memory}
-use Rattle.outcomes.specs.declared.outcome.Want.{Want}
-use Rattle.outcomes.specs.declared.outcome.Want.TheVariants.{Stated}
-use Rattle.std.specs.declared.alloc.Global.{Global}
-use Rattle.board.specs.declared.moves.Move.{Move}
+use Rattle.outcomes.specs.declared.outcome.Ending.TheVariants.{Unsolvable}
 use Rattle.outcomes.specs.declared.outcome.Why.TheVariants.{Parity}
 use Rattle.outcomes.specs.Endings.{without_rows, EndAnswers}
-use Rattle.hda_run.specs.Alone.{IsRunAlone, EndsByOne}
+use Rattle.hda_run.specs.Alone.{IsRunAlone, IsFoundAlone}
+use Rattle.hda_run.specs.WholeRuns.{EndsWholeRun, HasWholeRun}
 use Rattle.hda_run.specs.Problems.{task_in}
+use Rattle.hda_run.proofs.LawLemmas.{one_class}
 use Rattle.world_model.specs.Openings.{Job}
 use Rattle.world_model.specs.Quiet.{IsKept}
 use Rattle.world_model.specs.Worlds.{WorldState}
@@ -27,10 +21,10 @@ use Rattle.world_ends.specs.Endings.{EndsIn}
 use Rattle.batch_runs.specs.Setups.{SetupState, hash_by, task_of}
 use Rattle.batch_runs.specs.Batches.{IsTruthful, MayGive}
 use Rattle.thread_joins.specs.Threads.{IsJoined}
-use Rattle.thread_runs.specs.Solved.{IsOfWholeRun, IsSolved, HasWholeRun, EndsWholeRun, IsEnded, IsLeftToOne}
-use Rattle.setup_runs.specs.Solving.{IsOfProvedRun, MayAnswer, MayCertify, certifying_rules_of, problem_of, IsSmallAlone, rules_of}
+use Rattle.thread_runs.specs.Solved.{IsFoundByWorkers, IsSolved, IsLeftToOne}
+use Rattle.setup_runs.specs.Solving.{AnswersBoard, IsOfRun, IsOfProvedRun, MayAnswer, MayCertify, certifying_rules_of, problem_of, rules_of}
 use Rattle.outcomes.specs.declared.outcome.Outcome.{Outcome}
-use Rattle.outcomes.specs.Outcomes.{Answers}
+use Rattle.outcomes.specs.Outcomes.{Task, Answers}
 use Rattle.world_model.specs.Outcomes.{IsGiven}
 use Rattle.thread_runs.specs.Laws.{HasItsRows}
 use Rattle.thread_runs.proofs.LawLemmas.{solved_ends}
@@ -38,30 +32,6 @@ use Rattle.certificate_runs.specs.Rules.{MayProve}
 use Rattle.certificate_runs.proofs.HeadlineLemmas.{ends_answered}
 use Rattle.setup_runs.specs.Laws.{CertifiedEndsAreAnswered, IsAloneBound, ParityIsCertified}
 use Rattle.outcomes.specs.declared.outcome.Outcome.TheVariants as outcome
-
-decided : {P : Type 0} (r : Bool) → Decides r P → P ⊎ (¬ P)
-decided true decides = inl (decides.0 refl)
-decided false decides = inr (not_from_Decides false decides refl)
-
--- two boards are of one class, or they are not
-pub one_class : (b q : Position) → SameClass b q ⊎ (¬ SameClass b q)
-one_class b q =
-    let left = (inversions b.tiles + inversions q.tiles) % 2 in
-    let right = taxicab b.grid (blank_of b) (blank_of q) % 2 in
-    decided (left == right) (Decides-eqb left right)
-
--- the value of a result that has one
-abbrev value_or : Ending → Result Ending OutOfMemory → Ending
-value_or other (Ok ending) = ending
-value_or other (Err refused) = other
-
--- a want of memory, where there might be an ending
-abbrev ending_error : OutOfMemory → Result Ending OutOfMemory
-ending_error refused = Err refused
-
--- no error is the ending that parity has
-is_no_error : (refused : OutOfMemory) → ending_error refused ≡ Ok (Unsolvable Parity) → ⊥
-is_no_error refused e = absurd (cc)
 
 -- the owner of a board among one worker
 abbrev pub owner_by : (Position → ℕ) → Position → ℕ
@@ -75,127 +45,111 @@ lone_owner hash other = λ t b. (mod-one (hash b) ∙ sym (mod-one (other b))) t
 pub lone_shares : (n : ℕ) → n ≡ 1 → (hash other : Position → ℕ) (b : Position) → hash b % n ≡ other b % n
 lone_shares n one hash other b = subst (λ (count : ℕ). hash b % count ≡ other b % count) (sym one) (mod-one (hash b) ∙ sym (mod-one (other b)))
 
-module _ (setup : SetupState) (start : Position) where
-  -- the run of the setup's workers whose boards are owned by this hash
-  abbrev Ends : {S : Type 0} → (S → Position → ℕ) → S → Ending → Type 0
-  Ends hash_of owners ending = IsEnded hash_of (problem_of setup start) owners setup.workers ending
+-- ---- The boards of a setup, in each reading.
+
+module _ {X : Type 0} (gives : WorldState → X → Type 0) (setup : SetupState) (start : Position) where
+  -- what the setup's workers find whose boards are owned by this hash
+  abbrev pub Finds : {S : Type 0} → (S → Position → ℕ) → S → X → Type 0
+  Finds hash_of owners answer = IsFoundByWorkers gives hash_of (problem_of setup start) owners setup.workers answer
 
   -- what so many workers do that own each board by this
   abbrev job_owned : ℕ → (Position → ℕ) → Job
   job_owned n owner = record { task = task_in (problem_of setup start); limit = setup.limit; count = n; owner = owner }
 
-  abbrev JoinedOwned : Ending → (Position → ℕ) → Type 0
-  JoinedOwned ending owner = (w : WorldState) × IsJoined (job_owned setup.workers owner) w × IsKept w × EndsIn w ending
+  abbrev JoinedOwned : X → (Position → ℕ) → Type 0
+  JoinedOwned answer owner = (w : WorldState) × IsJoined (job_owned setup.workers owner) w × (IsKept w × gives w answer)
 
-  abbrev AloneOwned : Ending → (Position → ℕ) → Type 0
-  AloneOwned ending owner = (w : WorldState) × IsRunAlone (job_owned 1 owner) w × EndsIn w ending
+  abbrev AloneOwned : X → (Position → ℕ) → Type 0
+  AloneOwned answer owner = (w : WorldState) × IsRunAlone (job_owned 1 owner) w × gives w answer
 
   abbrev LeftOwned : (Position → ℕ) → Type 0
   LeftOwned owner = (w : WorldState) × IsJoined (job_owned setup.workers owner) w × (¬ IsKept w)
 
-  -- what is left to one worker is so, whatever the hash by which each board has the same owner
-  pub left_any : {S T : Type 0} (hash_of : S → Position → ℕ) (owners : S) (other_of : T → Position → ℕ) (others : T) → ((b : Position) → hash_of owners b % setup.workers ≡ other_of others b % setup.workers) → IsLeftToOne hash_of (problem_of setup start) owners setup.workers → IsLeftToOne other_of (problem_of setup start) others setup.workers
-  left_any hash_of owners other_of others same (inl one) = inl one
-  left_any hash_of owners other_of others same (inr dropped) = inr (subst LeftOwned (λ t b. same b t) dropped)
+  -- one worker owns all boards, whatever the hash
+  pub alone_any : {S T : Type 0} (hash_of : S → Position → ℕ) (owners : S) (other_of : T → Position → ℕ) (others : T) (answer : X) → IsFoundAlone gives hash_of (problem_of setup start) owners answer → IsFoundAlone gives other_of (problem_of setup start) others answer
+  alone_any hash_of owners other_of others answer run = subst (AloneOwned answer) (lone_owner (hash_of owners) (other_of others)) run
 
-  spread_any : {S T : Type 0} (hash_of : S → Position → ℕ) (owners : S) (other_of : T → Position → ℕ) (others : T) (ending : Ending) → ((b : Position) → hash_of owners b % setup.workers ≡ other_of others b % setup.workers) → Ends hash_of owners ending → Ends other_of others ending
-  spread_any hash_of owners other_of others ending same (inl (several, by)) = inl (several, subst (JoinedOwned ending) (λ t b. same b t) by)
-  spread_any hash_of owners other_of others ending same (inr (run, left)) = inr (subst (AloneOwned ending) (lone_owner (hash_of owners) (other_of others)) run, left_any hash_of owners other_of others same left)
+  module _ {S T : Type 0} (hash_of : S → Position → ℕ) (owners : S) (other_of : T → Position → ℕ) (others : T) (same : (b : Position) → hash_of owners b % setup.workers ≡ other_of others b % setup.workers) where
+    -- what is left to one worker is so, whatever the hash by which each board has the same owner
+    left_any : IsLeftToOne hash_of (problem_of setup start) owners setup.workers → IsLeftToOne other_of (problem_of setup start) others setup.workers
+    left_any (inl one) = inl one
+    left_any (inr dropped) = inr (subst LeftOwned (λ t b. same b t) dropped)
 
-  -- by the setup's workers, or, of a small board, by one of them
-  abbrev pub Answered : Ending → Type 0
-  Answered ending = Ends hash_by setup.spread ending ⊎ IsSmallAlone setup start ending
+    -- so is what they find
+    found_any : (answer : X) → Finds hash_of owners answer → Finds other_of others answer
+    found_any answer (inl (several, by)) = inl (several, subst (JoinedOwned answer) (λ t b. same b t) by)
+    found_any answer (inr (run, left)) = inr (alone_any hash_of owners other_of others answer run, left_any left)
 
-  -- what workers end who own each board as the setup says, its workers may have ended
-  pub ends_so : {S : Type 0} (hash_of : S → Position → ℕ) (owners : S) → ((b : Position) → hash_of owners b % setup.workers ≡ hash_by setup.spread b % setup.workers) → (result : Result Ending OutOfMemory) → IfOk result (Ends hash_of owners) → IfOk result Answered
-  ends_so hash_of owners same (Err refused) run = run
-  ends_so hash_of owners same (Ok ending) run = inl (spread_any hash_of owners hash_by setup.spread ending same run)
+    pub found_so : (result : Result X OutOfMemory) → IfOk result (Finds hash_of owners) → IfOk result (Finds other_of others)
+    found_so (Ok answer) found = found_any answer found
+    found_so (Err refused) found = found
 
-  -- so they may what one worker ends of a small board
-  pub ends_alone : {S : Type 0} (hash_of : S → Position → ℕ) (owners : S) (ending : Ending) → cell_count setup.goal.grid ≤ 9 → EndsByOne hash_of (problem_of setup start) owners ending → Answered ending
-  ends_alone hash_of owners ending small run = inr (small, subst (AloneOwned ending) (lone_owner (hash_of owners) (hash_by setup.spread)) run)
+-- the value of a result that has one
+abbrev value_or : {X : Type 0} → X → Result X OutOfMemory → X
+value_or other (Ok answer) = answer
+value_or other (Err refused) = other
 
-  pub may_give : (result : Result Ending OutOfMemory) → (result ≡ Ok (Unsolvable Parity)) ↔ (¬ SameClass start setup.goal) → (SameClass start setup.goal → IfOk result Answered) → IfOk result (EndAnswers (task_of setup start)) → IfOk result EndsWholeRun → MayGive (rules_of setup) start result
-  may_give (Err refused) parity run answers kept = of_class (one_class start setup.goal)
+-- a want of memory, where there might be an answer
+abbrev error_of : {X : Type 0} → OutOfMemory → Result X OutOfMemory
+error_of refused = Err refused
+
+-- no error is the answer that parity has
+is_no_error : {X : Type 0} (refused : OutOfMemory) (parity : X) → error_of refused ≡ Ok parity → ⊥
+is_no_error refused parity e = absurd (cc)
+
+module _ {X : Type 0} (answers : Task → X → Type 0) (is_of_run : X → Type 0) (parity : X) (setup : SetupState) (start : Position) where
+  -- the board is answered so, or memory is wanting
+  abbrev pub Gives : Result X OutOfMemory → Type 0
+  Gives (Ok answer) = AnswersBoard answers is_of_run parity setup start (Some answer)
+  Gives (Err refused) = AnswersBoard answers is_of_run parity setup start None
+
+  gives_so : (result : Result X OutOfMemory) → (result ≡ Ok parity) ↔ (¬ SameClass start setup.goal) → (SameClass start setup.goal → IfOk result is_of_run) → IfOk result (answers (task_of setup start)) → Gives result
+  gives_so (Err refused) by_parity run answered = of_class (one_class start setup.goal)
     where
       of_class : SameClass start setup.goal ⊎ (¬ SameClass start setup.goal) → SameClass start setup.goal
       of_class (inl together) = together
-      of_class (inr other) = absurd (is_no_error refused (parity.1 other))
-  may_give (Ok ending) parity run answers kept = (answers, of_class (one_class start setup.goal))
+      of_class (inr other) = absurd (is_no_error refused parity (by_parity.1 other))
+  gives_so (Ok answer) by_parity run answered = (answered, of_class (one_class start setup.goal))
     where
-      of_class : SameClass start setup.goal ⊎ (¬ SameClass start setup.goal) → (SameClass start setup.goal × (Answered ending × EndsWholeRun ending)) ⊎ ((¬ SameClass start setup.goal) × (ending ≡ Unsolvable Parity))
-      of_class (inl together) = inl (together, (run together, kept))
-      of_class (inr other) = inr (other, ap (value_or ending) (parity.1 other))
+      of_class : SameClass start setup.goal ⊎ (¬ SameClass start setup.goal) → (SameClass start setup.goal × is_of_run answer) ⊎ ((¬ SameClass start setup.goal) × (answer ≡ parity))
+      of_class (inl together) = inl (together, run together)
+      of_class (inr other) = inr (other, ap (value_or answer) (by_parity.1 other))
 
--- a bound that no want of memory gave is of a whole run, where it was not cut
-pub never_cut :
-    (ending : Ending)
-    → ((bound : ℕ) (best : Option (ℕ × Vec Move Global)) (cause : Cause) → ending ≡ Bounded bound best cause → (cause ≢ Cut) × (cause ≢ Start))
-    → ((bound : ℕ) (best : Option (ℕ × Vec Move Global)) (want : Want) → ending ≢ Bounded bound best (Memory want))
-    → EndsWholeRun ending
-never_cut ending kept never bound best cause is =
-    let uncut = kept bound best cause is in
-    (uncut.0, uncut.1, λ stated. never bound best Stated (is ∙ ap (Bounded bound best) stated))
+both : {X : Type 0} (P Q : X → Type 0) (result : Result X OutOfMemory) → IfOk result P → IfOk result Q → IfOk result (λ answer. P answer × Q answer)
+both P Q (Ok answer) p q = (p, q)
+both P Q (Err refused) p q = p
+
+module _ (setup : SetupState) (start : Position) where
+  -- what the setup's workers find of a board, without rows, is what its rules allow
+  pub may_give : (result : Result Ending OutOfMemory) → (result ≡ Ok (Unsolvable Parity)) ↔ (¬ SameClass start setup.goal) → (SameClass start setup.goal → IfOk result (Finds EndsIn setup start hash_by setup.spread)) → IfOk result (EndAnswers (task_of setup start)) → IfOk result EndsWholeRun → MayGive (rules_of setup) start result
+  may_give result by_parity run answered kept = as_rules result (gives_so EndAnswers (IsOfRun setup start) (Unsolvable Parity) setup start result by_parity (λ together. of_run result (run together) kept) answered)
+    where
+      as_rules : (result : Result Ending OutOfMemory) → Gives EndAnswers (IsOfRun setup start) (Unsolvable Parity) setup start result → MayGive (rules_of setup) start result
+      as_rules (Ok ending) given = given
+      as_rules (Err refused) given = given
+
+      of_run : (result : Result Ending OutOfMemory) → IfOk result (Finds EndsIn setup start hash_by setup.spread) → IfOk result EndsWholeRun → IfOk result (IsOfRun setup start)
+      of_run (Ok ending) found kept = (inl found, kept)
+      of_run (Err refused) found kept = found
+
+  -- so is what one of them ends of a small board
+  pub may_end : {S : Type 0} (hash_of : S → Position → ℕ) (owners : S) (ending : Ending) → cell_count setup.goal.grid ≤ 9 → (◌≡◌ {A = Result Ending OutOfMemory} (Ok ending) (Ok (Unsolvable Parity))) ↔ (¬ SameClass start setup.goal) → (SameClass start setup.goal → IsFoundAlone EndsIn hash_of (problem_of setup start) owners ending) → EndAnswers (task_of setup start) ending → EndsWholeRun ending → MayAnswer setup start (Some ending)
+  may_end hash_of owners ending small by_parity run answered kept =
+      gives_so EndAnswers (IsOfRun setup start) (Unsolvable Parity) setup start (Ok ending) by_parity (λ together. (inr (small, alone_any EndsIn setup start hash_of owners hash_by setup.spread ending (run together)), kept)) answered
+
+  -- what they find with rows is what its rules allow too
+  pub may_prove : (result : Result Outcome OutOfMemory) → (result ≡ Ok (outcome.Unsolvable Parity)) ↔ (¬ SameClass start setup.goal) → (SameClass start setup.goal → IfOk result (Finds IsGiven setup start hash_by setup.spread)) → IfOk result (Answers (task_of setup start)) → IfOk result HasWholeRun → MayProve (certifying_rules_of setup) start result
+  may_prove result by_parity run answered kept =
+      as_rules result (gives_so Answers (IsOfProvedRun setup start) (outcome.Unsolvable Parity) setup start result by_parity (λ together. both (Finds IsGiven setup start hash_by setup.spread) HasWholeRun result (run together) kept) answered)
+    where
+      as_rules : (result : Result Outcome OutOfMemory) → Gives Answers (IsOfProvedRun setup start) (outcome.Unsolvable Parity) setup start result → MayProve (certifying_rules_of setup) start result
+      as_rules (Ok given) allowed = allowed
+      as_rules (Err refused) allowed = allowed
 
 -- what a setup allows is true
 pub setup_truthful : (setup : SetupState) → IsTruthful (rules_of setup)
 setup_truthful setup b ending allowed = allowed.0
 
--- ---- What the setup's workers prove is what its rules allow.
-
--- what an ending says of its bound's cause
-abbrev cause_or : Cause → Ending → Cause
-cause_or other (Optimal cost plan) = other
-cause_or other (Unsolvable why) = other
-cause_or other (Bounded bound best cause) = cause
-
-ending_kept : (o : Outcome) → HasWholeRun o → EndsWholeRun (without_rows o)
-ending_kept (outcome.Optimal cost plan rows) kept bound best cause e = absurd (cc)
-ending_kept (outcome.Unsolvable why) kept bound best cause e = absurd (cc)
-ending_kept (outcome.Bounded bound' best' cause' rows) kept bound best cause e = subst IsOfWholeRun (ap (cause_or cause') e) (kept bound' best' cause' rows refl)
-
--- the outcome of a result that has one
-abbrev outcome_or : Outcome → Result Outcome OutOfMemory → Outcome
-outcome_or other (Ok o) = o
-outcome_or other (Err refused) = other
-
-abbrev error_of : OutOfMemory → Result Outcome OutOfMemory
-error_of refused = Err refused
-
-error_back : (refused : OutOfMemory) → error_of refused ≡ Ok (outcome.Unsolvable Parity) → ⊥
-error_back refused e = absurd (cc)
-
-module _ (setup : SetupState) (start : Position) where
-  -- the run of the setup's workers whose boards are owned by this hash
-  abbrev Solves : {S : Type 0} → (S → Position → ℕ) → S → Outcome → Type 0
-  Solves hash_of owners given = IsSolved hash_of (problem_of setup start) owners setup.workers given
-
-  -- what so many workers do that own each board by this
-  abbrev job_solved : ℕ → (Position → ℕ) → Job
-  job_solved n owner = record { task = task_in (problem_of setup start); limit = setup.limit; count = n; owner = owner }
-
-  abbrev JoinedSolved : Outcome → (Position → ℕ) → Type 0
-  JoinedSolved given owner = (w : WorldState) × IsJoined (job_solved setup.workers owner) w × IsKept w × IsGiven w given
-
-  abbrev AloneSolved : Outcome → (Position → ℕ) → Type 0
-  AloneSolved given owner = (w : WorldState) × IsRunAlone (job_solved 1 owner) w × IsGiven w given
-
-  solved_any : {S T : Type 0} (hash_of : S → Position → ℕ) (owners : S) (other_of : T → Position → ℕ) (others : T) (given : Outcome) → ((b : Position) → hash_of owners b % setup.workers ≡ other_of others b % setup.workers) → Solves hash_of owners given → Solves other_of others given
-  solved_any hash_of owners other_of others given same (inl (several, by)) = inl (several, subst (JoinedSolved given) (λ t b. same b t) by)
-  solved_any hash_of owners other_of others given same (inr (run, left)) =
-      inr (subst (AloneSolved given) (lone_owner (hash_of owners) (other_of others)) run, left_any setup start hash_of owners other_of others same left)
-
-  pub may_prove : {S : Type 0} (hash_of : S → Position → ℕ) (owners : S) → ((b : Position) → hash_of owners b % setup.workers ≡ hash_by setup.spread b % setup.workers) → (result : Result Outcome OutOfMemory) → (result ≡ Ok (outcome.Unsolvable Parity)) ↔ (¬ SameClass start setup.goal) → (SameClass start setup.goal → IfOk result (Solves hash_of owners)) → IfOk result (Answers (task_of setup start)) → IfOk result HasWholeRun → MayProve (certifying_rules_of setup) start result
-  may_prove hash_of owners same (Err refused) parity run answers kept = of_class (one_class start setup.goal)
-    where
-      of_class : SameClass start setup.goal ⊎ (¬ SameClass start setup.goal) → SameClass start setup.goal
-      of_class (inl together) = together
-      of_class (inr other) = absurd (error_back refused (parity.1 other))
-  may_prove hash_of owners same (Ok o) parity run answers kept = (answers, of_class (one_class start setup.goal))
-    where
-      of_class : SameClass start setup.goal ⊎ (¬ SameClass start setup.goal) → (SameClass start setup.goal × IsOfProvedRun setup start o) ⊎ ((¬ SameClass start setup.goal) × (o ≡ outcome.Unsolvable Parity))
-      of_class (inl together) = inl (together, (solved_any hash_of owners hash_by setup.spread o same (run together), kept))
-      of_class (inr other) = inr (other, ap (outcome_or o) (parity.1 other))
 
 pub parity_certified : ParityIsCertified
 parity_certified setup b apart = ((λ together. apart together), by_class)
@@ -210,7 +164,7 @@ certified_answered setup b o (answers, inr (other, is)) = inl (ends_answered (ta
 certified_answered setup b o (answers, inl (together, (solved, kept))) = by_rows o answers solved kept
   where
     ends : (o : Outcome) → HasItsRows o → Answers (task_of setup b) o → IsSolved hash_by (problem_of setup b) setup.spread setup.workers o → HasWholeRun o → MayAnswer setup b (Some (without_rows o))
-    ends o has answers solved kept = (ends_answered (task_of setup b) o answers, inl (together, (inl (solved_ends hash_by (problem_of setup b) setup.spread setup.workers o solved has), ending_kept o kept)))
+    ends o has answers solved kept = (ends_answered (task_of setup b) o answers, inl (together, (inl (solved_ends hash_by (problem_of setup b) setup.spread setup.workers o solved has), kept)))
 
     by_rows : (o : Outcome) → Answers (task_of setup b) o → IsSolved hash_by (problem_of setup b) setup.spread setup.workers o → HasWholeRun o → MayAnswer setup b (Some (without_rows o)) ⊎ IsAloneBound o
     by_rows (outcome.Optimal cost plan rows) answers solved kept = inl (ends (outcome.Optimal cost plan rows) tt answers solved kept)

@@ -8,11 +8,13 @@ use Rattle.outcomes.specs.declared.outcome.Ending.TheVariants.{Unsolvable}
 use Rattle.outcomes.specs.declared.outcome.Why.TheVariants.{Parity}
 use Rattle.outcomes.specs.declared.outcome.Outcome.{Outcome}
 use Rattle.outcomes.specs.declared.outcome.Outcome.TheVariants as outcome
-use Rattle.outcomes.specs.Outcomes.{Answers}
+use Rattle.outcomes.specs.Outcomes.{Task, Answers}
 use Rattle.outcomes.specs.Endings.{EndAnswers}
-use Rattle.hda_run.specs.Alone.{EndsByOne}
+use Rattle.world_ends.specs.Endings.{EndsIn}
+use Rattle.hda_run.specs.Alone.{IsFoundAlone}
 use Rattle.hda_run.specs.Problems.{Problem, problem}
-use Rattle.thread_runs.specs.Solved.{IsSolved, IsEnded, HasWholeRun, EndsWholeRun}
+use Rattle.hda_run.specs.WholeRuns.{EndsWholeRun, HasWholeRun}
+use Rattle.thread_runs.specs.Solved.{IsFoundByWorkers, IsSolved}
 use Rattle.batch_runs.specs.Setups.{SetupState, hash_by, task_of}
 use Rattle.batch_runs.specs.Batches.{Rules}
 use Rattle.certificate_runs.specs.Rules.{ProofRules}
@@ -23,29 +25,30 @@ problem_of setup start = problem start setup.goal setup.rule setup.tables setup.
 
 -- a board of at most 9 cells ended by one worker: small boards may be solved side by side
 abbrev pub IsSmallAlone : SetupState → Position → Ending → Type 0
-IsSmallAlone setup start ending = (cell_count setup.goal.grid ≤ 9) × EndsByOne hash_by (problem_of setup start) setup.spread ending
+IsSmallAlone setup start ending = (cell_count setup.goal.grid ≤ 9) × IsFoundAlone EndsIn hash_by (problem_of setup start) setup.spread ending
 
 -- the ending is that of a run by the setup's workers, which are guided by its tables and keep to its limit; or, of a small board, by one of them
 abbrev pub IsOfRun : SetupState → Position → Ending → Type 0
-IsOfRun setup start ending = (IsEnded hash_by (problem_of setup start) setup.spread setup.workers ending ⊎ IsSmallAlone setup start ending) × EndsWholeRun ending
+IsOfRun setup start ending = (IsFoundByWorkers EndsIn hash_by (problem_of setup start) setup.spread setup.workers ending ⊎ IsSmallAlone setup start ending) × EndsWholeRun ending
 
--- A board is answered by an ending that answers its task. A board that isn't in the goal's class is answered by its parity; any other one by a run, which may want memory before the first step: when it does, no definition can tell.
-abbrev pub MayAnswer : SetupState → Position → Option Ending → Type 0
-MayAnswer setup start None = SameClass start setup.goal
-MayAnswer setup start (Some ending) =
-    EndAnswers (task_of setup start) ending
-    × ((SameClass start setup.goal × IsOfRun setup start ending) ⊎ ((¬ SameClass start setup.goal) × (ending ≡ Unsolvable Parity)))
-
--- the outcome is that of such a run
+-- the outcome is that of a run by the setup's workers
 abbrev pub IsOfProvedRun : SetupState → Position → Outcome → Type 0
 IsOfProvedRun setup start given = IsSolved hash_by (problem_of setup start) setup.spread setup.workers given × HasWholeRun given
 
--- How a board is answered where the rows are asked for too: the same, by an outcome.
+-- A board is answered by what answers its task. A board that isn't in the goal's class is answered by its parity; any other one by a run, which may want memory before the first step: when it does, no definition can tell.
+abbrev pub AnswersBoard : {X : Type 0} → (Task → X → Type 0) → (X → Type 0) → X → SetupState → Position → Option X → Type 0
+AnswersBoard answers is_of_run parity setup start None = SameClass start setup.goal
+AnswersBoard answers is_of_run parity setup start (Some answer) =
+    answers (task_of setup start) answer
+    × ((SameClass start setup.goal × is_of_run answer) ⊎ ((¬ SameClass start setup.goal) × (answer ≡ parity)))
+
+-- how a board may be answered by an ending
+abbrev pub MayAnswer : SetupState → Position → Option Ending → Type 0
+MayAnswer setup start = AnswersBoard EndAnswers (IsOfRun setup start) (Unsolvable Parity) setup start
+
+-- and where the rows are asked for too, by an outcome
 abbrev pub MayCertify : SetupState → Position → Option Outcome → Type 0
-MayCertify setup start None = SameClass start setup.goal
-MayCertify setup start (Some given) =
-    Answers (task_of setup start) given
-    × ((SameClass start setup.goal × IsOfProvedRun setup start given) ⊎ ((¬ SameClass start setup.goal) × (given ≡ outcome.Unsolvable Parity)))
+MayCertify setup start = AnswersBoard Answers (IsOfProvedRun setup start) (outcome.Unsolvable Parity) setup start
 
 -- the boards of the setup's shape, what is asked of them, and how they may be answered
 abbrev pub rules_of : SetupState → Rules

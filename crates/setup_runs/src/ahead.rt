@@ -16,12 +16,13 @@ use batch_lines::{LineKind, LineReader, read_entry};
 use batch_runs::Setup;
 use board::{Board, Shape};
 use byte_streams::ByteSource;
-use hda_run::{Gate, end_one};
+use hda_run::{Gate, read_one};
 use memory::push;
 use outcomes::{Cause, Ending};
 use owners::{ByBlank, Spread};
 use std::alloc::Global;
 use std::thread::{Threads, for_each_mut};
+use world_ends::WithoutRows;
 
 // The most cells of a small board. One worker ends such a board sooner than several could begin it.
 const SMALL_CELLS: usize = 9;
@@ -168,7 +169,8 @@ fn end_alone<S: Spread + Drop, G: Gate>(
     requires small { cell_count setup.now.goal.grid ≤ 9 }
     ensures { IfSome result (λ ending. MayAnswer setup.now start.now (Some ending)) }
 {
-    let Ok(ending) = end_one(alloc, job_for(setup, start), spread, gate) else {
+    let job = job_for(setup, start);
+    let Ok(ending) = read_one::<WithoutRows, S, G>(alloc, job, spread, gate) else {
         return None;
     };
     if lacked_memory(&ending) {

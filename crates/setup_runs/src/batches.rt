@@ -7,7 +7,7 @@ ghost use Rattle.batch_runs.specs.Headline.{IsTrueRun};
 ghost use Rattle.setup_runs.specs.Solving.{rules_of};
 
 use crate::ahead::end_ahead;
-use crate::solving::end_board;
+use crate::solving::read_board;
 use batch_runs::{LinesFault, Ruled, Setup, Solver, Summary, run_lines};
 use board::{Board, Shape};
 use byte_streams::{Sink, Source};
@@ -17,6 +17,7 @@ use outcomes::Ending;
 use std::alloc::Global;
 use std::sync::Wait;
 use std::thread::Threads;
+use world_ends::WithoutRows;
 
 // A setup, and the closures by which its workers answer boards: threads start under the bounds of the
 // function that makes these, which no trait's method has.
@@ -98,7 +99,7 @@ pub fn run_batch<R: Threads + Wait + Sync, S: Source, K: Sink, G: Gate + Sync>(
     let solve = |start: &Board| -> Result<Ending, OutOfMemory>
         requires { start.now.grid ≡ setup.now.goal.grid }
         ensures { MayGive (rules_of setup.entry.now) start.now result }
-    { end_board(rt, alloc, setup, start, gate) };
+    { read_board::<WithoutRows, R, G>(rt, alloc, setup, start, gate) };
     let ahead = |start: &Board, held: &[u8]| -> Vec<(Board, Ending)>
         requires { start.now.grid ≡ setup.now.goal.grid }
         ensures { AreAllowed (rules_of setup.entry.now) result.items }

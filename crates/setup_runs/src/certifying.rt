@@ -1,28 +1,25 @@
 //! Certificates of a setup's boards.
 
-ghost use Rattle.std.specs.Prelude.{◌≡◌, ◌⊎◌, ◌%◌};
-ghost use Rattle.board.specs.Positions.{Position};
+ghost use Rattle.std.specs.Prelude.{◌≡◌, ◌⊎◌};
 ghost use Rattle.byte_streams.specs.Streams.{change};
 ghost use Rattle.batch_runs.specs.Batches.{HasFailed};
-ghost use Rattle.batch_runs.specs.Setups.{hash_by};
 ghost use Rattle.certificate_runs.specs.Rules.{MayProve};
 ghost use Rattle.certificate_runs.specs.Certifying.{Replies};
 ghost use Rattle.certificate_runs.specs.Headline.{IsTrueAnswer};
 ghost use Rattle.setup_runs.specs.Solving.{certifying_rules_of};
 
-use crate::solving::job_for;
-use batch_runs::{Setup, SpreadKind};
+use crate::solving::read_board;
+use batch_runs::Setup;
 use board::Board;
 use byte_streams::{Sink, Source};
 use certificate_runs::{CertifyFault, ProofRuled, Prover, certify_first};
 use hda_run::Gate;
 use memory::OutOfMemory;
 use outcomes::Outcome;
-use owners::{ByBlank, Spread, Zobrist};
 use std::alloc::Global;
 use std::sync::Wait;
 use std::thread::Threads;
-use thread_runs::solve_by_workers;
+use world_ends::WithRows;
 
 // A setup, and the closure by which its workers answer boards with rows, as `Guided` has two.
 #[derive(Drop)]
@@ -63,48 +60,6 @@ impl<'a, F: Fn(&Board) -> Result<Outcome, OutOfMemory>> Prover for Proving<'a, F
     }
 }
 
-// The outcome of a board by the setup's workers, as `end_board` has its ending.
-fn prove_board<R: Threads + Wait + Sync, G: Gate + Sync>(
-    rt: &R,
-    alloc: Global,
-    setup: &Setup,
-    start: &Board,
-    gate: &G,
-) -> Result<Outcome, OutOfMemory>
-    requires { start.now.grid ≡ setup.now.goal.grid }
-    ensures { MayProve (certifying_rules_of setup.now) start.now result }
-{
-    // One worker owns all boards, whatever they are spread by.
-    if setup.worker_count() == 1 {
-        return prove_spread(rt, alloc, setup, start, ByBlank, gate);
-    }
-    match setup.spread_kind() {
-        SpreadKind::Zobrist => {
-            let spread = Zobrist::new(setup.shape());
-            prove_spread(rt, alloc, setup, start, spread, gate)
-        }
-        SpreadKind::Blank => prove_spread(rt, alloc, setup, start, ByBlank, gate),
-    }
-}
-
-// The outcome by the setup's workers, where each owns the boards that the setup says by this spread.
-fn prove_spread<R: Threads + Wait + Sync, S: Spread + Drop + Sync, G: Gate + Sync>(
-    rt: &R,
-    alloc: Global,
-    setup: &Setup,
-    start: &Board,
-    spread: S,
-    gate: &G,
-) -> Result<Outcome, OutOfMemory>
-    requires sides { start.now.grid ≡ setup.now.goal.grid }
-    requires owners { (b : Position)
-        → S.hash_of spread b % setup.now.workers ≡ hash_by setup.now.spread b % setup.now.workers }
-    ensures { MayProve (certifying_rules_of setup.now) start.now result }
-{
-    let workers = setup.worker_count();
-    solve_by_workers(rt, alloc, job_for(setup, start), workers, spread, gate)
-}
-
 /// Answers the first line of the source that isn't passed over, and takes nothing behind it: where
 /// a plan of least cost is found, or a bound with its rows, its certificate is written, else the
 /// line's report. The board is solved as those of a batch are, but with the rows that prove the plan
@@ -134,7 +89,7 @@ pub fn run_cert<R: Threads + Wait + Sync, S: Source, K: Sink, G: Gate + Sync>(
     let prove = |start: &Board| -> Result<Outcome, OutOfMemory>
         requires { start.now.grid ≡ setup.now.goal.grid }
         ensures { MayProve (certifying_rules_of setup.entry.now) start.now result }
-    { prove_board(rt, alloc, setup, start, gate) };
+    { read_board::<WithRows, R, G>(rt, alloc, setup, start, gate) };
     let proving = Proving { setup, prove };
     certify_first(alloc, source, sink, &proving)
 }

@@ -1,63 +1,77 @@
 //! The solver of a setup's boards.
 
-ghost use Rattle.std.specs.Prelude.{◌≡◌, ◌%◌};
+ghost use Rattle.std.specs.Prelude.{◌≡◌, ◌↔◌, ◌%◌, Ok, IfOk};
+ghost use Rattle.board.specs.Classes.{SameClass};
 ghost use Rattle.board.specs.Positions.{Position};
-ghost use Rattle.batch_runs.specs.Setups.{hash_by};
-ghost use Rattle.batch_runs.specs.Batches.{MayGive};
-ghost use Rattle.setup_runs.specs.Solving.{problem_of, rules_of};
+ghost use Rattle.hda_run.specs.WholeRuns.{EndsWholeRun};
+ghost use Rattle.thread_runs.specs.Solved.{IsFoundByWorkers};
+ghost use Rattle.batch_runs.specs.Setups.{hash_by, task_of};
+ghost use Rattle.setup_runs.specs.Solving.{problem_of};
 
 use batch_runs::{Setup, SpreadKind};
 use board::Board;
 use hda_run::{Gate, Job};
 use memory::OutOfMemory;
-use outcomes::Ending;
 use owners::{ByBlank, Spread, Zobrist};
 use std::alloc::Global;
 use std::sync::Wait;
 use std::thread::Threads;
-use thread_runs::end_by_workers;
+use thread_runs::search_by_workers;
+use world_ends::Reading;
 
-/// The ending of a board by the setup's workers: one alone in the calling thread, more in threads of
-/// their own. The error tells a want of memory before the first step.
-pub(crate) fn end_board<R: Threads + Wait + Sync, G: Gate + Sync>(
+/// The answer of a board by the setup's workers, in a reading: one alone in the calling thread, more
+/// in threads of their own. The error tells a want of memory before the first step.
+pub(crate) fn read_board<A: Reading, R: Threads + Wait + Sync, G: Gate + Sync>(
     rt: &R,
     alloc: Global,
     setup: &Setup,
     start: &Board,
     gate: &G,
-) -> Result<Ending, OutOfMemory>
+) -> Result<A::Answer, OutOfMemory>
     requires { start.now.grid ≡ setup.now.goal.grid }
-    ensures { MayGive (rules_of setup.now) start.now result }
+    ensures parity { (result ≡ Ok A.parity) ↔ (¬ SameClass start.now setup.now.goal) }
+    ensures run { SameClass start.now setup.now.goal
+        → IfOk result (IsFoundByWorkers A.gives hash_by (problem_of setup.now start.now)
+        setup.now.spread setup.now.workers) }
+    ensures answers { IfOk result (A.answers (task_of setup.now start.now)) }
+    ensures kept { IfOk result (λ answer. EndsWholeRun (A.end answer)) }
 {
     // One worker owns all boards, whatever they are spread by.
     if setup.worker_count() == 1 {
-        return end_spread(rt, alloc, setup, start, ByBlank, gate);
+        return read_spread::<A, R, ByBlank, G>(rt, alloc, setup, start, ByBlank, gate);
     }
     match setup.spread_kind() {
         SpreadKind::Zobrist => {
             let spread = Zobrist::new(setup.shape());
-            end_spread(rt, alloc, setup, start, spread, gate)
+            read_spread::<A, R, Zobrist, G>(rt, alloc, setup, start, spread, gate)
         }
-        SpreadKind::Blank => end_spread(rt, alloc, setup, start, ByBlank, gate),
+        SpreadKind::Blank => {
+            read_spread::<A, R, ByBlank, G>(rt, alloc, setup, start, ByBlank, gate)
+        }
     }
 }
 
-// The ending by the setup's workers, where each owns the boards that the setup says by this spread.
-fn end_spread<R: Threads + Wait + Sync, S: Spread + Drop + Sync, G: Gate + Sync>(
+// The same, where each worker owns the boards that the setup says by this spread.
+fn read_spread<A: Reading, R: Threads + Wait + Sync, S: Spread + Drop + Sync, G: Gate + Sync>(
     rt: &R,
     alloc: Global,
     setup: &Setup,
     start: &Board,
     spread: S,
     gate: &G,
-) -> Result<Ending, OutOfMemory>
+) -> Result<A::Answer, OutOfMemory>
     requires sides { start.now.grid ≡ setup.now.goal.grid }
     requires owners { (b : Position)
         → S.hash_of spread b % setup.now.workers ≡ hash_by setup.now.spread b % setup.now.workers }
-    ensures { MayGive (rules_of setup.now) start.now result }
+    ensures parity { (result ≡ Ok A.parity) ↔ (¬ SameClass start.now setup.now.goal) }
+    ensures run { SameClass start.now setup.now.goal
+        → IfOk result (IsFoundByWorkers A.gives hash_by (problem_of setup.now start.now)
+        setup.now.spread setup.now.workers) }
+    ensures answers { IfOk result (A.answers (task_of setup.now start.now)) }
+    ensures kept { IfOk result (λ answer. EndsWholeRun (A.end answer)) }
 {
     let workers = setup.worker_count();
-    end_by_workers(rt, alloc, job_for(setup, start), workers, spread, gate)
+    search_by_workers::<A, R, S, G>(rt, alloc, job_for(setup, start), workers, spread, gate)
 }
 
 /// The job of a board: the setup says the rest.

@@ -1,0 +1,14 @@
+use Rattle.batch_runs.specs.Setups.{hash_by}
+use Rattle.setup_runs.proofs.SolvingLemmas.{found_so}
+use Rattle.setup_runs.proofs.solving.read_spread.Goals as goal
+
+pub returns : goal.returns
+returns g c =
+    let run = rw (c.job_for.ensures, c.worker_count-workers.ensures.value) at c.search_by_workers.ensures in
+    let setup = c.args.setup.now in
+    record {
+      parity = run.parity;
+      run = λ together. found_so g.A.Reading.gives setup c.args.start.now g.S.Spread.hash_of c.args.spread hash_by setup.spread c.requires.owners c.search_by_workers.result (run.run together);
+      answers = run.answers;
+      kept = run.kept;
+    }
