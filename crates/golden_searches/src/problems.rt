@@ -4,11 +4,12 @@ ghost use Rattle.lower_bound.specs.Tables.{ArePotentials};
 
 use board::{Board, Weights};
 use certificate::{Certificate, Claim, Parts, Version};
-use hda_run::{Free, Job, end_one, solve_one};
+use hda_run::{Free, Job, read_one, solve_one};
 use lower_bound::Bound;
 use outcomes::{Ending, Outcome};
 use owners::Zobrist;
 use std::alloc::Global;
+use world_ends::WithoutRows;
 
 /// A board, the goal, and what moves cost.
 #[derive(Clone, Copy)]
@@ -65,7 +66,8 @@ pub fn ending_of(alloc: Global, problem: &Problem, bound: &Bound) -> Option<Endi
     requires { ArePotentials problem.now.weights problem.now.goal bound.now }
 {
     let spread = Zobrist::new(problem.goal.shape());
-    end_one(alloc, job_of(problem, bound)?, spread, &Free).ok()
+    let job = job_of(problem, bound)?;
+    read_one::<WithoutRows, Zobrist, Free>(alloc, job, spread, &Free).ok()
 }
 
 // The search for a plan, or None where its parts are not of one shape.

@@ -7,16 +7,15 @@ use crate::problems::{Answer, Division, Problem, Team};
 use board::Board;
 use certificate::{Certificate, Claim, Parts, Version};
 use certificate_check::check;
-use hda_run::{Gate, Job, WorldFault};
+use hda_run::{Gate, Job, WorldFault, is_worker_count};
 use lower_bound::Bound;
 use outcomes::{Cause, Ending, Outcome};
 use owners::{ByBlank, Spread, Zobrist};
 use std::alloc::Global;
 use std::sync::Wait;
 use std::thread::Threads;
-use thread_joins::WithRows;
-use thread_runs::{end, run_by_threads, solve};
-use world_model::WORKER_LIMIT;
+use thread_runs::{run_by_threads, search_by_workers, solve};
+use world_ends::{WithRows, WithoutRows};
 
 /// What `solve` answers. The rows of a plan, and those of a bound, are looked at by the checker.
 pub fn answer_with_rows<R: Threads + Wait + Sync, G: Gate + Sync>(
@@ -38,7 +37,7 @@ pub fn answer_with_rows<R: Threads + Wait + Sync, G: Gate + Sync>(
     }
 }
 
-/// What `end` answers, which makes no rows.
+/// What `search_by_workers` answers without rows.
 pub fn answer_without_rows<R: Threads + Wait + Sync, G: Gate + Sync>(
     rt: &R,
     alloc: Global,
@@ -49,6 +48,9 @@ pub fn answer_without_rows<R: Threads + Wait + Sync, G: Gate + Sync>(
 ) -> Answer
     requires { ArePotentials problem.now.weights problem.now.goal bound.now }
 {
+    if !is_worker_count(team.workers) {
+        return Answer::Invalid;
+    }
     match team.division {
         Division::ByBlank => end_by(rt, alloc, problem, bound, team.workers, ByBlank, gate),
         Division::ByHash => {
@@ -70,7 +72,7 @@ pub fn answer_of_threads<R: Threads + Wait + Sync, G: Gate + Sync>(
 ) -> Option<Answer>
     requires { ArePotentials problem.now.weights problem.now.goal bound.now }
 {
-    if team.workers < 1 || WORKER_LIMIT < team.workers {
+    if !is_worker_count(team.workers) {
         return Some(Answer::Invalid);
     }
     match team.division {
@@ -111,14 +113,15 @@ fn end_by<R: Threads + Wait + Sync, S: Spread + Drop + Sync, G: Gate + Sync>(
     spread: S,
     gate: &G,
 ) -> Answer
-    requires { ArePotentials problem.now.weights problem.now.goal bound.now }
+    requires tables { ArePotentials problem.now.weights problem.now.goal bound.now }
+    requires count { IsWorkerCount workers }
 {
     let Some(job) = job_of(problem, bound) else {
         return Answer::Invalid;
     };
-    match end(rt, alloc, job, workers, spread, gate) {
+    match search_by_workers::<WithoutRows, R, S, G>(rt, alloc, job, workers, spread, gate) {
         Ok(ending) => answer_of_ending(ending),
-        Err(fault) => answer_of_fault(fault),
+        Err(_refused) => Answer::NoMemory,
     }
 }
 

@@ -5,13 +5,14 @@ ghost use Rattle.lower_bound.specs.Tables.{ArePotentials};
 
 use crate::solved::cases::{Case, Costs, Division};
 use board::{Board, Move, Shape, Weights};
-use hda_run::{Free, Job, end_one, solve_one};
+use hda_run::{Free, Job, read_one, solve_one};
 use lower_bound::Bound;
 use outcomes::{Ending, Outcome};
 use owners::{ByBlank, Zobrist};
 use std::alloc::Global;
 use std::io::{self, ErrorKind, Print};
 use test_worlds::bound_of;
+use world_ends::WithoutRows;
 
 // A job without its tables.
 #[derive(Clone, Copy)]
@@ -22,7 +23,7 @@ struct Problem {
     limit: u64,
 }
 
-/// Prints what `solve_one` and `end_one` answer.
+/// Prints what one worker answers: with rows by `solve_one`, and without by `read_one` (`end_one:`).
 pub fn print_answers(rt: &(impl Print + AllocGlobal), case: &Case) -> io::Result<()> {
     let start = case.start;
     println!(rt; "# {}", case.title)?;
@@ -84,15 +85,20 @@ fn solved(alloc: Global, problem: &Problem, bound: &Bound, division: Division) -
     }
 }
 
-// What `end_one` answers.
+// What `read_one` answers without rows.
 fn ended(alloc: Global, problem: &Problem, bound: &Bound, division: Division) -> Option<Ending>
     requires { ArePotentials problem.now.weights problem.now.goal bound.now }
 {
     let shape = problem.goal.shape();
     let job = job_of(problem, bound)?;
     match division {
-        Division::ByBlank => end_one(alloc, job, ByBlank, &Free).ok(),
-        Division::ByHash => end_one(alloc, job, Zobrist::new(shape), &Free).ok(),
+        Division::ByBlank => {
+            read_one::<WithoutRows, ByBlank, Free>(alloc, job, ByBlank, &Free).ok()
+        }
+        Division::ByHash => {
+            let spread = Zobrist::new(shape);
+            read_one::<WithoutRows, Zobrist, Free>(alloc, job, spread, &Free).ok()
+        }
     }
 }
 
