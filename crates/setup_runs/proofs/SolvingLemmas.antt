@@ -150,7 +150,6 @@ module _ (setup : SetupState) (start : Position) where
 pub setup_truthful : (setup : SetupState) → IsTruthful (rules_of setup)
 setup_truthful setup b ending allowed = allowed.0
 
-
 pub parity_certified : ParityIsCertified
 parity_certified setup b apart = ((λ together. apart together), by_class)
   where
