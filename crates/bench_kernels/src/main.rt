@@ -28,7 +28,6 @@
 
 mod containers;
 mod ranks;
-mod states;
 mod steps;
 mod sums;
 mod tables;

@@ -4,7 +4,7 @@ ghost use Rattle.std.specs.Prelude.{◌≡◌, ◌≤◌, ◌*◌, length, All};
 ghost use Rattle.pattern_index.specs.Views.{IsView};
 ghost use Rattle.pattern_index.specs.Selections.{IsSelection};
 
-use crate::states::next_state;
+use crate::steps::next_state;
 use pattern_index::{Group, MAX_SIZE, View};
 
 // How many views are drawn of a group: as many as 10 bits number.

@@ -2,7 +2,6 @@
 
 ghost use Rattle.std.specs.Prelude.{◌≡◌, ◌≤◌, ◌*◌};
 
-use crate::states::next_state;
 use board::{Board, Move, Shape, Weights};
 
 /// Where a walk is, how many of its moves stayed on the board, and what these cost.
@@ -46,4 +45,12 @@ fn direction_of(state: u64) -> Move {
         2 => Move::R,
         _ => Move::D,
     }
+}
+
+/// The next pseudo-random number: the next state of a linear congruential generator modulo 2^64
+/// (Knuth's MMIX).
+pub fn next_state(state: u64) -> u64 {
+    state
+        .wrapping_mul(6364136223846793005)
+        .wrapping_add(1442695040888963407)
 }

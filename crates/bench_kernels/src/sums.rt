@@ -4,7 +4,7 @@ ghost use Rattle.std.specs.Prelude.{ℕ, ◌≡◌, ◌≤◌, length, All, IfSo
 ghost use Rattle.board.specs.Positions.{Position};
 ghost use Rattle.board.specs.Keys.{HasKey};
 
-use crate::states::next_state;
+use crate::steps::next_state;
 use board::{Board, Shape, Weights};
 use database_build::Table;
 use lower_bound::Bound;

@@ -4,7 +4,7 @@ ghost use Rattle.std.specs.Prelude.{◌≡◌, length, IfSome};
 ghost use Rattle.pattern_index.specs.Selections.{size_of};
 ghost use Rattle.database_build.specs.Frames.{Fits};
 
-use crate::states::next_state;
+use crate::steps::next_state;
 use crate::sums::shuffled;
 use board::{Board, Shape, Weights};
 use database_build::{Folded, Frame, NO_VALUE, Table, build_folded_in, build_in};

@@ -1,7 +1,5 @@
 //! Calls that start no threads.
 
-mod answer;
-mod certificates;
 mod containers;
 mod databases;
 mod runs;
@@ -10,12 +8,11 @@ mod workers;
 mod worlds;
 
 use crate::is_refused;
-use answer::Answer;
-use certificates::{read_announcement, read_certificate};
 use containers::{reserve_closed, reserve_open};
 use databases::{build_folds, build_tables, copy_partition, fold_bound, fold_setup, fold_table};
 use runs::{
-    check_certificate, check_groups, run_one_line, run_two_lines, write_certificate, write_groups,
+    check_certificate, check_groups, read_announcement, read_certificate, run_one_line,
+    run_two_lines, write_certificate, write_groups,
 };
 use searches::{search, search_with_tables};
 use std::alloc::Global;
@@ -130,5 +127,34 @@ pub fn make<R: Print + Eprint + AllocGlobal + Threads + Wait + Sync>(
             let _ = eprintln!(rt; "bench_refusals: {name}: {text}");
             Some(1)
         }
+    }
+}
+
+/// What a call answered.
+#[derive(Clone, Copy)]
+pub enum Answer {
+    /// The whole right answer.
+    Whole,
+    /// No more than may be answered where memory is refused.
+    Refused,
+    /// What may never be answered, and why.
+    Wrong(&'static str),
+}
+
+/// A whole answer that is right, or is wrong for this reason.
+pub fn whole_if(is_right: bool, why: &'static str) -> Answer {
+    if is_right {
+        Answer::Whole
+    } else {
+        Answer::Wrong(why)
+    }
+}
+
+/// An answer for want of memory that may be given, or is wrong for this reason.
+pub fn refused_if(is_right: bool, why: &'static str) -> Answer {
+    if is_right {
+        Answer::Refused
+    } else {
+        Answer::Wrong(why)
     }
 }

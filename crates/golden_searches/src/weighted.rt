@@ -9,11 +9,10 @@
 //! still read, where its cost is the least by that search for the start, the goal and the weights
 //! that it has now; else that is wrong too.
 
-ghost use Rattle.std.specs.Prelude.{◌≡◌};
+ghost use Rattle.std.specs.Prelude.{◌≡◌, IfSome};
 ghost use Rattle.lower_bound.specs.Tables.{ArePotentials};
 
 mod damages;
-mod drawing;
 mod tables;
 
 use crate::problems::{Answer, Problem, answer_of};
@@ -21,8 +20,9 @@ use board::{Board, Shape, Weights};
 use certificate::Certificate;
 use certificate_check::check;
 use damages::{Fate, fate_of};
-use drawing::{draw_weights, words};
 use lower_bound::Bound;
+use rand_core::SeedableRng;
+use rand_core::utils::NextWord;
 use rand_xoshiro::SplitMix64;
 use std::alloc::Global;
 use std::io::{self, ErrorKind, Print};
@@ -31,6 +31,10 @@ use test_support::least_costs;
 
 // How many lists of weights are drawn for a shape.
 const LISTS: usize = 10;
+
+// Every second time one of this many first bytes is changed. What a certificate of these shapes has
+// before its rows is about as long, and is seldom met otherwise where there are many rows.
+const FRONT: usize = 50;
 
 /// Prints what is answered of all boards of both shapes.
 pub fn print_weighted<R: Print + AllocGlobal>(rt: &R) -> io::Result<()> {
@@ -206,4 +210,45 @@ impl Tally {
         };
         *count = count.saturating_add(1);
     }
+}
+
+// The words that everything is drawn from.
+fn words(seed: u8) -> SplitMix64 {
+    SplitMix64::from_seed([seed; 8])
+}
+
+// Weights of a shape: spread over 1 to 255 where their number is even, else from 1 to 3, so that
+// many plans cost the same.
+fn draw_weights(words: &mut SplitMix64, shape: Shape, number: usize) -> Option<Weights>
+    ensures { IfSome result (λ weights. weights.grid ≡ shape) }
+{
+    let mut listed = [0; 24];
+    let listed = listed.get_mut(1..shape.cells())?;
+    for weight in listed.iter_mut() {
+        *weight = weight_of(words.next_word(), number);
+    }
+    Weights::list(shape, listed).ok()
+}
+
+// The weight that a word stands for.
+fn weight_of(word: u64, number: usize) -> u8 {
+    let most = if number % 2 == 0 { 255 } else { 3 };
+    ((word % most) as u8).saturating_add(1)
+}
+
+/// Changes one byte, where there is one.
+pub fn damage(words: &mut SplitMix64, bytes: &mut [u8]) -> Option<()> {
+    let word = words.next_word();
+    let count = if word % 2 == 0 {
+        bytes.len()
+    } else {
+        bytes.len().min(FRONT)
+    };
+    if count == 0 {
+        return None;
+    }
+    let place = (word / 2 % count as u64) as usize;
+    let byte = bytes.get_mut(place)?;
+    *byte = byte.wrapping_add(weight_of(words.next_word(), 0));
+    Some(())
 }

@@ -1,6 +1,6 @@
 //! Places that are made in the containers of a search.
 
-use super::answer::{Answer, refused_if, whole_if};
+use super::{Answer, refused_if, whole_if};
 use board::Move;
 use closed_table::Closed;
 use open_buckets::Open;

@@ -2,7 +2,7 @@
 
 ghost use Rattle.std.specs.Prelude.{◌≡◌, IfSome};
 
-use super::answer::{Answer, whole_if};
+use super::{Answer, whole_if};
 use batch_runs::Setup;
 use board::{Board, Shape, Weights};
 use database_build::{Folded, NO_VALUE, Table, build, fold};

@@ -5,7 +5,7 @@ ghost use Rattle.board.specs.Positions.{goal_of};
 ghost use Rattle.batch_runs.specs.Setups.{Guides};
 ghost use Rattle.lower_bound.specs.Tables.{ArePotentials};
 
-use super::answer::{Answer, refused_if, whole_if};
+use super::{Answer, refused_if, whole_if};
 use board::{Board, Move, Shape, Weights, follow};
 use hda_run::{Free, Job, solve_one};
 use lower_bound::Bound;

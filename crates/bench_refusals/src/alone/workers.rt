@@ -4,7 +4,7 @@
 ghost use Rattle.std.specs.Prelude.{◌≡◌, IfSome};
 ghost use Rattle.test_worlds.specs.Jobs.{IsFit, IsLed};
 
-use super::answer::Answer;
+use super::Answer;
 use arrayvec::ArrayVec;
 use board::{Board, Move, Shape, Weights};
 use memory::PAGE_LENGTH;

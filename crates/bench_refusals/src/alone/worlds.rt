@@ -2,8 +2,8 @@
 
 ghost use Rattle.std.specs.Prelude.{◌≡◌, [], IfSome};
 
-use super::answer::{Answer, refused_if, whole_if};
 use super::searches::{judge, no_tables};
+use super::{Answer, refused_if, whole_if};
 use board::{Board, Shape, Weights};
 use hda_run::{Job, World, WorldFault};
 use lower_bound::Bound;

@@ -2,7 +2,7 @@
 
 ghost use Rattle.std.specs.Prelude.{◌≡◌};
 
-use crate::weighted::drawing::damage;
+use crate::weighted::damage;
 use crate::weighted::tables::bound_for;
 use byte_streams::{ByteSink, ByteSource};
 use certificate::{Certificate, ReadFault, read, write};
