@@ -23,14 +23,14 @@ pub trait Ruled {
 
 /// Who answers boards, as the rules allow.
 pub trait Solver: Ruled {
-    // What each call takes for granted: of a solver of closures, what these take and answer.
+    // What a caller proves before each call. A solver with closures needs their contracts here.
     ghost is_callable: { Self → Type 0 };
 
     /// The shape of the boards.
     fn shape(&self) -> Shape
         ensures { result ≡ (Self.rules self.now).grid };
 
-    /// The ending of a board. The error tells a want of memory before the first step.
+    /// The ending of a board. The error: out of memory before the first step.
     fn solve(&self, start: &Board) -> Result<Ending, OutOfMemory>
         requires callable { is_callable self.now }
         requires grid { start.now.grid ≡ (Self.rules self.now).grid }

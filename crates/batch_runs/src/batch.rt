@@ -53,8 +53,8 @@ impl Summary {
 /// sink after each. A board is answered by the solver as its rules allow. Where they are truthful, so
 /// is what is written.
 ///
-/// A line whose board was solved ahead is answered by that ending. So nothing is read for boards that
-/// are not answered yet.
+/// Boards may be solved ahead, from bytes that the source already holds. So nothing is read for boards
+/// that are not answered yet.
 pub fn run_lines<S: Source, K: Sink, A: Solver>(
     alloc: Global,
     source: &mut S,

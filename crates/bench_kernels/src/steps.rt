@@ -1,4 +1,4 @@
-//! Walks over boards.
+//! Walks over boards, and the pseudo-random numbers of all kernels.
 
 ghost use Rattle.std.specs.Prelude.{◌≡◌, ◌≤◌, ◌*◌};
 

@@ -47,7 +47,7 @@ pub trait Prover: ProofRuled {
     // The setup: its tables guide the search.
     ghost setup: { Self → SetupState };
 
-    // What each call takes for granted: of a prover that has a closure, what it takes and answers.
+    // What a caller proves before each call. A prover with a closure needs its contract here.
     ghost is_callable: { Self → Type 0 };
 
     /// The setup.
@@ -55,7 +55,7 @@ pub trait Prover: ProofRuled {
         ensures { result.now ≡ setup self.now };
 
     /// The outcome of a board: where it is a plan of least cost or a bound, with the rows that prove
-    /// it. The error tells a want of memory before the first step.
+    /// it. The error: out of memory before the first step.
     fn prove(&self, start: &Board) -> Result<Outcome, OutOfMemory>
         requires callable { is_callable self.now }
         requires grid { start.now.grid ≡ (Self.rules self.now).grid }

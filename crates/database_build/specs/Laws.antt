@@ -5,7 +5,7 @@ use Rattle.board.specs.declared.moves.Move.{Move}
 use Rattle.board.specs.Positions.{Position, IsBoard}
 use Rattle.board.specs.CostRules.{CostRule}
 use Rattle.pattern_index.specs.Views.{Sight, IsView, Abstraction, ViewLeads, view_of}
-use Rattle.pattern_index.specs.Selections.{Selection, IsSelection, folded_size_of}
+use Rattle.pattern_index.specs.Selections.{Selection, IsSelection, abstraction_of, folded_size_of}
 use Rattle.pattern_index.specs.Sparse.{sparse_in, sparse_size_of}
 use Rattle.database_build.specs.Values.{IsValue, IsPotential}
 use Rattle.database_build.specs.Tables.{Lookup, HoldsValues, value_in}
@@ -13,6 +13,7 @@ use Rattle.database_build.specs.Folds.{Fold, IsFoldedValue, IsFoldOf, folded_in}
 use Rattle.database_build.specs.Entries.{AreSmall, HaveOneForm, IsKeptBest}
 use Rattle.database_build.specs.FoldEntries.{HasLeast, HasNoView, least_in, most_places}
 use Rattle.database_build.specs.Frames.{GroupSize, Fits}
+use Rattle.database_build.specs.declared.table.TheConstants.{NO_VALUE}
 use Rattle.database_build.specs.declared.entries.Entries.{Entries}
 use Rattle.database_build.specs.declared.entries.Entries.TheVariants.{Words}
 
@@ -29,6 +30,15 @@ ValuesArePotentials =
     → goal.grid ≡ table.selection.grid
     → HoldsValues table rule goal
     → IsPotential rule table.selection.tiles goal (value_in table)
+
+-- the value of a view, where it isn't NO_VALUE, is the cost of a view plan to the goal's view
+abbrev pub ValuesAreReached : Type 0
+ValuesAreReached =
+    (table : Lookup) (rule : CostRule) (goal : Position) (v : Sight)
+    → HoldsValues table rule goal
+    → IsView table.selection.grid table.selection.tiles v
+    → value_in table v < NO_VALUE
+    → (plan : List Move) × ViewLeads (abstraction_of table.selection rule) v plan (view_of table.selection.tiles goal) (value_in table v)
 
 -- a potential is never above the cost of a view plan to the goal's view: it is admissible
 abbrev pub PotentialsAreLowerBounds : Type 0

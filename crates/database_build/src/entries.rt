@@ -23,7 +23,7 @@ use pattern_index::Group;
 use std::alloc::Global;
 
 // The most slots of a group whose tables are kept by slot, 2^25.
-const MOST_SLOTS: usize = 33_554_432;
+pub(crate) const MOST_SLOTS: usize = 33_554_432;
 
 // What a table keeps.
 #[derive(Debug, Drop)]

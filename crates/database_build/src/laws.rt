@@ -2,11 +2,12 @@
 
 ghost use Rattle.std.specs.Prelude.{◌≡◌, ◌^◌};
 ghost use Rattle.database_build.specs.Laws.{ValuesAreDetermined, ValuesArePotentials};
-ghost use Rattle.database_build.specs.Laws.{PotentialsAreLowerBounds};
+ghost use Rattle.database_build.specs.Laws.{PotentialsAreLowerBounds, ValuesAreReached};
 ghost use Rattle.database_build.specs.Laws.{FoldedValuesAreLow, FoldedValuesAreReached};
 ghost use Rattle.database_build.specs.Laws.{PlacesAreFew, FoldedValuesAreDetermined, FramesFitAll};
 ghost use Rattle.database_build.specs.Laws.{FormsAreDetermined, PlacesWithoutViews, WordsAreNeeded};
 
+use crate::entries::MOST_SLOTS;
 use crate::folding::{MOST_PLACES, PLACES_A_VALUE};
 use crate::table::NO_VALUE;
 
@@ -35,6 +36,16 @@ pub fn values_are_determined()
 /// The values of a built table are a potential: they are consistent.
 pub fn values_are_potentials()
     ensures { ValuesArePotentials }
+{}
+
+/// A view with a value has a plan of this cost.
+pub fn values_are_reached()
+    ensures { ValuesAreReached }
+{}
+
+/// Tables are kept by slot up to 2^25 slots.
+pub fn most_slots_are_a_power_of_two()
+    ensures { MOST_SLOTS ≡ 2 ^ 25 }
 {}
 
 /// A potential is admissible: never above the cost of a view plan to the goal's view.

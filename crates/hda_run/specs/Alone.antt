@@ -62,6 +62,6 @@ pub record IsRunAlone (job : Job) (w : WorldState) : Type 0 where
 abbrev pub IsFoundAlone : {S X : Type 0} → (WorldState → X → Type 0) → (S → Position → ℕ) → Problem → S → X → Type 0
 IsFoundAlone gives hash_of p owners answer = (w : WorldState) × IsRunAlone (job_of hash_of p owners 1) w × gives w answer
 
--- the outcome is
+-- the outcome is one that such a world gives
 abbrev pub IsByOne : {S : Type 0} → (S → Position → ℕ) → Problem → S → Outcome → Type 0
 IsByOne hash_of p owners outcome = IsFoundAlone IsGiven hash_of p owners outcome

@@ -25,7 +25,7 @@ problem start goal rule tables limit = record { start = start; goal = goal; rule
 abbrev pub task_in : Problem → Task
 task_in p = task_of p.start p.goal p.rule p.tables
 
--- what the steps of worker `me` of so many are lent to solve it, where boards are owned so
+-- what the steps of worker `me` of `workers` are lent to solve it, where boards have these owners
 abbrev pub context_in : {S : Type 0} → Problem → ℕ → ℕ → S → ContextModel S
 context_in p me workers owners = context_of me workers p.goal p.rule p.tables owners
 

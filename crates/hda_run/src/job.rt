@@ -114,7 +114,7 @@ impl<'a> Job<'a> {
         self.bound
     }
 
-    /// What the steps of worker `me` of so many are lent, where boards are owned so.
+    /// What the steps of worker `me` of `workers` are lent, where boards have these owners.
     pub fn context<'b, S: Spread>(
         &'b self,
         me: usize,

@@ -50,7 +50,7 @@ impl<'a, S: Spread> Parts<'a, S> {
     }
 }
 
-// The successors that one of so many workers takes. One alone knows the board before each that it
+// The successors that one of these workers takes. One alone knows the board before each that it
 // expands, so it leaves the move back out.
 fn successors_for(workers: usize) -> Successors
     ensures { result ≡ Successors.Onward → workers ≡ 1 }

@@ -155,7 +155,7 @@ impl<'a, S: Spread> World<'a, S> {
     }
 }
 
-/// Whether so many workers may share a job.
+/// Whether this many workers may share a job.
 pub fn is_worker_count(workers: usize) -> bool
     ensures { IsTrue result ↔ IsWorkerCount workers }
 {

@@ -20,8 +20,8 @@ use thread_runs::search_by_workers;
 use world_ends::Reading;
 
 /// The answer of a board by the setup's workers, in a reading: one alone in the calling thread, more
-/// in threads of their own. The error tells a want of memory before the first step.
-pub(crate) fn read_board<A: Reading, R: Threads + Wait + Sync, G: Gate + Sync>(
+/// in threads of their own. The error: out of memory before the first step.
+pub(crate) fn answer_board<A: Reading, R: Threads + Wait + Sync, G: Gate + Sync>(
     rt: &R,
     alloc: Global,
     setup: &Setup,
@@ -38,21 +38,21 @@ pub(crate) fn read_board<A: Reading, R: Threads + Wait + Sync, G: Gate + Sync>(
 {
     // One worker owns all boards, whatever they are spread by.
     if setup.worker_count() == 1 {
-        return read_spread::<A, R, ByBlank, G>(rt, alloc, setup, start, ByBlank, gate);
+        return answer_spread::<A, R, ByBlank, G>(rt, alloc, setup, start, ByBlank, gate);
     }
     match setup.spread_kind() {
         SpreadKind::Zobrist => {
             let spread = Zobrist::new(setup.shape());
-            read_spread::<A, R, Zobrist, G>(rt, alloc, setup, start, spread, gate)
+            answer_spread::<A, R, Zobrist, G>(rt, alloc, setup, start, spread, gate)
         }
         SpreadKind::Blank => {
-            read_spread::<A, R, ByBlank, G>(rt, alloc, setup, start, ByBlank, gate)
+            answer_spread::<A, R, ByBlank, G>(rt, alloc, setup, start, ByBlank, gate)
         }
     }
 }
 
 // The same, where each worker owns the boards that the setup says by this spread.
-fn read_spread<A: Reading, R: Threads + Wait + Sync, S: Spread + Drop + Sync, G: Gate + Sync>(
+fn answer_spread<A: Reading, R: Threads + Wait + Sync, S: Spread + Drop + Sync, G: Gate + Sync>(
     rt: &R,
     alloc: Global,
     setup: &Setup,

@@ -49,7 +49,7 @@ impl<'a, S: Spread, C: Tokens> Part<'a, S, C> {
     {
         steps_are_kept();
         let workers = self.worker.workers();
-        let context = self.job.context(self.me, workers, self.owners);
-        self.worker.settle(alloc, &context)
+        self.worker
+            .settle(alloc, &self.job.context(self.me, workers, self.owners))
     }
 }

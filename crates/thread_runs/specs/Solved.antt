@@ -15,11 +15,10 @@ use Rattle.thread_joins.specs.Threads.{IsJoined, IsFoundByThreads}
 abbrev pub IsLeftToOne : {S : Type 0} → (S → Position → ℕ) → Problem → S → ℕ → Type 0
 IsLeftToOne hash_of p owners n = (n ≡ 1) ⊎ ((w : WorldState) × IsJoined (job_of hash_of p owners n) w × (¬ IsKept w))
 
--- The answer is that of n threads, of which there are two at least, where the world of their joined workers is kept, and else that of
--- one worker alone.
+-- The answer is that of n threads, at least two, where the world of their joined workers is kept, and else that of one worker alone.
 abbrev pub IsFoundByWorkers : {S X : Type 0} → (WorldState → X → Type 0) → (S → Position → ℕ) → Problem → S → ℕ → X → Type 0
 IsFoundByWorkers gives hash_of p owners n answer = ((2 ≤ n) × IsFoundByThreads gives hash_of p owners n (Some answer)) ⊎ (IsFoundAlone gives hash_of p owners answer × IsLeftToOne hash_of p owners n)
 
--- the outcome is
+-- the outcome is such an answer
 abbrev pub IsSolved : {S : Type 0} → (S → Position → ℕ) → Problem → S → ℕ → Outcome → Type 0
 IsSolved hash_of p owners n outcome = IsFoundByWorkers IsGiven hash_of p owners n outcome

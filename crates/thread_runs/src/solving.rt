@@ -57,7 +57,7 @@ pub fn solve<'a, R: Threads + Wait + Sync, S: Spread + Drop + Sync, G: Gate + Sy
 }
 
 /// The same in each reading, without rows or with them, for a count of workers that is known to be
-/// one. The error tells a want of memory before the first step.
+/// one. The error: out of memory before the first step.
 pub fn search_by_workers<
     'a,
     A: Reading,

@@ -1,4 +1,4 @@
--- How a worker stands to what its steps are lent.
+-- What a worker and the context of its steps have in common.
 use Rattle.std.specs.Prelude.{◌≡◌, length}
 use Rattle.board.specs.Positions.{Position}
 use Rattle.outcomes.specs.Outcomes.{Task}

@@ -34,6 +34,6 @@ module _ {X : Type 0} (gives : WorldState → X → Type 0) where
   abbrev pub BoundsAreOfWorlds : (X → Ending) → Type 0
   BoundsAreOfWorlds ending = (w : WorldState) (answer : X) → gives w answer → HasBoundOf w (ending answer)
 
--- the answer says just that no plan leads from the start to the goal, which is of another class
+-- the answer says just that no plan leads from the start to the goal, because the start is of another class
 abbrev pub IsForParity : {X : Type 0} → (Task → X → Type 0) → X → Type 0
 IsForParity answers parity = (task : Task) → answers task parity ↔ Answers task (outcome.Unsolvable Parity)

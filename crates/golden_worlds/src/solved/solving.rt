@@ -23,7 +23,7 @@ struct Problem {
     limit: u64,
 }
 
-/// Prints what one worker answers: with rows by `solve_one`, and without by `read_one` (`end_one:`).
+/// Prints what one worker answers: with rows by `solve_one`, and without by `read_one`.
 pub fn print_answers(rt: &(impl Print + AllocGlobal), case: &Case) -> io::Result<()> {
     let start = case.start;
     println!(rt; "# {}", case.title)?;
@@ -147,13 +147,13 @@ fn print_row_count(rt: &impl Print, rows: &Option<Vec<(Board, u32)>>) -> io::Res
 fn print_ending(rt: &impl Print, case: &Case, ending: &Ending) -> io::Result<()> {
     match ending {
         Ending::Optimal { cost, plan } => {
-            print!(rt; "end_one: cost {cost}, plan ")?;
+            print!(rt; "read_one: cost {cost}, plan ")?;
             print_plan(rt, case, plan)?;
             rt.println("")
         }
-        Ending::Unsolvable { why } => println!(rt; "end_one: unsolvable, {why:?}"),
+        Ending::Unsolvable { why } => println!(rt; "read_one: unsolvable, {why:?}"),
         Ending::Bounded { bound, best, cause } => {
-            println!(rt; "end_one: bound {bound}, best {best:?}, cause {cause:?}")
+            println!(rt; "read_one: bound {bound}, best {best:?}, cause {cause:?}")
         }
     }
 }

@@ -1,6 +1,6 @@
 use Rattle.batch_runs.specs.Setups.{hash_by}
 use Rattle.setup_runs.proofs.SolvingLemmas.{found_so}
-use Rattle.setup_runs.proofs.solving.read_spread.Goals as goal
+use Rattle.setup_runs.proofs.solving.answer_spread.Goals as goal
 
 pub returns : goal.returns
 returns g c =
