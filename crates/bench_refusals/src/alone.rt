@@ -150,7 +150,7 @@ pub fn whole_if(is_right: bool, why: &'static str) -> Answer {
     }
 }
 
-/// An answer for want of memory that may be given, or is wrong for this reason.
+/// An answer that memory was refused, which may be given, or is wrong for this reason.
 pub fn refused_if(is_right: bool, why: &'static str) -> Answer {
     if is_right {
         Answer::Refused
