@@ -102,7 +102,7 @@ pub fn search_one<'a, A: Reading, S: Spread + Drop, G: Gate>(
     A::keep_laws();
     let _ = job.goal();
     let world = run_alone(alloc, job, spread, gate)?;
-    // What each world keeps is told by this call.
+    // This call gives what each world keeps.
     let _ = world.workers();
     Ok(world.read::<A>(alloc))
 }

@@ -164,7 +164,7 @@ fn compare_with_map(rt: &impl Abort, table: &Closed, costs: &BTreeMap<u128, u32>
     assert!(rt; table.len() == order.len());
 }
 
-// How many keys came of so many draws below a limit, times a factor.
+// How many keys came of this many draws below a limit, times a factor.
 fn beside_a_map(rt: &(impl Abort + AllocGlobal), draws: u32, limit: u64, factor: u128) -> usize {
     let mut table = Closed::new(rt.alloc());
     let mut costs = BTreeMap::new(rt.alloc());

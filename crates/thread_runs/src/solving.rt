@@ -110,7 +110,7 @@ fn found_by_threads<A: Reading, R: Threads + Wait + Sync, S: Spread + Sync, G: G
 {
     A::keep_laws();
     joined_worlds_answer::<A>();
-    // That the sums are lower bounds is told by this call.
+    // This call gives that the sums are lower bounds.
     let _ = job.bound();
     if workers == 1 {
         return None;
