@@ -1,13 +1,13 @@
 -- What a setup shows: what all lines have in common.
 use Rattle.std.specs.Prelude.{ℕ, ◌≡◌, ◌≤◌, ◌^◌, ◌-◌, []}
 use Rattle.board.specs.Grids.{Grid}
-use Rattle.board.specs.Positions.{Position, blank_of}
+use Rattle.board.specs.Positions.{Position}
 use Rattle.board.specs.CostRules.{CostRule}
 use Rattle.outcomes.specs.Outcomes.{Task}
 use Rattle.lower_bound.specs.Bounds.{sum_of}
 use Rattle.lower_bound.specs.Tables.{Tables, ArePotentials, parts_of}
 use Rattle.lower_bound.specs.Lists.{IsFoldedBound}
-use Rattle.owners.specs.Hashes.{hash_of}
+use Rattle.owners.specs.Owners.{owner_by_hash, owner_by_blank}
 use Rattle.world_model.specs.declared.limits.TheConstants.{WORKER_LIMIT}
 use Rattle.batch_runs.specs.declared.setup.SpreadKind.{SpreadKind}
 use Rattle.batch_runs.specs.declared.setup.SpreadKind.TheVariants.{Zobrist, Blank}
@@ -45,10 +45,10 @@ pub record IsSetup (setup : SetupState) : Type 0 where
 abbrev pub IsFoldedSetup : SetupState → SetupState → Type 0
 IsFoldedSetup setup folded = (tables : Tables) × IsFoldedBound setup.tables tables × (folded ≡ record setup { tables = tables })
 
--- the hash by which boards are spread
-abbrev pub hash_by : SpreadKind → Position → ℕ
-hash_by Zobrist b = hash_of b
-hash_by Blank b = blank_of b
+-- the owner of a board among n workers
+abbrev pub owner_by : SpreadKind → ℕ → Position → ℕ
+owner_by Zobrist = owner_by_hash
+owner_by Blank = owner_by_blank
 
 -- what is asked of a board: the plans from it to the setup's goal, at the setup's costs
 abbrev pub task_of : SetupState → Position → Task

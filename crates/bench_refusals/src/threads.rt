@@ -193,7 +193,7 @@ fn checked_answer<R: Threads + Wait + Sync>(
     ) else {
         return Answer::Invalid;
     };
-    match solve_checked(rt, alloc, job, workers, spread, &Free, bound) {
+    match solve_checked(rt, alloc, job, workers, &spread, &Free, bound) {
         Ok(Outcome::Optimal { cost, .. }) => Answer::Plan(cost),
         Ok(Outcome::Unsolvable { .. }) => Answer::NoPlan,
         Ok(Outcome::Bounded { bound, cause, .. }) => Answer::Bound(bound, cause),

@@ -63,8 +63,8 @@ fn read_words(words: &[String]) -> Option<Setup> {
 
 // The world of a job, of one worker, in which no board is left to be expanded; None where there is
 // no memory for it.
-fn searched<'a>(alloc: Global, job: Job<'a>) -> Option<World<'a, ByBlank>> {
-    let mut world = World::new(alloc, job, 1, ByBlank).ok()?;
+fn searched<'a>(alloc: Global, job: Job<'a>, spread: &'a ByBlank) -> Option<World<'a, ByBlank>> {
+    let mut world = World::new(alloc, job, 1, spread).ok()?;
     'boards: for _ in 0..MANY {
         match world.step(alloc, Step::Expand(0)) {
             Ok(()) => {}
@@ -101,7 +101,7 @@ fn run_world(rt: &(impl Print + AllocGlobal), setup: Setup) -> Option<()> {
     let start = Board::from_tiles(shape, setup.start).ok()?;
     let bound = bound_of(rt.alloc(), &goal, &weights, setup.groups)?;
     let job = Job::new(start, goal, weights, &bound, u64::MAX).ok()?;
-    let world = searched(rt.alloc(), job)?;
+    let world = searched(rt.alloc(), job, &ByBlank)?;
     if world.workers() > 0 {
         let known = world.worker(0).lists().len();
         let expanded = world.worker(0).expansions();

@@ -50,9 +50,9 @@ module _ (p : Problem) (cost cost' : ℕ) (plan plan' : Vec Move Global) (rows r
       Given end c = IsBoundOf end c.cost × IfSome c.plan (λ plan. IsFollowedBack end c.cost plan) × AreRowsFor end.world c.cost c.rows
 
   -- so do the workers
-  pub solved_again : {S : Type 0} (hash_of : S → Position → ℕ) (owners : S) (n : ℕ) → IsSolved hash_of p owners n (Optimal cost plan rows) → IsSolved hash_of p owners n (Optimal cost' plan' rows')
-  solved_again hash_of owners n (inl (several, (w, joined, (kept, given)))) = inl (several, (w, joined, (kept, given_again w given)))
-  solved_again hash_of owners n (inr ((w, run, given), left)) = inr ((w, run, given_again w given), left)
+  pub solved_again : {S : Type 0} (owner_of : S → ℕ → Position → ℕ) (owners : S) (n : ℕ) → IsSolved owner_of p owners n (Optimal cost plan rows) → IsSolved owner_of p owners n (Optimal cost' plan' rows')
+  solved_again owner_of owners n (inl (several, (w, joined, (kept, given)))) = inl (several, (w, joined, (kept, given_again w given)))
+  solved_again owner_of owners n (inr ((w, run, given), left)) = inr ((w, run, given_again w given), left)
 
 -- what names no least plan claims nothing
 pub nothing_claimed : (p : Problem) (tables : Tables) (outcome : Outcome) → ((cost : ℕ) (plan : Vec Move Global) (rows : Vec (Position × ℕ) Global) → outcome ≢ Optimal cost plan rows) → IsProvedWith p tables outcome
@@ -98,16 +98,16 @@ fault_alike D E o d e P iff = ((λ is. absurd (no_fault E o e is)), (λ p. absur
 pub outcome_alike : (D E : Type 0) (o o' : Outcome) (P : Type 0) → ((answer D o ≡ answer D o') ↔ P) → (answer E o ≡ answer E o') ↔ P
 outcome_alike D E o o' P iff = ((λ is. iff.0 (ap (answer D) (one_outcome E o o' is))), (λ p. ap (answer E) (one_outcome D o o' (iff.1 p))))
 
-module _ {S : Type 0} (hash_of : S → Position → ℕ) where
-  behind_checked : (p : Problem) (owners : S) (n : ℕ) (outcome : Outcome) → IsCheckedRun hash_of p owners n outcome → (given : Outcome) × IsSolved hash_of p owners n given
+module _ {S : Type 0} (owner_of : S → ℕ → Position → ℕ) where
+  behind_checked : (p : Problem) (owners : S) (n : ℕ) (outcome : Outcome) → IsCheckedRun owner_of p owners n outcome → (given : Outcome) × IsSolved owner_of p owners n given
   behind_checked p owners n outcome (inl solved) = (outcome, solved)
   behind_checked p owners n outcome (inr (cost, plan, rows, refused, solved, is)) = (Optimal cost plan rows, solved)
 
-  behind_refused : (p : Problem) (owners : S) (n : ℕ) (tables : Tables) (refusal : Refusal) → IsRefusedRun hash_of p owners n tables refusal → (given : Outcome) × IsSolved hash_of p owners n given
+  behind_refused : (p : Problem) (owners : S) (n : ℕ) (tables : Tables) (refusal : Refusal) → IsRefusedRun owner_of p owners n tables refusal → (given : Outcome) × IsSolved owner_of p owners n given
   behind_refused p owners n tables refusal (cost, plan, rows, solved, first) = (Optimal cost plan rows, solved)
 
   -- what a checked run answers, or refuses, stands on a run
-  pub run_behind : CheckedRunsAreRuns hash_of
+  pub run_behind : CheckedRunsAreRuns owner_of
   run_behind p owners n outcome tables refusal = (behind_checked p owners n outcome, behind_refused p owners n tables refusal)
 
 -- ---- Whole tables, and those that were folded from them.

@@ -22,17 +22,17 @@ IsProvedWith p tables (Unsolvable why) = ⊤
 IsProvedWith p tables (Bounded bound best cause rows) = ⊤
 
 -- a plan of n workers, or of one alone, has this cost, and memory was refused for the groups of its certificate: the cost is given as a bound
-abbrev pub IsUncertified : {S : Type 0} → (S → Position → ℕ) → Problem → S → ℕ → Outcome → Type 0
-IsUncertified hash_of p owners n outcome =
+abbrev pub IsUncertified : {S : Type 0} → (S → ℕ → Position → ℕ) → Problem → S → ℕ → Outcome → Type 0
+IsUncertified owner_of p owners n outcome =
     (cost : ℕ) × (plan : Vec Move Global) × (rows : Vec (Position × ℕ) Global) × (refused : OutOfMemory)
-    × IsSolved hash_of p owners n (Optimal cost plan rows) × (outcome ≡ Bounded cost None (Memory (Refused refused)) None)
+    × IsSolved owner_of p owners n (Optimal cost plan rows) × (outcome ≡ Bounded cost None (Memory (Refused refused)) None)
 
 -- the outcome is that of n workers, or of one alone, or it has the cost of theirs as its bound
-abbrev pub IsCheckedRun : {S : Type 0} → (S → Position → ℕ) → Problem → S → ℕ → Outcome → Type 0
-IsCheckedRun hash_of p owners n outcome = IsSolved hash_of p owners n outcome ⊎ IsUncertified hash_of p owners n outcome
+abbrev pub IsCheckedRun : {S : Type 0} → (S → ℕ → Position → ℕ) → Problem → S → ℕ → Outcome → Type 0
+IsCheckedRun owner_of p owners n outcome = IsSolved owner_of p owners n outcome ⊎ IsUncertified owner_of p owners n outcome
 
 -- for this cause first a certificate is refused with these tables: that of a plan of n workers, or of one alone
-abbrev pub IsRefusedRun : {S : Type 0} → (S → Position → ℕ) → Problem → S → ℕ → Tables → Refusal → Type 0
-IsRefusedRun hash_of p owners n tables refusal =
+abbrev pub IsRefusedRun : {S : Type 0} → (S → ℕ → Position → ℕ) → Problem → S → ℕ → Tables → Refusal → Type 0
+IsRefusedRun owner_of p owners n tables refusal =
     (cost : ℕ) × (plan : Vec Move Global) × (rows : Vec (Position × ℕ) Global)
-    × IsSolved hash_of p owners n (Optimal cost plan rows) × IsFirstRefusal (certificate_in p cost plan.items rows.items) tables refusal
+    × IsSolved owner_of p owners n (Optimal cost plan rows) × IsFirstRefusal (certificate_in p cost plan.items rows.items) tables refusal

@@ -60,10 +60,10 @@ ProvedPlansAreLeast =
     → IsProvedWith p tables (Optimal cost plan rows)
     → Leads p.rule p.start plan.items p.goal cost × Proves p.rule rows.items (sum_in tables) p.start p.goal cost
 
-module _ {S : Type 0} (hash_of : S → Position → ℕ) where
+module _ {S : Type 0} (owner_of : S → ℕ → Position → ℕ) where
   -- behind the outcome of a checked run, and behind a certificate that is refused, stands what n workers answer, or one alone
   abbrev pub CheckedRunsAreRuns : Type 0
   CheckedRunsAreRuns =
       (p : Problem) (owners : S) (n : ℕ) (outcome : Outcome) (tables : Tables) (refusal : Refusal)
-      → (IsCheckedRun hash_of p owners n outcome → (given : Outcome) × IsSolved hash_of p owners n given)
-      × (IsRefusedRun hash_of p owners n tables refusal → (given : Outcome) × IsSolved hash_of p owners n given)
+      → (IsCheckedRun owner_of p owners n outcome → (given : Outcome) × IsSolved owner_of p owners n given)
+      × (IsRefusedRun owner_of p owners n tables refusal → (given : Outcome) × IsSolved owner_of p owners n given)

@@ -38,5 +38,5 @@ pub fn proved_plans_are_least()
 /// Behind the outcome of a checked run, and behind a certificate that is refused, stands what so many
 /// workers answer, or one alone.
 pub fn checked_runs_are_runs<S: Spread>()
-    ensures { CheckedRunsAreRuns S.hash_of }
+    ensures { CheckedRunsAreRuns S.owner_of }
 {}

@@ -34,12 +34,12 @@ use thread_runs::solve;
 /// Faults: V2 the workers are not from 1 to `WORKER_LIMIT`, V3 memory was refused for the world of
 /// one worker, V4 the checker refused the certificate, which it never does with tables that are as
 /// good as the job's.
-pub fn solve_checked<'a, R: Threads + Wait + Sync, S: Spread + Drop + Sync, G: Gate + Sync>(
+pub fn solve_checked<'a, R: Threads + Wait + Sync, S: Spread + Sync, G: Gate + Sync>(
     rt: &R,
     alloc: Global,
     job: Job<'a>,
     workers: usize,
-    spread: S,
+    spread: &'a S,
     gate: &G,
     tables: &Bound,
 ) -> Result<Outcome, CheckedFault>
@@ -47,12 +47,12 @@ pub fn solve_checked<'a, R: Threads + Wait + Sync, S: Spread + Drop + Sync, G: G
     ensures parity { IsWorkerCount workers → (result ≡ Ok (Unsolvable Parity))
         ↔ (¬ SameClass job.entry.start job.entry.goal) }
     ensures run { SameClass job.entry.start job.entry.goal
-        → IfOk result (IsCheckedRun S.hash_of job.entry spread workers) }
+        → IfOk result (IsCheckedRun S.owner_of job.entry spread.now workers) }
     ensures answers { IfOk result (Answers (task_in job.entry)) }
     ensures kept { IfOk result HasWholeRun }
     ensures accepted { IfOk result (IsProvedWith job.entry tables.now) }
     ensures refused { (refusal : Refusal) → IsErrOf result (CheckedFault.Refused refusal)
-        → IsRefusedRun S.hash_of job.entry spread workers tables.now refusal }
+        → IsRefusedRun S.owner_of job.entry spread.now workers tables.now refusal }
     ensures sure { AreAsGood job.entry tables.now
         → (refusal : Refusal) → ¬ IsErrOf result (CheckedFault.Refused refusal) }
 {

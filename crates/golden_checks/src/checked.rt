@@ -175,7 +175,7 @@ fn checked_answer<R: Threads + Wait + Sync>(
     let Some(job) = job_of(problem, bound) else {
         return Answer::Invalid;
     };
-    match solve_checked(rt, alloc, job, workers, spread, &Free, tables) {
+    match solve_checked(rt, alloc, job, workers, &spread, &Free, tables) {
         Ok(Outcome::Optimal { cost, .. }) => Answer::Cost(cost),
         Ok(Outcome::Unsolvable { .. }) => Answer::NoPlan,
         Ok(Outcome::Bounded { bound, .. }) => Answer::Bound(bound),

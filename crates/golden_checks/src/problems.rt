@@ -61,7 +61,7 @@ pub fn certificate_of(alloc: Global, problem: &Problem, bound: &Bound) -> Option
 {
     let spread = Zobrist::new(problem.goal.shape());
     let job = job_of(problem, bound)?;
-    let Ok(Outcome::Optimal { cost, plan, rows }) = solve_one(alloc, job, spread, &Free) else {
+    let Ok(Outcome::Optimal { cost, plan, rows }) = solve_one(alloc, job, &spread, &Free) else {
         return None;
     };
     let groups = bound.partition().copy(alloc).ok()?;

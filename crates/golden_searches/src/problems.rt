@@ -57,7 +57,7 @@ fn outcome_of(alloc: Global, problem: &Problem, bound: &Bound) -> Option<Outcome
     requires { ArePotentials problem.now.weights problem.now.goal bound.now }
 {
     let spread = Zobrist::new(problem.goal.shape());
-    solve_one(alloc, job_of(problem, bound)?, spread, &Free).ok()
+    solve_one(alloc, job_of(problem, bound)?, &spread, &Free).ok()
 }
 
 /// What the search answers without rows; or None where memory was refused, or the parts are not of
@@ -67,7 +67,7 @@ pub fn ending_of(alloc: Global, problem: &Problem, bound: &Bound) -> Option<Endi
 {
     let spread = Zobrist::new(problem.goal.shape());
     let job = job_of(problem, bound)?;
-    read_one::<WithoutRows, Zobrist, Free>(alloc, job, spread, &Free).ok()
+    read_one::<WithoutRows, Zobrist, Free>(alloc, job, &spread, &Free).ok()
 }
 
 // The search for a plan, or None where its parts are not of one shape.

@@ -107,7 +107,7 @@ fn cost_of<R: Threads + Wait + Sync>(rt: &R, alloc: Global, hold: &Hold) -> Opti
     let start = Board::from_tiles(shape, &START).ok()?;
     let bound = bound_of(alloc, &goal, &weights, &[])?;
     let job = Job::new(start, goal, weights, &bound, u64::MAX).ok()?;
-    match solve(rt, alloc, job, WORKERS, ByBlank, hold).ok()? {
+    match solve(rt, alloc, job, WORKERS, &ByBlank, hold).ok()? {
         Outcome::Optimal { cost, .. } => Some(cost),
         _ => None,
     }

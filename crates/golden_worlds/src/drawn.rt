@@ -145,7 +145,7 @@ fn outcome_after(alloc: Global, bound: &Bound, steps: &[Step], start: Board) -> 
     let goal = Board::goal(start.shape());
     let weights = Weights::unit(start.shape());
     let job = Job::new(start, goal, weights, bound, u64::MAX).ok()?;
-    let world = World::new(alloc, job, 3, ByBlank).ok()?;
+    let world = World::new(alloc, job, 3, &ByBlank).ok()?;
     Some(run_steps(alloc, world, steps).finish(alloc))
 }
 

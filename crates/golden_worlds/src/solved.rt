@@ -48,7 +48,7 @@ fn print_result(rt: &impl Print, answer: &Option<Result<Outcome, WorldFault>>) -
 fn answer(alloc: Global, run: &Run) -> Option<Result<Outcome, WorldFault>> {
     let bound = no_tables(alloc, Shape::new(2, 2).ok()?);
     let job = job_of(&bound)?;
-    Some(run_and_finish(alloc, job, run.workers, ByBlank, run.steps))
+    Some(run_and_finish(alloc, job, run.workers, &ByBlank, run.steps))
 }
 
 // The job at unit cost, without a limit.

@@ -1,5 +1,5 @@
 -- The parts of a world: what they are in an opening, and what changes in a step.
-use Rattle.std.proofs.Common.{◌≡◌, ℕ, zero, suc, ⊎_elim, ◌+◌, ◌%◌, ◌<◌, ◌≤◌, List, [], ◌∷◌, length, map, get_or, set, refl, sym, ap, ◌∙◌, subst, inr, arith, Option, Some, ◌≢◌, ◌⊎◌, inl, ◌++◌, replicate, false}
+use Rattle.std.proofs.Common.{◌≡◌, ℕ, zero, suc, ⊎_elim, ◌+◌, ◌<◌, ◌≤◌, List, [], ◌∷◌, length, map, get_or, set, refl, sym, ap, ◌∙◌, subst, inr, arith, Option, Some, ◌≢◌, ◌⊎◌, inl, ◌++◌, replicate, false}
 use Rattle.std.specs.Prelude.{slice_get, All, Vec, slice_set, unwrap_or, if◌then◌else◌}
 use Rattle.std.specs.FinMap as fin
 use Rattle.std.specs.Vec.{with_item, vec_len}
@@ -7,12 +7,12 @@ use Rattle.std.specs.declared.alloc.Global.{Global}
 use Rattle.std.proofs.lemmas.List.{map-set, length-map, length-set, map-append, length-replicate, replicate-append-replicate}
 use Rattle.std.proofs.lemmas.List.Elements.{All-set, All-append}
 use Rattle.std.specs.Ordering.{nat_cmp}
-use Rattle.std.proofs.Math.Nat.{mod-lt}
 use Rattle.board.specs.CostRules.{CostRule}
 use Rattle.board.specs.Keys.{key_of}
 use Rattle.board.specs.Moves.{Moves}
 use Rattle.board.specs.Positions.{Position}
 use Rattle.board.specs.declared.moves.Move.{Move}
+use Rattle.owners.specs.Owners.{AreWorkers}
 use Rattle.outcomes.specs.Outcomes.{Task}
 use Rattle.lower_bound.specs.Tables.{Tables}
 use Rattle.world_model.specs.declared.limits.TheConstants.{PACKET_LIMIT}
@@ -69,34 +69,34 @@ seen_at f [] i x lt is = absurd (omega (arith, lt))
 seen_at f (y ∷ xs) zero x lt is = ap (λ z. Some (f z)) (sym is)
 seen_at f (y ∷ xs) (suc i) x lt is = seen_at f xs i x (omega (arith, lt)) is
 
-module _ {S : Type 0} (hash_of : S → Position → ℕ) (parts : Parts S) where
+module _ {S : Type 0} (owner_of : S → ℕ → Position → ℕ) (parts : Parts S) where
   -- as many states as workers
-  pub state_count : length (world_of hash_of parts).workers ≡ length parts.workers.items
+  pub state_count : length (world_of owner_of parts).workers ≡ length parts.workers.items
   state_count = length-map parts.workers.items (λ (w : W). state_of w)
 
   -- there is no such worker
-  pub no_worker : (me : ℕ) → length parts.workers.items ≤ me → length (world_of hash_of parts).workers ≤ me
+  pub no_worker : (me : ℕ) → length parts.workers.items ≤ me → length (world_of owner_of parts).workers ≤ me
   no_worker me past = subst (λ (k : ℕ). k ≤ me) (sym state_count) past
 
-module _ {S : Type 0} (hash_of : S → Position → ℕ) (parts : Parts S) (me : ℕ) (worker : W) (within : me < length parts.workers.items) (at : worker ≡ get_or parts.workers.items me worker) where
-  pub is_worker : IsWorker (world_of hash_of parts) me (state_of worker)
+module _ {S : Type 0} (owner_of : S → ℕ → Position → ℕ) (parts : Parts S) (me : ℕ) (worker : W) (within : me < length parts.workers.items) (at : worker ≡ get_or parts.workers.items me worker) where
+  pub is_worker : IsWorker (world_of owner_of parts) me (state_of worker)
   is_worker = seen_at (λ (w : W). state_of w) parts.workers.items me worker within at
 
-  not_past : ¬ (length (world_of hash_of parts).workers ≤ me)
-  not_past past = let n = state_count hash_of parts in omega (arith, past, n, within)
+  not_past : ¬ (length (world_of owner_of parts).workers ≤ me)
+  not_past past = let n = state_count owner_of parts in omega (arith, past, n, within)
 
   -- the world after another worker, and another book, has taken the place
-  pub changed : (worker' : W) (book' : BookState) → world_of hash_of (record parts { workers = with_item parts.workers me worker'; book = book' }) ≡ record (with_worker (world_of hash_of parts) me (state_of worker')) { book = book' }
-  changed worker' book' = λ t. record (world_of hash_of parts) {
-    owner = λ b. hash_of parts.owners b % length-set parts.workers.items me worker' t;
+  pub changed : (worker' : W) (book' : BookState) → world_of owner_of (record parts { workers = with_item parts.workers me worker'; book = book' }) ≡ record (with_worker (world_of owner_of parts) me (state_of worker')) { book = book' }
+  changed worker' book' = λ t. record (world_of owner_of parts) {
+    owner = owner_of parts.owners.now (length-set parts.workers.items me worker' t);
     workers = map-set (λ (w : W). state_of w) parts.workers.items me worker' t;
     book = book';
   }
 
-  pub by_worker : (OwnStep : Turn WorkerState Refusal → Type 0) (answer : Option Refusal) (worker' : W) → OwnStep (turn (state_of worker) answer (state_of worker')) → ByWorker me OwnStep (turn (world_of hash_of parts) answer (world_of hash_of (record parts { workers = with_item parts.workers me worker' })))
+  pub by_worker : (OwnStep : Turn WorkerState Refusal → Type 0) (answer : Option Refusal) (worker' : W) → OwnStep (turn (state_of worker) answer (state_of worker')) → ByWorker me OwnStep (turn (world_of owner_of parts) answer (world_of owner_of (record parts { workers = with_item parts.workers me worker' })))
   by_worker OwnStep answer worker' own = inr (not_past, (state_of worker, state_of worker', is_worker, own, changed worker' parts.book))
 
-  pub on_book : (BookStep : Turn AtBook Refusal → Type 0) (answer : Option Refusal) (worker' : W) (book' : BookState) → BookStep (turn (with_book (state_of worker) parts.book) answer (with_book (state_of worker') book')) → OnBook me BookStep (turn (world_of hash_of parts) answer (world_of hash_of (record parts { workers = with_item parts.workers me worker'; book = book' })))
+  pub on_book : (BookStep : Turn AtBook Refusal → Type 0) (answer : Option Refusal) (worker' : W) (book' : BookState) → BookStep (turn (with_book (state_of worker) parts.book) answer (with_book (state_of worker') book')) → OnBook me BookStep (turn (world_of owner_of parts) answer (world_of owner_of (record parts { workers = with_item parts.workers me worker'; book = book' })))
   on_book BookStep answer worker' book' own = inr (not_past, (state_of worker, with_book (state_of worker') book', is_worker, own, changed worker' book'))
 
   -- ---- guided lists
@@ -115,44 +115,44 @@ module _ {S : Type 0} (hash_of : S → Position → ℕ) (parts : Parts S) (me :
 
   -- ---- what a world's laws give a worker
 
-  pub unsent_count : IsShaped (world_of hash_of parts) → length worker.unsent.items ≡ length parts.workers.items
+  pub unsent_count : IsShaped (world_of owner_of parts) → length worker.unsent.items ≡ length parts.workers.items
   unsent_count shaped =
-      sym (length-map worker.unsent.items (λ list. list.items)) ∙ (shaped.workers me (state_of worker) is_worker).lists ∙ state_count hash_of parts
+      sym (length-map worker.unsent.items (λ list. list.items)) ∙ (shaped.workers me (state_of worker) is_worker).lists ∙ state_count owner_of parts
 
-  pub some_unsent : IsShaped (world_of hash_of parts) → 0 < length worker.unsent.items
+  pub some_unsent : IsShaped (world_of owner_of parts) → 0 < length worker.unsent.items
   some_unsent shaped = let n = unsent_count shaped in omega (arith, n, within)
 
-  pub me_unsent : IsShaped (world_of hash_of parts) → me < length worker.unsent.items
+  pub me_unsent : IsShaped (world_of owner_of parts) → me < length worker.unsent.items
   me_unsent shaped = let n = unsent_count shaped in omega (arith, n, within)
 
-  pub purse_funded : IsCredited (world_of hash_of parts) → worker.purse ≤ parts.book.credit
-  purse_funded credited = funds (world_of hash_of parts) credited me (state_of worker) is_worker
+  pub purse_funded : IsCredited (world_of owner_of parts) → worker.purse ≤ parts.book.credit
+  purse_funded credited = funds (world_of owner_of parts) credited me (state_of worker) is_worker
 
-  pub grants_counted : IsCredited (world_of hash_of parts) → worker.allowance.granted ≤ parts.book.granted
+  pub grants_counted : IsCredited (world_of owner_of parts) → worker.allowance.granted ≤ parts.book.granted
   grants_counted credited =
       let all = credited.granted in
-      let mine = part_le (λ (x : WorkerState). x.allowance + x.expansions) (world_of hash_of parts).workers me (state_of worker) is_worker in
+      let mine = part_le (λ (x : WorkerState). x.allowance + x.expansions) (world_of owner_of parts).workers me (state_of worker) is_worker in
       omega (arith, all, mine)
 
-  pub floor_there : IsShaped (world_of hash_of parts) → me < length parts.book.floors
-  floor_there shaped = let n = shaped.floors ∙ state_count hash_of parts in omega (arith, n, within)
+  pub floor_there : IsShaped (world_of owner_of parts) → me < length parts.book.floors
+  floor_there shaped = let n = shaped.floors ∙ state_count owner_of parts in omega (arith, n, within)
 
   -- the only worker owns each board
-  owned_alone : IsShaped (world_of hash_of parts) → length parts.workers.items ≡ 1 → (b : Position) → (world_of hash_of parts).owner b ≡ me
+  owned_alone : IsShaped (world_of owner_of parts) → length parts.workers.items ≡ 1 → (b : Position) → (world_of owner_of parts).owner b ≡ me
   owned_alone shaped alone b =
       let owned = shaped.owners b in
-      let count = state_count hash_of parts in
+      let count = state_count owner_of parts in
       omega (arith, owned, count, alone, within)
 
   -- and knows the board before each that it knows at a cost above 0
-  were_reached : IsShaped (world_of hash_of parts) → IsSound (world_of hash_of parts) → length parts.workers.items ≡ 1 → WereReached parts.job.rule worker.lists.closed.known
+  were_reached : IsShaped (world_of owner_of parts) → IsSound (world_of owner_of parts) → length parts.workers.items ≡ 1 → WereReached parts.job.rule worker.lists.closed.known
   were_reached shaped sound alone b known board sides knows later =
-      let here : Knows (world_of hash_of parts) me b known = record { worker = state_of worker; is = is_worker; board = (board, sides ∙ shaped.task.costs); knows = knows } in
+      let here : Knows (world_of owner_of parts) me b known = record { worker = state_of worker; is = is_worker; board = (board, sides ∙ shaped.task.costs); knows = knows } in
       ⊎_elim
       (λ start. let none = start.1 in absurd (omega (arith, none, later)))
       (λ some.
       let before = some.0 in
-      let is : Some some.4.worker ≡ Some (state_of worker) = sym some.4.is ∙ ap (λ (k : ℕ). slice_get (world_of hash_of parts).workers k) (owned_alone shaped alone before) ∙ is_worker in
+      let is : Some some.4.worker ≡ Some (state_of worker) = sym some.4.is ∙ ap (λ (k : ℕ). slice_get (world_of owner_of parts).workers k) (owned_alone shaped alone before) ∙ is_worker in
       let it : some.4.worker ≡ state_of worker = cc in (
         before,
         some.1,
@@ -165,26 +165,26 @@ module _ {S : Type 0} (hash_of : S → Position → ℕ) (parts : Parts S) (me :
       (sound.reached me b known here)
 
   -- so it expands by all moves where it leaves the one back out
-  pub whole_step : IsShaped (world_of hash_of parts) → IsSound (world_of hash_of parts) → OnwardStepsAloneAreWhole → (successors : Successors) → (successors ≡ Onward → length parts.workers.items ≡ 1) → (answer : Option Refusal) (after : WorkerState) → ExpandStepFor successors (role_of (world_of hash_of parts) me) (turn (state_of worker) answer after) → ExpandStep (role_of (world_of hash_of parts) me) (turn (state_of worker) answer after)
+  pub whole_step : IsShaped (world_of owner_of parts) → IsSound (world_of owner_of parts) → OnwardStepsAloneAreWhole → (successors : Successors) → (successors ≡ Onward → length parts.workers.items ≡ 1) → (answer : Option Refusal) (after : WorkerState) → ExpandStepFor successors (role_of (world_of owner_of parts) me) (turn (state_of worker) answer after) → ExpandStep (role_of (world_of owner_of parts) me) (turn (state_of worker) answer after)
   whole_step shaped sound law Whole alone answer after step = step
   whole_step shaped sound law Onward alone answer after step =
-      law (role_of (world_of hash_of parts) me) (turn (state_of worker) answer after) shaped.task.costs (owned_alone shaped (alone refl)) (were_reached shaped sound (alone refl)) step
+      law (role_of (world_of owner_of parts) me) (turn (state_of worker) answer after) shaped.task.costs (owned_alone shaped (alone refl)) (were_reached shaped sound (alone refl)) step
 
-  pub owner_is : IsShaped (world_of hash_of parts) → (b : Position) → (world_of hash_of parts).owner b ≡ hash_of parts.owners b % length worker.unsent.items
-  owner_is shaped b = ap (λ (k : ℕ). hash_of parts.owners b % k) (sym (unsent_count shaped))
+  pub owner_is : IsShaped (world_of owner_of parts) → (b : Position) → (world_of owner_of parts).owner b ≡ owner_of parts.owners.now (length worker.unsent.items) b
+  owner_is shaped b = ap (λ (k : ℕ). owner_of parts.owners.now k b) (sym (unsent_count shaped))
 
   -- ---- what the worker's steps are lent
 
-  module _ (count : ℕ) (all : count ≡ length parts.workers.items) (context : ContextModel S) (lent : context ≡ context_in parts.job me count parts.owners) where
-    pub serves : IsShaped (world_of hash_of parts) → AreGuided parts → Serves context worker
+  module _ (count : ℕ) (all : count ≡ length parts.workers.items) (context : ContextModel S) (lent : context ≡ context_in parts.job me count parts.owners.now) where
+    pub serves : IsShaped (world_of owner_of parts) → AreGuided parts → Serves context worker
     serves shaped guided =
         subst (λ (x : ContextModel S). Serves x worker) (sym lent) (record {
           workers = unsent_count shaped ∙ sym all;
           guided = (parts.job.start, guide_of (task_in parts.job), is_guided guided);
         })
 
-    pub role_is : role_from hash_of parts.job.start context ≡ role_of (world_of hash_of parts) me
-    role_is = ap (role_from hash_of parts.job.start) lent ∙ (λ t. role_by (task_in parts.job) (hash_of parts.owners) (all t) me)
+    pub role_is : role_from owner_of parts.job.start context ≡ role_of (world_of owner_of parts) me
+    role_is = ap (role_from owner_of parts.job.start) lent ∙ (λ t. role_by (task_in parts.job) (owner_of parts.owners.now) (all t) me)
 
     pub guided_after : (worker' : W) → StaysGuided context worker.lists worker'.lists → AreGuided parts → All (λ (w : W). Leads w.lists) (set parts.workers.items me worker')
     guided_after worker' stays all_guided =
@@ -202,52 +202,52 @@ there [] i x lt is = absurd (omega (arith, lt))
 there (y ∷ xs) zero x lt is = ap Some (sym is)
 there (y ∷ xs) (suc i) x lt is = there xs i x (omega (arith, lt)) is
 
-module _ {S : Type 0} (hash_of : S → Position → ℕ) (parts : Parts S) where
+module _ {S : Type 0} (owner_of : S → ℕ → Position → ℕ) (parts : Parts S) where
   -- as many rows of lanes as workers
-  pub row_count : IsShaped (world_of hash_of parts) → length parts.lanes.items ≡ length parts.workers.items
-  row_count shaped = sym (length-map parts.lanes.items (λ (row : Row). row.items)) ∙ shaped.senders ∙ state_count hash_of parts
+  pub row_count : IsShaped (world_of owner_of parts) → length parts.lanes.items ≡ length parts.workers.items
+  row_count shaped = sym (length-map parts.lanes.items (λ (row : Row). row.items)) ∙ shaped.senders ∙ state_count owner_of parts
 
   -- they are not two workers
-  pub no_two : (from to n : ℕ) → n ≡ vec_len parts.workers → (from ≡ to) ⊎ (n ≤ from) ⊎ (n ≤ to) → (from ≡ to) ⊎ (length (world_of hash_of parts).workers ≤ from) ⊎ (length (world_of hash_of parts).workers ≤ to)
+  pub no_two : (from to n : ℕ) → n ≡ vec_len parts.workers → (from ≡ to) ⊎ (n ≤ from) ⊎ (n ≤ to) → (from ≡ to) ⊎ (length (world_of owner_of parts).workers ≤ from) ⊎ (length (world_of owner_of parts).workers ≤ to)
   no_two from to n is (inl same) = inl same
-  no_two from to n is (inr (inl past)) = inr (inl (no_worker hash_of parts from (outside parts.workers n from is past)))
-  no_two from to n is (inr (inr past)) = inr (inr (no_worker hash_of parts to (outside parts.workers n to is past)))
+  no_two from to n is (inr (inl past)) = inr (inl (no_worker owner_of parts from (outside parts.workers n from is past)))
+  no_two from to n is (inr (inr past)) = inr (inr (no_worker owner_of parts to (outside parts.workers n to is past)))
 
   -- they are two
-  pub are_two : (from to : ℕ) → from ≢ to → from < length parts.workers.items → to < length parts.workers.items → ¬ ((from ≡ to) ⊎ (length (world_of hash_of parts).workers ≤ from) ⊎ (length (world_of hash_of parts).workers ≤ to))
+  pub are_two : (from to : ℕ) → from ≢ to → from < length parts.workers.items → to < length parts.workers.items → ¬ ((from ≡ to) ⊎ (length (world_of owner_of parts).workers ≤ from) ⊎ (length (world_of owner_of parts).workers ≤ to))
   are_two from to other low high (inl same) = other same
-  are_two from to other low high (inr (inl past)) = let n = state_count hash_of parts in omega (arith, past, n, low)
-  are_two from to other low high (inr (inr past)) = let n = state_count hash_of parts in omega (arith, past, n, high)
+  are_two from to other low high (inr (inl past)) = let n = state_count owner_of parts in omega (arith, past, n, low)
+  are_two from to other low high (inr (inr past)) = let n = state_count owner_of parts in omega (arith, past, n, high)
 
-module _ {S : Type 0} (hash_of : S → Position → ℕ) (parts : Parts S) (from to : ℕ) (row : Row) (row_in : from < length parts.lanes.items) (row_at : row ≡ get_or parts.lanes.items from row) where
-  of_sender : slice_get (world_of hash_of parts).lanes from ≡ Some row.items
+module _ {S : Type 0} (owner_of : S → ℕ → Position → ℕ) (parts : Parts S) (from to : ℕ) (row : Row) (row_in : from < length parts.lanes.items) (row_at : row ≡ get_or parts.lanes.items from row) where
+  of_sender : slice_get (world_of owner_of parts).lanes from ≡ Some row.items
   of_sender = seen_at (λ (r : Row). r.items) parts.lanes.items from row row_in row_at
 
   -- as many lanes in a row as workers
-  pub lane_count : IsShaped (world_of hash_of parts) → length row.items ≡ length parts.workers.items
-  lane_count shaped = shaped.receivers from row.items of_sender ∙ state_count hash_of parts
+  pub lane_count : IsShaped (world_of owner_of parts) → length row.items ≡ length parts.workers.items
+  lane_count shaped = shaped.receivers from row.items of_sender ∙ state_count owner_of parts
 
   -- what was read is the lane
-  pub is_lane : (lane : Lane) → to < length row.items → lane ≡ get_or row.items to lane → IsLane (world_of hash_of parts) from to lane
+  pub is_lane : (lane : Lane) → to < length row.items → lane ≡ get_or row.items to lane → IsLane (world_of owner_of parts) from to lane
   is_lane lane lane_in lane_at = record { from_lanes = row.items; of_sender = of_sender; of_receiver = there row.items to lane lane_in lane_at }
 
   module _ (lane : Lane) (lane_in : to < length row.items) (lane_at : lane ≡ get_or row.items to lane) (me : ℕ) (worker : W) (within : me < length parts.workers.items) (at : worker ≡ get_or parts.workers.items me worker) where
-    lanes_are : (lane' : Lane) → (world_of hash_of (record parts { lanes = with_item parts.lanes from (with_item row to lane') })).lanes ≡ with_lane (world_of hash_of parts).lanes from to lane'
+    lanes_are : (lane' : Lane) → (world_of owner_of (record parts { lanes = with_item parts.lanes from (with_item row to lane') })).lanes ≡ with_lane (world_of owner_of parts).lanes from to lane'
     lanes_are lane' =
-        let lanes = (world_of hash_of parts).lanes in
+        let lanes = (world_of owner_of parts).lanes in
         map-set (λ (r : Row). r.items) parts.lanes.items from (with_item row to lane')
         ∙ ap (λ (found : Option (List Lane)). slice_set lanes from (slice_set (unwrap_or found []) to lane')) (sym of_sender)
 
-    lane_changed : (worker' : W) (lane' : Lane) → world_of hash_of (record parts { workers = with_item parts.workers me worker'; lanes = with_item parts.lanes from (with_item row to lane') }) ≡ record (with_worker (world_of hash_of parts) me (state_of worker')) { lanes = with_lane (world_of hash_of parts).lanes from to lane' }
-    lane_changed worker' lane' = λ t. record (world_of hash_of parts) {
-      owner = λ b. hash_of parts.owners b % length-set parts.workers.items me worker' t;
+    lane_changed : (worker' : W) (lane' : Lane) → world_of owner_of (record parts { workers = with_item parts.workers me worker'; lanes = with_item parts.lanes from (with_item row to lane') }) ≡ record (with_worker (world_of owner_of parts) me (state_of worker')) { lanes = with_lane (world_of owner_of parts).lanes from to lane' }
+    lane_changed worker' lane' = λ t. record (world_of owner_of parts) {
+      owner = owner_of parts.owners.now (length-set parts.workers.items me worker' t);
       workers = map-set (λ (w : W). state_of w) parts.workers.items me worker' t;
       lanes = lanes_are lane' t;
     }
 
-    pub on_lane : ¬ ((from ≡ to) ⊎ (length (world_of hash_of parts).workers ≤ from) ⊎ (length (world_of hash_of parts).workers ≤ to)) → (LaneStep : Turn AtLane Refusal → Type 0) (answer : Option Refusal) (worker' : W) (lane' : Lane) → LaneStep (turn (at_lane (state_of worker) lane) answer (at_lane (state_of worker') lane')) → OnLane me (from_to from to) LaneStep (turn (world_of hash_of parts) answer (world_of hash_of (record parts { workers = with_item parts.workers me worker'; lanes = with_item parts.lanes from (with_item row to lane') })))
+    pub on_lane : ¬ ((from ≡ to) ⊎ (length (world_of owner_of parts).workers ≤ from) ⊎ (length (world_of owner_of parts).workers ≤ to)) → (LaneStep : Turn AtLane Refusal → Type 0) (answer : Option Refusal) (worker' : W) (lane' : Lane) → LaneStep (turn (at_lane (state_of worker) lane) answer (at_lane (state_of worker') lane')) → OnLane me (from_to from to) LaneStep (turn (world_of owner_of parts) answer (world_of owner_of (record parts { workers = with_item parts.workers me worker'; lanes = with_item parts.lanes from (with_item row to lane') })))
     on_lane two LaneStep answer worker' lane' own =
-        inr (two, (state_of worker, lane, at_lane (state_of worker') lane', is_worker hash_of parts me worker within at, is_lane lane lane_in lane_at, own, lane_changed worker' lane'))
+        inr (two, (state_of worker, lane, at_lane (state_of worker') lane', is_worker owner_of parts me worker within at, is_lane lane lane_in lane_at, own, lane_changed worker' lane'))
 
 -- ---- the workers of an opening world
 
@@ -294,22 +294,23 @@ first_is n task worker state item free board begun is =
 pub made_count : (n : ℕ) (all : List W) → map (λ (w : W). state_of w) all ≡ replicate n (idle_worker n) → length all ≡ n
 made_count n all states = sym (length-map all (λ (w : W). state_of w)) ∙ ap length states ∙ length-replicate n (idle_worker n)
 
-pub opens : {S : Type 0} (hash_of : S → Position → ℕ) (owners : S) (p : Problem) (n : ℕ) (all : Vec W Global) (state : WorkerState) (owner : ℕ) (book : BookState) (lanes : Vec Row Global) (via : Move) → map (λ (w : W). state_of w) all.items ≡ slice_set (replicate n (idle_worker n)) owner state → state ≡ first_worker n (task_in p) via → owner ≡ hash_of owners p.start % n → book ≡ (opening (job_of hash_of p owners n) via).book → map (λ (row : Row). row.items) lanes.items ≡ replicate n (replicate n []) → world_of hash_of (record { job = p; owners = owners; workers = all; book = book; lanes = lanes }) ≡ opening (job_of hash_of p owners n) via
-opens hash_of owners p n all state owner book lanes via states first_state owner_is book_is lanes_are =
-    let count : length all.items ≡ n = sym (length-map all.items (λ (w : W). state_of w)) ∙ ap length states ∙ length-set (replicate n (idle_worker n)) owner state ∙ length-replicate n (idle_worker n) in
-    let workers : map (λ (w : W). state_of w) all.items ≡ (opening (job_of hash_of p owners n) via).workers =
+pub opens : {S : Type 0} (owner_of : S → ℕ → Position → ℕ) (parts : Parts S) (n : ℕ) (state : WorkerState) (owner : ℕ) (via : Move) → map (λ (w : W). state_of w) parts.workers.items ≡ slice_set (replicate n (idle_worker n)) owner state → state ≡ first_worker n (task_in parts.job) via → owner ≡ owner_of parts.owners.now n parts.job.start → parts.book ≡ (opening (job_of owner_of parts.job parts.owners.now n) via).book → map (λ (row : Row). row.items) parts.lanes.items ≡ replicate n (replicate n []) → world_of owner_of parts ≡ opening (job_of owner_of parts.job parts.owners.now n) via
+opens owner_of parts n state owner via states first_state owner_is book_is lanes_are =
+    let all = parts.workers.items in
+    let count : length all ≡ n = sym (length-map all (λ (w : W). state_of w)) ∙ ap length states ∙ length-set (replicate n (idle_worker n)) owner state ∙ length-replicate n (idle_worker n) in
+    let workers : map (λ (w : W). state_of w) all ≡ (opening (job_of owner_of parts.job parts.owners.now n) via).workers =
     states ∙ (λ t. slice_set (replicate n (idle_worker n)) (owner_is t) (first_state t)) in
     λ t. record {
-      task = task_in p;
-      owner = λ b. hash_of owners b % count t;
+      task = task_in parts.job;
+      owner = owner_of parts.owners.now (count t);
       workers = workers t;
       book = book_is t;
       lanes = lanes_are t;
     }
 
 -- parts that make an opening world are lawful
-pub lawful_opening : {S : Type 0} (hash_of : S → Position → ℕ) (parts : Parts S) (job : Job) (via : Move) → OpeningsAreSound → IsJob job → world_of hash_of parts ≡ opening job via → AreGuided parts → IsLawful hash_of parts
-lawful_opening hash_of parts job via law is same guided =
+pub lawful_opening : {S : Type 0} (owner_of : S → ℕ → Position → ℕ) (parts : Parts S) (job : Job) (via : Move) → OpeningsAreSound → IsJob job → world_of owner_of parts ≡ opening job via → AreGuided parts → IsLawful owner_of parts
+lawful_opening owner_of parts job via law is same guided =
     let facts = law job via is in
     let back = sym same in
     record {
@@ -320,5 +321,5 @@ lawful_opening hash_of parts job via law is same guided =
     }
 
 -- so many workers, some but not too many, have a job where the task is one
-pub is_job : {S : Type 0} (hash_of : S → Position → ℕ) (owners : S) (p : Problem) (n : ℕ) → IsTask (task_in p) → IsWorkerCount n → IsJob (job_of hash_of p owners n)
-is_job hash_of owners p n task count = record { task = task; some = count.0; few = count.1; owners = λ b. mod-lt (hash_of owners b) count.0 }
+pub is_job : {S : Type 0} (owner_of : S → ℕ → Position → ℕ) → AreWorkers owner_of → (owners : S) (p : Problem) (n : ℕ) → IsTask (task_in p) → IsWorkerCount n → IsJob (job_of owner_of p owners n)
+is_job owner_of are_workers owners p n task count = record { task = task; some = count.0; few = count.1; owners = λ b. are_workers owners n b count.0 }

@@ -59,9 +59,9 @@ pub record IsRunAlone (job : Job) (w : WorldState) : Type 0 where
   pub spent : w.book.stop ≡ Some stops.Limit → expansion_count w ≡ job.limit
 
 -- the answer is one that the world of such a run by one worker gives
-abbrev pub IsFoundAlone : {S X : Type 0} → (WorldState → X → Type 0) → (S → Position → ℕ) → Problem → S → X → Type 0
-IsFoundAlone gives hash_of p owners answer = (w : WorldState) × IsRunAlone (job_of hash_of p owners 1) w × gives w answer
+abbrev pub IsFoundAlone : {S X : Type 0} → (WorldState → X → Type 0) → (S → ℕ → Position → ℕ) → Problem → S → X → Type 0
+IsFoundAlone gives owner_of p owners answer = (w : WorldState) × IsRunAlone (job_of owner_of p owners 1) w × gives w answer
 
 -- the outcome is one that such a world gives
-abbrev pub IsByOne : {S : Type 0} → (S → Position → ℕ) → Problem → S → Outcome → Type 0
-IsByOne hash_of p owners outcome = IsFoundAlone IsGiven hash_of p owners outcome
+abbrev pub IsByOne : {S : Type 0} → (S → ℕ → Position → ℕ) → Problem → S → Outcome → Type 0
+IsByOne owner_of p owners outcome = IsFoundAlone IsGiven owner_of p owners outcome

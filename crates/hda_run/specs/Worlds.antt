@@ -1,5 +1,5 @@
 -- What contracts see of a world.
-use Rattle.std.specs.Prelude.{ℕ, ◌%◌, ◌≤◌, All, length, map}
+use Rattle.std.specs.Prelude.{ℕ, ◌≤◌, All, length, map}
 use Rattle.board.specs.Positions.{Position}
 use Rattle.worker_core.specs.Roles.{IsGuided, guide_of}
 use Rattle.worker_core.specs.Workers.{state_of}
@@ -12,11 +12,11 @@ use Rattle.world_model.specs.Worlds.{WorldState}
 use Rattle.hda_run.specs.declared.parts.Parts.{Parts}
 use Rattle.hda_run.specs.Problems.{Problem, task_in}
 
--- the world that these parts make, where boards are owned by a hash, modulo the number of workers
-abbrev pub world_of : {S : Type 0} → (S → Position → ℕ) → Parts S → WorldState
-world_of hash_of parts = record {
+-- the world that these parts make, where boards have these owners, by the spread and the number of workers
+abbrev pub world_of : {S : Type 0} → (S → ℕ → Position → ℕ) → Parts S → WorldState
+world_of owner_of parts = record {
   task = task_in parts.job;
-  owner = λ b. hash_of parts.owners b % length parts.workers.items;
+  owner = owner_of parts.owners.now (length parts.workers.items);
   workers = map (λ worker. state_of worker) parts.workers.items;
   book = parts.book;
   lanes = map (λ to_each. to_each.items) parts.lanes.items;
@@ -27,15 +27,15 @@ abbrev pub AreGuided : {S : Type 0} → Parts S → Type 0
 AreGuided parts = All (λ worker. IsGuided (task_in parts.job) (guide_of (task_in parts.job)) worker.lists) parts.workers.items
 
 -- what a world keeps, whatever steps are taken in it: it is shaped, sound and credited, and its workers are guided
-pub record IsLawful {S : Type 0} (hash_of : S → Position → ℕ) (parts : Parts S) : Type 0 where
-  pub shaped : IsShaped (world_of hash_of parts)
-  pub sound : IsSound (world_of hash_of parts)
-  pub credited : IsCredited (world_of hash_of parts)
+pub record IsLawful {S : Type 0} (owner_of : S → ℕ → Position → ℕ) (parts : Parts S) : Type 0 where
+  pub shaped : IsShaped (world_of owner_of parts)
+  pub sound : IsSound (world_of owner_of parts)
+  pub credited : IsCredited (world_of owner_of parts)
   pub guided : AreGuided parts
 
--- what so many workers do, where boards are owned by a hash, modulo their number
-abbrev pub job_of : {S : Type 0} → (S → Position → ℕ) → Problem → S → ℕ → Job
-job_of hash_of p owners workers = record { task = task_in p; limit = p.limit; count = workers; owner = λ b. hash_of owners b % workers }
+-- what n workers do, where boards have these owners, by the spread and the number of workers
+abbrev pub job_of : {S : Type 0} → (S → ℕ → Position → ℕ) → Problem → S → ℕ → Job
+job_of owner_of p owners workers = record { task = task_in p; limit = p.limit; count = workers; owner = owner_of owners workers }
 
 -- there are workers, but not too many
 abbrev pub IsWorkerCount : ℕ → Type 0

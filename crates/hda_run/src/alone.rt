@@ -47,16 +47,16 @@ enum End {
 /// Solves a job by one worker, in the calling thread: it expands the boards itself, and waits for
 /// nobody. A start that isn't in the goal's class is answered without a search. Memory is refused
 /// where there is none for the opening world; what is refused later is told by the outcome.
-pub fn solve_one<'a, S: Spread + Drop, G: Gate>(
+pub fn solve_one<'a, S: Spread, G: Gate>(
     alloc: Global,
     job: Job<'a>,
-    spread: S,
+    spread: &'a S,
     gate: &G,
 ) -> Result<Outcome, OutOfMemory>
     ensures parity { (result ≡ Ok (Unsolvable Parity))
         ↔ (¬ SameClass job.entry.start job.entry.goal) }
     ensures run { SameClass job.entry.start job.entry.goal
-        → IfOk result (IsByOne S.hash_of job.entry spread) }
+        → IfOk result (IsByOne S.owner_of job.entry spread.now) }
     ensures answers { IfOk result (Answers (task_in job.entry)) }
     ensures kept { IfOk result (λ outcome. (bound : ℕ) (best : Option (ℕ × Vec Move Global))
         (cause : Cause) (rows : Option (Vec (Position × ℕ) Global))
@@ -66,15 +66,15 @@ pub fn solve_one<'a, S: Spread + Drop, G: Gate>(
 }
 
 /// The same in each reading, without rows or with them.
-pub fn read_one<'a, A: Reading, S: Spread + Drop, G: Gate>(
+pub fn read_one<'a, A: Reading, S: Spread, G: Gate>(
     alloc: Global,
     job: Job<'a>,
-    spread: S,
+    spread: &'a S,
     gate: &G,
 ) -> Result<A::Answer, OutOfMemory>
     ensures parity { (result ≡ Ok A.parity) ↔ (¬ SameClass job.entry.start job.entry.goal) }
     ensures run { SameClass job.entry.start job.entry.goal
-        → IfOk result (IsFoundAlone A.gives S.hash_of job.entry spread) }
+        → IfOk result (IsFoundAlone A.gives S.owner_of job.entry spread.now) }
     ensures answers { IfOk result (A.answers (task_in job.entry)) }
     ensures kept { IfOk result (λ answer. EndsWholeRun (A.end answer)) }
 {
@@ -89,13 +89,13 @@ pub fn read_one<'a, A: Reading, S: Spread + Drop, G: Gate>(
 }
 
 /// The same by a search, whatever the class of the start.
-pub fn search_one<'a, A: Reading, S: Spread + Drop, G: Gate>(
+pub fn search_one<'a, A: Reading, S: Spread, G: Gate>(
     alloc: Global,
     job: Job<'a>,
-    spread: S,
+    spread: &'a S,
     gate: &G,
 ) -> Result<A::Answer, OutOfMemory>
-    ensures run { IfOk result (IsFoundAlone A.gives S.hash_of job.entry spread) }
+    ensures run { IfOk result (IsFoundAlone A.gives S.owner_of job.entry spread.now) }
     ensures answers { IfOk result (A.answers (task_in job.entry)) }
     ensures kept { IfOk result (λ answer. EndsWholeRun (A.end answer)) }
 {
@@ -115,14 +115,14 @@ pub fn are_apart(job: &Job<'_>) -> bool
 }
 
 // The world in which a run by one worker stops.
-fn run_alone<'a, S: Spread + Drop, G: Gate>(
+fn run_alone<'a, S: Spread, G: Gate>(
     alloc: Global,
     job: Job<'a>,
-    spread: S,
+    spread: &'a S,
     gate: &G,
 ) -> Result<World<'a, S>, OutOfMemory>
-    ensures run { IfOk result (λ world. IsRunAlone (job_of S.hash_of job.entry spread 1)
-        (world_of S.hash_of world)) }
+    ensures run { IfOk result (λ world. IsRunAlone (job_of S.owner_of job.entry spread.now 1)
+        (world_of S.owner_of world)) }
     ensures job { IfOk result (λ world. world.job ≡ job.entry) }
 {
     let _ = job.goal();
@@ -134,10 +134,10 @@ fn run_alone<'a, S: Spread + Drop, G: Gate>(
 
 // Lets the worker go on until it has no more to do. Answers why.
 fn go_on<S: Spread, G: Gate>(alloc: Global, world: &mut World<'_, S>, gate: &G) -> End
-    requires { IsLone (world_of S.hash_of world.old) }
-    ensures run { Reaches (world_of S.hash_of world.old) (world_of S.hash_of world.new) }
-    ensures lone { IsLone (world_of S.hash_of world.new) }
-    ensures stuck { IsStuck (world_of S.hash_of world.new) result }
+    requires { IsLone (world_of S.owner_of world.old) }
+    ensures run { Reaches (world_of S.owner_of world.old) (world_of S.owner_of world.new) }
+    ensures lone { IsLone (world_of S.owner_of world.new) }
+    ensures stuck { IsStuck (world_of S.owner_of world.new) result }
     ensures job { world.new.job ≡ world.old.job }
 {
     'rounds: loop {
@@ -150,12 +150,12 @@ fn go_on<S: Spread, G: Gate>(alloc: Global, world: &mut World<'_, S>, gate: &G) 
 // The worker expands a board, or is granted expansions where it has no allowance. A goal that is
 // known is announced soon, so that boards above its cost are not expanded.
 fn round<S: Spread, G: Gate>(alloc: Global, world: &mut World<'_, S>, gate: &G) -> Result<(), End>
-    requires { IsLone (world_of S.hash_of world.old) }
-    ensures run { Reaches (world_of S.hash_of world.old) (world_of S.hash_of world.new) }
-    ensures lone { IsLone (world_of S.hash_of world.new) }
+    requires { IsLone (world_of S.owner_of world.old) }
+    ensures run { Reaches (world_of S.owner_of world.old) (world_of S.owner_of world.new) }
+    ensures lone { IsLone (world_of S.owner_of world.new) }
     ensures less { IsOk result
-        → work_left (world_of S.hash_of world.new) < work_left (world_of S.hash_of world.old) }
-    ensures stuck { IfErr result (IsStuck (world_of S.hash_of world.new)) }
+        → work_left (world_of S.owner_of world.new) < work_left (world_of S.owner_of world.old) }
+    ensures stuck { IfErr result (IsStuck (world_of S.owner_of world.new)) }
     ensures job { world.new.job ≡ world.old.job }
 {
     let Err(refusal) = take(alloc, world, gate, Step::Expand(0)) else {
@@ -176,13 +176,13 @@ fn be_granted<S: Spread, G: Gate>(
     world: &mut World<'_, S>,
     gate: &G,
 ) -> Result<(), End>
-    requires lone { IsLone (world_of S.hash_of world.old) }
-    requires spent { Refuses (world_of S.hash_of world.old) (Step.Expand 0) Refusal.NoAllowance }
-    ensures run { Reaches (world_of S.hash_of world.old) (world_of S.hash_of world.new) }
-    ensures lone { IsLone (world_of S.hash_of world.new) }
+    requires lone { IsLone (world_of S.owner_of world.old) }
+    requires spent { Refuses (world_of S.owner_of world.old) (Step.Expand 0) Refusal.NoAllowance }
+    ensures run { Reaches (world_of S.owner_of world.old) (world_of S.owner_of world.new) }
+    ensures lone { IsLone (world_of S.owner_of world.new) }
     ensures less { IsOk result
-        → work_left (world_of S.hash_of world.new) < work_left (world_of S.hash_of world.old) }
-    ensures stuck { IfErr result (IsStuck (world_of S.hash_of world.new)) }
+        → work_left (world_of S.owner_of world.new) < work_left (world_of S.owner_of world.old) }
+    ensures stuck { IfErr result (IsStuck (world_of S.owner_of world.new)) }
     ensures job { world.new.job ≡ world.old.job }
 {
     let Err(_) = take(alloc, world, gate, Step::Grant(0)) else {
@@ -193,11 +193,11 @@ fn be_granted<S: Spread, G: Gate>(
 
 // The worker announces the cost of the goal, if it has met it.
 fn announce_when_met<S: Spread, G: Gate>(alloc: Global, world: &mut World<'_, S>, gate: &G)
-    requires { IsLone (world_of S.hash_of world.old) }
-    ensures run { Reaches (world_of S.hash_of world.old) (world_of S.hash_of world.new) }
-    ensures lone { IsLone (world_of S.hash_of world.new) }
-    ensures same { work_left (world_of S.hash_of world.new)
-        ≡ work_left (world_of S.hash_of world.old) }
+    requires { IsLone (world_of S.owner_of world.old) }
+    ensures run { Reaches (world_of S.owner_of world.old) (world_of S.owner_of world.new) }
+    ensures lone { IsLone (world_of S.owner_of world.new) }
+    ensures same { work_left (world_of S.owner_of world.new)
+        ≡ work_left (world_of S.owner_of world.old) }
     ensures job { world.new.job ≡ world.old.job }
 {
     if world.worker(0).lists().has_met_goal() {
@@ -207,9 +207,9 @@ fn announce_when_met<S: Spread, G: Gate>(alloc: Global, world: &mut World<'_, S>
 
 // Stops the run, by a rest or a halt.
 fn stop_for<S: Spread, G: Gate>(alloc: Global, world: &mut World<'_, S>, gate: &G, end: End)
-    requires lone { IsLone (world_of S.hash_of world.old) }
-    requires stuck { IsStuck (world_of S.hash_of world.old) end }
-    ensures stops { Stops (world_of S.hash_of world.old) (world_of S.hash_of world.new) }
+    requires lone { IsLone (world_of S.owner_of world.old) }
+    requires stuck { IsStuck (world_of S.owner_of world.old) end }
+    ensures stops { Stops (world_of S.owner_of world.old) (world_of S.owner_of world.new) }
     ensures job { world.new.job ≡ world.old.job }
 {
     match end {
@@ -226,10 +226,10 @@ fn stop_for<S: Spread, G: Gate>(alloc: Global, world: &mut World<'_, S>, gate: &
 
 // The worker rests, when it has announced what it knows.
 fn rest<S: Spread, G: Gate>(alloc: Global, world: &mut World<'_, S>, gate: &G)
-    requires lone { IsLone (world_of S.hash_of world.old) }
-    requires stuck { Refuses (world_of S.hash_of world.old) (Step.Expand 0)
+    requires lone { IsLone (world_of S.owner_of world.old) }
+    requires stuck { Refuses (world_of S.owner_of world.old) (Step.Expand 0)
         Refusal.NothingBelowLimit }
-    ensures stops { Stops (world_of S.hash_of world.old) (world_of S.hash_of world.new) }
+    ensures stops { Stops (world_of S.owner_of world.old) (world_of S.owner_of world.new) }
     ensures job { world.new.job ≡ world.old.job }
 {
     let _ = take(alloc, world, gate, Step::Announce(0));
@@ -243,8 +243,8 @@ fn take<S: Spread, G: Gate>(
     gate: &G,
     step: Step,
 ) -> Result<(), Refusal>
-    ensures step { Next step (turn (world_of S.hash_of world.old) (refusal_in result)
-        (world_of S.hash_of world.new)) }
+    ensures step { Next step (turn (world_of S.owner_of world.old) (refusal_in result)
+        (world_of S.owner_of world.new)) }
     ensures job { world.new.job ≡ world.old.job }
 {
     let answer = world.step(alloc, step);

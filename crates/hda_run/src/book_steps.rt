@@ -22,12 +22,12 @@ use world_model::{HaltCause, Refusal};
 impl<'a, S: Spread> Parts<'a, S> {
     /// A worker draws credit.
     pub(crate) fn draw(&mut self, me: usize) -> Result<(), Refusal>
-        requires { IsLawful S.hash_of self.old }
-        ensures step { Next (Step.Draw me) (turn (world_of S.hash_of self.old)
-            (refusal_in result) (world_of S.hash_of self.new)) }
+        requires { IsLawful S.owner_of self.old }
+        ensures step { Next (Step.Draw me) (turn (world_of S.owner_of self.old)
+            (refusal_in result) (world_of S.owner_of self.new)) }
         ensures guided { AreGuided self.new }
         ensures job { self.new.job ≡ self.old.job }
-        ensures owners { self.new.owners ≡ self.old.owners }
+        ensures owners { self.new.owners.now ≡ self.old.owners.now }
     {
         if me >= self.workers.len() {
             return Err(Refusal::NoSuchWorker);
@@ -37,28 +37,28 @@ impl<'a, S: Spread> Parts<'a, S> {
 
     /// A worker announces the goal's cost.
     pub(crate) fn announce(&mut self, me: usize) -> Result<(), Refusal>
-        requires { IsLawful S.hash_of self.old }
-        ensures step { Next (Step.Announce me) (turn (world_of S.hash_of self.old)
-            (refusal_in result) (world_of S.hash_of self.new)) }
+        requires { IsLawful S.owner_of self.old }
+        ensures step { Next (Step.Announce me) (turn (world_of S.owner_of self.old)
+            (refusal_in result) (world_of S.owner_of self.new)) }
         ensures guided { AreGuided self.new }
         ensures job { self.new.job ≡ self.old.job }
-        ensures owners { self.new.owners ≡ self.old.owners }
+        ensures owners { self.new.owners.now ≡ self.old.owners.now }
     {
         if me >= self.workers.len() {
             return Err(Refusal::NoSuchWorker);
         }
         let goal = self.job.keyed_goal();
-        self.workers[me].announce(me, goal, &self.owners, &mut self.book)
+        self.workers[me].announce(me, goal, self.owners, &mut self.book)
     }
 
     /// A worker is granted expansions.
     pub(crate) fn grant(&mut self, me: usize) -> Result<(), Refusal>
-        requires { IsLawful S.hash_of self.old }
-        ensures step { Next (Step.Grant me) (turn (world_of S.hash_of self.old)
-            (refusal_in result) (world_of S.hash_of self.new)) }
+        requires { IsLawful S.owner_of self.old }
+        ensures step { Next (Step.Grant me) (turn (world_of S.owner_of self.old)
+            (refusal_in result) (world_of S.owner_of self.new)) }
         ensures guided { AreGuided self.new }
         ensures job { self.new.job ≡ self.old.job }
-        ensures owners { self.new.owners ≡ self.old.owners }
+        ensures owners { self.new.owners.now ≡ self.old.owners.now }
     {
         if me >= self.workers.len() {
             return Err(Refusal::NoSuchWorker);
@@ -68,12 +68,12 @@ impl<'a, S: Spread> Parts<'a, S> {
 
     /// A worker rests: it gives its purse back.
     pub(crate) fn rest(&mut self, me: usize) -> Result<(), Refusal>
-        requires { IsLawful S.hash_of self.old }
-        ensures step { Next (Step.Rest me) (turn (world_of S.hash_of self.old)
-            (refusal_in result) (world_of S.hash_of self.new)) }
+        requires { IsLawful S.owner_of self.old }
+        ensures step { Next (Step.Rest me) (turn (world_of S.owner_of self.old)
+            (refusal_in result) (world_of S.owner_of self.new)) }
         ensures guided { AreGuided self.new }
         ensures job { self.new.job ≡ self.old.job }
-        ensures owners { self.new.owners ≡ self.old.owners }
+        ensures owners { self.new.owners.now ≡ self.old.owners.now }
     {
         if me >= self.workers.len() {
             return Err(Refusal::NoSuchWorker);
@@ -84,12 +84,12 @@ impl<'a, S: Spread> Parts<'a, S> {
 
     /// A worker halts the run.
     pub(crate) fn halt(&mut self, me: usize, cause: HaltCause) -> Result<(), Refusal>
-        requires { IsLawful S.hash_of self.old }
-        ensures step { Next (Step.Halt me cause) (turn (world_of S.hash_of self.old)
-            (refusal_in result) (world_of S.hash_of self.new)) }
+        requires { IsLawful S.owner_of self.old }
+        ensures step { Next (Step.Halt me cause) (turn (world_of S.owner_of self.old)
+            (refusal_in result) (world_of S.owner_of self.new)) }
         ensures guided { AreGuided self.new }
         ensures job { self.new.job ≡ self.old.job }
-        ensures owners { self.new.owners ≡ self.old.owners }
+        ensures owners { self.new.owners.now ≡ self.old.owners.now }
     {
         if me >= self.workers.len() {
             return Err(Refusal::NoSuchWorker);

@@ -24,13 +24,13 @@ use worker_core::Queue;
 use world_ends::{Asked, Reading, WithRows, lowest_of, read};
 use world_model::laws::quiet_is_true;
 
-impl<'a, S: Spread + Drop> World<'a, S> {
+impl<'a, S: Spread> World<'a, S> {
     /// The outcome that the world gives, at any moment: a plan of least cost with rows that prove
     /// it, the word that there is no plan, or a bound that no plan undercuts, with rows that prove
     /// it. It takes memory for the plan and the rows alone: none where the goal is unknown, if the
     /// frontier is empty or the bound is the start's sum (`bounds_have_rows` of `world_model`).
     pub fn finish(self, alloc: Global) -> Outcome
-        ensures given { IsGiven (world_of S.hash_of self.entry) result }
+        ensures given { IsGiven (world_of S.owner_of self.entry) result }
         ensures answers { Answers (task_in self.entry.job) result }
     {
         self.read::<WithRows>(alloc)
@@ -38,7 +38,7 @@ impl<'a, S: Spread + Drop> World<'a, S> {
 
     /// What the world gives at any moment, in a reading.
     pub fn read<A: Reading>(self, alloc: Global) -> A::Answer
-        ensures given { A.gives (world_of S.hash_of self.entry) result }
+        ensures given { A.gives (world_of S.owner_of self.entry) result }
         ensures answers { A.answers (task_in self.entry.job) result }
     {
         A::keep_laws();
@@ -50,9 +50,9 @@ impl<'a, S: Spread + Drop> World<'a, S> {
 }
 
 // What the parts of a world give.
-fn read_parts<A: Reading, S: Spread + Drop>(alloc: Global, parts: Parts<'_, S>) -> A::Answer
-    requires { IsLawful S.hash_of parts }
-    ensures { A.gives (world_of S.hash_of parts.entry) result }
+fn read_parts<A: Reading, S: Spread>(alloc: Global, parts: Parts<'_, S>) -> A::Answer
+    requires { IsLawful S.owner_of parts }
+    ensures { A.gives (world_of S.owner_of parts.entry) result }
 {
     let Parts {
         job,
@@ -64,7 +64,7 @@ fn read_parts<A: Reading, S: Spread + Drop>(alloc: Global, parts: Parts<'_, S>) 
     let mut workers = workers;
     let lowest = lowest_in_lanes(job.bound(), &lanes, None);
     let asked = asked_in(&job);
-    read::<A, Plain, S>(alloc, &asked, &owners, &mut workers, lowest, book.stop())
+    read::<A, Plain, S>(alloc, &asked, owners, &mut workers, lowest, book.stop())
 }
 
 /// What a job asks.

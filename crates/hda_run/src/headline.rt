@@ -19,16 +19,16 @@ use world_model::Step;
 ///
 /// What the outcome says is true, whatever the steps are and wherever they end: so says the clause
 /// `truth`.
-pub fn run_and_finish<'a, S: Spread + Drop>(
+pub fn run_and_finish<'a, S: Spread>(
     alloc: Global,
     job: Job<'a>,
     workers: usize,
-    spread: S,
+    spread: &'a S,
     steps: &[Step],
 ) -> Result<Outcome, WorldFault>
     ensures count { IsErrOf result WorldFault.WorkerCount
         ↔ (¬ IsWorkerCount workers) }
-    ensures run { IfOk result (IsOfSteps (job_of S.hash_of job.entry spread workers) steps.now) }
+    ensures run { IfOk result (IsOfSteps (job_of S.owner_of job.entry spread.now workers) steps.now) }
     ensures truth { IfOk result (TellsTruth job.entry) }
 {
     let world = World::new(alloc, job, workers, spread)?;

@@ -17,12 +17,12 @@ use world_model::Refusal;
 impl<'a, S: Spread> Parts<'a, S> {
     /// A worker sends a packet to another.
     pub(crate) fn send(&mut self, from: usize, to: usize) -> Result<(), Refusal>
-        requires { IsLawful S.hash_of self.old }
-        ensures step { Next (Step.Send from to) (turn (world_of S.hash_of self.old)
-            (refusal_in result) (world_of S.hash_of self.new)) }
+        requires { IsLawful S.owner_of self.old }
+        ensures step { Next (Step.Send from to) (turn (world_of S.owner_of self.old)
+            (refusal_in result) (world_of S.owner_of self.new)) }
         ensures guided { AreGuided self.new }
         ensures job { self.new.job ≡ self.old.job }
-        ensures owners { self.new.owners ≡ self.old.owners }
+        ensures owners { self.new.owners.now ≡ self.old.owners.now }
     {
         if !are_two(self.workers.len(), from, to) {
             return Err(Refusal::NoSuchWorker);
@@ -33,12 +33,12 @@ impl<'a, S: Spread> Parts<'a, S> {
 
     /// A worker takes in a packet from another.
     pub(crate) fn deliver(&mut self, to: usize, from: usize) -> Result<(), Refusal>
-        requires { IsLawful S.hash_of self.old }
-        ensures step { Next (Step.Deliver to from) (turn (world_of S.hash_of self.old)
-            (refusal_in result) (world_of S.hash_of self.new)) }
+        requires { IsLawful S.owner_of self.old }
+        ensures step { Next (Step.Deliver to from) (turn (world_of S.owner_of self.old)
+            (refusal_in result) (world_of S.owner_of self.new)) }
         ensures guided { AreGuided self.new }
         ensures job { self.new.job ≡ self.old.job }
-        ensures owners { self.new.owners ≡ self.old.owners }
+        ensures owners { self.new.owners.now ≡ self.old.owners.now }
     {
         if !are_two(self.workers.len(), from, to) {
             return Err(Refusal::NoSuchWorker);

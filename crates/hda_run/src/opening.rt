@@ -27,25 +27,25 @@ use worker_core::{Context, Queue, Worker};
 use world_model::Item;
 
 /// The parts of the opening world of a job.
-pub(crate) fn open_parts<'a, S: Spread + Drop>(
+pub(crate) fn open_parts<'a, S: Spread>(
     alloc: Global,
     job: Job<'a>,
     workers: usize,
-    owners: S,
+    owners: &'a S,
 ) -> Result<Parts<'a, S>, OutOfMemory>
     requires some { 0 < workers }
     requires few { workers ≤ WORKER_LIMIT }
     ensures opening { IfOk result (λ parts. (via : Move)
-        × (world_of S.hash_of parts ≡ opening (job_of S.hash_of job.entry owners workers) via)) }
+        × (world_of S.owner_of parts ≡ opening (job_of S.owner_of job.entry owners.now workers) via)) }
     ensures guided { IfOk result (λ parts. AreGuided parts) }
     ensures job { IfOk result (λ parts. parts.job ≡ job.entry) }
-    ensures owners { IfOk result (λ parts. parts.owners ≡ owners) }
+    ensures owners { IfOk result (λ parts. parts.owners.now ≡ owners.now) }
 {
     tasks_have_guides();
     let _ = job.goal();
     let (mut credit, purse) = Credit::plain();
     let owner = owners.owner(job.start(), workers);
-    let context = job.context(owner, workers, &owners);
+    let context = job.context(owner, workers, owners);
     let first = first_worker(alloc, &context, job.start(), purse)?;
     let all = workers_with(alloc, workers, &mut credit, first, owner)?;
     let lanes = empty_lanes(alloc, workers)?;

@@ -17,35 +17,35 @@ use world_model::Refusal;
 impl<'a, S: Spread> Parts<'a, S> {
     /// A worker expands a board of least cost plus sum.
     pub(crate) fn expand(&mut self, alloc: Global, me: usize) -> Result<(), Refusal>
-        requires { IsLawful S.hash_of self.old }
-        ensures step { Next (Step.Expand me) (turn (world_of S.hash_of self.old)
-            (refusal_in result) (world_of S.hash_of self.new)) }
+        requires { IsLawful S.owner_of self.old }
+        ensures step { Next (Step.Expand me) (turn (world_of S.owner_of self.old)
+            (refusal_in result) (world_of S.owner_of self.new)) }
         ensures guided { AreGuided self.new }
         ensures job { self.new.job ≡ self.old.job }
-        ensures owners { self.new.owners ≡ self.old.owners }
+        ensures owners { self.new.owners.now ≡ self.old.owners.now }
     {
         onward_steps_alone_are_whole();
         if me >= self.workers.len() {
             return Err(Refusal::NoSuchWorker);
         }
         let workers = self.workers.len();
-        let context = self.job.context(me, workers, &self.owners);
+        let context = self.job.context(me, workers, self.owners);
         self.workers[me].expand(alloc, &context, successors_for(workers))
     }
 
     /// A worker relaxes the last item that it holds.
     pub(crate) fn settle(&mut self, alloc: Global, me: usize) -> Result<(), Refusal>
-        requires { IsLawful S.hash_of self.old }
-        ensures step { Next (Step.Settle me) (turn (world_of S.hash_of self.old)
-            (refusal_in result) (world_of S.hash_of self.new)) }
+        requires { IsLawful S.owner_of self.old }
+        ensures step { Next (Step.Settle me) (turn (world_of S.owner_of self.old)
+            (refusal_in result) (world_of S.owner_of self.new)) }
         ensures guided { AreGuided self.new }
         ensures job { self.new.job ≡ self.old.job }
-        ensures owners { self.new.owners ≡ self.old.owners }
+        ensures owners { self.new.owners.now ≡ self.old.owners.now }
     {
         if me >= self.workers.len() {
             return Err(Refusal::NoSuchWorker);
         }
-        let context = self.job.context(me, self.workers.len(), &self.owners);
+        let context = self.job.context(me, self.workers.len(), self.owners);
         self.workers[me].settle(alloc, &context)
     }
 }

@@ -17,7 +17,7 @@ use world_model::{Refusal, Step};
 #[derive(Drop)]
 pub struct Parts<'a, S: Spread> {
     pub(crate) job: Job<'a>,
-    pub(crate) owners: S,
+    pub(crate) owners: &'a S,
     pub(crate) workers: Vec<Worker<Plain>>,
     pub(crate) book: Book<Plain>,
     /// For each worker its lanes to each worker.
@@ -27,12 +27,12 @@ pub struct Parts<'a, S: Spread> {
 impl<'a, S: Spread> Parts<'a, S> {
     /// A step. S15 comes before all other refusals.
     pub(crate) fn step(&mut self, alloc: Global, step: Step) -> Result<(), Refusal>
-        requires { IsLawful S.hash_of self.old }
-        ensures step { Next step (turn (world_of S.hash_of self.old) (refusal_in result)
-            (world_of S.hash_of self.new)) }
+        requires { IsLawful S.owner_of self.old }
+        ensures step { Next step (turn (world_of S.owner_of self.old) (refusal_in result)
+            (world_of S.owner_of self.new)) }
         ensures guided { AreGuided self.new }
         ensures job { self.new.job ≡ self.old.job }
-        ensures owners { self.new.owners ≡ self.old.owners }
+        ensures owners { self.new.owners.now ≡ self.old.owners.now }
     {
         match step {
             Step::Expand(me) => self.expand(alloc, me),

@@ -15,9 +15,9 @@ use world_model::laws::runs_are_of_steps;
 /// Takes steps one after the other. A refused one is passed over.
 pub fn run_steps<'a, S: Spread>(alloc: Global, world: World<'a, S>, steps: &[Step]) -> World<'a, S>
     ensures run { (made : List (Step × Option Refusal)) × (map (λ made. made.0) made ≡ steps.now)
-        × IsRun (world_of S.hash_of world.entry) made (world_of S.hash_of result) }
+        × IsRun (world_of S.owner_of world.entry) made (world_of S.owner_of result) }
     ensures job { result.job ≡ world.entry.job }
-    ensures owners { result.owners ≡ world.entry.owners }
+    ensures owners { result.owners.now ≡ world.entry.owners.now }
 {
     runs_are_of_steps();
     let mut world = world;

@@ -49,20 +49,25 @@ impl<'a, S: Spread> Model for World<'a, S> {
 
     ghost view = { λ w. w.parts };
 
-    ghost invariant = { λ w. IsLawful S.hash_of w.parts };
+    ghost invariant = { λ w. IsLawful S.owner_of w.parts };
 }
 
-impl<'a, S: Spread + Drop> World<'a, S> {
+impl<'a, S: Spread> World<'a, S> {
     /// The opening world of a job, with so many workers: the start's owner knows the start, and
     /// there is nothing else. Faults: V2 the workers are not from 1 to `WORKER_LIMIT`, V3 memory
     /// was refused.
-    pub fn new(alloc: Global, job: Job<'a>, workers: usize, spread: S) -> Result<Self, WorldFault>
+    pub fn new(
+        alloc: Global,
+        job: Job<'a>,
+        workers: usize,
+        spread: &'a S,
+    ) -> Result<Self, WorldFault>
         ensures count { IsErrOf result WorldFault.WorkerCount
             ↔ (¬ IsWorkerCount workers) }
         ensures opening { IfOk result (λ world. (via : Move)
-            × (world_of S.hash_of world ≡ opening (job_of S.hash_of job.entry spread workers) via)) }
+            × (world_of S.owner_of world ≡ opening (job_of S.owner_of job.entry spread.now workers) via)) }
         ensures job { IfOk result (λ world. world.job ≡ job.entry) }
-        ensures owners { IfOk result (λ world. world.owners ≡ spread) }
+        ensures owners { IfOk result (λ world. world.owners.now ≡ spread.now) }
     {
         if !is_worker_count(workers) {
             return Err(WorldFault::WorkerCount);
@@ -78,13 +83,13 @@ impl<'a, S: Spread + Drop> World<'a, S> {
         alloc: Global,
         job: Job<'a>,
         workers: usize,
-        spread: S,
+        spread: &'a S,
     ) -> Result<Self, OutOfMemory>
         requires { IsWorkerCount workers }
         ensures opening { IfOk result (λ world. (via : Move)
-            × (world_of S.hash_of world ≡ opening (job_of S.hash_of job.entry spread workers) via)) }
+            × (world_of S.owner_of world ≡ opening (job_of S.owner_of job.entry spread.now workers) via)) }
         ensures job { IfOk result (λ world. world.job ≡ job.entry) }
-        ensures owners { IfOk result (λ world. world.owners ≡ spread) }
+        ensures owners { IfOk result (λ world. world.owners.now ≡ spread.now) }
     {
         openings_are_sound();
         let _ = job.goal();
@@ -97,10 +102,10 @@ impl<'a, S: Spread> World<'a, S> {
     /// Takes a step. A refused one leaves the world as it was: S15 there is no such worker, or a
     /// lane would be from a worker to itself, or the refusal of the worker's step.
     pub fn step(&mut self, alloc: Global, step: Step) -> Result<(), Refusal>
-        ensures step { Next step (turn (world_of S.hash_of self.old) (refusal_in result)
-            (world_of S.hash_of self.new)) }
+        ensures step { Next step (turn (world_of S.owner_of self.old) (refusal_in result)
+            (world_of S.owner_of self.new)) }
         ensures job { self.new.job ≡ self.old.job }
-        ensures owners { self.new.owners ≡ self.old.owners }
+        ensures owners { self.new.owners.now ≡ self.old.owners.now }
     {
         steps_keep_shaped();
         steps_keep_sound();
@@ -111,9 +116,9 @@ impl<'a, S: Spread> World<'a, S> {
     /// How many workers there are. Tells what each world keeps.
     pub fn workers(&self) -> usize
         ensures value { result ≡ length self.now.workers.items }
-        ensures shaped { IsShaped (world_of S.hash_of self.now) }
-        ensures sound { IsSound (world_of S.hash_of self.now) }
-        ensures credited { IsCredited (world_of S.hash_of self.now) }
+        ensures shaped { IsShaped (world_of S.owner_of self.now) }
+        ensures sound { IsSound (world_of S.owner_of self.now) }
+        ensures credited { IsCredited (world_of S.owner_of self.now) }
         ensures guided { AreGuided self.now }
         ensures bounded { IsLowerBound self.now.job.rule (task_in self.now.job).sum
             self.now.job.goal }
@@ -148,7 +153,7 @@ impl<'a, S: Spread> World<'a, S> {
     pub fn lane(&self, from: usize, to: usize) -> &Queue<Plain>
         requires sender { from < length self.now.workers.items }
         requires receiver { to < length self.now.workers.items }
-        ensures { IsLane (world_of S.hash_of self.now) from to result.now }
+        ensures { IsLane (world_of S.owner_of self.now) from to result.now }
     {
         let to_each = &self.parts.lanes[from];
         &to_each[to]

@@ -10,7 +10,9 @@ use Rattle.board.specs.Positions.{Position}
 use Rattle.world_model.specs.declared.parts.Item.{Item}
 use Rattle.lower_bound.specs.declared.bound.TheConstants.{GREATEST_SUM}
 use Rattle.offers.specs.declared.offer.Offer.{Offer}
+use Rattle.owners.specs.declared.spread.Moved.{Moved}
 use Rattle.successor_sums.specs.ByMoves.{FourOf}
+use Rattle.successor_sums.specs.declared.unpacked.Successor.{Successor}
 
 -- what the four moves from a board offer: nothing where the blank would leave the board, and by a move that is left out
 abbrev pub Offers : Type 0
@@ -19,6 +21,10 @@ Offers = FourOf Offer
 -- the successor of a board that costs this much, by a move
 abbrev pub item_by : CostRule → Position → ℕ → Move → Option Item
 item_by rule b cost m = option_map (λ next. record { board = next.0; cost = cost + next.1; via = m }) (successor rule b m)
+
+-- the slide of what is told of a successor of a board with the blank on this cell, and the key to which it leads
+abbrev pub moved_by : Position → Successor → ℕ → Moved
+moved_by b told blank = record { shape = b.grid; key = told.key; slide = record { tile = told.tile; from = told.cell; to = blank } }
 
 -- the offer is of this item: it has the key of its board, its cost, its cost plus sum, and its owner
 pub record IsOfferOf (sum owner : Position → ℕ) (item : Item) (offer : Offer) : Type 0 where

@@ -1,22 +1,23 @@
 //! Successors of a board, as they go to their owners.
 
-ghost use Rattle.std.specs.Prelude.{ℕ, ◌≡◌, ◌≢◌, ◌<◌, ◌≤◌, ◌%◌, List, Some, option_map};
+ghost use Rattle.std.specs.Prelude.{◌≡◌, ◌<◌, ◌≤◌, IfSome, List, Some, option_map};
 ghost use Rattle.board.specs.declared.costs.TheConstants.{GREATEST_EXPANDED_COST};
 ghost use Rattle.lower_bound.specs.declared.bound.TheConstants.{GREATEST_SUM};
 ghost use Rattle.board.specs.CostRules.{CostRule};
 ghost use Rattle.board.specs.Keys.{HasKey};
-ghost use Rattle.board.specs.Moves.{blank_exchange, successor};
+ghost use Rattle.board.specs.Moves.{successor};
 ghost use Rattle.board.specs.Positions.{Position};
 ghost use Rattle.lower_bound.specs.Bounds.{Part, sum_of};
 ghost use Rattle.lower_bound.specs.Tables.{parts_of};
 ghost use Rattle.board.specs.declared.moves.Move.{Move};
 ghost use Rattle.successor_sums.specs.Unpacked.{told_of, but};
-ghost use Rattle.owners.specs.Slides.{IsSlide};
-ghost use Rattle.offers.specs.Offers.{item_by, IsOffered, AreOffered, OfEach, IsWithin};
+ghost use Rattle.owners.specs.Slides.{IsMoved};
+ghost use Rattle.offers.specs.Offers.{item_by, moved_by, IsOffered, AreOffered, OfEach};
+ghost use Rattle.offers.specs.Offers.{IsWithin};
 
-use board::{Move, Shape, Weights};
+use board::{Board, Move, Weights};
 use lower_bound::Bound;
-use owners::{Slide, Spread, worker_of};
+use owners::{Moved, Slide, Spread};
 use successor_sums::{ByMoves, Successor, UnpackedBoard, no_successors};
 
 /// What a move from a board offers: a successor, by its key. (The move itself stands beside it in
@@ -47,11 +48,11 @@ pub fn no_offers() -> ByMoves<Offer>
     ByMoves::nothing(NO_OFFER)
 }
 
-// Of a board whose moves are offered its hash, where there are several workers, and the cell of the
+// Of a board whose moves are offered its hash, where owners are found by it, and the cell of the
 // blank; and the number of workers.
 #[derive(Clone, Copy)]
 struct Hashed {
-    hash: u64,
+    hash: Option<u64>,
     blank: usize,
     workers: usize,
 }
@@ -76,7 +77,7 @@ pub fn offers_of<S: Spread>(
     requires sum_low { sum ≤ GREATEST_EXPANDED_COST }
     requires some { 0 < workers }
     ensures offered { AreOffered (sum_of (parts_of bound.now))
-        (λ b. S.hash_of owners.now b % workers)
+        (S.owner_of owners.now workers)
         (but left_out (item_by weights.now unpacked.now cost)) offers.new }
     ensures within { OfEach (IsWithin unpacked.now.grid cost workers) offers.new }
 {
@@ -95,15 +96,14 @@ pub fn offers_of<S: Spread>(
     }
 }
 
-// The hash of a board where there are several workers: one owns all, whatever the hash.
-fn hash_for<S: Spread>(unpacked: &UnpackedBoard, owners: &S, workers: usize) -> u64
-    ensures { workers ≢ 1 → result ≡ S.hash_of owners.now unpacked.now }
+// The hash of a board, where owners are found by it. One worker owns all boards.
+fn hash_for<S: Spread>(unpacked: &UnpackedBoard, owners: &S, workers: usize) -> Option<u64>
+    ensures { IfSome result (λ hash. hash ≡ S.hash_of owners.now unpacked.now) }
 {
     if workers == 1 {
-        return 0;
+        return None;
     }
-    let board = unpacked.board();
-    owners.hash(board.shape(), board.tiles())
+    owners.hash(&unpacked.board())
 }
 
 // What a move from a board offers, of which this is told.
@@ -115,44 +115,48 @@ fn offer_by<S: Spread>(
     hashed: Hashed,
 ) -> Offer
     requires low { cost ≤ GREATEST_EXPANDED_COST }
-    requires keys { (b : Position) × HasKey unpacked.now.grid told.now.key b }
-    requires slides { IsSlide unpacked.now.grid unpacked.now
-        (record { tile = told.now.tile; from = told.now.cell; to = hashed.blank }) }
+    requires moved { IsMoved unpacked.now (moved_by unpacked.now told.now hashed.blank) }
     requires costs { told.now.cost ≤ 255 }
     requires sums { told.now.sum ≤ GREATEST_SUM }
     requires some { 0 < hashed.workers }
-    requires hash { hashed.workers ≢ 1 → hashed.hash ≡ S.hash_of owners.now unpacked.now }
+    requires hash { IfSome hashed.hash (λ hash. hash ≡ S.hash_of owners.now unpacked.now) }
     ensures within { IsWithin unpacked.now.grid cost hashed.workers result }
     ensures offered { (rule : CostRule) (parts : List Part) (m : Move)
         → option_map (told_of parts unpacked.now) (successor rule unpacked.now m) ≡ Some told.now
-        → IsOffered (sum_of parts) (λ b. S.hash_of owners.now b % hashed.workers)
+        → IsOffered (sum_of parts) (S.owner_of owners.now hashed.workers)
         (item_by rule unpacked.now cost m) (Some result) }
 {
-    let slide = Slide {
-        tile: told.tile as u8,
-        from: told.cell as usize,
-        to: hashed.blank,
+    let moved = Moved {
+        shape: unpacked.shape(),
+        key: told.key,
+        slide: Slide {
+            tile: told.tile as u8,
+            from: told.cell as usize,
+            to: hashed.blank,
+        },
     };
     let reached = cost + told.cost;
     Offer {
         key: told.key,
         cost: reached,
         f: reached + told.sum,
-        owner: owner_after(owners, hashed, unpacked.shape(), slide),
+        owner: owner_after(owners, hashed, moved),
     }
 }
 
-// The owner of a board after a slide.
-fn owner_after<S: Spread>(owners: &S, hashed: Hashed, shape: Shape, slide: Slide) -> usize
+// The owner of the board after a slide.
+fn owner_after<S: Spread>(owners: &S, hashed: Hashed, moved: Moved) -> usize
     requires some { 0 < hashed.workers }
-    requires slide { (b : Position) × IsSlide shape b slide }
-    ensures within { result < hashed.workers }
-    ensures owner { (b : Position) → IsSlide shape b slide
-        → (hashed.workers ≢ 1 → hashed.hash ≡ S.hash_of owners.now b)
-        → result ≡ S.hash_of owners.now (blank_exchange b slide.from) % hashed.workers }
+    requires moved { (b : Position) × IsMoved b moved
+        × IfSome hashed.hash (λ hash. hash ≡ S.hash_of owners.now b) }
+    ensures { (b : Position) → HasKey moved.shape moved.key b
+        → result ≡ S.owner_of owners.now hashed.workers b }
 {
+    if let Some(hash) = hashed.hash {
+        return owners.owner_after(hash, moved, hashed.workers);
+    }
     if hashed.workers == 1 {
         return 0;
     }
-    worker_of(owners.hash_after(hashed.hash, shape, slide), hashed.workers)
+    owners.owner(&Board::of_key(moved.shape, moved.key), hashed.workers)
 }

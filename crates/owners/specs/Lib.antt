@@ -1,4 +1,5 @@
 -- Which worker owns a board.
+pub mod Owners
 pub mod Hashes
 pub mod Slides
 pub mod Worked

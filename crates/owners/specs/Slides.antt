@@ -1,12 +1,11 @@
--- A tile that moves onto the blank's cell.
-use Rattle.std.specs.Prelude.{ℕ, ◌≡◌, ◌<◌, List, slice_index}
+-- A tile that moves onto the blank's cell, and the board to which that leads.
+use Rattle.std.specs.Prelude.{◌≡◌, ◌<◌, slice_index}
 use Rattle.board.specs.Grids.{Grid, cell_count}
+use Rattle.board.specs.Keys.{HasKey}
+use Rattle.board.specs.Moves.{blank_exchange}
 use Rattle.board.specs.Positions.{Position, IsBoard, blank_of}
+use Rattle.owners.specs.declared.spread.Moved.{Moved}
 use Rattle.owners.specs.declared.spread.Slide.{Slide}
-
--- the board of a grid with these numbers on its cells
-abbrev pub position_of : Grid → List ℕ → Position
-position_of grid tiles = record { grid = grid; tiles = tiles }
 
 -- on this board, which has this grid, the tile stands where the slide says, and so does the blank
 pub record IsSlide (grid : Grid) (b : Position) (slide : Slide) : Type 0 where
@@ -16,3 +15,8 @@ pub record IsSlide (grid : Grid) (b : Position) (slide : Slide) : Type 0 where
   pub tile : slice_index b.tiles slide.from ≡ slide.tile
   pub some : 0 < slide.tile
   pub blank : blank_of b ≡ slide.to
+
+-- the slide leads from this board to the one with the key
+pub record IsMoved (b : Position) (moved : Moved) : Type 0 where
+  pub slide : IsSlide moved.shape b moved.slide
+  pub key : HasKey moved.shape moved.key (blank_exchange b moved.slide.from)

@@ -5,5 +5,5 @@ mod spread;
 pub mod worked;
 mod zobrist;
 
-pub use spread::{ByBlank, Slide, Spread, worker_of};
+pub use spread::{ByBlank, Moved, Slide, Spread, worker_of};
 pub use zobrist::Zobrist;

@@ -1,9 +1,10 @@
 //! Ways to divide boards among workers.
 
-ghost use Rattle.std.specs.Prelude.{◌≡◌, ◌<◌, ◌%◌, ◌==◌, ℕ, position};
-ghost use Rattle.board.specs.Positions.{Position, IsBoard};
-ghost use Rattle.board.specs.Moves.{blank_exchange};
-ghost use Rattle.owners.specs.Slides.{position_of, IsSlide};
+ghost use Rattle.std.specs.Prelude.{◌≡◌, ◌<◌, ◌%◌, ◌==◌, ℕ, IfSome};
+ghost use Rattle.board.specs.Keys.{HasKey};
+ghost use Rattle.board.specs.Positions.{Position};
+ghost use Rattle.owners.specs.Owners.{AreWorkers};
+ghost use Rattle.owners.specs.Slides.{IsMoved};
 
 use board::{Board, Shape};
 
@@ -17,32 +18,56 @@ pub struct Slide {
     pub to: usize,
 }
 
-/// A way to divide boards among workers: by a hash of the board, modulo their number. So the owner
-/// of a board depends on the spread, the board and that number alone.
-pub trait Spread {
-    /// The hash of a board.
-    ghost hash_of: { Self → Position → ℕ };
-
-    /// The worker that owns a board, of so many, which are numbered from 0.
-    fn owner(&self, board: &Board, workers: usize) -> usize
-        requires { 0 < workers }
-        ensures value { result ≡ hash_of self.now board.now % workers }
-        ensures within { result < workers };
-
-    /// The hash of the board that has these numbers on its cells.
-    fn hash(&self, shape: Shape, tiles: &[u8]) -> u64
-        requires { IsBoard (position_of shape tiles.now) }
-        ensures { result ≡ hash_of self.now (position_of shape tiles.now) };
-
-    /// The hash of a board after a slide, by the hash before it.
-    fn hash_after(&self, hash: u64, shape: Shape, slide: Slide) -> u64
-        requires { (b : Position) × IsSlide shape b slide }
-        ensures { (b : Position) → IsSlide shape b slide → hash ≡ hash_of self.now b
-            → result ≡ hash_of self.now (blank_exchange b slide.from) };
+/// The board to which a slide leads.
+#[derive(Clone, Copy, Debug)]
+pub struct Moved {
+    pub shape: Shape,
+    /// The key of the board after the slide.
+    pub key: u128,
+    pub slide: Slide,
 }
 
-/// The worker, of so many, that owns what has this hash: its remainder. To divide by a number that
-/// the compiler knows is much faster, so common numbers of workers are told apart.
+/// A way to divide boards among workers. The owner of a board depends on the spread, the number of
+/// workers and the board alone. To write one, give `owner` with its ghost member and the law; a
+/// spread that finds an owner faster from the hash of the board before it gives `hash` and
+/// `owner_after` too.
+pub trait Spread {
+    /// The owner of a board among a number of workers, which are numbered from 0.
+    ghost owner_of: { Self → ℕ → Position → ℕ };
+
+    /// The hash of a board, of a spread that has hashes.
+    ghost hash_of: { Self → Position → ℕ } = { λ s b. 0 };
+
+    /// The worker that owns a board, of `workers` workers.
+    fn owner(&self, board: &Board, workers: usize) -> usize
+        requires { 0 < workers }
+        ensures { result ≡ owner_of self.now workers board.now };
+
+    /// The hash of a board, of a spread that has hashes.
+    fn hash(&self, board: &Board) -> Option<u64>
+        ensures { IfSome result (λ hash. hash ≡ hash_of self.now board.now) }
+    {
+        let _ = board;
+        None
+    }
+
+    /// The worker that owns the board after a slide, by the hash of the board before it.
+    fn owner_after(&self, hash: u64, moved: Moved, workers: usize) -> usize
+        requires some { 0 < workers }
+        requires moved { (b : Position) × IsMoved b moved × (hash ≡ hash_of self.now b) }
+        ensures { (b : Position) → HasKey moved.shape moved.key b
+            → result ≡ owner_of self.now workers b }
+    {
+        let _ = hash;
+        self.owner(&Board::of_key(moved.shape, moved.key), workers)
+    }
+
+    /// Each board's owner is one of the workers.
+    ghost owners_are_workers: { AreWorkers owner_of };
+}
+
+/// The worker, of `workers` workers, that owns what has this hash: its remainder. To divide by a
+/// number that the compiler knows is much faster, so common numbers of workers are told apart.
 pub fn worker_of(hash: u64, workers: usize) -> usize
     requires { 0 < workers }
     ensures value { result ≡ hash % workers }
@@ -65,26 +90,22 @@ pub fn worker_of(hash: u64, workers: usize) -> usize
 pub struct ByBlank;
 
 impl Spread for ByBlank {
-    ghost use Rattle.board.specs.Positions.{blank_of};
+    ghost use Rattle.owners.specs.Owners.{owner_by_blank, owner_by_blank-lt};
 
-    ghost hash_of = { λ s. blank_of };
+    ghost owner_of = { λ s. owner_by_blank };
+
+    ghost owners_are_workers = { λ s. owner_by_blank-lt };
 
     fn owner(&self, board: &Board, workers: usize) -> usize {
         worker_of(board.blank() as u64, workers)
     }
 
-    fn hash(&self, _shape: Shape, tiles: &[u8]) -> u64 {
-        find_blank(tiles).unwrap() as u64
+    // The slide says where the blank goes: no hash is needed.
+    fn hash(&self, _board: &Board) -> Option<u64> {
+        Some(0)
     }
 
-    fn hash_after(&self, _hash: u64, _shape: Shape, slide: Slide) -> u64 {
-        slide.from as u64
+    fn owner_after(&self, _hash: u64, moved: Moved, workers: usize) -> usize {
+        worker_of(moved.slide.from as u64, workers)
     }
-}
-
-// The cell of the blank.
-fn find_blank(tiles: &[u8]) -> Option<usize>
-    ensures { result ≡ position (λ tile. tile == 0) tiles.now }
-{
-    tiles.iter().position(|tile| *tile == 0)
 }

@@ -1,11 +1,9 @@
 //! Owners by a hash of the whole board.
 
 ghost use Rattle.std.specs.Prelude.{◌≡◌, ◌<◌, ◌≤◌, ℕ, slice_index, length};
-ghost use Rattle.board.specs.Positions.{IsBoard};
 ghost use Rattle.owners.specs.Hashes.{hash_of, word, word_on};
-ghost use Rattle.owners.specs.Slides.{position_of};
 
-use crate::spread::{Slide, Spread, worker_of};
+use crate::spread::{Moved, Spread, worker_of};
 use board::{Board, Shape};
 use rand_core::SeedableRng;
 use rand_core::utils::NextWord;
@@ -43,6 +41,19 @@ impl Zobrist {
         Zobrist { words }
     }
 
+    // The hash of a board.
+    fn hash_board(&self, board: &Board) -> u64
+        ensures { result ≡ hash_of board.now }
+    {
+        let cells = board.shape().cells();
+        let tiles = board.tiles();
+        let mut hash = 0;
+        'cells: for cell in 0..cells {
+            hash ^= self.word(cells, tiles[cell], cell);
+        }
+        hash
+    }
+
     // The word of a tile on a cell, where there are so many cells.
     fn word(&self, cells: usize, tile: u8, cell: usize) -> u64
         requires few { cells ≤ 25 }
@@ -70,26 +81,26 @@ fn fill(words: &mut [u64])
 
 impl Spread for Zobrist {
     ghost use Rattle.owners.specs.Hashes.{hash_of};
+    ghost use Rattle.owners.specs.Owners.{owner_by_hash, owner_by_hash-lt};
+
+    ghost owner_of = { λ z. owner_by_hash };
 
     ghost hash_of = { λ z. hash_of };
 
+    ghost owners_are_workers = { λ z. owner_by_hash-lt };
+
     fn owner(&self, board: &Board, workers: usize) -> usize {
-        worker_of(self.hash(board.shape(), board.tiles()), workers)
+        worker_of(self.hash_board(board), workers)
     }
 
-    fn hash(&self, shape: Shape, tiles: &[u8]) -> u64 {
-        let cells = shape.cells();
-        let mut hash = 0;
-        'cells: for cell in 0..cells {
-            hash ^= self.word(cells, tiles[cell], cell);
-        }
-        hash
+    fn hash(&self, board: &Board) -> Option<u64> {
+        Some(self.hash_board(board))
     }
 
-    fn hash_after(&self, hash: u64, shape: Shape, slide: Slide) -> u64 {
-        let cells = shape.cells();
-        let there = self.word(cells, slide.tile, slide.to);
-        let here = self.word(cells, slide.tile, slide.from);
-        hash ^ there ^ here
+    fn owner_after(&self, hash: u64, moved: Moved, workers: usize) -> usize {
+        let cells = moved.shape.cells();
+        let there = self.word(cells, moved.slide.tile, moved.slide.to);
+        let here = self.word(cells, moved.slide.tile, moved.slide.from);
+        worker_of(hash ^ there ^ here, workers)
     }
 }

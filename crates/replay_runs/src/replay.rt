@@ -41,21 +41,21 @@ pub fn run_replay<R: Threads + Sync, S: Source, K: Sink>(
     match setup.spread_kind() {
         SpreadKind::Zobrist => {
             let spread = Zobrist::new(setup.shape());
-            replay_spread(alloc, source, sink, setup, spread)
+            replay_spread(alloc, source, sink, setup, &spread)
         }
-        SpreadKind::Blank => replay_spread(alloc, source, sink, setup, ByBlank),
+        SpreadKind::Blank => replay_spread(alloc, source, sink, setup, &ByBlank),
     }
 }
 
 // The same, where boards are spread so.
-fn replay_spread<S: Source, K: Sink, P: Spread + Drop>(
+fn replay_spread<S: Source, K: Sink, P: Spread>(
     alloc: Global,
     source: &mut S,
     sink: &mut K,
     setup: &Setup,
-    spread: P,
+    spread: &P,
 ) -> Result<u8, LinesFault>
-    ensures replays { Replays (jobs_by (P.hash_of spread) setup.now)
+    ensures replays { Replays (jobs_by (P.owner_of spread.now) setup.now)
         (change S.state source.old source.new) (change K.state sink.old sink.new) result }
     ensures flushed { K.is_flushed sink.new ⊎ (sink.new ≡ sink.old)
         ⊎ HasFailed (K.state sink.new) }

@@ -11,10 +11,10 @@ use owners::Spread;
 use std::alloc::Global;
 use world_model::{Refusal, Step};
 
-impl<'a, P: Spread + Drop> Run for World<'a, P> {
+impl<'a, P: Spread> Run for World<'a, P> {
     ghost use Rattle.hda_run.specs.Worlds.{world_of};
 
-    ghost world = { world_of P.hash_of };
+    ghost world = { world_of P.owner_of };
 
     fn step(&mut self, alloc: Global, step: Step) -> Result<(), Refusal> {
         self.step(alloc, step)
@@ -29,13 +29,13 @@ impl<'a, P: Spread + Drop> Run for World<'a, P> {
 #[derive(Drop)]
 pub(crate) struct Opening<'a, P: Spread> {
     pub(crate) setup: &'a Setup,
-    pub(crate) spread: P,
+    pub(crate) spread: &'a P,
 }
 
-impl<'a, P: Spread + Drop> Opener<World<'a, P>> for Opening<'a, P> {
+impl<'a, P: Spread> Opener<World<'a, P>> for Opening<'a, P> {
     ghost use Rattle.replay_runs.specs.Openings.{jobs_by};
 
-    ghost jobs = { λ opening. jobs_by (P.hash_of opening.spread) opening.setup.now };
+    ghost jobs = { λ opening. jobs_by (P.owner_of opening.spread.now) opening.setup.now };
 
     fn open(self, alloc: Global, start: &Board) -> Result<World<'a, P>, OutOfMemory> {
         let Opening { setup, spread } = self;

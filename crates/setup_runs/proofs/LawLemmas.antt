@@ -17,7 +17,7 @@ use Rattle.world_model.specs.Credit.{expansion_count}
 use Rattle.world_model.specs.declared.limits.TheConstants.{GREATEST_GRANT}
 use Rattle.world_ends.proofs.PartLemmas.{ends_bounded}
 use Rattle.world_model.proofs.KeptLemmas.{causes_stop}
-use Rattle.batch_runs.specs.Setups.{SetupState, hash_by}
+use Rattle.batch_runs.specs.Setups.{SetupState, owner_by}
 use Rattle.setup_runs.specs.Laws.{job_by, BoundsAreNeverCut, LimitsAreTheSetups, LimitsAreNearlySpent}
 use Rattle.setup_runs.specs.Solving.{problem_of}
 
@@ -28,11 +28,11 @@ never_cut setup b bound best cause (answers, inr (other, is)) = absurd (cc)
 -- what one worker ends is of steps that have expanded just as many boards
 limits_alone :
     (setup : SetupState) (b : Position) (bound : ℕ) (best : Option (ℕ × Vec Move Global))
-    → IsFoundAlone EndsIn hash_by (problem_of setup b) setup.spread (Bounded bound best Limit)
+    → IsFoundAlone EndsIn owner_by (problem_of setup b) setup.spread (Bounded bound best Limit)
     → (owner : Position → ℕ) × (via : Move) × (made : List (Step × Option Refusal)) × (w : WorldState)
     × IsRun (opening (job_by owner setup b) via) made w × (expansion_count w ≡ setup.limit)
 limits_alone setup b bound best (w, run, given) =
-    ((job_of hash_by (problem_of setup b) setup.spread 1).owner, run.via, run.first ++ run.last, w, run.run, run.spent ((causes_stop w bound best Limit (ends_bounded w bound best Limit given)).0 refl))
+    ((job_of owner_by (problem_of setup b) setup.spread 1).owner, run.via, run.first ++ run.last, w, run.run, run.spent ((causes_stop w bound best Limit (ends_bounded w bound best Limit given)).0 refl))
 
 pub limits : LimitsAreTheSetups
 limits setup b bound best one (answers, inl (same, (inl (inl (several, by)), kept))) = absurd (omega (arith, one, several))
@@ -46,7 +46,7 @@ all_spent limit spent more e = omega (arith, e)
 
 nearly_alone :
     (setup : SetupState) (b : Position) (bound : ℕ) (best : Option (ℕ × Vec Move Global))
-    → IsFoundAlone EndsIn hash_by (problem_of setup b) setup.spread (Bounded bound best Limit)
+    → IsFoundAlone EndsIn owner_by (problem_of setup b) setup.spread (Bounded bound best Limit)
     → (w : WorldState) × EndsIn w (Bounded bound best Limit)
     × (expansion_count w ≤ setup.limit) × (setup.limit ≤ expansion_count w + GREATEST_GRANT * setup.workers)
 nearly_alone setup b bound best (w, run, given) =

@@ -1,8 +1,7 @@
 -- What the setup's workers answer is what its rules allow.
-use Rattle.std.proofs.Common.{ℕ, ◌≡◌, ◌⊎◌, ◌↔◌, ◌%◌, None, Some, Result, Ok, Err, IfOk, refl, ap, subst, inl, inr, sym, ◌∙◌}
+use Rattle.std.proofs.Common.{ℕ, ◌≡◌, ◌⊎◌, ◌↔◌, ◌<◌, None, Some, Result, Ok, Err, IfOk, refl, ap, subst, inl, inr, sym, arith}
 use Rattle.std.specs.Prelude.{◌≤◌}
 use Rattle.board.specs.Grids.{cell_count}
-use Rattle.std.proofs.Math.Nat.{mod-one}
 use Rattle.board.specs.Positions.{Position}
 use Rattle.board.specs.Classes.{SameClass}
 use Rattle.memory.specs.declared.OutOfMemory.{OutOfMemory}
@@ -18,7 +17,9 @@ use Rattle.world_model.specs.Openings.{Job}
 use Rattle.world_model.specs.Quiet.{IsKept}
 use Rattle.world_model.specs.Worlds.{WorldState}
 use Rattle.world_ends.specs.Endings.{EndsIn}
-use Rattle.batch_runs.specs.Setups.{SetupState, hash_by, task_of}
+use Rattle.owners.specs.Owners.{AreWorkers, owner_by_hash-lt, owner_by_blank-lt}
+use Rattle.batch_runs.specs.declared.setup.SpreadKind.TheVariants.{Zobrist, Blank}
+use Rattle.batch_runs.specs.Setups.{SetupState, owner_by, task_of}
 use Rattle.batch_runs.specs.Batches.{IsTruthful, MayGive}
 use Rattle.thread_joins.specs.Threads.{IsJoined}
 use Rattle.thread_runs.specs.Solved.{IsFoundByWorkers, IsSolved, IsLeftToOne}
@@ -33,24 +34,32 @@ use Rattle.certificate_runs.proofs.HeadlineLemmas.{ends_answered}
 use Rattle.setup_runs.specs.Laws.{CertifiedEndsAreAnswered, IsAloneBound, ParityIsCertified}
 use Rattle.outcomes.specs.declared.outcome.Outcome.TheVariants as outcome
 
--- the owner of a board among one worker
-abbrev pub owner_by : (Position → ℕ) → Position → ℕ
-owner_by hash b = hash b % 1
+-- the owners that a setup names are workers
+pub setup_owners : AreWorkers owner_by
+setup_owners Zobrist = owner_by_hash-lt
+setup_owners Blank = owner_by_blank-lt
 
--- one worker owns all boards, whatever they are spread by
-pub lone_owner : (hash other : Position → ℕ) → owner_by hash ≡ owner_by other
-lone_owner hash other = λ t b. (mod-one (hash b) ∙ sym (mod-one (other b))) t
+module _ {S T : Type 0} (owner_of : S → ℕ → Position → ℕ) (are : AreWorkers owner_of) (owners : S) (other_of : T → ℕ → Position → ℕ) (others_are : AreWorkers other_of) (others : T) where
+  lone_board : (b : Position) → owner_of owners 1 b ≡ other_of others 1 b
+  lone_board b =
+      let mine = are owners 1 b (omega arith) in
+      let its = others_are others 1 b (omega arith) in
+      omega (arith, mine, its)
 
--- so do as many workers as there are, where there is one
-pub lone_shares : (n : ℕ) → n ≡ 1 → (hash other : Position → ℕ) (b : Position) → hash b % n ≡ other b % n
-lone_shares n one hash other b = subst (λ (count : ℕ). hash b % count ≡ other b % count) (sym one) (mod-one (hash b) ∙ sym (mod-one (other b)))
+  -- one worker owns all boards, whatever they are spread by
+  pub lone_owner : owner_of owners 1 ≡ other_of others 1
+  lone_owner = λ t b. lone_board b t
+
+  -- so do as many workers as there are, where there is one
+  pub lone_shares : (n : ℕ) → n ≡ 1 → (b : Position) → owner_of owners n b ≡ other_of others n b
+  lone_shares n one b = subst (λ (count : ℕ). owner_of owners count b ≡ other_of others count b) (sym one) (lone_board b)
 
 -- ---- The boards of a setup, in each reading.
 
 module _ {X : Type 0} (gives : WorldState → X → Type 0) (setup : SetupState) (start : Position) where
-  -- what the setup's workers find whose boards are owned by this hash
-  abbrev pub Finds : {S : Type 0} → (S → Position → ℕ) → S → X → Type 0
-  Finds hash_of owners answer = IsFoundByWorkers gives hash_of (problem_of setup start) owners setup.workers answer
+  -- what the setup's workers find, where boards have these owners
+  abbrev pub Finds : {S : Type 0} → (S → ℕ → Position → ℕ) → S → X → Type 0
+  Finds owner_of owners answer = IsFoundByWorkers gives owner_of (problem_of setup start) owners setup.workers answer
 
   -- what so many workers do that own each board by this
   abbrev job_owned : ℕ → (Position → ℕ) → Job
@@ -65,22 +74,22 @@ module _ {X : Type 0} (gives : WorldState → X → Type 0) (setup : SetupState)
   abbrev LeftOwned : (Position → ℕ) → Type 0
   LeftOwned owner = (w : WorldState) × IsJoined (job_owned setup.workers owner) w × (¬ IsKept w)
 
-  -- one worker owns all boards, whatever the hash
-  pub alone_any : {S T : Type 0} (hash_of : S → Position → ℕ) (owners : S) (other_of : T → Position → ℕ) (others : T) (answer : X) → IsFoundAlone gives hash_of (problem_of setup start) owners answer → IsFoundAlone gives other_of (problem_of setup start) others answer
-  alone_any hash_of owners other_of others answer run = subst (AloneOwned answer) (lone_owner (hash_of owners) (other_of others)) run
+  -- one worker finds the same, whoever the owners are
+  pub alone_any : {S T : Type 0} (owner_of : S → ℕ → Position → ℕ) → AreWorkers owner_of → (owners : S) (other_of : T → ℕ → Position → ℕ) → AreWorkers other_of → (others : T) (answer : X) → IsFoundAlone gives owner_of (problem_of setup start) owners answer → IsFoundAlone gives other_of (problem_of setup start) others answer
+  alone_any owner_of are owners other_of others_are others answer run = subst (AloneOwned answer) (lone_owner owner_of are owners other_of others_are others) run
 
-  module _ {S T : Type 0} (hash_of : S → Position → ℕ) (owners : S) (other_of : T → Position → ℕ) (others : T) (same : (b : Position) → hash_of owners b % setup.workers ≡ other_of others b % setup.workers) where
-    -- what is left to one worker is so, whatever the hash by which each board has the same owner
-    left_any : IsLeftToOne hash_of (problem_of setup start) owners setup.workers → IsLeftToOne other_of (problem_of setup start) others setup.workers
+  module _ {S T : Type 0} (owner_of : S → ℕ → Position → ℕ) (are : AreWorkers owner_of) (owners : S) (other_of : T → ℕ → Position → ℕ) (others_are : AreWorkers other_of) (others : T) (same : (b : Position) → owner_of owners setup.workers b ≡ other_of others setup.workers b) where
+    -- what is left to one worker is so, whatever gives each board the same owner
+    left_any : IsLeftToOne owner_of (problem_of setup start) owners setup.workers → IsLeftToOne other_of (problem_of setup start) others setup.workers
     left_any (inl one) = inl one
     left_any (inr dropped) = inr (subst LeftOwned (λ t b. same b t) dropped)
 
     -- so is what they find
-    found_any : (answer : X) → Finds hash_of owners answer → Finds other_of others answer
+    found_any : (answer : X) → Finds owner_of owners answer → Finds other_of others answer
     found_any answer (inl (several, by)) = inl (several, subst (JoinedOwned answer) (λ t b. same b t) by)
-    found_any answer (inr (run, left)) = inr (alone_any hash_of owners other_of others answer run, left_any left)
+    found_any answer (inr (run, left)) = inr (alone_any owner_of are owners other_of others_are others answer run, left_any left)
 
-    pub found_so : (result : Result X OutOfMemory) → IfOk result (Finds hash_of owners) → IfOk result (Finds other_of others)
+    pub found_so : (result : Result X OutOfMemory) → IfOk result (Finds owner_of owners) → IfOk result (Finds other_of others)
     found_so (Ok answer) found = found_any answer found
     found_so (Err refused) found = found
 
@@ -121,26 +130,26 @@ both P Q (Err refused) p q = p
 
 module _ (setup : SetupState) (start : Position) where
   -- what the setup's workers find of a board, without rows, is what its rules allow
-  pub may_give : (result : Result Ending OutOfMemory) → (result ≡ Ok (Unsolvable Parity)) ↔ (¬ SameClass start setup.goal) → (SameClass start setup.goal → IfOk result (Finds EndsIn setup start hash_by setup.spread)) → IfOk result (EndAnswers (task_of setup start)) → IfOk result EndsWholeRun → MayGive (rules_of setup) start result
+  pub may_give : (result : Result Ending OutOfMemory) → (result ≡ Ok (Unsolvable Parity)) ↔ (¬ SameClass start setup.goal) → (SameClass start setup.goal → IfOk result (Finds EndsIn setup start owner_by setup.spread)) → IfOk result (EndAnswers (task_of setup start)) → IfOk result EndsWholeRun → MayGive (rules_of setup) start result
   may_give result by_parity run answered kept = as_rules result (gives_so EndAnswers (IsOfRun setup start) (Unsolvable Parity) setup start result by_parity (λ together. of_run result (run together) kept) answered)
     where
       as_rules : (result : Result Ending OutOfMemory) → Gives EndAnswers (IsOfRun setup start) (Unsolvable Parity) setup start result → MayGive (rules_of setup) start result
       as_rules (Ok ending) given = given
       as_rules (Err refused) given = given
 
-      of_run : (result : Result Ending OutOfMemory) → IfOk result (Finds EndsIn setup start hash_by setup.spread) → IfOk result EndsWholeRun → IfOk result (IsOfRun setup start)
+      of_run : (result : Result Ending OutOfMemory) → IfOk result (Finds EndsIn setup start owner_by setup.spread) → IfOk result EndsWholeRun → IfOk result (IsOfRun setup start)
       of_run (Ok ending) found kept = (inl found, kept)
       of_run (Err refused) found kept = found
 
   -- so is what one of them ends of a small board
-  pub may_end : {S : Type 0} (hash_of : S → Position → ℕ) (owners : S) (ending : Ending) → cell_count setup.goal.grid ≤ 9 → (◌≡◌ {A = Result Ending OutOfMemory} (Ok ending) (Ok (Unsolvable Parity))) ↔ (¬ SameClass start setup.goal) → (SameClass start setup.goal → IsFoundAlone EndsIn hash_of (problem_of setup start) owners ending) → EndAnswers (task_of setup start) ending → EndsWholeRun ending → MayAnswer setup start (Some ending)
-  may_end hash_of owners ending small by_parity run answered kept =
-      gives_so EndAnswers (IsOfRun setup start) (Unsolvable Parity) setup start (Ok ending) by_parity (λ together. (inr (small, alone_any EndsIn setup start hash_of owners hash_by setup.spread ending (run together)), kept)) answered
+  pub may_end : {S : Type 0} (owner_of : S → ℕ → Position → ℕ) → AreWorkers owner_of → (owners : S) (ending : Ending) → cell_count setup.goal.grid ≤ 9 → (◌≡◌ {A = Result Ending OutOfMemory} (Ok ending) (Ok (Unsolvable Parity))) ↔ (¬ SameClass start setup.goal) → (SameClass start setup.goal → IsFoundAlone EndsIn owner_of (problem_of setup start) owners ending) → EndAnswers (task_of setup start) ending → EndsWholeRun ending → MayAnswer setup start (Some ending)
+  may_end owner_of are owners ending small by_parity run answered kept =
+      gives_so EndAnswers (IsOfRun setup start) (Unsolvable Parity) setup start (Ok ending) by_parity (λ together. (inr (small, alone_any EndsIn setup start owner_of are owners owner_by setup_owners setup.spread ending (run together)), kept)) answered
 
   -- what they find with rows is what its rules allow too
-  pub may_prove : (result : Result Outcome OutOfMemory) → (result ≡ Ok (outcome.Unsolvable Parity)) ↔ (¬ SameClass start setup.goal) → (SameClass start setup.goal → IfOk result (Finds IsGiven setup start hash_by setup.spread)) → IfOk result (Answers (task_of setup start)) → IfOk result HasWholeRun → MayProve (certifying_rules_of setup) start result
+  pub may_prove : (result : Result Outcome OutOfMemory) → (result ≡ Ok (outcome.Unsolvable Parity)) ↔ (¬ SameClass start setup.goal) → (SameClass start setup.goal → IfOk result (Finds IsGiven setup start owner_by setup.spread)) → IfOk result (Answers (task_of setup start)) → IfOk result HasWholeRun → MayProve (certifying_rules_of setup) start result
   may_prove result by_parity run answered kept =
-      as_rules result (gives_so Answers (IsOfProvedRun setup start) (outcome.Unsolvable Parity) setup start result by_parity (λ together. both (Finds IsGiven setup start hash_by setup.spread) HasWholeRun result (run together) kept) answered)
+      as_rules result (gives_so Answers (IsOfProvedRun setup start) (outcome.Unsolvable Parity) setup start result by_parity (λ together. both (Finds IsGiven setup start owner_by setup.spread) HasWholeRun result (run together) kept) answered)
     where
       as_rules : (result : Result Outcome OutOfMemory) → Gives Answers (IsOfProvedRun setup start) (outcome.Unsolvable Parity) setup start result → MayProve (certifying_rules_of setup) start result
       as_rules (Ok given) allowed = allowed
@@ -162,10 +171,10 @@ pub certified_answered : CertifiedEndsAreAnswered
 certified_answered setup b o (answers, inr (other, is)) = inl (ends_answered (task_of setup b) o answers, inr (other, ap without_rows is))
 certified_answered setup b o (answers, inl (together, (solved, kept))) = by_rows o answers solved kept
   where
-    ends : (o : Outcome) → HasItsRows o → Answers (task_of setup b) o → IsSolved hash_by (problem_of setup b) setup.spread setup.workers o → HasWholeRun o → MayAnswer setup b (Some (without_rows o))
-    ends o has answers solved kept = (ends_answered (task_of setup b) o answers, inl (together, (inl (solved_ends hash_by (problem_of setup b) setup.spread setup.workers o solved has), kept)))
+    ends : (o : Outcome) → HasItsRows o → Answers (task_of setup b) o → IsSolved owner_by (problem_of setup b) setup.spread setup.workers o → HasWholeRun o → MayAnswer setup b (Some (without_rows o))
+    ends o has answers solved kept = (ends_answered (task_of setup b) o answers, inl (together, (inl (solved_ends owner_by (problem_of setup b) setup.spread setup.workers o solved has), kept)))
 
-    by_rows : (o : Outcome) → Answers (task_of setup b) o → IsSolved hash_by (problem_of setup b) setup.spread setup.workers o → HasWholeRun o → MayAnswer setup b (Some (without_rows o)) ⊎ IsAloneBound o
+    by_rows : (o : Outcome) → Answers (task_of setup b) o → IsSolved owner_by (problem_of setup b) setup.spread setup.workers o → HasWholeRun o → MayAnswer setup b (Some (without_rows o)) ⊎ IsAloneBound o
     by_rows (outcome.Optimal cost plan rows) answers solved kept = inl (ends (outcome.Optimal cost plan rows) tt answers solved kept)
     by_rows (outcome.Unsolvable why) answers solved kept = inl (ends (outcome.Unsolvable why) tt answers solved kept)
     by_rows (outcome.Bounded bound best cause (Some rows)) answers solved kept = inl (ends (outcome.Bounded bound best cause (Some rows)) refl answers solved kept)

@@ -15,7 +15,7 @@ use Rattle.hda_run.specs.Alone.{IsFoundAlone}
 use Rattle.hda_run.specs.Problems.{Problem, problem}
 use Rattle.hda_run.specs.WholeRuns.{EndsWholeRun, HasWholeRun}
 use Rattle.thread_runs.specs.Solved.{IsFoundByWorkers, IsSolved}
-use Rattle.batch_runs.specs.Setups.{SetupState, hash_by, task_of}
+use Rattle.batch_runs.specs.Setups.{SetupState, owner_by, task_of}
 use Rattle.batch_runs.specs.Batches.{Rules}
 use Rattle.certificate_runs.specs.Rules.{ProofRules}
 
@@ -25,15 +25,15 @@ problem_of setup start = problem start setup.goal setup.rule setup.tables setup.
 
 -- a board of at most 9 cells ended by one worker: small boards may be solved side by side
 abbrev pub IsSmallAlone : SetupState → Position → Ending → Type 0
-IsSmallAlone setup start ending = (cell_count setup.goal.grid ≤ 9) × IsFoundAlone EndsIn hash_by (problem_of setup start) setup.spread ending
+IsSmallAlone setup start ending = (cell_count setup.goal.grid ≤ 9) × IsFoundAlone EndsIn owner_by (problem_of setup start) setup.spread ending
 
 -- the ending is that of a run by the setup's workers, which are guided by its tables and keep to its limit; or, of a small board, by one of them
 abbrev pub IsOfRun : SetupState → Position → Ending → Type 0
-IsOfRun setup start ending = (IsFoundByWorkers EndsIn hash_by (problem_of setup start) setup.spread setup.workers ending ⊎ IsSmallAlone setup start ending) × EndsWholeRun ending
+IsOfRun setup start ending = (IsFoundByWorkers EndsIn owner_by (problem_of setup start) setup.spread setup.workers ending ⊎ IsSmallAlone setup start ending) × EndsWholeRun ending
 
 -- the outcome is that of a run by the setup's workers
 abbrev pub IsOfProvedRun : SetupState → Position → Outcome → Type 0
-IsOfProvedRun setup start given = IsSolved hash_by (problem_of setup start) setup.spread setup.workers given × HasWholeRun given
+IsOfProvedRun setup start given = IsSolved owner_by (problem_of setup start) setup.spread setup.workers given × HasWholeRun given
 
 -- A board is answered by what answers its task. A board that isn't in the goal's class is answered by its parity; any other one by a run, which may want memory before the first step: when it does, no definition can tell.
 abbrev pub AnswersBoard : {X : Type 0} → (Task → X → Type 0) → (X → Type 0) → X → SetupState → Position → Option X → Type 0

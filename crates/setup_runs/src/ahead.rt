@@ -151,18 +151,18 @@ fn end_places<R: Threads + Sync, G: Gate + Sync>(
             requires small { cell_count setup.now.goal.grid ≤ 9 }
             ensures { IsAnswered setup.entry.now place.new }
         {
-            place.ending = end_alone(alloc, setup, &place.board, ByBlank, gate);
+            place.ending = end_alone(alloc, setup, &place.board, &ByBlank, gate);
         },
     );
 }
 
 // The ending of a small board by one worker, if memory sufficed. It owns all boards, whatever they
 // are spread by.
-fn end_alone<S: Spread + Drop, G: Gate>(
+fn end_alone<S: Spread, G: Gate>(
     alloc: Global,
     setup: &Setup,
     start: &Board,
-    spread: S,
+    spread: &S,
     gate: &G,
 ) -> Option<Ending>
     requires sides { start.now.grid ≡ setup.now.goal.grid }

@@ -1,11 +1,11 @@
 //! The solver of a setup's boards.
 
-ghost use Rattle.std.specs.Prelude.{◌≡◌, ◌↔◌, ◌%◌, Ok, IfOk};
+ghost use Rattle.std.specs.Prelude.{◌≡◌, ◌↔◌, Ok, IfOk};
 ghost use Rattle.board.specs.Classes.{SameClass};
 ghost use Rattle.board.specs.Positions.{Position};
 ghost use Rattle.hda_run.specs.WholeRuns.{EndsWholeRun};
 ghost use Rattle.thread_runs.specs.Solved.{IsFoundByWorkers};
-ghost use Rattle.batch_runs.specs.Setups.{hash_by, task_of};
+ghost use Rattle.batch_runs.specs.Setups.{owner_by, task_of};
 ghost use Rattle.setup_runs.specs.Solving.{problem_of};
 
 use batch_runs::{Setup, SpreadKind};
@@ -31,41 +31,41 @@ pub(crate) fn answer_board<A: Reading, R: Threads + Wait + Sync, G: Gate + Sync>
     requires { start.now.grid ≡ setup.now.goal.grid }
     ensures parity { (result ≡ Ok A.parity) ↔ (¬ SameClass start.now setup.now.goal) }
     ensures run { SameClass start.now setup.now.goal
-        → IfOk result (IsFoundByWorkers A.gives hash_by (problem_of setup.now start.now)
+        → IfOk result (IsFoundByWorkers A.gives owner_by (problem_of setup.now start.now)
         setup.now.spread setup.now.workers) }
     ensures answers { IfOk result (A.answers (task_of setup.now start.now)) }
     ensures kept { IfOk result (λ answer. EndsWholeRun (A.end answer)) }
 {
     // One worker owns all boards, whatever they are spread by.
     if setup.worker_count() == 1 {
-        return answer_spread::<A, R, ByBlank, G>(rt, alloc, setup, start, ByBlank, gate);
+        return answer_spread::<A, R, ByBlank, G>(rt, alloc, setup, start, &ByBlank, gate);
     }
     match setup.spread_kind() {
         SpreadKind::Zobrist => {
             let spread = Zobrist::new(setup.shape());
-            answer_spread::<A, R, Zobrist, G>(rt, alloc, setup, start, spread, gate)
+            answer_spread::<A, R, Zobrist, G>(rt, alloc, setup, start, &spread, gate)
         }
         SpreadKind::Blank => {
-            answer_spread::<A, R, ByBlank, G>(rt, alloc, setup, start, ByBlank, gate)
+            answer_spread::<A, R, ByBlank, G>(rt, alloc, setup, start, &ByBlank, gate)
         }
     }
 }
 
 // The same, where each worker owns the boards that the setup says by this spread.
-fn answer_spread<A: Reading, R: Threads + Wait + Sync, S: Spread + Drop + Sync, G: Gate + Sync>(
+fn answer_spread<A: Reading, R: Threads + Wait + Sync, S: Spread + Sync, G: Gate + Sync>(
     rt: &R,
     alloc: Global,
     setup: &Setup,
     start: &Board,
-    spread: S,
+    spread: &S,
     gate: &G,
 ) -> Result<A::Answer, OutOfMemory>
     requires sides { start.now.grid ≡ setup.now.goal.grid }
     requires owners { (b : Position)
-        → S.hash_of spread b % setup.now.workers ≡ hash_by setup.now.spread b % setup.now.workers }
+        → S.owner_of spread.now setup.now.workers b ≡ owner_by setup.now.spread setup.now.workers b }
     ensures parity { (result ≡ Ok A.parity) ↔ (¬ SameClass start.now setup.now.goal) }
     ensures run { SameClass start.now setup.now.goal
-        → IfOk result (IsFoundByWorkers A.gives hash_by (problem_of setup.now start.now)
+        → IfOk result (IsFoundByWorkers A.gives owner_by (problem_of setup.now start.now)
         setup.now.spread setup.now.workers) }
     ensures answers { IfOk result (A.answers (task_of setup.now start.now)) }
     ensures kept { IfOk result (λ answer. EndsWholeRun (A.end answer)) }

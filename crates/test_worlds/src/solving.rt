@@ -29,10 +29,10 @@ pub fn answer_with_rows<R: Threads + Wait + Sync, G: Gate + Sync>(
     requires { ArePotentials problem.now.weights problem.now.goal bound.now }
 {
     match team.division {
-        Division::ByBlank => solve_by(rt, alloc, problem, bound, team.workers, ByBlank, gate),
+        Division::ByBlank => solve_by(rt, alloc, problem, bound, team.workers, &ByBlank, gate),
         Division::ByHash => {
             let spread = Zobrist::new(problem.goal.shape());
-            solve_by(rt, alloc, problem, bound, team.workers, spread, gate)
+            solve_by(rt, alloc, problem, bound, team.workers, &spread, gate)
         }
     }
 }
@@ -52,10 +52,10 @@ pub fn answer_without_rows<R: Threads + Wait + Sync, G: Gate + Sync>(
         return Answer::Invalid;
     }
     match team.division {
-        Division::ByBlank => end_by(rt, alloc, problem, bound, team.workers, ByBlank, gate),
+        Division::ByBlank => end_by(rt, alloc, problem, bound, team.workers, &ByBlank, gate),
         Division::ByHash => {
             let spread = Zobrist::new(problem.goal.shape());
-            end_by(rt, alloc, problem, bound, team.workers, spread, gate)
+            end_by(rt, alloc, problem, bound, team.workers, &spread, gate)
         }
     }
 }
@@ -84,13 +84,13 @@ pub fn answer_of_threads<R: Threads + Wait + Sync, G: Gate + Sync>(
     }
 }
 
-fn solve_by<R: Threads + Wait + Sync, S: Spread + Drop + Sync, G: Gate + Sync>(
+fn solve_by<R: Threads + Wait + Sync, S: Spread + Sync, G: Gate + Sync>(
     rt: &R,
     alloc: Global,
     problem: &Problem,
     bound: &Bound,
     workers: usize,
-    spread: S,
+    spread: &S,
     gate: &G,
 ) -> Answer
     requires { ArePotentials problem.now.weights problem.now.goal bound.now }
@@ -104,13 +104,13 @@ fn solve_by<R: Threads + Wait + Sync, S: Spread + Drop + Sync, G: Gate + Sync>(
     }
 }
 
-fn end_by<R: Threads + Wait + Sync, S: Spread + Drop + Sync, G: Gate + Sync>(
+fn end_by<R: Threads + Wait + Sync, S: Spread + Sync, G: Gate + Sync>(
     rt: &R,
     alloc: Global,
     problem: &Problem,
     bound: &Bound,
     workers: usize,
-    spread: S,
+    spread: &S,
     gate: &G,
 ) -> Answer
     requires tables { ArePotentials problem.now.weights problem.now.goal bound.now }

@@ -3,7 +3,7 @@ use Rattle.std.proofs.Common.{◌≡◌, ◌≢◌, ℕ, ◌+◌, ◌<◌, List,
 use Rattle.std.proofs.Math.Seq.{map-set_same}
 use Rattle.std.proofs.lemmas.Bool.Decides.{eqb_tells}
 use Rattle.std.specs.declared.alloc.Global.{Global}
-use Rattle.std.specs.Prelude.{option_map, slice_get, ◌%◌}
+use Rattle.std.specs.Prelude.{option_map, slice_get}
 use Rattle.std.proofs.lemmas.Option.{slice_get-map}
 use Rattle.std.proofs.lemmas.List.{map-append, length-map, length-append, append_assoc}
 use Rattle.std.proofs.lemmas.List.Elements.{All-push}
@@ -152,23 +152,23 @@ mapped_at f (x ∷ xs) (suc i) y at = mapped_at f xs i y at
 -- ---- parts that are taken apart one after the other
 
 -- each of these parts keeps what a part keeps in its role
-abbrev pub AllHold : {S : Type 0} → (S → Position → ℕ) → Problem → S → ℕ → List PartState → Type 0
-AllHold hash_of p owners n parts =
-    (i : ℕ) (it : PartState) → slice_get parts i ≡ Some it → IsRole n (role_in (shared_by hash_of p owners n) i) × Keeps n (role_in (shared_by hash_of p owners n) i) it
+abbrev pub AllHold : {S : Type 0} → (S → ℕ → Position → ℕ) → Problem → S → ℕ → List PartState → Type 0
+AllHold owner_of p owners n parts =
+    (i : ℕ) (it : PartState) → slice_get parts i ≡ Some it → IsRole n (role_in (shared_by owner_of p owners n) i) × Keeps n (role_in (shared_by owner_of p owners n) i) it
 
 module _ {S C D E K G : Type 0} where
   -- The parts with the first of these faces were taken apart, and the others come next.
-  pub record AreTaken (hash_of : S → Position → ℕ) (n : ℕ) (faces next : List (Face S)) (workers : List (Worker C D E K G)) (outs : List (Vec SendingEnd Global)) (ins : List (Vec ReceivingEnd Global)) : Type 0 where
+  pub record AreTaken (owner_of : S → ℕ → Position → ℕ) (n : ℕ) (faces next : List (Face S)) (workers : List (Worker C D E K G)) (outs : List (Vec SendingEnd Global)) (ins : List (Vec ReceivingEnd Global)) : Type 0 where
     pub done : List (Face S)
     pub all : done ++ next ≡ faces
     pub count : length workers ≡ length done
     pub out_rings : rings_of_outs outs ≡ map (λ (face : Face S). face.outs) done
     pub in_rings : rings_of_ins ins ≡ map (λ (face : Face S). face.ins) done
-    pub hold : (p : Problem) (owners : S) → IsJoint p owners n faces → AllHold hash_of p owners n (parts_with (states_of workers) (sent_rows outs) (received_rows ins))
+    pub hold : (p : Problem) (owners : S) → IsJoint p owners n faces → AllHold owner_of p owners n (parts_with (states_of workers) (sent_rows outs) (received_rows ins))
     pub guided : (p : Problem) (owners : S) → IsJoint p owners n faces → AreGuided (task_in p) (guide_of (task_in p)) workers
 
-  pub none_taken : (hash_of : S → Position → ℕ) (n : ℕ) (faces : List (Face S)) → AreTaken hash_of n faces faces [] [] []
-  none_taken hash_of n faces = record {
+  pub none_taken : (owner_of : S → ℕ → Position → ℕ) (n : ℕ) (faces : List (Face S)) → AreTaken owner_of n faces faces [] [] []
+  none_taken owner_of n faces = record {
     done = [];
     all = refl;
     count = refl;
@@ -179,13 +179,13 @@ module _ {S C D E K G : Type 0} where
   }
 
   -- the same, of equal lists
-  pub taken_same : (hash_of : S → Position → ℕ) (n : ℕ) (faces next next' : List (Face S)) (workers workers' : List (Worker C D E K G)) (outs outs' : List (Vec SendingEnd Global)) (ins ins' : List (Vec ReceivingEnd Global))
-      → next ≡ next' → workers ≡ workers' → outs ≡ outs' → ins ≡ ins' → AreTaken hash_of n faces next workers outs ins → AreTaken hash_of n faces next' workers' outs' ins'
-  taken_same hash_of n faces next next' workers workers' outs outs' ins ins' a b c d taken =
-      subst (λ (x : List (Face S) × List (Worker C D E K G) × List (Vec SendingEnd Global) × List (Vec ReceivingEnd Global)). AreTaken hash_of n faces x.0 x.1 x.2 x.3) (λ t. (a t, b t, c t, d t)) taken
+  pub taken_same : (owner_of : S → ℕ → Position → ℕ) (n : ℕ) (faces next next' : List (Face S)) (workers workers' : List (Worker C D E K G)) (outs outs' : List (Vec SendingEnd Global)) (ins ins' : List (Vec ReceivingEnd Global))
+      → next ≡ next' → workers ≡ workers' → outs ≡ outs' → ins ≡ ins' → AreTaken owner_of n faces next workers outs ins → AreTaken owner_of n faces next' workers' outs' ins'
+  taken_same owner_of n faces next next' workers workers' outs outs' ins ins' a b c d taken =
+      subst (λ (x : List (Face S) × List (Worker C D E K G) × List (Vec SendingEnd Global) × List (Vec ReceivingEnd Global)). AreTaken owner_of n faces x.0 x.1 x.2 x.3) (λ t. (a t, b t, c t, d t)) taken
 
-  module _ (hash_of : S → Position → ℕ) (n : ℕ) (faces next : List (Face S)) (workers : List (Worker C D E K G)) (outs : List (Vec SendingEnd Global)) (ins : List (Vec ReceivingEnd Global))
-      (one : Face S) (taken : AreTaken hash_of n faces (one ∷ next) workers outs ins) (it : Part S C D E K G) (holds : Holds hash_of n it) (is : face_of it ≡ one) where
+  module _ (owner_of : S → ℕ → Position → ℕ) (n : ℕ) (faces next : List (Face S)) (workers : List (Worker C D E K G)) (outs : List (Vec SendingEnd Global)) (ins : List (Vec ReceivingEnd Global))
+      (one : Face S) (taken : AreTaken owner_of n faces (one ∷ next) workers outs ins) (it : Part S C D E K G) (holds : Holds owner_of n it) (is : face_of it ≡ one) where
     outs_count : length outs ≡ length taken.done
     outs_count = let e = ap (λ (rs : List (List Ring)). length rs) taken.out_rings in omega (arith, e, length-map outs (λ (v : Vec SendingEnd Global). out_rings v.items), length-map taken.done (λ (face : Face S). face.outs))
 
@@ -229,12 +229,12 @@ module _ {S C D E K G : Type 0} where
       me_is : it.me ≡ length before
       me_is = ap (λ (face : Face S). face.me) is ∙ (joint.places (length taken.done) one face_at ∙ sym before_count)
 
-      role_is : role_of hash_of n it ≡ role_in (shared_by hash_of p owners n) (length before)
-      role_is = λ t. record { task = task_in (job_is t); owner = λ b. hash_of (owners_are t) b % n; me = me_is t }
+      role_is : role_of owner_of n it ≡ role_in (shared_by owner_of p owners n) (length before)
+      role_is = λ t. record { task = task_in (job_is t); owner = λ b. owner_of (owners_are t) n b; me = me_is t }
 
-      hold_more : AllHold hash_of p owners n (before ++ part_state it ∷ [])
+      hold_more : AllHold owner_of p owners n (before ++ part_state it ∷ [])
       hold_more =
-          each_more (λ (i : ℕ) (x : PartState). IsRole n (role_in (shared_by hash_of p owners n) i) × Keeps n (role_in (shared_by hash_of p owners n) i) x) before (part_state it) (taken.hold p owners joint)
+          each_more (λ (i : ℕ) (x : PartState). IsRole n (role_in (shared_by owner_of p owners n) i) × Keeps n (role_in (shared_by owner_of p owners n) i) x) before (part_state it) (taken.hold p owners joint)
           (subst (λ (r : Role). IsRole n r) role_is holds.role, subst (λ (r : Role). Keeps n r (part_state it)) role_is holds.keeps)
 
       guided_more : AreGuided (task_in p) (guide_of (task_in p)) (workers ++ it.worker ∷ [])
@@ -243,7 +243,7 @@ module _ {S C D E K G : Type 0} where
           (subst (λ (q : Problem). IsGuided (task_in q) (guide_of (task_in q)) it.worker.lists) job_is holds.guided)
 
     -- one part more
-    pub taken_more : AreTaken hash_of n faces next (workers ++ it.worker ∷ []) (outs ++ it.outs ∷ []) (ins ++ it.ins ∷ [])
+    pub taken_more : AreTaken owner_of n faces next (workers ++ it.worker ∷ []) (outs ++ it.outs ∷ []) (ins ++ it.ins ∷ [])
     taken_more = record {
       done = taken.done ++ one ∷ [];
       all = append_assoc taken.done (one ∷ []) next ∙ taken.all;
@@ -254,16 +254,16 @@ module _ {S C D E K G : Type 0} where
       in_rings =
           map-append (λ (v : Vec ReceivingEnd Global). in_rings v.items) ins (it.ins ∷ [])
           ∙ ((λ t. taken.in_rings t ++ (is t).ins ∷ []) ∙ sym (map-append (λ (face : Face S). face.ins) taken.done (one ∷ [])));
-      hold = λ p owners joint. subst (λ (parts : List PartState). AllHold hash_of p owners n parts) (sym after) (hold_more p owners joint);
+      hold = λ p owners joint. subst (λ (parts : List PartState). AllHold owner_of p owners n parts) (sym after) (hold_more p owners joint);
       guided = guided_more;
     }
 
-  module _ (hash_of : S → Position → ℕ) (n : ℕ) (faces : List (Face S)) (joined : Joined C D E K G) (taken : AreTaken hash_of n faces [] joined.workers.items joined.outs.items joined.ins.items) where
+  module _ (owner_of : S → ℕ → Position → ℕ) (n : ℕ) (faces : List (Face S)) (joined : Joined C D E K G) (taken : AreTaken owner_of n faces [] joined.workers.items joined.outs.items joined.ins.items) where
     all_done : taken.done ≡ faces
     all_done = sym (append-nil taken.done) ∙ taken.all
 
     -- all were taken apart
-    pub all_taken : (p : Problem) (owners : S) → IsJoint p owners n faces → AreApart hash_of p owners n joined
+    pub all_taken : (p : Problem) (owners : S) → IsJoint p owners n faces → AreApart owner_of p owners n joined
     all_taken p owners joint =
         let outs : rings_of_outs joined.outs.items ≡ map (λ (face : Face S). face.outs) faces = taken.out_rings ∙ ap (λ (fs : List (Face S)). map (λ (face : Face S). face.outs) fs) all_done in
         let ins : rings_of_ins joined.ins.items ≡ map (λ (face : Face S). face.ins) faces = taken.in_rings ∙ ap (λ (fs : List (Face S)). map (λ (face : Face S). face.ins) fs) all_done in

@@ -1,6 +1,6 @@
 -- The world of joined workers and of what is left in their rings, and when it is kept.
 use Rattle.std.proofs.Common.{◌≡◌, ℕ, ◌+◌, ◌*◌, ◌≤◌, List, length, Vec, Some, sym, ap, ◌∙◌, subst, arith, suc, [], ◌∷◌, refl, inl, inr, ◌⊎◌, ◌<◌, ◌++◌, get_or, Option, None, append-nil, ⊎_elim, true, set}
-use Rattle.std.specs.Prelude.{◌%◌, ◌≢◌, sum_by, All, slice_get, Contains, slice_index_or, ◌↔◌, option_map}
+use Rattle.std.specs.Prelude.{◌≢◌, sum_by, All, slice_get, Contains, slice_index_or, ◌↔◌, option_map}
 use Rattle.std.specs.List.{range_with_len}
 use Rattle.std.proofs.lemmas.Bool.{cases_lt}
 use Rattle.std.proofs.lemmas.List.{length-map, append_assoc}
@@ -206,12 +206,12 @@ none_summed f (x ∷ xs) each =
 
 -- Parts were taken apart, and then both ends of each ring were looked at, by which what was sent and received did not change, nor the
 -- states of the workers.
-module _ {S C D E K G : Type 0} (hash_of : S → Position → ℕ) (p : Problem) (owners : S) (n : ℕ) (old new : Joined C D E K G) (apart : AreApart hash_of p owners n old)
+module _ {S C D E K G : Type 0} (owner_of : S → ℕ → Position → ℕ) (p : Problem) (owners : S) (n : ℕ) (old new : Joined C D E K G) (apart : AreApart owner_of p owners n old)
     (states : states_of new.workers.items ≡ states_of old.workers.items) (guided : AreGuided (task_in p) (guide_of (task_in p)) new.workers.items)
     (sent : sent_rows new.outs.items ≡ sent_rows old.outs.items) (received : received_rows new.ins.items ≡ received_rows old.ins.items) (rings : rings_of_ins new.ins.items ≡ rings_of_ins old.ins.items)
     (tied : (i j : ℕ) → i < n → j < n → IsTied (lane_at (sent_rows new.outs.items) i j) (lane_at (received_rows new.ins.items) j i) (lane_at (left_rows new.ins.items) j i)) where
   abbrev shared : Shared
-  shared = shared_by hash_of p owners n
+  shared = shared_by owner_of p owners n
 
   abbrev parts : List PartState
   parts = parts_in new
@@ -324,14 +324,14 @@ module _ {S C D E K G : Type 0} (hash_of : S → Position → ℕ) (p : Problem)
           (λ from row at. none_summed (λ (lane : Lane). length lane) row
           (λ to lane at'. let here = lane_is from to lane (row, at, at') in ap (λ (l : Lane). length l) (here.2 ∙ none quiet from to here.0 here.1)))
 
-      pub joined_world : JoinedPartsAreSound → IsWorldOf hash_of p owners n book new.workers.items new.ins.items world
+      pub joined_world : JoinedPartsAreSound → IsWorldOf owner_of p owners n book new.workers.items new.ins.items world
       joined_world law =
           let both = law shared parts book lanes are (floors ∙ sym count) in
           record {
             count = worker_count;
             parts = record {
               asks = refl;
-              owns = λ b. ap (λ (k : ℕ). hash_of owners b % k) (sym state_count);
+              owns = λ b. ap (λ (k : ℕ). owner_of owners k b) (sym state_count);
               works = part_workers (states_of new.workers.items) (sent_rows new.outs.items) (received_rows new.ins.items) sent_count received_count;
               shaped = both.0;
               sound = both.1;
@@ -403,7 +403,7 @@ module _ (w : WorldState) (rest : AreAtRest w) where
   none_under_way to item (inr (inl has)) = none_in_empty has.2 item (emptied has.1.unsent to has.2 (rest.workers has.0 has.1 has.3).unsent has.4) has.5
   none_under_way to item (inr (inr has)) = none_lies has.0 to has.1 has.2
 
-module _ (task : Task) (hash : Position → ℕ) (states : List WorkerState) (w : WorldState) (parts : HasParts task hash states w) where
+module _ (task : Task) (owner_among : ℕ → Position → ℕ) (states : List WorkerState) (w : WorldState) (parts : HasParts task owner_among states w) where
   goal_board : IsTaskBoard task task.goal
   goal_board = subst (λ (t : Task). IsTaskBoard t t.goal) parts.asks (parts.shaped.task.goal, refl)
 
@@ -413,7 +413,7 @@ module _ (task : Task) (hash : Position → ℕ) (states : List WorkerState) (w 
   high_frontier : AreAtRest w → (limit : ℕ) → All (λ worker. HasNothingBelow task worker limit) states → (b : Position) (cost : ℕ) → IsInFrontier w b cost → limit ≤ cost + w.task.sum b
   high_frontier rest limit high b cost (inl has) =
       let knows = has.2 in
-      let at = worker_from task hash states w parts has.0 knows.worker knows.is in
+      let at = worker_from task owner_among states w parts has.0 knows.worker knows.is in
       let here : HasNothingBelow task knows.worker limit = high_at task limit states has.0 knows.worker at high in
       let there : HasNothingBelow w.task knows.worker limit = subst (λ (t : Task). HasNothingBelow t knows.worker limit) (sym parts.asks) here in
       let le = there b has.1 (record { board = knows.board; knows = knows.knows; unexpanded = has.3; no_goal = has.4 }) in
@@ -421,38 +421,38 @@ module _ (task : Task) (hash : Position → ℕ) (states : List WorkerState) (w 
   high_frontier rest limit high b cost (inr has) = absurd (none_under_way w rest has.0 has.1 has.2)
 
   -- it is quiet where all is at rest, the frontier is not below the limit, and the best cost is that at which the goal is known
-  quiet_is : AreAtRest w → All (λ worker. HasNothingBelow task worker (limit_of w.book.best)) states → option_map (λ known. known.cost) (known_in hash states task.goal) ≡ w.book.best → IsQuiet w
+  quiet_is : AreAtRest w → All (λ worker. HasNothingBelow task worker (limit_of w.book.best)) states → option_map (λ known. known.cost) (known_in owner_among states task.goal) ≡ w.book.best → IsQuiet w
   quiet_is rest high reached = record {
     lanes = rest.lanes;
     workers = rest.workers;
     frontier = high_frontier rest (limit_of w.book.best) high;
-    best = subst (λ (o : Option ℕ). IsReached w o) reached (reached_is task hash states w parts (known_in hash states task.goal) goal_board refl);
+    best = subst (λ (o : Option ℕ). IsReached w o) reached (reached_is task owner_among states w parts (known_in owner_among states task.goal) goal_board refl);
   }
 
   -- where it is quiet, no worker has anything below the limit
   all_high : IsQuiet w → All (λ worker. HasNothingBelow task worker (limit_of w.book.best)) states
   all_high quiet =
       all_from_places (λ (worker : WorkerState). HasNothingBelow task worker (limit_of w.book.best)) states
-      (λ i worker at. subst (λ (t : Task). HasNothingBelow t worker (limit_of w.book.best)) parts.asks (high_here i worker (worker_at task hash states w parts i worker at)))
+      (λ i worker at. subst (λ (t : Task). HasNothingBelow t worker (limit_of w.book.best)) parts.asks (high_here i worker (worker_at task owner_among states w parts i worker at)))
     where
       high_here : (i : ℕ) (worker : WorkerState) → IsWorker w i worker → HasNothingBelow w.task worker (limit_of w.book.best)
       high_here i worker is b known at =
           quiet.frontier b known.cost (inl (i, known, record { worker = worker; is = is; board = at.board; knows = at.knows }, at.unexpanded, at.no_goal, refl))
 
   -- and the best cost is that at which the goal is known
-  best_known : IsQuiet w → option_map (λ known. known.cost) (known_in hash states task.goal) ≡ w.book.best
-  best_known quiet = least_unique _ _ w.book.best (reached_is task hash states w parts (known_in hash states task.goal) goal_board refl) quiet.best
+  best_known : IsQuiet w → option_map (λ known. known.cost) (known_in owner_among states task.goal) ≡ w.book.best
+  best_known quiet = least_unique _ _ w.book.best (reached_is task owner_among states w parts (known_in owner_among states task.goal) goal_board refl) quiet.best
 
   -- the start is expanded at its owner
   abbrev pub HasExpanded : Type 0
-  HasExpanded = (known : Known) × (known_in hash states task.start ≡ Some known) × (known.expanded ≡ true)
+  HasExpanded = (known : Known) × (known_in owner_among states task.start ≡ Some known) × (known.expanded ≡ true)
 
   -- it has begun exactly where the start is expanded at its owner
   has_begun : HasExpanded → HasBegun w
   has_begun has = (
     w.owner task.start,
     has.0,
-    subst (λ (b : Position). Knows w (w.owner task.start) b has.0) (ap (λ (t : Task). t.start) (sym parts.asks)) (knows_of task hash states w parts task.start has.0 start_board has.1),
+    subst (λ (b : Position). Knows w (w.owner task.start) b has.0) (ap (λ (t : Task). t.start) (sym parts.asks)) (knows_of task owner_among states w parts task.start has.0 start_board has.1),
     has.2,
   )
 
@@ -462,7 +462,7 @@ module _ (task : Task) (hash : Position → ℕ) (states : List WorkerState) (w 
       let own : w.owner w.task.start ≡ has.0 = (knows_owned w parts.shaped has.0 w.task.start known has.2).0 in
       let there : Knows w (w.owner w.task.start) w.task.start known = subst (λ (i : ℕ). Knows w i w.task.start known) (sym own) has.2 in
       let here : Knows w (w.owner task.start) task.start known = subst (λ (t : Task). Knows w (w.owner t.start) t.start known) parts.asks there in
-      (known, known_from task hash states w parts task.start known here, has.3)
+      (known, known_from task owner_among states w parts task.start known here, has.3)
 
   -- by what it stopped, it is kept exactly where it is so at that
   pub kept_at : (stop : Option Stop) → w.book.stop ≡ stop → IsKeptAt w stop ↔ IsKept w
@@ -470,9 +470,9 @@ module _ (task : Task) (hash : Position → ℕ) (states : List WorkerState) (w 
 
   -- stopped by Quiet it is kept exactly where the best cost is that at which the goal is known, and no worker has anything below the limit
   pub kept_quiet : w.book.stop ≡ Some Quiet → AreAtRest w → (best : Option ℕ) → best ≡ w.book.best
-      → ((option_map (λ known. known.cost) (known_in hash states task.goal) ≡ best) × All (λ worker. HasNothingBelow task worker (limit_of best)) states) ↔ IsKept w
+      → ((option_map (λ known. known.cost) (known_in owner_among states task.goal) ≡ best) × All (λ worker. HasNothingBelow task worker (limit_of best)) states) ↔ IsKept w
   kept_quiet stop rest best is =
-      subst (λ (o : Option ℕ). ((option_map (λ known. known.cost) (known_in hash states task.goal) ≡ o) × All (λ worker. HasNothingBelow task worker (limit_of o)) states) ↔ IsKept w) (sym is)
+      subst (λ (o : Option ℕ). ((option_map (λ known. known.cost) (known_in owner_among states task.goal) ≡ o) × All (λ worker. HasNothingBelow task worker (limit_of o)) states) ↔ IsKept w) (sym is)
       ((λ both. (kept_at (Some Quiet) stop).0 (quiet_is rest both.1 both.0)), (λ kept. let quiet = (kept_at (Some Quiet) stop).1 kept in (best_known quiet, all_high quiet)))
 
   -- halted for the limit it is kept exactly where the start is expanded, or the limit is no more than one grant for each worker
@@ -492,19 +492,19 @@ pub same_task : (p : Problem) (start goal : Position) (rule : CostRule) (tables 
 same_task p start goal rule tables e f g h = λ i. task_of (e i) (f i) (g i) (h i)
 
 -- the world with the same book and workers
-pub world_at : {S C D E K G : Type 0} (hash_of : S → Position → ℕ) (p : Problem) (owners : S) (n : ℕ) (book book' : BookState) (workers workers' : List (Worker C D E K G)) (ins : List (Vec ReceivingEnd Global)) (w : WorldState) → book ≡ book' → workers ≡ workers'
-    → IsWorldOf hash_of p owners n book workers ins w → IsWorldOf hash_of p owners n book' workers' ins w
-world_at {S} {C} {D} {E} {K} {G} hash_of p owners n book book' workers workers' ins w a b is = subst (λ (x : BookState × List (Worker C D E K G)). IsWorldOf hash_of p owners n x.0 x.1 ins w) (λ t. (a t, b t)) is
+pub world_at : {S C D E K G : Type 0} (owner_of : S → ℕ → Position → ℕ) (p : Problem) (owners : S) (n : ℕ) (book book' : BookState) (workers workers' : List (Worker C D E K G)) (ins : List (Vec ReceivingEnd Global)) (w : WorldState) → book ≡ book' → workers ≡ workers'
+    → IsWorldOf owner_of p owners n book workers ins w → IsWorldOf owner_of p owners n book' workers' ins w
+world_at {S} {C} {D} {E} {K} {G} owner_of p owners n book book' workers workers' ins w a b is = subst (λ (x : BookState × List (Worker C D E K G)). IsWorldOf owner_of p owners n x.0 x.1 ins w) (λ t. (a t, b t)) is
 
-module _ {S C D E K G : Type 0} (hash_of : S → Position → ℕ) (p : Problem) (owners : S) (n : ℕ) (book : BookState) where
+module _ {S C D E K G : Type 0} (owner_of : S → ℕ → Position → ℕ) (p : Problem) (owners : S) (n : ℕ) (book : BookState) where
   -- the world of workers of the same states, whose lists are guided
   pub world_same : (workers workers' : List (Worker C D E K G)) (ins : List (Vec ReceivingEnd Global)) (w : WorldState) → states_of workers' ≡ states_of workers → AreGuided (task_in p) (guide_of (task_in p)) workers'
-      → IsWorldOf hash_of p owners n book workers ins w → IsWorldOf hash_of p owners n book workers' ins w
+      → IsWorldOf owner_of p owners n book workers ins w → IsWorldOf owner_of p owners n book workers' ins w
   world_same workers workers' ins w same guided is = record {
     count =
         let e = ap (λ (ws : List WorkerState). length ws) same in
         omega (arith, e, is.count, length-map workers (λ (x : Worker C D E K G). state_of x), length-map workers' (λ (x : Worker C D E K G). state_of x));
-    parts = subst (λ (states : List WorkerState). HasParts (task_in p) (hash_of owners) states w) (sym same) is.parts;
+    parts = subst (λ (states : List WorkerState). HasParts (task_in p) (owner_of owners) states w) (sym same) is.parts;
     guided = guided;
     book_is = is.book_is;
     widths = is.widths;
@@ -513,7 +513,7 @@ module _ {S C D E K G : Type 0} (hash_of : S → Position → ℕ) (p : Problem)
   }
 
   -- the world is that of threads that were joined, where the workers' expansions add up
-  pub joined_is : (workers : List (Worker C D E K G)) (ins : List (Vec ReceivingEnd Global)) (w : WorldState) (expanded : ℕ) → IsWorldOf hash_of p owners n book workers ins w
+  pub joined_is : (workers : List (Worker C D E K G)) (ins : List (Vec ReceivingEnd Global)) (w : WorldState) (expanded : ℕ) → IsWorldOf owner_of p owners n book workers ins w
       → book.limit ≡ p.limit
       → expanded ≡ sum_by (λ worker. worker.expansions) (states_of workers)
       → expanded ≤ book.granted
@@ -521,14 +521,14 @@ module _ {S C D E K G : Type 0} (hash_of : S → Position → ℕ) (p : Problem)
       → book.granted ≤ book.limit
       → (book.stop ≡ Some Limit → book.granted ≡ book.limit)
       → book.stop ≢ Some (Memory Stated)
-      → IsJoined (job_of hash_of p owners n) w
+      → IsJoined (job_of owner_of p owners n) w
   joined_is workers ins w expanded is limit sum within high capped at_limit no_list =
       let states : length (states_of workers) ≡ n = length-map workers (λ (x : Worker C D E K G). state_of x) ∙ is.count in
       let total : expanded ≡ sum_by (λ worker. worker.expansions) w.workers = sum ∙ ap (λ (ws : List WorkerState). sum_by (λ worker. worker.expansions) ws) (sym is.parts.works) in
       let book_limit : w.book.limit ≡ p.limit = ap (λ (b : BookState). b.limit) is.book_is ∙ limit in
       record {
         task = is.parts.asks;
-        owners = λ b. is.parts.owns b ∙ ap (λ (k : ℕ). hash_of owners b % k) states;
+        owners = λ b. is.parts.owns b ∙ ap (λ (k : ℕ). owner_of owners k b) states;
         count = ap (λ (ws : List WorkerState). length ws) is.parts.works ∙ states;
         limit = book_limit;
         shaped = is.parts.shaped;

@@ -35,5 +35,5 @@ GivesIfKept gives w None = ¬ IsKept w
 GivesIfKept gives w (Some answer) = IsKept w × gives w answer
 
 -- What is found of n threads: their joined workers make a world, of which this is found.
-abbrev pub IsFoundByThreads : {S X : Type 0} → (WorldState → X → Type 0) → (S → Position → ℕ) → Problem → S → ℕ → Option X → Type 0
-IsFoundByThreads gives hash_of p owners n found = (w : WorldState) × IsJoined (job_of hash_of p owners n) w × GivesIfKept gives w found
+abbrev pub IsFoundByThreads : {S X : Type 0} → (WorldState → X → Type 0) → (S → ℕ → Position → ℕ) → Problem → S → ℕ → Option X → Type 0
+IsFoundByThreads gives owner_of p owners n found = (w : WorldState) × IsJoined (job_of owner_of p owners n) w × GivesIfKept gives w found

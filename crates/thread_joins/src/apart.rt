@@ -29,7 +29,7 @@ pub(crate) fn take_apart<S: Spread, C: Tokens>(
 ) -> Result<Joined<C>, OutOfMemory>
     requires few { vec_len sealed ≤ WORKER_LIMIT }
     ensures { (p : Problem) (owners : S) → IsJoint p owners C.workers sealed.entry.items
-        → IfOk result (AreApart S.hash_of p owners C.workers) }
+        → IfOk result (AreApart S.owner_of p owners C.workers) }
 {
     let count = sealed.len();
     let mut workers = memory::with_capacity(alloc, count)?;

@@ -38,7 +38,7 @@ pub(crate) fn is_kept<C: Tokens, S: Spread>(
     requires few { length workers.old ≤ WORKER_LIMIT }
     requires guided { AreGuided (task_in job.now) (guide_of (task_in job.now)) workers.old }
     ensures kept { (w : WorldState)
-        → HasParts (task_in job.now) (S.hash_of owners.now) (states_of workers.old) w
+        → HasParts (task_in job.now) (S.owner_of owners.now) (states_of workers.old) w
         → w.book ≡ book.now → (book.now.stop ≡ Some Stop.Quiet → AreAtRest w)
         → IsTrue result ↔ IsKept w }
     ensures same { states_of workers.new ≡ states_of workers.old }
@@ -66,7 +66,7 @@ fn is_quiet<C: Counting, S: Spread>(
     requires some { 0 < length workers.old }
     requires guided { AreGuided (task_in job.now) (guide_of (task_in job.now)) workers.old }
     ensures quiet { IsTrue result ↔ ((option_map (λ known. known.cost)
-        (known_in (S.hash_of owners.now) (states_of workers.old) job.now.goal) ≡ best)
+        (known_in (S.owner_of owners.now) (states_of workers.old) job.now.goal) ≡ best)
         × All (λ worker. HasNothingBelow (task_in job.now) worker (limit_of best))
         (states_of workers.old)) }
     ensures same { states_of workers.new ≡ states_of workers.old }
@@ -87,7 +87,7 @@ fn is_reached<C: Counting, S: Spread>(
 ) -> bool
     requires { 0 < length workers.now }
     ensures { IsTrue result ↔ (option_map (λ known. known.cost)
-        (known_in (S.hash_of owners.now) (states_of workers.now) job.now.goal) ≡ best) }
+        (known_in (S.owner_of owners.now) (states_of workers.now) job.now.goal) ≡ best) }
 {
     let Some(known) = known_of(owners, workers, job.goal()) else {
         return best.cost().is_none();
@@ -103,7 +103,7 @@ fn has_spent<C: Counting, S: Spread>(job: &Job<'_>, owners: &S, workers: &[Worke
     requires some { 0 < length workers.now }
     requires few { length workers.now ≤ WORKER_LIMIT }
     ensures { IsTrue result ↔ (GREATEST_GRANT * length workers.now < job.now.limit
-        → (known : Known) × (known_in (S.hash_of owners.now) (states_of workers.now) job.now.start
+        → (known : Known) × (known_in (S.owner_of owners.now) (states_of workers.now) job.now.start
         ≡ Some known) × (known.expanded ≡ true)) }
 {
     if job.limit() <= GREATEST_GRANT * workers.len() as u64 {
@@ -122,7 +122,7 @@ fn known_of<C: Counting, S: Spread>(
     board: &Board,
 ) -> Option<Known>
     requires { 0 < length workers.now }
-    ensures { result ≡ known_in (S.hash_of owners.now) (states_of workers.now) board.now }
+    ensures { result ≡ known_in (S.owner_of owners.now) (states_of workers.now) board.now }
 {
     let owner = owners.owner(board, workers.len());
     workers[owner].lists().get(board.key())

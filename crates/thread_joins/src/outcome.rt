@@ -45,7 +45,7 @@ pub fn outcome_of_joined<A: Reading, S: Spread, L: Ledger + Send + Sync, M: Capp
     requires limit { job.now.limit ≡ M.limit }
     requires tickets { tickets ≡ 0 }
     requires joint { IsJoint job.now owners.now M.parts sealed.items }
-    ensures { IfOk result (IsFoundByThreads A.gives S.hash_of job.now owners.now M.parts) }
+    ensures { IfOk result (IsFoundByThreads A.gives S.owner_of job.now owners.now M.parts) }
 {
     let mut book = book;
     let joined = join_world(alloc, &mut book, sealed)?;
@@ -71,10 +71,10 @@ fn outcome_if_kept<A: Reading, C: Tokens, S: Spread>(
 ) -> Option<A::Answer>
     requires count { IsWorkerCount C.workers }
     requires limit { job.now.limit ≡ C.limit }
-    requires world { (w : WorldState) × IsWorldOf S.hash_of job.now owners.now C.workers book.now
+    requires world { (w : WorldState) × IsWorldOf S.owner_of job.now owners.now C.workers book.now
         workers.old ins.items w }
     ensures given { (w : WorldState)
-        → IsWorldOf S.hash_of job.now owners.now C.workers book.now workers.old ins.items w
+        → IsWorldOf S.owner_of job.now owners.now C.workers book.now workers.old ins.items w
         → GivesIfKept A.gives w result }
     ensures same { states_of workers.new ≡ states_of workers.old }
 {
@@ -95,9 +95,9 @@ fn outcome_with<A: Reading, C: Tokens, S: Spread>(
     ins: Vec<Vec<Receiver<C>>>,
 ) -> A::Answer
     requires { (book : BookState) × (w : WorldState)
-        × IsWorldOf S.hash_of job.now owners.now C.workers book workers.old ins.items w }
+        × IsWorldOf S.owner_of job.now owners.now C.workers book workers.old ins.items w }
     ensures given { (book : BookState) (w : WorldState)
-        → IsWorldOf S.hash_of job.now owners.now C.workers book workers.old ins.items w
+        → IsWorldOf S.owner_of job.now owners.now C.workers book workers.old ins.items w
         → book.stop ≡ stop → A.gives w result }
     ensures same { states_of workers.new ≡ states_of workers.old }
 {

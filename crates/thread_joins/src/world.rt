@@ -33,7 +33,7 @@ pub(crate) fn join_world<S: Spread, C: Tokens>(
     requires joint { (p : Problem) × (owners : S) × IsJoint p owners C.workers sealed.items }
     ensures world { IfOk result (λ joined. (p : Problem) (owners : S)
         → IsJoint p owners C.workers sealed.entry.items
-        → (w : WorldState) × IsWorldOf S.hash_of p owners C.workers book.old
+        → (w : WorldState) × IsWorldOf S.owner_of p owners C.workers book.old
         joined.workers.items joined.ins.items w) }
     ensures book { book.new ≡ book.old }
 {

@@ -1,14 +1,14 @@
 -- What a part keeps: from its opening on, and by each step.
-use Rattle.std.proofs.Common.{◌≡◌, ◌⊎◌, ℕ, zero, suc, ◌<◌, List, [], ◌∷◌, ◌++◌, length, map, get_or, set, Option, Some, sym, ap, ◌∙◌, inl, inr, arith, ◌≢◌, ◌+◌, ◌^◌, replicate, refl, subst, ◌≤◌, None, ◌%◌, false}
+use Rattle.std.proofs.Common.{◌≡◌, ◌⊎◌, ℕ, zero, suc, ◌<◌, List, [], ◌∷◌, ◌++◌, length, map, get_or, set, Option, Some, sym, ap, ◌∙◌, inl, inr, arith, ◌≢◌, ◌+◌, ◌^◌, replicate, refl, subst, ◌≤◌, None, false}
 use Rattle.std.specs.Prelude.{slice_get, slice_index_or, unwrap_or, OnOk, OnErr, Result, Ok, Err, ⊤, if◌then◌else◌}
 use Rattle.std.proofs.lemmas.List.{map-set, length-replicate, length-map}
 use Rattle.std.specs.Ordering.{nat_cmp}
-use Rattle.std.proofs.Math.Nat.{mod-lt}
 use Rattle.std.proofs.lemmas.Bool.Decides.{eqb_tells}
 use Rattle.board.specs.CostRules.{CostRule}
 use Rattle.board.specs.Positions.{Position}
 use Rattle.board.specs.declared.moves.Move.{Move}
 use Rattle.board.specs.Keys.{key_of}
+use Rattle.owners.specs.Owners.{AreWorkers}
 use Rattle.outcomes.specs.Outcomes.{Task}
 use Rattle.lower_bound.specs.Tables.{Tables}
 use Rattle.world_model.specs.declared.limits.TheConstants.{LANE_LIMIT, PACKET_LIMIT, WORKER_LIMIT}
@@ -51,7 +51,7 @@ use Rattle.std.specs.FinMap as map
 
 -- ---- what follows from what a part keeps
 
-module _ {S C D E K G : Type 0} (hash_of : S → Position → ℕ) (n : ℕ) (part : Part S C D E K G) (holds : Holds hash_of n part) where
+module _ {S C D E K G : Type 0} (owner_of : S → ℕ → Position → ℕ) (n : ℕ) (part : Part S C D E K G) (holds : Holds owner_of n part) where
   -- an end for each worker, to send by and to receive by
   pub out_count : length part.outs.items ≡ n
   out_count = sym (length-map part.outs.items (λ out. out.sent)) ∙ holds.keeps.ends.0
@@ -80,15 +80,15 @@ module _ {S C D E K G : Type 0} (hash_of : S → Position → ℕ) (n : ℕ) (pa
       guided = (part.job.now.start, guide_of (task_in part.job.now), holds.guided);
     })
 
-    pub role_is : role_from hash_of part.job.now.start context ≡ role_of hash_of n part
-    role_is = ap (role_from hash_of part.job.now.start) lent ∙ (λ t. role_by (task_in part.job.now) (hash_of part.owners.now) ((all ∙ unsent_count) t) part.me)
+    pub role_is : role_from owner_of part.job.now.start context ≡ role_of owner_of n part
+    role_is = ap (role_from owner_of part.job.now.start) lent ∙ (λ t. role_by (task_in part.job.now) (owner_of part.owners.now) ((all ∙ unsent_count) t) part.me)
 
     pub guided_after : (worker : Worker C D E K G) → StaysGuided context part.worker.lists worker.lists → IsGuided (task_in part.job.now) (guide_of (task_in part.job.now)) worker.lists
     guided_after worker stays =
         subst (λ (x : ContextModel S). StaysGuided x part.worker.lists worker.lists) lent stays part.job.now.start (guide_of (task_in part.job.now)) holds.guided
 
   -- a part with another worker, which keeps what it should, holds
-  pub holds_with : (worker : Worker C D E K G) → Keeps n (role_of hash_of n part) (with_worker (part_state part) (state_of worker)) → IsGuided (task_in part.job.now) (guide_of (task_in part.job.now)) worker.lists → Holds hash_of n (record part { worker = worker })
+  pub holds_with : (worker : Worker C D E K G) → Keeps n (role_of owner_of n part) (with_worker (part_state part) (state_of worker)) → IsGuided (task_in part.job.now) (guide_of (task_in part.job.now)) worker.lists → Holds owner_of n (record part { worker = worker })
   holds_with worker keeps guided = record { role = holds.role; keeps = keeps; guided = guided }
 
   -- lists that are the same are guided too
@@ -96,7 +96,7 @@ module _ {S C D E K G : Type 0} (hash_of : S → Position → ℕ) (n : ℕ) (pa
   same_guided worker same = subst (λ (lists : Lists). IsGuided (task_in part.job.now) (guide_of (task_in part.job.now)) lists) (sym same) holds.guided
 
   -- a part with another worker and other ends, which keeps what it should, holds, where the worker's lists are the same
-  pub holds_after : (part' : Part S C D E K G) → role_of hash_of n part' ≡ role_of hash_of n part → part'.job.now ≡ part.job.now → Keeps n (role_of hash_of n part) (part_state part') → part'.worker.lists ≡ part.worker.lists → Holds hash_of n part'
+  pub holds_after : (part' : Part S C D E K G) → role_of owner_of n part' ≡ role_of owner_of n part → part'.job.now ≡ part.job.now → Keeps n (role_of owner_of n part) (part_state part') → part'.worker.lists ≡ part.worker.lists → Holds owner_of n part'
   holds_after part' same job keeps lists = record {
     role = subst (IsRole n) (sym same) holds.role;
     keeps = subst (λ (role : Role). Keeps n role (part_state part')) (sym same) keeps;
@@ -175,46 +175,46 @@ kept_with_means n role part purse allowance still keeps = record {
 }
 
 -- one of some workers has a role, where the task is one
-pub is_role : {S : Type 0} (hash_of : S → Position → ℕ) (owners : S) (task : Task) (n me : ℕ) → IsTask task → n ≤ WORKER_LIMIT → me < n → IsRole n (role_by task (hash_of owners) n me)
-is_role hash_of owners task n me is few there =
-    record { task = is; few = few; me = there; owners = λ b. mod-lt (hash_of owners b) (omega (arith, there)) }
+pub is_role : {S : Type 0} (owner_of : S → ℕ → Position → ℕ) → AreWorkers owner_of → (owners : S) (task : Task) (n me : ℕ) → IsTask task → n ≤ WORKER_LIMIT → me < n → IsRole n (role_by task (owner_of owners) n me)
+is_role owner_of are_workers owners task n me is few there =
+    record { task = is; few = few; me = there; owners = λ b. are_workers owners n b (omega (arith, there)) }
 
 -- the part with which a run begins keeps what it should: its worker is the start's owner, or another
-pub begins : {S : Type 0} (hash_of : S → Position → ℕ) (owners : S) (task : Task) (n me purse : ℕ) (allowance : Spending) (part : PartState) → OpeningsAreKept → IsRole n (role_by task (hash_of owners) n me)
+pub begins : {S : Type 0} (owner_of : S → ℕ → Position → ℕ) (owners : S) (task : Task) (n me purse : ℕ) (allowance : Spending) (part : PartState) → OpeningsAreKept → IsRole n (role_by task (owner_of owners) n me)
     → part.sent ≡ replicate n []
     → part.received ≡ replicate n []
-    → (hash_of owners task.start % n ≡ me → 0 < purse)
-    → (hash_of owners task.start % n ≡ me → (via : Move) × (part.worker ≡ with_means purse allowance (first_worker n task via)))
-    → (hash_of owners task.start % n ≢ me → part.worker ≡ with_means purse allowance (idle_worker n))
-    → Keeps n (role_by task (hash_of owners) n me) part
-begins hash_of owners task n me purse allowance part law is sent received some first idle = elim (eqb_tells (hash_of owners task.start % n) me) [
+    → (owner_of owners n task.start ≡ me → 0 < purse)
+    → (owner_of owners n task.start ≡ me → (via : Move) × (part.worker ≡ with_means purse allowance (first_worker n task via)))
+    → (owner_of owners n task.start ≢ me → part.worker ≡ with_means purse allowance (idle_worker n))
+    → Keeps n (role_by task (owner_of owners) n me) part
+begins owner_of owners task n me purse allowance part law is sent received some first idle = elim (eqb_tells (owner_of owners n task.start) me) [
   | inl own ↦ (
       let via = (first own.1).0 in
       let opened = opening_part n (first_worker n task via) in
-      let role = role_by task (hash_of owners) n me in
+      let role = role_by task (owner_of owners) n me in
       let same : with_worker opened (with_means purse allowance opened.worker) ≡ part = λ t. record { worker = sym (first own.1).1 t; sent = sym sent t; received = sym received t } in
       subst (Keeps n role) same (kept_with_means n role opened purse allowance (λ none. let rich = some own.1 in absurd (omega (arith, rich, none))) ((law n role is).1 via own.1)))
   | inr foreign ↦ (
       let opened = opening_part n (idle_worker n) in
-      let role = role_by task (hash_of owners) n me in
+      let role = role_by task (owner_of owners) n me in
       let same : with_worker opened (with_means purse allowance opened.worker) ≡ part = λ t. record { worker = sym (idle foreign.1) t; sent = sym sent t; received = sym received t } in
       subst (Keeps n role) same (kept_with_means n role opened purse allowance (λ none. refl) ((law n role is).0 foreign.1)))
 ]
 
 -- and so the part holds
-pub opens : {S C D E K G : Type 0} (hash_of : S → Position → ℕ) (part : Part S C D E K G) (n workers purse : ℕ) (allowance : Spending) → n ≡ workers → OpeningsAreKept → IsTask (task_in part.job.now) → n ≤ WORKER_LIMIT → part.me < n
+pub opens : {S C D E K G : Type 0} (owner_of : S → ℕ → Position → ℕ) → AreWorkers owner_of → (part : Part S C D E K G) (n workers purse : ℕ) (allowance : Spending) → n ≡ workers → OpeningsAreKept → IsTask (task_in part.job.now) → n ≤ WORKER_LIMIT → part.me < n
     → sent_lanes part.outs.items ≡ replicate n []
     → received_lanes part.ins.items ≡ replicate n []
-    → (hash_of part.owners.now part.job.now.start % n ≡ part.me → 0 < purse)
-    → (hash_of part.owners.now part.job.now.start % n ≡ part.me → (via : Move) × (state_of part.worker ≡ with_means purse allowance (first_worker n (task_in part.job.now) via)))
-    → (hash_of part.owners.now part.job.now.start % n ≢ part.me → state_of part.worker ≡ with_means purse allowance (idle_worker n))
+    → (owner_of part.owners.now n part.job.now.start ≡ part.me → 0 < purse)
+    → (owner_of part.owners.now n part.job.now.start ≡ part.me → (via : Move) × (state_of part.worker ≡ with_means purse allowance (first_worker n (task_in part.job.now) via)))
+    → (owner_of part.owners.now n part.job.now.start ≢ part.me → state_of part.worker ≡ with_means purse allowance (idle_worker n))
     → IsGuided (task_in part.job.now) (guide_of (task_in part.job.now)) part.worker.lists
-    → Holds hash_of workers part
-opens hash_of part n workers purse allowance count law task few there sent received some first idle guided =
-    let role = is_role hash_of part.owners.now (task_in part.job.now) n part.me task few there in
-    subst (λ (k : ℕ). Holds hash_of k part) count (record {
+    → Holds owner_of workers part
+opens owner_of are_workers part n workers purse allowance count law task few there sent received some first idle guided =
+    let role = is_role owner_of are_workers part.owners.now (task_in part.job.now) n part.me task few there in
+    subst (λ (k : ℕ). Holds owner_of k part) count (record {
       role = role;
-      keeps = begins hash_of part.owners.now (task_in part.job.now) n part.me purse allowance (part_state part) law role sent received some first idle;
+      keeps = begins owner_of part.owners.now (task_in part.job.now) n part.me purse allowance (part_state part) law role sent received some first idle;
       guided = guided;
     })
 

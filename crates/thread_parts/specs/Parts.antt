@@ -34,12 +34,12 @@ module _ {S C D E K G : Type 0} where
   abbrev pub part_state : Part S C D E K G → PartState
   part_state part = record { worker = state_of part.worker; sent = sent_lanes part.outs.items; received = received_lanes part.ins.items }
 
-  -- the role of its worker among n, where boards are owned by a hash, modulo n
-  abbrev pub role_of : (S → Position → ℕ) → ℕ → Part S C D E K G → Role
-  role_of hash_of n part = role_by (task_in part.job.now) (hash_of part.owners.now) n part.me
+  -- the role of its worker among n, where boards have these owners, by the spread and n
+  abbrev pub role_of : (S → ℕ → Position → ℕ) → ℕ → Part S C D E K G → Role
+  role_of owner_of n part = role_by (task_in part.job.now) (owner_of part.owners.now) n part.me
 
   -- What a part of n keeps, whatever the others do. Its worker's lists are guided to the goal.
-  pub record Holds (hash_of : S → Position → ℕ) (n : ℕ) (part : Part S C D E K G) : Type 0 where
-    pub role : IsRole n (role_of hash_of n part)
-    pub keeps : Keeps n (role_of hash_of n part) (part_state part)
+  pub record Holds (owner_of : S → ℕ → Position → ℕ) (n : ℕ) (part : Part S C D E K G) : Type 0 where
+    pub role : IsRole n (role_of owner_of n part)
+    pub keeps : Keeps n (role_of owner_of n part) (part_state part)
     pub guided : IsGuided (task_in part.job.now) (guide_of (task_in part.job.now)) part.worker.lists

@@ -17,11 +17,11 @@ impl<'a, S: Spread, C: Tokens> Part<'a, S, C> {
     /// Sends what is unsent for worker `to` as one packet, with 1 of the purse. Refusals: S13
     /// nothing is unsent for it, S6 the purse is below 2, S4 the ring is full.
     pub fn send(&mut self, to: usize) -> Result<(), Refusal>
-        requires holds { Holds S.hash_of C.workers self.old }
+        requires holds { Holds S.owner_of C.workers self.old }
         requires there { to < C.workers }
         ensures step { SendByRing to (turn (part_state self.old) (refusal_in result)
             (part_state self.new)) }
-        ensures holds { Holds S.hash_of C.workers self.new }
+        ensures holds { Holds S.owner_of C.workers self.new }
         ensures kept { IsKept self.old self.new }
     {
         steps_are_kept();
@@ -33,13 +33,13 @@ impl<'a, S: Spread, C: Tokens> Part<'a, S, C> {
     /// gets its 1. Refusals: S7 something is held, S16 the purse is too great, S5 the ring is
     /// empty: it has seen no packet there that it hasn't taken.
     pub fn deliver(&mut self, from: usize) -> Result<(), Refusal>
-        requires holds { Holds S.hash_of C.workers self.old }
+        requires holds { Holds S.owner_of C.workers self.old }
         requires there { from < C.workers }
         ensures step { DeliverByRing from (turn (part_state self.old) (refusal_in result)
             (part_state self.new)) }
         ensures seen { IsErrOf result Refusal.RingEmpty
             → slice_index_or (left_lanes self.old.ins.items) from [] ≡ [] }
-        ensures holds { Holds S.hash_of C.workers self.new }
+        ensures holds { Holds S.owner_of C.workers self.new }
         ensures kept { IsKept self.old self.new }
     {
         steps_are_kept();

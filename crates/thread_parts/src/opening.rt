@@ -1,6 +1,6 @@
 //! The part with which a run begins.
 
-ghost use Rattle.std.specs.Prelude.{◌≡◌, ◌≢◌, ◌<◌, ◌≤◌, ◌%◌, [], IfOk, replicate};
+ghost use Rattle.std.specs.Prelude.{◌≡◌, ◌≢◌, ◌<◌, ◌≤◌, [], IfOk, replicate};
 ghost use Rattle.board.specs.declared.moves.Move.{Move};
 ghost use Rattle.worker_core.specs.Roles.{IsGuided, guide_of};
 ghost use Rattle.world_model.specs.declared.limits.TheConstants.{WORKER_LIMIT};
@@ -41,7 +41,7 @@ pub fn open_part<'a, S: Spread, C: Tokens>(
     requires count { workers ≡ C.workers }
     requires few { workers ≤ WORKER_LIMIT }
     requires there { me < workers }
-    requires purse { S.hash_of owners.now job.now.start % workers ≡ me → 0 < purse }
+    requires purse { S.owner_of owners.now workers job.now.start ≡ me → 0 < purse }
     requires sent { sent_lanes outs.items ≡ replicate workers [] }
     requires received { received_lanes ins.items ≡ replicate workers [] }
     ensures { IfOk result (λ part. part ≡ face job.now owners.now me (out_rings outs.items)
@@ -72,10 +72,10 @@ fn open_worker<S: Spread, C: Counting>(
 ) -> Result<Worker<C>, OutOfMemory>
     requires few { workers ≤ WORKER_LIMIT }
     requires there { me < workers }
-    ensures first { S.hash_of owners.now job.now.start % workers ≡ me
+    ensures first { S.owner_of owners.now workers job.now.start ≡ me
         → IfOk result (λ worker. (via : Move) × (state_of worker
         ≡ with_means purse allowance (first_worker workers (task_in job.now) via))) }
-    ensures idle { S.hash_of owners.now job.now.start % workers ≢ me
+    ensures idle { S.owner_of owners.now workers job.now.start ≢ me
         → IfOk result (λ worker. state_of worker
         ≡ with_means purse allowance (idle_worker workers)) }
     ensures guided { IfOk result (λ worker.

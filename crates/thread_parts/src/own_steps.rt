@@ -22,12 +22,12 @@ impl<'a, S: Spread, C: Tokens> Part<'a, S, C> {
     /// be expanded below the limit, S2 no allowance is left, S3 a packet has no room, S8 memory was
     /// refused.
     pub fn expand(&mut self, alloc: Global) -> Result<(), Refusal>
-        requires { Holds S.hash_of C.workers self.old }
-        ensures step { ExpandOnwardStep (role_of S.hash_of C.workers self.old)
+        requires { Holds S.owner_of C.workers self.old }
+        ensures step { ExpandOnwardStep (role_of S.owner_of C.workers self.old)
             (turn (state_of self.old.worker) (refusal_in result) (state_of self.new.worker)) }
         ensures rest { part_state self.new
             ≡ with_worker (part_state self.old) (state_of self.new.worker) }
-        ensures holds { Holds S.hash_of C.workers self.new }
+        ensures holds { Holds S.owner_of C.workers self.new }
         ensures kept { IsKept self.old self.new }
     {
         steps_are_kept();
@@ -39,12 +39,12 @@ impl<'a, S: Spread, C: Tokens> Part<'a, S, C> {
     /// Takes the last held item out: drops it where it is foreign, and else relaxes its board.
     /// Refusals: S13 nothing is held, S8 memory was refused.
     pub fn settle(&mut self, alloc: Global) -> Result<(), Refusal>
-        requires { Holds S.hash_of C.workers self.old }
-        ensures step { SettleOrDrop (role_of S.hash_of C.workers self.old)
+        requires { Holds S.owner_of C.workers self.old }
+        ensures step { SettleOrDrop (role_of S.owner_of C.workers self.old)
             (turn (state_of self.old.worker) (refusal_in result) (state_of self.new.worker)) }
         ensures rest { part_state self.new
             ≡ with_worker (part_state self.old) (state_of self.new.worker) }
-        ensures holds { Holds S.hash_of C.workers self.new }
+        ensures holds { Holds S.owner_of C.workers self.new }
         ensures kept { IsKept self.old self.new }
     {
         steps_are_kept();

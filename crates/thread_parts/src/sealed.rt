@@ -21,13 +21,13 @@ impl<'a, S: Spread, C: Tokens> Model for Sealed<'a, S, C> {
 
     ghost view = { λ s. face_of s.part };
 
-    ghost invariant = { λ s. Holds S.hash_of C.workers s.part };
+    ghost invariant = { λ s. Holds S.owner_of C.workers s.part };
 }
 
 impl<'a, S: Spread, C: Tokens> Sealed<'a, S, C> {
     /// Seals a part.
     pub fn new(part: Part<'a, S, C>) -> Self
-        requires { Holds S.hash_of C.workers part }
+        requires { Holds S.owner_of C.workers part }
         ensures { result ≡ face_of part.entry }
     {
         Sealed { part }
@@ -35,7 +35,7 @@ impl<'a, S: Spread, C: Tokens> Sealed<'a, S, C> {
 
     /// The part.
     pub fn open(self) -> Part<'a, S, C>
-        ensures holds { Holds S.hash_of C.workers result }
+        ensures holds { Holds S.owner_of C.workers result }
         ensures face { face_of result ≡ self.entry }
     {
         let Sealed { part } = self;

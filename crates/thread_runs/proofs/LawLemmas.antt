@@ -32,19 +32,19 @@ ends_in w (outcome.Unsolvable why) given has = given
 ends_in w (outcome.Bounded bound best cause (Some rows)) given has = (bounds_alone w bound best cause rows given.4.1).1 (inl given)
 ends_in w (outcome.Bounded bound best cause None) given has = absurd (cc has)
 
-module _ {S : Type 0} (hash_of : S → Position → ℕ) where
-  pub solved_ends : SolvedRunsEnd hash_of
+module _ {S : Type 0} (owner_of : S → ℕ → Position → ℕ) where
+  pub solved_ends : SolvedRunsEnd owner_of
   solved_ends p owners n it (inl (several, (w, joined, (kept, given)))) has = inl (several, (w, joined, (kept, ends_in w it given has)))
   solved_ends p owners n it (inr ((w, run, given), left)) has = inr ((w, run, ends_in w it given has), left)
 
-module _ {S X : Type 0} (gives : WorldState → X → Type 0) (hash_of : S → Position → ℕ) where
-  pub one_alone : OneIsAlone gives hash_of
+module _ {S X : Type 0} (gives : WorldState → X → Type 0) (owner_of : S → ℕ → Position → ℕ) where
+  pub one_alone : OneIsAlone gives owner_of
   one_alone p owners it (inl (several, by)) = absurd (omega (arith, several))
   one_alone p owners it (inr (run, left)) = run
 
-  pub limits_kept : LimitsAreKept gives hash_of
+  pub limits_kept : LimitsAreKept gives owner_of
   limits_kept p owners n it (inl (several, (w, joined, (kept, given)))) = (w, given, joined.within_limit)
   limits_kept p owners n it (inr ((w, run, given), left)) = (w, given, run.within_limit)
 
-  pub as_asked : ThreadsAreAsAsked gives hash_of
+  pub as_asked : ThreadsAreAsAsked gives owner_of
   as_asked p owners n it (w, joined, (kept, given)) = (w, given, joined.count, joined.owners)

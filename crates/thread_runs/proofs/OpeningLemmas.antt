@@ -7,10 +7,10 @@ use Rattle.hda_run.specs.Problems.{Problem, task_in}
 use Rattle.thread_parts.specs.Parts.{Face, face}
 use Rattle.thread_joins.specs.Joints.{IsJoint}
 use Rattle.std.proofs.lemmas.List.{length-replicate, length-set}
-use Rattle.std.proofs.Math.Nat.{mod-lt}
 use Rattle.board.specs.declared.moves.Move.TheVariants.{U}
 use Rattle.board.specs.Positions.{Position}
 use Rattle.board.specs.Rows.{IsLowerBound}
+use Rattle.owners.specs.Owners.{AreWorkers}
 use Rattle.outcomes.specs.Outcomes.{Task}
 use Rattle.outcomes.specs.declared.outcome.Want.TheVariants.{Stated}
 use Rattle.outcomes.specs.declared.outcome.Ending.{Ending}
@@ -84,26 +84,26 @@ module _ {S : Type 0} (p : Problem) (owners : S) where
 
 -- ---- What is found of threads.
 
-module _ {S X : Type 0} (gives : WorldState → X → Type 0) (hash_of : S → Position → ℕ) (p : Problem) (owners : S) (n : ℕ) where
+module _ {S X : Type 0} (gives : WorldState → X → Type 0) (owner_of : S → ℕ → Position → ℕ) (p : Problem) (owners : S) (n : ℕ) where
   -- what is found of a world that is kept, its threads have found
-  pub found_given : (found : Option X) → IsFoundByThreads gives hash_of p owners n found → IfSome found (λ answer. IsFoundByThreads gives hash_of p owners n (Some answer))
+  pub found_given : (found : Option X) → IsFoundByThreads gives owner_of p owners n found → IfSome found (λ answer. IsFoundByThreads gives owner_of p owners n (Some answer))
   found_given None by = tt
   found_given (Some answer) by = by
 
-  pub several_found : (2 ≤ n) → (found : Option X) → IsFoundByThreads gives hash_of p owners n found → IfSome found (λ answer. (2 ≤ n) × IsFoundByThreads gives hash_of p owners n (Some answer))
+  pub several_found : (2 ≤ n) → (found : Option X) → IsFoundByThreads gives owner_of p owners n found → IfSome found (λ answer. (2 ≤ n) × IsFoundByThreads gives owner_of p owners n (Some answer))
   several_found several None by = tt
   several_found several (Some answer) by = (several, by)
 
   -- and where nothing is, it isn't kept
-  pub none_left : (found : Option X) → IsFoundByThreads gives hash_of p owners n found → IfNone found (IsLeftToOne hash_of p owners n)
+  pub none_left : (found : Option X) → IsFoundByThreads gives owner_of p owners n found → IfNone found (IsLeftToOne owner_of p owners n)
   none_left None (w, joined, dropped) = inr (w, joined, dropped)
   none_left (Some answer) by = tt
 
   module _ (lower : IsLowerBound p.rule (task_in p).sum p.goal) where
-    pub found_answers : (answers : Task → X → Type 0) → JoinedWorldsAnswer gives answers → (answer : X) → IsFoundByThreads gives hash_of p owners n (Some answer) → answers (task_in p) answer
-    found_answers answers joined_answer answer (w, joined, (kept, given)) = joined_answer (job_of hash_of p owners n) w answer joined kept lower given
+    pub found_answers : (answers : Task → X → Type 0) → JoinedWorldsAnswer gives answers → (answer : X) → IsFoundByThreads gives owner_of p owners n (Some answer) → answers (task_in p) answer
+    found_answers answers joined_answer answer (w, joined, (kept, given)) = joined_answer (job_of owner_of p owners n) w answer joined kept lower given
 
-    pub found_whole : (ending : X → Ending) → BoundsAreOfWorlds gives ending → (answer : X) → IsFoundByThreads gives hash_of p owners n (Some answer) → EndsWholeRun (ending answer)
+    pub found_whole : (ending : X → Ending) → BoundsAreOfWorlds gives ending → (answer : X) → IsFoundByThreads gives owner_of p owners n (Some answer) → EndsWholeRun (ending answer)
     found_whole ending bounds answer (w, joined, (kept, given)) = whole (ending answer) (bounds w answer given)
       where
         whole : (it : Ending) → HasBoundOf w it → EndsWholeRun it
@@ -115,11 +115,11 @@ module _ {S X : Type 0} (gives : WorldState → X → Type 0) (hash_of : S → P
             (never.0, never.1, never_stated w joined.no_list bound best cause has)
 
 -- where no thread has started, the world is the opening one, which isn't kept
-pub none_started : {S : Type 0} (hash_of : S → Position → ℕ) (p : Problem) (owners : S) (n : ℕ) → IsTask (task_in p) → IsWorkerCount n → IsLeftToOne hash_of p owners n
-none_started hash_of p owners n task count =
-    let job = job_of hash_of p owners n in
+pub none_started : {S : Type 0} (owner_of : S → ℕ → Position → ℕ) → AreWorkers owner_of → (p : Problem) (owners : S) (n : ℕ) → IsTask (task_in p) → IsWorkerCount n → IsLeftToOne owner_of p owners n
+none_started owner_of are_workers p owners n task count =
+    let job = job_of owner_of p owners n in
     let w = opening job U in
-    let is : IsJob job = record { task = task; some = count.0; few = count.1; owners = λ b. mod-lt (hash_of owners b) count.0 } in
+    let is : IsJob job = record { task = task; some = count.0; few = count.1; owners = λ b. are_workers owners n b count.0 } in
     let sound = openings_sound job U is in
     let joined : IsJoined job w = record {
       task = refl;

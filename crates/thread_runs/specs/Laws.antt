@@ -1,5 +1,5 @@
 -- The laws of what so many workers answer. Each is the contract of a function that does nothing.
-use Rattle.std.specs.Prelude.{ℕ, ◌≡◌, ◌⊎◌, ◌%◌, ◌≤◌, ⊤, Option, Some, IsSome, Vec, length}
+use Rattle.std.specs.Prelude.{ℕ, ◌≡◌, ◌⊎◌, ◌≤◌, ⊤, Option, Some, IsSome, Vec, length}
 use Rattle.std.specs.declared.alloc.Global.{Global}
 use Rattle.memory.specs.declared.OutOfMemory.{OutOfMemory}
 use Rattle.board.specs.declared.moves.Move.{Move}
@@ -34,23 +34,23 @@ HasItsRows (outcome.Optimal cost plan rows) = ⊤
 HasItsRows (outcome.Unsolvable why) = ⊤
 HasItsRows (outcome.Bounded bound best cause rows) = IsSome rows
 
-module _ {S : Type 0} (hash_of : S → Position → ℕ) where
+module _ {S : Type 0} (owner_of : S → ℕ → Position → ℕ) where
   -- what is solved, with its rows, ends so but for these
   abbrev pub SolvedRunsEnd : Type 0
-  SolvedRunsEnd = (p : Problem) (owners : S) (n : ℕ) (it : Outcome) → IsSolved hash_of p owners n it → HasItsRows it → IsFoundByWorkers EndsIn hash_of p owners n (without_rows it)
+  SolvedRunsEnd = (p : Problem) (owners : S) (n : ℕ) (it : Outcome) → IsSolved owner_of p owners n it → HasItsRows it → IsFoundByWorkers EndsIn owner_of p owners n (without_rows it)
 
-module _ {S X : Type 0} (gives : WorldState → X → Type 0) (hash_of : S → Position → ℕ) where
+module _ {S X : Type 0} (gives : WorldState → X → Type 0) (owner_of : S → ℕ → Position → ℕ) where
   -- what is found by one worker is found by it alone
   abbrev pub OneIsAlone : Type 0
-  OneIsAlone = (p : Problem) (owners : S) (it : X) → IsFoundByWorkers gives hash_of p owners 1 it → IsFoundAlone gives hash_of p owners it
+  OneIsAlone = (p : Problem) (owners : S) (it : X) → IsFoundByWorkers gives owner_of p owners 1 it → IsFoundAlone gives owner_of p owners it
 
   -- the world that gives what is found has expanded no more boards than the problem's limit
   abbrev pub LimitsAreKept : Type 0
-  LimitsAreKept = (p : Problem) (owners : S) (n : ℕ) (it : X) → IsFoundByWorkers gives hash_of p owners n it → (w : WorldState) × gives w it × (expansion_count w ≤ p.limit)
+  LimitsAreKept = (p : Problem) (owners : S) (n : ℕ) (it : X) → IsFoundByWorkers gives owner_of p owners n it → (w : WorldState) × gives w it × (expansion_count w ≤ p.limit)
 
   -- the world that gives what is found by threads has as many workers as were asked for, and each board is owned in it by whom the owners say
   abbrev pub ThreadsAreAsAsked : Type 0
   ThreadsAreAsAsked =
       (p : Problem) (owners : S) (n : ℕ) (it : X)
-      → IsFoundByThreads gives hash_of p owners n (Some it)
-      → (w : WorldState) × gives w it × (length w.workers ≡ n) × ((b : Position) → w.owner b ≡ hash_of owners b % n)
+      → IsFoundByThreads gives owner_of p owners n (Some it)
+      → (w : WorldState) × gives w it × (length w.workers ≡ n) × ((b : Position) → w.owner b ≡ owner_of owners n b)

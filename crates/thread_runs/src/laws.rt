@@ -8,23 +8,23 @@ use world_ends::Reading;
 
 /// What one worker is asked for is found by it alone.
 pub fn one_is_alone<A: Reading, S: Spread>()
-    ensures { OneIsAlone A.gives S.hash_of }
+    ensures { OneIsAlone A.gives S.owner_of }
 {}
 
 /// What is solved ends so without rows.
 pub fn solved_runs_end<S: Spread>()
-    ensures { SolvedRunsEnd S.hash_of }
+    ensures { SolvedRunsEnd S.owner_of }
 {}
 
 /// What is found is found within the limit.
 pub fn limits_are_kept<A: Reading, S: Spread>()
-    ensures { LimitsAreKept A.gives S.hash_of }
+    ensures { LimitsAreKept A.gives S.owner_of }
 {}
 
 /// What threads find is given by a world of as many workers as were asked for, who own boards as
 /// the owners say.
 pub fn threads_are_as_asked<A: Reading, S: Spread>()
-    ensures { ThreadsAreAsAsked A.gives S.hash_of }
+    ensures { ThreadsAreAsAsked A.gives S.owner_of }
 {}
 
 /// A bound of a run that stopped by itself is for the limit, for the cost, or for refused memory.

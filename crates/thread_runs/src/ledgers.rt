@@ -29,7 +29,7 @@ pub fn run_by_threads<A: Reading, R: Threads + Wait + Sync, S: Spread + Sync, G:
     gate: &G,
 ) -> Result<Option<A::Answer>, NoMemory>
     requires { IsWorkerCount workers }
-    ensures { IfOk result (IsFoundByThreads A.gives S.hash_of job.now owners.now workers) }
+    ensures { IfOk result (IsFoundByThreads A.gives S.owner_of job.now owners.now workers) }
 {
     let credit = Blank::new(u64::MAX);
     let grants = Blank::new(workers as u64);
@@ -62,7 +62,7 @@ fn run_over<
     requires grants_name { grants.name ≡ M.name }
     requires grants_parts { grants.parts ≡ M.parts }
     requires grants_all { grants.parts ≡ workers }
-    ensures { IfOk result (IsFoundByThreads A.gives S.hash_of job.now owners.now workers) }
+    ensures { IfOk result (IsFoundByThreads A.gives S.owner_of job.now owners.now workers) }
 {
     let team = run_team::<R, S, G, L, M>(rt, alloc, job, workers, owners, gate, credit, grants)?;
     let Team {

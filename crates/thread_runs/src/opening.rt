@@ -1,6 +1,6 @@
 //! The parts with which a run begins.
 
-ghost use Rattle.std.specs.Prelude.{◌≡◌, ◌<◌, ◌≤◌, ◌%◌, [], IfOk, replicate};
+ghost use Rattle.std.specs.Prelude.{◌≡◌, ◌<◌, ◌≤◌, [], IfOk, replicate};
 ghost use Rattle.rings.specs.Rings.{rings_of_outs, rings_of_ins, sent_rows, received_rows};
 ghost use Rattle.rings.specs.Rings.{ArePaired};
 ghost use Rattle.hda_run.specs.Worlds.{IsWorkerCount};

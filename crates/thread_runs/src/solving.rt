@@ -31,19 +31,19 @@ use world_ends::{Reading, WithRows};
 /// answered without a search, and without memory. Faults: V2 the workers are not from 1 to
 /// `WORKER_LIMIT`, V3 memory was refused for the world of one worker. The outcome says what was
 /// refused later.
-pub fn solve<'a, R: Threads + Wait + Sync, S: Spread + Drop + Sync, G: Gate + Sync>(
+pub fn solve<'a, R: Threads + Wait + Sync, S: Spread + Sync, G: Gate + Sync>(
     rt: &R,
     alloc: Global,
     job: Job<'a>,
     workers: usize,
-    spread: S,
+    spread: &'a S,
     gate: &G,
 ) -> Result<Outcome, WorldFault>
     ensures count { IsErrOf result WorldFault.WorkerCount ↔ (¬ IsWorkerCount workers) }
     ensures parity { IsWorkerCount workers → (result ≡ Ok (Unsolvable Parity))
         ↔ (¬ SameClass job.entry.start job.entry.goal) }
     ensures run { SameClass job.entry.start job.entry.goal
-        → IfOk result (IsSolved S.hash_of job.entry spread workers) }
+        → IfOk result (IsSolved S.owner_of job.entry spread.now workers) }
     ensures answers { IfOk result (Answers (task_in job.entry)) }
     ensures kept { IfOk result HasWholeRun }
 {
@@ -62,20 +62,20 @@ pub fn search_by_workers<
     'a,
     A: Reading,
     R: Threads + Wait + Sync,
-    S: Spread + Drop + Sync,
+    S: Spread + Sync,
     G: Gate + Sync,
 >(
     rt: &R,
     alloc: Global,
     job: Job<'a>,
     workers: usize,
-    spread: S,
+    spread: &'a S,
     gate: &G,
 ) -> Result<A::Answer, OutOfMemory>
     requires { IsWorkerCount workers }
     ensures parity { (result ≡ Ok A.parity) ↔ (¬ SameClass job.entry.start job.entry.goal) }
     ensures run { SameClass job.entry.start job.entry.goal
-        → IfOk result (IsFoundByWorkers A.gives S.hash_of job.entry spread workers) }
+        → IfOk result (IsFoundByWorkers A.gives S.owner_of job.entry spread.now workers) }
     ensures answers { IfOk result (A.answers (task_in job.entry)) }
     ensures kept { IfOk result (λ answer. EndsWholeRun (A.end answer)) }
 {
@@ -86,7 +86,7 @@ pub fn search_by_workers<
     if are_apart(&job) {
         return Ok(A::of_parity());
     }
-    if let Some(answer) = found_by_threads::<A, R, S, G>(rt, alloc, &job, workers, &spread, gate) {
+    if let Some(answer) = found_by_threads::<A, R, S, G>(rt, alloc, &job, workers, spread, gate) {
         return Ok(answer);
     }
     search_one::<A, S, G>(alloc, job, spread, gate)
@@ -103,8 +103,8 @@ fn found_by_threads<A: Reading, R: Threads + Wait + Sync, S: Spread + Sync, G: G
 ) -> Option<A::Answer>
     requires { IsWorkerCount workers }
     ensures run { IfSome result (λ answer. (2 ≤ workers)
-        × IsFoundByThreads A.gives S.hash_of job.now spread.now workers (Some answer)) }
-    ensures left { IfNone result (IsLeftToOne S.hash_of job.now spread.now workers) }
+        × IsFoundByThreads A.gives S.owner_of job.now spread.now workers (Some answer)) }
+    ensures left { IfNone result (IsLeftToOne S.owner_of job.now spread.now workers) }
     ensures answers { IfSome result (A.answers (task_in job.now)) }
     ensures kept { IfSome result (λ answer. EndsWholeRun (A.end answer)) }
 {

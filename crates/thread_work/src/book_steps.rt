@@ -20,8 +20,8 @@ use world_model::{HaltCause, Refusal};
 impl<'a, R: Wait, G: Gate, C: Tokens> Site<'a, R, G, C> {
     /// Draws credit, where the purse was too small for a packet. Answers whether there is more.
     pub(crate) fn draw<S: Spread>(&self, part: &mut Part<'_, S, C>) -> bool
-        requires { Holds S.hash_of C.workers part.old }
-        ensures holds { Holds S.hash_of C.workers part.new }
+        requires { Holds S.owner_of C.workers part.old }
+        ensures holds { Holds S.owner_of C.workers part.new }
         ensures kept { IsKept part.old part.new }
     {
         let drawn = part.draw(&mut self.book.lock(self.rt));
@@ -35,8 +35,8 @@ impl<'a, R: Wait, G: Gate, C: Tokens> Site<'a, R, G, C> {
     /// Asks for allowance, where none was left. Where none is granted because the whole limit was,
     /// the run is halted. Answers what the refusal was.
     pub(crate) fn ask<S: Spread>(&self, part: &mut Part<'_, S, C>) -> Result<(), Refusal>
-        requires { Holds S.hash_of C.workers part.old }
-        ensures holds { Holds S.hash_of C.workers part.new }
+        requires { Holds S.owner_of C.workers part.old }
+        ensures holds { Holds S.owner_of C.workers part.new }
         ensures kept { IsKept part.old part.new }
     {
         let granted = part.grant(&mut self.book.lock(self.rt));
@@ -53,8 +53,8 @@ impl<'a, R: Wait, G: Gate, C: Tokens> Site<'a, R, G, C> {
 
     /// Announces the goal's cost, where this worker knows it below the best cost that it knows of.
     pub(crate) fn tell_news<S: Spread>(&self, part: &mut Part<'_, S, C>)
-        requires { Holds S.hash_of C.workers part.old }
-        ensures holds { Holds S.hash_of C.workers part.new }
+        requires { Holds S.owner_of C.workers part.old }
+        ensures holds { Holds S.owner_of C.workers part.new }
         ensures kept { IsKept part.old part.new }
     {
         if !has_news(part) {
@@ -69,8 +69,8 @@ impl<'a, R: Wait, G: Gate, C: Tokens> Site<'a, R, G, C> {
 
     /// Rests, where nothing is unsent. Answers whether it came to rest.
     pub(crate) fn rest<S: Spread>(&self, part: &mut Part<'_, S, C>) -> bool
-        requires { Holds S.hash_of C.workers part.old }
-        ensures holds { Holds S.hash_of C.workers part.new }
+        requires { Holds S.owner_of C.workers part.old }
+        ensures holds { Holds S.owner_of C.workers part.new }
         ensures kept { IsKept part.old part.new }
     {
         // The book would refuse it, and the lock is left to those that have something to do.
@@ -90,8 +90,8 @@ impl<'a, R: Wait, G: Gate, C: Tokens> Site<'a, R, G, C> {
 
     /// Halts the run because memory was refused.
     pub(crate) fn halt_for_memory<S: Spread>(&self, part: &mut Part<'_, S, C>, refused: OutOfMemory)
-        requires { Holds S.hash_of C.workers part.old }
-        ensures holds { Holds S.hash_of C.workers part.new }
+        requires { Holds S.owner_of C.workers part.old }
+        ensures holds { Holds S.owner_of C.workers part.new }
         ensures kept { IsKept part.old part.new }
     {
         self.halt(part, HaltCause::Memory(Want::Refused(refused)));
@@ -99,9 +99,9 @@ impl<'a, R: Wait, G: Gate, C: Tokens> Site<'a, R, G, C> {
 
     // Halts the run, and marks it.
     fn halt<S: Spread>(&self, part: &mut Part<'_, S, C>, cause: HaltCause)
-        requires holds { Holds S.hash_of C.workers part.old }
+        requires holds { Holds S.owner_of C.workers part.old }
         requires want { (want : Want) → cause ≡ HaltCause.Memory want → C.allows_want want }
-        ensures holds { Holds S.hash_of C.workers part.new }
+        ensures holds { Holds S.owner_of C.workers part.new }
         ensures kept { IsKept part.old part.new }
     {
         let halted = part.halt(cause, &mut self.book.lock(self.rt));

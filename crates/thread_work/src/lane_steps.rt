@@ -19,8 +19,8 @@ impl<'a, R: Wait, G: Gate, C: Tokens> Site<'a, R, G, C> {
     /// Takes in at most one packet from each worker, and settles it to the end. Answers whether
     /// there was one.
     pub(crate) fn receive<S: Spread>(&self, part: &mut Part<'_, S, C>) -> bool
-        requires { Holds S.hash_of C.workers part.old }
-        ensures holds { Holds S.hash_of C.workers part.new }
+        requires { Holds S.owner_of C.workers part.old }
+        ensures holds { Holds S.owner_of C.workers part.new }
         ensures kept { IsKept part.old part.new }
     {
         let mut some = false;
@@ -38,8 +38,8 @@ impl<'a, R: Wait, G: Gate, C: Tokens> Site<'a, R, G, C> {
 
     // Settles all that is held. Where memory is refused the run is halted.
     fn settle_all<S: Spread>(&self, part: &mut Part<'_, S, C>)
-        requires { Holds S.hash_of C.workers part.old }
-        ensures holds { Holds S.hash_of C.workers part.new }
+        requires { Holds S.owner_of C.workers part.old }
+        ensures holds { Holds S.owner_of C.workers part.new }
         ensures kept { IsKept part.old part.new }
     {
         'items: for _ in 0..PACKET_LIMIT {
@@ -53,8 +53,8 @@ impl<'a, R: Wait, G: Gate, C: Tokens> Site<'a, R, G, C> {
 
     /// Sends all that is unsent. Answers whether a packet went out.
     pub(crate) fn send_all<S: Spread>(&self, part: &mut Part<'_, S, C>) -> bool
-        requires { Holds S.hash_of C.workers part.old }
-        ensures holds { Holds S.hash_of C.workers part.new }
+        requires { Holds S.owner_of C.workers part.old }
+        ensures holds { Holds S.owner_of C.workers part.new }
         ensures kept { IsKept part.old part.new }
     {
         self.send_from(part, 1)
@@ -62,8 +62,8 @@ impl<'a, R: Wait, G: Gate, C: Tokens> Site<'a, R, G, C> {
 
     /// Sends the packets in which a board may lack room. Answers whether one went out.
     pub(crate) fn send_full<S: Spread>(&self, part: &mut Part<'_, S, C>) -> bool
-        requires { Holds S.hash_of C.workers part.old }
-        ensures holds { Holds S.hash_of C.workers part.new }
+        requires { Holds S.owner_of C.workers part.old }
+        ensures holds { Holds S.owner_of C.workers part.new }
         ensures kept { IsKept part.old part.new }
     {
         self.send_from(part, NEARLY_FULL)
@@ -71,8 +71,8 @@ impl<'a, R: Wait, G: Gate, C: Tokens> Site<'a, R, G, C> {
 
     // Sends the packets that have so many items at least. Answers whether one went out.
     fn send_from<S: Spread>(&self, part: &mut Part<'_, S, C>, fewest: usize) -> bool
-        requires { Holds S.hash_of C.workers part.old }
-        ensures holds { Holds S.hash_of C.workers part.new }
+        requires { Holds S.owner_of C.workers part.old }
+        ensures holds { Holds S.owner_of C.workers part.new }
         ensures kept { IsKept part.old part.new }
     {
         let mut some = false;
@@ -91,9 +91,9 @@ impl<'a, R: Wait, G: Gate, C: Tokens> Site<'a, R, G, C> {
     // Sends what is unsent for a worker, and draws credit where the purse is too small for it.
     // Answers whether it went out.
     fn send<S: Spread>(&self, part: &mut Part<'_, S, C>, to: usize) -> bool
-        requires holds { Holds S.hash_of C.workers part.old }
+        requires holds { Holds S.owner_of C.workers part.old }
         requires there { to < C.workers }
-        ensures holds { Holds S.hash_of C.workers part.new }
+        ensures holds { Holds S.owner_of C.workers part.new }
         ensures kept { IsKept part.old part.new }
     {
         match self.hand_over(part, to) {
@@ -105,9 +105,9 @@ impl<'a, R: Wait, G: Gate, C: Tokens> Site<'a, R, G, C> {
 
     // Sends what is unsent for a worker, and wakes it.
     fn hand_over<S: Spread>(&self, part: &mut Part<'_, S, C>, to: usize) -> Result<(), Refusal>
-        requires holds { Holds S.hash_of C.workers part.old }
+        requires holds { Holds S.owner_of C.workers part.old }
         requires there { to < C.workers }
-        ensures holds { Holds S.hash_of C.workers part.new }
+        ensures holds { Holds S.owner_of C.workers part.new }
         ensures kept { IsKept part.old part.new }
     {
         if let Err(refusal) = part.send(to) {
@@ -121,7 +121,7 @@ impl<'a, R: Wait, G: Gate, C: Tokens> Site<'a, R, G, C> {
 
 /// Whether a worker has something unsent.
 pub(crate) fn has_unsent<S: Spread, C: Tokens>(part: &Part<'_, S, C>) -> bool
-    requires { Holds S.hash_of C.workers part.now }
+    requires { Holds S.owner_of C.workers part.now }
 {
     let workers = worker_count(part);
     'workers: for to in 0..workers {
@@ -134,7 +134,7 @@ pub(crate) fn has_unsent<S: Spread, C: Tokens>(part: &Part<'_, S, C>) -> bool
 
 // How many items are unsent for a worker.
 fn unsent_count<S: Spread, C: Tokens>(part: &Part<'_, S, C>, to: usize) -> usize
-    requires holds { Holds S.hash_of C.workers part.now }
+    requires holds { Holds S.owner_of C.workers part.now }
     requires there { to < C.workers }
 {
     part.worker.unsent(to).len()
@@ -142,7 +142,7 @@ fn unsent_count<S: Spread, C: Tokens>(part: &Part<'_, S, C>, to: usize) -> usize
 
 // How many workers there are.
 fn worker_count<S: Spread, C: Tokens>(part: &Part<'_, S, C>) -> usize
-    requires { Holds S.hash_of C.workers part.now }
+    requires { Holds S.owner_of C.workers part.now }
     ensures { result ≡ C.workers }
 {
     part.worker.workers()

@@ -64,8 +64,8 @@ impl<'a, R: Wait, G: Gate, C: Tokens> Site<'a, R, G, C> {
     // One round: receive, expand, and rest where there was nothing to do. Answers whether something
     // was done. A worker that rests looks at its rings alone, and takes no lock.
     fn round<S: Spread>(&self, part: &mut Part<'_, S, C>) -> bool
-        requires { Holds S.hash_of C.workers part.old }
-        ensures holds { Holds S.hash_of C.workers part.new }
+        requires { Holds S.owner_of C.workers part.old }
+        ensures holds { Holds S.owner_of C.workers part.new }
         ensures kept { IsKept part.old part.new }
     {
         let received = self.receive(part);
@@ -84,8 +84,8 @@ impl<'a, R: Wait, G: Gate, C: Tokens> Site<'a, R, G, C> {
 
     // Expands boards, as many as a round has at most. Answers whether something was done.
     fn expand_some<S: Spread>(&self, part: &mut Part<'_, S, C>) -> bool
-        requires { Holds S.hash_of C.workers part.old }
-        ensures holds { Holds S.hash_of C.workers part.new }
+        requires { Holds S.owner_of C.workers part.old }
+        ensures holds { Holds S.owner_of C.workers part.new }
         ensures kept { IsKept part.old part.new }
     {
         let mut some = false;
@@ -104,8 +104,8 @@ impl<'a, R: Wait, G: Gate, C: Tokens> Site<'a, R, G, C> {
     // Does what has to be done before the next board can be expanded. Answers whether something was
     // done.
     fn help<S: Spread>(&self, part: &mut Part<'_, S, C>, refusal: Refusal) -> bool
-        requires { Holds S.hash_of C.workers part.old }
-        ensures holds { Holds S.hash_of C.workers part.new }
+        requires { Holds S.owner_of C.workers part.old }
+        ensures holds { Holds S.owner_of C.workers part.new }
         ensures kept { IsKept part.old part.new }
     {
         match refusal {
@@ -124,8 +124,8 @@ impl<'a, R: Wait, G: Gate, C: Tokens> Site<'a, R, G, C> {
     // what is unsent goes out, as where nothing is below the worker's own limit. Answers whether
     // something was done.
     fn get_allowance<S: Spread>(&self, part: &mut Part<'_, S, C>) -> bool
-        requires { Holds S.hash_of C.workers part.old }
-        ensures holds { Holds S.hash_of C.workers part.new }
+        requires { Holds S.owner_of C.workers part.old }
+        ensures holds { Holds S.owner_of C.workers part.new }
         ensures kept { IsKept part.old part.new }
     {
         match self.ask(part) {

@@ -1,5 +1,5 @@
 -- The board that is expanded: its move back, which may be left out, what its other moves offer, and the room that these need.
-use Rattle.std.proofs.Common.{true, false, ◌≡◌, ◌≢◌, ℕ, ◌+◌, ◌%◌, ◌<◌, ◌≤◌, [], ◌∷◌, Option, Some, None, refl, sym, ap, ◌∙◌, subst, inl, inr, ⊎_elim, arith, ◌⊎◌, zero, suc, Bool, eqb, cond, List, ◌++◌, length, get_or, set, ◌-◌}
+use Rattle.std.proofs.Common.{true, false, ◌≡◌, ◌≢◌, ℕ, ◌+◌, ◌<◌, ◌≤◌, [], ◌∷◌, Option, Some, None, refl, sym, ap, ◌∙◌, subst, inl, inr, ⊎_elim, arith, ◌⊎◌, zero, suc, Bool, eqb, cond, List, ◌++◌, length, get_or, set, ◌-◌}
 use Rattle.std.specs.Prelude.{⊤, IfSome, filter_map, fold, option_map, Any, slice_get, unwrap_or}
 use Rattle.std.specs.FinMap as map
 use Rattle.std.proofs.lemmas.Bool.{cases_Bool, cases_eq, cond-true, cond-false, eq-eqb, le-ltb, ne_eqb, cases_lt, eqb-true, eqb-false}
@@ -191,9 +191,9 @@ step_for All role it step = step
 step_for Onward role it step = step
 
 -- the same, where what is lent was read
-pub step_lent : {S : Type 0} (hash_of : S → Position → ℕ) (start : Position) (successors : Successors) (read context : ContextModel S) → read ≡ context → (it : Turn WorkerState Refusal) → ExpandStepBy (λ known. moves_but (left_out_by successors known)) (role_from hash_of start read) it → ExpandStepFor successors (role_from hash_of start context) it
-step_lent {S} hash_of start successors read context same it step =
-    step_for successors (role_from hash_of start context) it (subst (λ (x : ContextModel S). ExpandStepBy (λ known. moves_but (left_out_by successors known)) (role_from hash_of start x) it) same step)
+pub step_lent : {S : Type 0} (owner_of : S → ℕ → Position → ℕ) (start : Position) (successors : Successors) (read context : ContextModel S) → read ≡ context → (it : Turn WorkerState Refusal) → ExpandStepBy (λ known. moves_but (left_out_by successors known)) (role_from owner_of start read) it → ExpandStepFor successors (role_from owner_of start context) it
+step_lent {S} owner_of start successors read context same it step =
+    step_for successors (role_from owner_of start context) it (subst (λ (x : ContextModel S). ExpandStepBy (λ known. moves_but (left_out_by successors known)) (role_from owner_of start x) it) same step)
 
 pub guided_read : {S : Type 0} (start start' : Position) (read context : ContextModel S) → read ≡ context → (guide : Guide) (lists : Lists) → IsGuided (task_from start context) guide lists → IsGuided (task_from start' read) guide lists
 guided_read {S} start start' read context same guide lists is =
@@ -314,12 +314,12 @@ pub record IsChosen (role : Role) (worker : WorkerState) (b : Position) (known :
   pub offered : AreOffered role.task.sum role.owner (but left_out (item_by role.task.rule b known.cost)) offers
   pub within : OfEach (IsWithin role.task.goal.grid known.cost workers) offers
 
-pub chosen : (task : Task) (guide : Guide) (lists : Lists) (is : IsGuided task guide lists) (worker : WorkerState) (same : lists.closed.known ≡ worker.known) (hash : Position → ℕ) (n workers me : ℕ) (all : n ≡ workers) (limit : ℕ) (limit_is : limit ≡ limit_of worker.best) (next : Next) (first : IsLeastOpen guide lists.closed next) (below : next.f < limit) (b : Position) (grid : Grid) (sides : grid ≡ task.goal.grid) (has : HasKey grid next.key b) (successors : Successors) (left_out : Option Move) (back : (known : Known) → known.cost ≡ next.cost → known.via ≡ next.via → left_out ≡ left_out_by successors known) (offers : Offers) (offered : AreOffered task.sum (λ p. hash p % n) (but left_out (item_by task.rule b next.cost)) offers) (within : OfEach (IsWithin b.grid next.cost n) offers) → IsChosen (role_by task hash workers me) worker b first.opens.0 successors left_out offers workers
-chosen task guide lists is worker same hash n workers me all limit limit_is next first below b grid sides has successors left_out back offers offered within = record {
+pub chosen : (task : Task) (guide : Guide) (lists : Lists) (is : IsGuided task guide lists) (worker : WorkerState) (same : lists.closed.known ≡ worker.known) (owner_among : ℕ → Position → ℕ) (n workers me : ℕ) (all : n ≡ workers) (limit : ℕ) (limit_is : limit ≡ limit_of worker.best) (next : Next) (first : IsLeastOpen guide lists.closed next) (below : next.f < limit) (b : Position) (grid : Grid) (sides : grid ≡ task.goal.grid) (has : HasKey grid next.key b) (successors : Successors) (left_out : Option Move) (back : (known : Known) → known.cost ≡ next.cost → known.via ≡ next.via → left_out ≡ left_out_by successors known) (offers : Offers) (offered : AreOffered task.sum (λ p. owner_among n p) (but left_out (item_by task.rule b next.cost)) offers) (within : OfEach (IsWithin b.grid next.cost n) offers) → IsChosen (role_by task owner_among workers me) worker b first.opens.0 successors left_out offers workers
+chosen task guide lists is worker same owner_among n workers me all limit limit_is next first below b grid sides has successors left_out back offers offered within = record {
   waits = λ none. some_below task guide lists worker same is limit next first below (subst (HasNothingBelow task worker) (sym limit_is) none);
   at = is_next task guide lists worker same is next first b (subst (λ (g : Grid). HasKey g next.key b) sides has);
   left_out_is = back first.opens.0 first.opens.2 first.opens.3;
-  offered = subst (λ (x : ℕ × ℕ). AreOffered task.sum (λ p. hash p % x.0) (but left_out (item_by task.rule b x.1)) offers) (λ t. (all t, sym first.opens.2 t)) offered;
+  offered = subst (λ (x : ℕ × ℕ). AreOffered task.sum (λ p. owner_among x.0 p) (but left_out (item_by task.rule b x.1)) offers) (λ t. (all t, sym first.opens.2 t)) offered;
   within = subst (λ (x : Grid × (ℕ × ℕ)). OfEach (IsWithin x.0 x.1.0 x.1.1) offers) (λ t. ((has.sides ∙ sides) t, (sym first.opens.2 t, all t))) within;
 }
 

@@ -32,6 +32,6 @@ pub record IsContext {S : Type 0} (context : ContextModel S) : Type 0 where
 abbrev pub task_from : {S : Type 0} → Position → ContextModel S → Task
 task_from start context = task_of start context.goal context.rule context.tables
 
--- the role of the worker, where boards are owned by a hash, modulo the number of workers
-abbrev pub role_from : {S : Type 0} → (S → Position → ℕ) → Position → ContextModel S → Role
-role_from hash_of start context = role_by (task_from start context) (hash_of context.owners) context.workers context.me
+-- the role of the worker, where boards have these owners, by the spread and the number of workers
+abbrev pub role_from : {S : Type 0} → (S → ℕ → Position → ℕ) → Position → ContextModel S → Role
+role_from owner_of start context = role_by (task_from start context) (owner_of context.owners) context.workers context.me

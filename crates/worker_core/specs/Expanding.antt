@@ -1,5 +1,5 @@
 -- How a worker takes what the moves from a board offer, one after the other.
-use Rattle.std.specs.Prelude.{⊤, ℕ, ◌≡◌, ◌≢◌, ◌⊎◌, ◌+◌, ◌%◌, ◌<◌, ◌≤◌, List, [], ◌∷◌, length, slice_index_or, Option, Some, None, IfSome}
+use Rattle.std.specs.Prelude.{⊤, ℕ, ◌≡◌, ◌≢◌, ◌⊎◌, ◌+◌, ◌<◌, ◌≤◌, List, [], ◌∷◌, length, slice_index_or, Option, Some, None, IfSome}
 use Rattle.board.specs.declared.moves.Move.{Move}
 use Rattle.board.specs.declared.moves.Move.TheVariants.{U, L, R, D}
 use Rattle.board.specs.Grids.{Grid}
@@ -111,6 +111,6 @@ OthersNeedNoPlaces = (me : ℕ) (lists : Lists) (offers : Offers) → 4 ≤ list
 abbrev pub AddsUpBy : Guide → Offer → Type 0
 AddsUpBy guide offer = (offer.f ≡ offer.cost + guide.sum offer.key) × (offer.f ≤ GREATEST_F)
 
--- the role of worker `me`, where boards are owned by a hash, modulo the number of workers
-abbrev pub role_by : Task → (Position → ℕ) → ℕ → ℕ → Role
-role_by task hash workers me = record { task = task; owner = λ b. hash b % workers; me = me }
+-- the role of worker `me` of `workers`, where boards have these owners among each number of workers
+abbrev pub role_by : Task → (ℕ → Position → ℕ) → ℕ → ℕ → Role
+role_by task owner_among workers me = record { task = task; owner = owner_among workers; me = me }

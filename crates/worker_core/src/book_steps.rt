@@ -1,6 +1,6 @@
 //! The steps on the book.
 
-ghost use Rattle.std.specs.Prelude.{◌≡◌, ◌<◌, ◌+◌, ◌%◌, length, IsTrue, IsFalse, IfOk, Some};
+ghost use Rattle.std.specs.Prelude.{◌≡◌, ◌<◌, ◌+◌, length, IsTrue, IsFalse, IfOk, Some};
 ghost use Rattle.std.specs.FinMap as map;
 ghost use Rattle.board.specs.Keys.{key_of};
 ghost use Rattle.outcomes.specs.declared.outcome.Want.{Want};
@@ -55,7 +55,7 @@ impl<C: Counting> Worker<C> {
     ) -> Result<(), Refusal>
         requires some { 0 < length self.old.unsent.items }
         ensures step { (role : Role) → IsRoleOf me goal.now role
-            → role.owner goal.now ≡ S.hash_of owners.now goal.now % length self.old.unsent.items
+            → role.owner goal.now ≡ S.owner_of owners.now (length self.old.unsent.items) goal.now
             → AnnounceStep role (turn (with_book (state_of self.old) book.old) (refusal_in result)
             (with_book (state_of self.new) book.new)) }
         ensures lists { self.new.lists ≡ self.old.lists }

@@ -62,7 +62,7 @@ impl<C: Counting> Worker<C> {
     ) -> Result<(), Refusal>
         requires { Serves context.now self.old }
         ensures step { (start : Position)
-            → ExpandStepFor successors (role_from S.hash_of start context.now)
+            → ExpandStepFor successors (role_from S.owner_of start context.now)
             (turn (state_of self.old) (refusal_in result) (state_of self.new)) }
         ensures keeps { KeepsServing context.now self.old self.new }
     {

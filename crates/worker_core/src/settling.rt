@@ -34,7 +34,7 @@ impl<C: Counting> Worker<C> {
         alloc: Global,
         context: &Context<'_, S>,
     ) -> Result<(), Refusal>
-        ensures step { (start : Position) → SettleOrDrop (role_from S.hash_of start context.now)
+        ensures step { (start : Position) → SettleOrDrop (role_from S.owner_of start context.now)
             (turn (state_of self.old) (refusal_in result) (state_of self.new)) }
         ensures lists { StayInOrder context.now self.old.lists self.new.lists }
         ensures unsent { self.new.unsent ≡ self.old.unsent }
@@ -75,12 +75,12 @@ impl<C: Counting> Worker<C> {
     }
 }
 
-// Whether an item is foreign. One worker alone owns all boards, whatever their hashes.
+// Whether an item is foreign. One worker alone owns all boards.
 fn is_foreign<S: Spread>(context: &Context<'_, S>, item: &Item) -> bool
     ensures yes { IsTrue result → (start : Position)
-        → IsForeign (role_from S.hash_of start context.now) item.now }
+        → IsForeign (role_from S.owner_of start context.now) item.now }
     ensures no { IsFalse result → (start : Position)
-        → IsOwn (role_from S.hash_of start context.now) item.now }
+        → IsOwn (role_from S.owner_of start context.now) item.now }
 {
     if item.board.shape() != context.goal.shape() {
         return true;

@@ -1,6 +1,6 @@
 -- What the parts of a world say of it: least numbers, put together, and plans that are followed back.
 use Rattle.std.proofs.Common.{◌≡◌, ◌≢◌, ℕ, List, Option, Some, None, refl, sym, ap, ◌∙◌, subst, ◌⊎◌, ◌≤◌, ◌<◌, inl, inr, arith, suc, ◌+◌, [], ◌∷◌, ◌++◌, length, take, ⊎_elim, get_or, true, false}
-use Rattle.std.specs.Prelude.{max, option_map, Vec, min, Contains, slice_get, unwrap_or, ◌%◌, not, ◌↔◌}
+use Rattle.std.specs.Prelude.{max, option_map, Vec, min, Contains, slice_get, unwrap_or, not, ◌↔◌}
 use Rattle.std.proofs.lemmas.Bool.{cases_lt, true≢false, not-false}
 use Rattle.std.proofs.lemmas.Option.{none-some, slice_get_within, get_or_from_slice_get, slice_get-get_or, unwrap_or-slice_get, slice_get-map}
 use Rattle.std.proofs.lemmas.List.Elements.{Contains-append_left, Contains-push, Contains-push_cases}
@@ -214,7 +214,7 @@ pub state_at : {C D S K G : Type 0} (workers : List (Worker C D S K G)) (states 
 state_at workers states i d same within =
     ap (λ (ws : List WorkerState). slice_get ws i) (sym same) ∙ slice_get-map state_of workers i ∙ ap (option_map state_of) (slice_get-get_or workers i d within)
 
-module _ (task : Task) (hash : Position → ℕ) (states : List WorkerState) (w : WorldState) (parts : HasParts task hash states w) where
+module _ (task : Task) (owner_among : ℕ → Position → ℕ) (states : List WorkerState) (w : WorldState) (parts : HasParts task owner_among states w) where
   -- worker i is that of the parts
   pub worker_at : (i : ℕ) (worker : WorkerState) → slice_get states i ≡ Some worker → IsWorker w i worker
   worker_at i worker at = ap (λ (ws : List WorkerState). slice_get ws i) parts.works ∙ at
@@ -229,25 +229,25 @@ module _ (task : Task) (hash : Position → ℕ) (states : List WorkerState) (w 
   some_workers = let e = ap length parts.works in omega (arith, e, parts.shaped.count.0)
 
   -- what the owner knows
-  pub known_at_owner : (b : Position) (known : Known) (o : Option WorkerState) → slice_get states (hash b % length states) ≡ o → IsTaskBoard task b → known_by o (key_of b) ≡ Some known → Knows w (w.owner b) b known
+  pub known_at_owner : (b : Position) (known : Known) (o : Option WorkerState) → slice_get states (owner_among (length states) b) ≡ o → IsTaskBoard task b → known_by o (key_of b) ≡ Some known → Knows w (w.owner b) b known
   known_at_owner b known None at is found = absurd (none-some known found)
   known_at_owner b known (Some worker) at is found = record {
     worker = worker;
-    is = ap (slice_get w.workers) (parts.owns b) ∙ worker_at (hash b % length states) worker at;
+    is = ap (slice_get w.workers) (parts.owns b) ∙ worker_at (owner_among (length states) b) worker at;
     board = task_board b is;
     knows = found;
   }
 
-  pub knows_of : (b : Position) (known : Known) → IsTaskBoard task b → known_in hash states b ≡ Some known → Knows w (w.owner b) b known
-  knows_of b known is found = known_at_owner b known (slice_get states (hash b % length states)) refl is found
+  pub knows_of : (b : Position) (known : Known) → IsTaskBoard task b → known_in owner_among states b ≡ Some known → Knows w (w.owner b) b known
+  knows_of b known is found = known_at_owner b known (slice_get states (owner_among (length states) b)) refl is found
 
-  pub known_from : (b : Position) (known : Known) → Knows w (w.owner b) b known → known_in hash states b ≡ Some known
+  pub known_from : (b : Position) (known : Known) → Knows w (w.owner b) b known → known_in owner_among states b ≡ Some known
   known_from b known knows =
-      let at : slice_get states (hash b % length states) ≡ Some knows.worker = ap (slice_get states) (sym (parts.owns b)) ∙ worker_from (w.owner b) knows.worker knows.is in
+      let at : slice_get states (owner_among (length states) b) ≡ Some knows.worker = ap (slice_get states) (sym (parts.owns b)) ∙ worker_from (w.owner b) knows.worker knows.is in
       ap (λ (o : Option WorkerState). known_by o (key_of b)) at ∙ knows.knows
 
   -- a board that isn't the start has its predecessor
-  pub before_is : (b : Position) (known : Known) → IsTaskBoard task b → known_in hash states b ≡ Some known → b ≢ task.start → IsBefore task hash states b known
+  pub before_is : (b : Position) (known : Known) → IsTaskBoard task b → known_in owner_among states b ≡ Some known → b ≢ task.start → IsBefore task owner_among states b known
   before_is b known is found other =
       ⊎_elim
       (λ (first : (b ≡ w.task.start) × (known.cost ≡ 0)). absurd (other (first.0 ∙ ap (λ (t : Task). t.start) parts.asks)))
@@ -263,13 +263,13 @@ module _ (task : Task) (hash : Position → ℕ) (states : List WorkerState) (w 
       (parts.sound.reached (w.owner b) b known (knows_of b known is found))
 
   -- what is known of the goal
-  pub reached_is : (o : Option Known) → IsTaskBoard task task.goal → known_in hash states task.goal ≡ o → IsReached w (option_map (λ known. known.cost) o)
+  pub reached_is : (o : Option Known) → IsTaskBoard task task.goal → known_in owner_among states task.goal ≡ o → IsReached w (option_map (λ known. known.cost) o)
   reached_is None is none =
-      λ n h. none-some h.0 (sym none ∙ subst (λ (t : Task). known_in hash states t.goal ≡ Some h.0) parts.asks (known_from w.task.goal h.0 h.1))
+      λ n h. none-some h.0 (sym none ∙ subst (λ (t : Task). known_in owner_among states t.goal ≡ Some h.0) parts.asks (known_from w.task.goal h.0 h.1))
   reached_is (Some known) is some = (
     (known, subst (λ (b : Position). Knows w (w.owner b) b known) (ap (λ (t : Task). t.goal) (sym parts.asks)) (knows_of task.goal known is some), refl),
     λ m h.
-        let same : ◌≡◌ {A = Option Known} (Some known) (Some h.0) = sym some ∙ subst (λ (t : Task). known_in hash states t.goal ≡ Some h.0) parts.asks (known_from w.task.goal h.0 h.1) in
+        let same : ◌≡◌ {A = Option Known} (Some known) (Some h.0) = sym some ∙ subst (λ (t : Task). known_in owner_among states t.goal ≡ Some h.0) parts.asks (known_from w.task.goal h.0 h.1) in
         let e : known ≡ h.0 = cc in
         let cost = ap (λ (k : Known). k.cost) e in
         omega (arith, cost, h.2),
@@ -327,8 +327,8 @@ module _ (w : WorldState) where
       item_back n under.0 under.1 under.2 (adds ∙ ap (λ (x : Position). cost + w.task.sum x) (sym under.3) ∙ ap (λ (c : ℕ). c + w.task.sum under.1.board) (sym under.4))
 
 -- the frontier of a world is that of its workers and its lanes
-pub lowest_is : (task : Task) (hash : Position → ℕ) (states : List WorkerState) (w : WorldState) → HasParts task hash states w → (lanes lowest : Option ℕ) → IsLowestInLanes w lanes → IsLeastBeside (IsOfWorkers task states) lanes lowest → IsLowest w lowest
-lowest_is task hash states w parts lanes lowest laned least =
+pub lowest_is : (task : Task) (owner_among : ℕ → Position → ℕ) (states : List WorkerState) (w : WorldState) → HasParts task owner_among states w → (lanes lowest : Option ℕ) → IsLowestInLanes w lanes → IsLeastBeside (IsOfWorkers task states) lanes lowest → IsLowest w lowest
+lowest_is task owner_among states w parts lanes lowest laned least =
     let first = subst (λ (t : Task). IsLeastBeside (IsOfWorkers t states) lanes lowest) (sym parts.asks) least in
     let second = subst (λ (ws : List WorkerState). IsLeastBeside (IsOfWorkers w.task ws) lanes lowest) (sym parts.works) first in
     least_same (λ f. IsOfLanes w f ⊎ IsOfWorkers w.task w.workers f) (IsOfFrontier w) (frontier_there w) (frontier_back w) lowest
@@ -352,9 +352,9 @@ pub some_is : (answer : Option (Position × ℕ)) (found moved : Position × ℕ
 some_is answer found moved is is' = ap (λ (o : Option (Position × ℕ)). unwrap_or o found) (sym is ∙ is')
 
 -- last moves lead on from the board before
-pub traced_more : (task : Task) (hash : Position → ℕ) (states : List WorkerState) (before b : Position) (c : ℕ) (here : Known) (plan : List Move) → IsTaskBoard task b → known_in hash states b ≡ Some here → Moves task.rule before here.via b c → ((w : WorldState) → HasParts task hash states w → IsByLastMoves w b plan task.goal) → (w : WorldState) → HasParts task hash states w → IsByLastMoves w before (here.via ∷ plan) task.goal
-traced_more task hash states before b c here plan board found moves traced w parts =
-    (b, c, here, subst (λ (t : Task). Moves t.rule before here.via b c) (sym parts.asks) moves, knows_of task hash states w parts b here board found, refl, traced w parts)
+pub traced_more : (task : Task) (owner_among : ℕ → Position → ℕ) (states : List WorkerState) (before b : Position) (c : ℕ) (here : Known) (plan : List Move) → IsTaskBoard task b → known_in owner_among states b ≡ Some here → Moves task.rule before here.via b c → ((w : WorldState) → HasParts task owner_among states w → IsByLastMoves w b plan task.goal) → (w : WorldState) → HasParts task owner_among states w → IsByLastMoves w before (here.via ∷ plan) task.goal
+traced_more task owner_among states before b c here plan board found moves traced w parts =
+    (b, c, here, subst (λ (t : Task). Moves t.rule before here.via b c) (sym parts.asks) moves, knows_of task owner_among states w parts b here board found, refl, traced w parts)
 
 -- ---- What the parts of a world give, and the laws of endings.
 
@@ -364,7 +364,7 @@ traced_more task hash states before b c here plan board found moves traced w par
 abbrev pub cost_in : Option Known → Option ℕ
 cost_in known = option_map (λ (k : Known). k.cost) known
 
-module _ (task : Task) (hash : Position → ℕ) (states : List WorkerState) (w : WorldState) (parts : HasParts task hash states w) (lanes lowest : Option ℕ) (laned : IsLowestInLanes w lanes) (least : IsLeastBeside (IsOfWorkers task states) lanes lowest) (known : Option Known) (found : known_in hash states task.goal ≡ known) where
+module _ (task : Task) (owner_among : ℕ → Position → ℕ) (states : List WorkerState) (w : WorldState) (parts : HasParts task owner_among states w) (lanes lowest : Option ℕ) (laned : IsLowestInLanes w lanes) (least : IsLeastBeside (IsOfWorkers task states) lanes lowest) (known : Option Known) (found : known_in owner_among states task.goal ≡ known) where
   abbrev at : End
   at = record { world = w; lowest = lowest; reached = cost_in known }
 
@@ -374,12 +374,12 @@ module _ (task : Task) (hash : Position → ℕ) (states : List WorkerState) (w 
   -- what is given at this end
   given : (result : Outcome) → IsGivenAt at result → IsGiven w result
   given result is =
-      (lowest, cost_in known, lowest_is task hash states w parts lanes lowest laned least, reached_is task hash states w parts known goal_board found, is)
+      (lowest, cost_in known, lowest_is task owner_among states w parts lanes lowest laned least, reached_is task owner_among states w parts known goal_board found, is)
 
   -- the world stops early at this end
   stopped_at : (bound : ℕ) (best : Option (ℕ × Vec Move Global)) (cause : Cause) → IsStoppedAt at bound best cause → EndsWhole w (Bounded bound best cause)
   stopped_at bound best cause is =
-      (lowest, cost_in known, lowest_is task hash states w parts lanes lowest laned least, reached_is task hash states w parts known goal_board found, is)
+      (lowest, cost_in known, lowest_is task owner_among states w parts lanes lowest laned least, reached_is task owner_among states w parts known goal_board found, is)
 
   bound_is : (n bound : ℕ) → lesser lowest (cost_in known) ≡ Some n → bound ≡ max (task.sum task.start) n → IsBoundOf at bound
   bound_is n bound is most = (n, is, most ∙ ap (λ (t : Task). max (t.sum t.start) n) (sym parts.asks))
@@ -399,9 +399,9 @@ module _ (task : Task) (hash : Position → ℕ) (states : List WorkerState) (w 
   -- the goal is known, so there is a plan
   pub no_memory : (n bound : ℕ) (there : Known) → lesser lowest (cost_in known) ≡ Some n → bound ≡ max (task.sum task.start) n → known ≡ Some there → HasPlanAbove w bound
   no_memory n bound there is most some =
-      (lowest, cost_in known, lowest_is task hash states w parts lanes lowest laned least, reached_is task hash states w parts known goal_board found, bound_is n bound is most, λ none. none-some there.cost (sym none ∙ ap cost_in some))
+      (lowest, cost_in known, lowest_is task owner_among states w parts lanes lowest laned least, reached_is task owner_among states w parts known goal_board found, bound_is n bound is most, λ none. none-some there.cost (sym none ∙ ap cost_in some))
 
-  followed : (there : Known) (cost : ℕ) (plan : List Move) → known ≡ Some there → IsTraced task hash states there.cost cost plan → IsFollowedBack at cost plan
+  followed : (there : Known) (cost : ℕ) (plan : List Move) → known ≡ Some there → IsTraced task owner_among states there.cost cost plan → IsFollowedBack at cost plan
   followed there cost plan some traced = record {
     goal = there.cost;
     is = ap cost_in some;
@@ -411,17 +411,17 @@ module _ (task : Task) (hash : Position → ℕ) (states : List WorkerState) (w 
   }
 
   -- the plan costs more than the bound
-  pub plan_above : (n bound : ℕ) (stop : Option Stop) (cause : Cause) (there : Known) (best : ℕ × Vec Move Global) → lesser lowest (cost_in known) ≡ Some n → bound ≡ max (task.sum task.start) n → w.book.stop ≡ stop → cause ≡ cause_of stop → known ≡ Some there → IsTraced task hash states there.cost best.0 best.1.items → best.0 ≢ bound → EndsWhole w (Bounded bound (Some best) cause)
+  pub plan_above : (n bound : ℕ) (stop : Option Stop) (cause : Cause) (there : Known) (best : ℕ × Vec Move Global) → lesser lowest (cost_in known) ≡ Some n → bound ≡ max (task.sum task.start) n → w.book.stop ≡ stop → cause ≡ cause_of stop → known ≡ Some there → IsTraced task owner_among states there.cost best.0 best.1.items → best.0 ≢ bound → EndsWhole w (Bounded bound (Some best) cause)
   plan_above n bound stop cause there best is most stopped caused some traced other =
       stopped_at bound (Some best) cause (bound_is n bound is most, followed there best.0 best.1.items some traced, other, cause_is stop cause stopped caused)
 
   -- the plan costs the bound
-  pub plan_least : (n bound : ℕ) (there : Known) (best : ℕ × Vec Move Global) → lesser lowest (cost_in known) ≡ Some n → bound ≡ max (task.sum task.start) n → known ≡ Some there → IsTraced task hash states there.cost best.0 best.1.items → best.0 ≡ bound → EndsWhole w (Optimal best.0 best.1)
+  pub plan_least : (n bound : ℕ) (there : Known) (best : ℕ × Vec Move Global) → lesser lowest (cost_in known) ≡ Some n → bound ≡ max (task.sum task.start) n → known ≡ Some there → IsTraced task owner_among states there.cost best.0 best.1.items → best.0 ≡ bound → EndsWhole w (Optimal best.0 best.1)
   plan_least n bound there best is most some traced same = record {
     lowest = lowest;
     reached = cost_in known;
-    of_frontier = lowest_is task hash states w parts lanes lowest laned least;
-    of_goal = reached_is task hash states w parts known goal_board found;
+    of_frontier = lowest_is task owner_among states w parts lanes lowest laned least;
+    of_goal = reached_is task owner_among states w parts known goal_board found;
     bound = bound_is n best.0 is (same ∙ most);
     followed = followed there best.0 best.1.items some traced;
   }

@@ -187,16 +187,16 @@ rows_of_all task k states rows are = record {
   );
 }
 
-module _ (task : Task) (hash : Position → ℕ) (states : List WorkerState) (w : WorldState) (parts : HasParts task hash states w) where
+module _ (task : Task) (owner_among : ℕ → Position → ℕ) (states : List WorkerState) (w : WorldState) (parts : HasParts task owner_among states w) where
   -- what a worker knows is boards that it owns
   owned : (i : ℕ) (worker : WorkerState) → slice_get states i ≡ Some worker → (key : ℕ) (known : Known) → map.get worker.known key ≡ Some known → (b : Position) × HasKey task.goal.grid key b × (w.owner b ≡ i)
   owned i worker at key known knows =
-      let has = (parts.shaped.workers i worker (worker_at task hash states w parts i worker at)).known key known knows in
+      let has = (parts.shaped.workers i worker (worker_at task owner_among states w parts i worker at)).known key known knows in
       (has.0, record { board = has.1.0; sides = has.1.1 ∙ ap (λ (t : Task). t.goal.grid) parts.asks; packed = has.2 }, has.3)
 
   pub boards_are : (i : ℕ) (worker : WorkerState) → slice_get states i ≡ Some worker → IsOfBoards task.goal.grid worker.known
   boards_are i worker at key known knows =
-      let has = (parts.shaped.workers i worker (worker_at task hash states w parts i worker at)).known key known knows in
+      let has = (parts.shaped.workers i worker (worker_at task owner_among states w parts i worker at)).known key known knows in
       let board = owned i worker at key known knows in
       ((board.0, board.1), has.4)
 
@@ -262,7 +262,7 @@ board_named grid rows i d named b within are has =
       boards = All-push (λ (x : Position × ℕ). IsBoard x.0 × (x.0.grid ≡ grid)) named (b, row.cost) are.boards (has.board, has.sides);
     }
 
-module _ (task : Task) (hash : Position → ℕ) (states : List WorkerState) (w : WorldState) (parts : HasParts task hash states w) (k : ℕ) (rows sorted : List KeyedRow) (boards : List (Position × ℕ)) (are : AreKeyedRows task k states rows) (moved : IsPermutation rows sorted) (rising : IsNonDecreasingBy (λ (row : KeyedRow). row.key) sorted) (named : AreBoardsOf task.goal.grid sorted boards) where
+module _ (task : Task) (owner_among : ℕ → Position → ℕ) (states : List WorkerState) (w : WorldState) (parts : HasParts task owner_among states w) (k : ℕ) (rows sorted : List KeyedRow) (boards : List (Position × ℕ)) (are : AreKeyedRows task k states rows) (moved : IsPermutation rows sorted) (rising : IsNonDecreasingBy (λ (row : KeyedRow). row.key) sorted) (named : AreBoardsOf task.goal.grid sorted boards) where
   same_length : length boards ≡ length sorted
   same_length = sym (length-map boards keyed) ∙ ap length named.keys
 
@@ -293,8 +293,8 @@ module _ (task : Task) (hash : Position → ℕ) (states : List WorkerState) (w 
         in'.known,
         record {
           worker = up.1;
-          is = worker_at task hash states w parts up.0 up.1 up.2;
-          board = task_board task hash states w parts b board;
+          is = worker_at task owner_among states w parts up.0 up.1 up.2;
+          board = task_board task owner_among states w parts b board;
           knows = in'.knows;
         },
         in'.at,
@@ -313,7 +313,7 @@ module _ (task : Task) (hash : Position → ℕ) (states : List WorkerState) (w 
         at = paid;
         low = subst (λ (t : Task). cost + t.sum b < k) parts.asks low;
       } in
-      let there : Contains rows (keyed (b, cost)) = (are.each (keyed (b, cost))).1 (i, knows.worker, worker_from task hash states w parts i knows.worker knows.is, in') in
+      let there : Contains rows (keyed (b, cost)) = (are.each (keyed (b, cost))).1 (i, knows.worker, worker_from task owner_among states w parts i knows.worker knows.is, in') in
       let found = Contains-permutation rows sorted (keyed (b, cost)) moved there in
       let within : found.0 < length boards = omega (arith, found.1, same_length) in
       let at : keyed (get_or boards found.0 (b, cost)) ≡ keyed (b, cost) = sym (ap (λ (rs : List KeyedRow). get_or rs found.0 (keyed (b, cost))) (sym named.keys) ∙ get_or-map keyed boards found.0 (b, cost) (keyed (b, cost)) within) ∙ found.2 in
@@ -330,5 +330,5 @@ module _ (task : Task) (hash : Position → ℕ) (states : List WorkerState) (w 
   rows_are_for low = inr (subst (λ (t : Task). t.sum t.start < k) (sym parts.asks) low, rows_are_below)
 
 -- and where it does
-pub no_rows_for : (task : Task) (hash : Position → ℕ) (states : List WorkerState) (w : WorldState) → HasParts task hash states w → (k : ℕ) (rows : List (Position × ℕ)) → k ≤ task.sum task.start → rows ≡ [] → AreRowsFor w k rows
-no_rows_for task hash states w parts k rows high empty = inl (subst (λ (t : Task). k ≤ t.sum t.start) (sym parts.asks) high, empty)
+pub no_rows_for : (task : Task) (owner_among : ℕ → Position → ℕ) (states : List WorkerState) (w : WorldState) → HasParts task owner_among states w → (k : ℕ) (rows : List (Position × ℕ)) → k ≤ task.sum task.start → rows ≡ [] → AreRowsFor w k rows
+no_rows_for task owner_among states w parts k rows high empty = inl (subst (λ (t : Task). k ≤ t.sum t.start) (sym parts.asks) high, empty)

@@ -1,5 +1,5 @@
 -- What was asked of a run, and the parts of the world in which it ended.
-use Rattle.std.specs.Prelude.{ℕ, ◌≡◌, ◌%◌, List, length, map as each_of, All, Option, None, Some, slice_get}
+use Rattle.std.specs.Prelude.{ℕ, ◌≡◌, List, length, map as each_of, All, Option, None, Some, slice_get}
 use Rattle.std.specs.FinMap as map
 use Rattle.board.specs.Positions.{Position}
 use Rattle.board.specs.Keys.{key_of}
@@ -27,11 +27,10 @@ states_of workers = each_of state_of workers
 abbrev pub AreGuided : {C D S K G : Type 0} → Task → Guide → List (Worker C D S K G) → Type 0
 AreGuided task guide workers = All (λ worker. IsGuided task guide worker.lists) workers
 
--- A shaped and sound world that has this task, these workers, and owners by this hash, modulo the number of workers. Its book and its
--- lanes may be any.
-pub record HasParts (task : Task) (hash : Position → ℕ) (states : List WorkerState) (w : WorldState) : Type 0 where
+-- A shaped and sound world that has this task, these workers, and the owners of boards among as many. Its book and its lanes may be any.
+pub record HasParts (task : Task) (owner_among : ℕ → Position → ℕ) (states : List WorkerState) (w : WorldState) : Type 0 where
   pub asks : w.task ≡ task
-  pub owns : (b : Position) → w.owner b ≡ hash b % length states
+  pub owns : (b : Position) → w.owner b ≡ owner_among (length states) b
   pub works : w.workers ≡ states
   pub shaped : IsShaped w
   pub sound : IsSound w
@@ -42,5 +41,5 @@ known_by None key = None
 known_by (Some worker) key = map.get worker.known key
 
 -- what a board's owner knows of it
-abbrev pub known_in : (Position → ℕ) → List WorkerState → Position → Option Known
-known_in hash states b = known_by (slice_get states (hash b % length states)) (key_of b)
+abbrev pub known_in : (ℕ → Position → ℕ) → List WorkerState → Position → Option Known
+known_in owner_among states b = known_by (slice_get states (owner_among (length states) b)) (key_of b)

@@ -12,18 +12,18 @@ use Rattle.world_model.specs.Outcomes.{IsByLastMoves}
 use Rattle.world_ends.specs.Parts.{HasParts, known_in}
 
 -- the board before this one by its last move, which its owner knows, cheaper by the move's cost at least
-pub record IsBefore (task : Task) (hash : Position → ℕ) (states : List WorkerState) (b : Position) (here : Known) : Type 0 where
+pub record IsBefore (task : Task) (owner_among : ℕ → Position → ℕ) (states : List WorkerState) (b : Position) (here : Known) : Type 0 where
   pub before : Position
   pub cost : ℕ
   pub there : Known
   pub board : IsTaskBoard task before
   pub moves : Moves task.rule before here.via b cost
-  pub known : known_in hash states before ≡ Some there
+  pub known : known_in owner_among states before ≡ Some there
   pub cheaper : there.cost + cost ≤ here.cost
 
 -- The plan leads from the start to the goal, at this cost, which is no more than that at which the goal is known; in each world with
 -- these parts it does so by last moves.
-pub record IsTraced (task : Task) (hash : Position → ℕ) (states : List WorkerState) (goal cost : ℕ) (plan : List Move) : Type 0 where
+pub record IsTraced (task : Task) (owner_among : ℕ → Position → ℕ) (states : List WorkerState) (goal cost : ℕ) (plan : List Move) : Type 0 where
   pub leads : Leads task.rule task.start plan task.goal cost
   pub within : cost ≤ goal
-  pub traced : (w : WorldState) → HasParts task hash states w → IsByLastMoves w task.start plan task.goal
+  pub traced : (w : WorldState) → HasParts task owner_among states w → IsByLastMoves w task.start plan task.goal

@@ -36,9 +36,9 @@ pub(crate) fn outcome_of<C: Counting, S: Spread>(
     requires sides { asked.now.bound.now.split.grid ≡ asked.now.goal.grid }
     requires guided { (guide : Guide) × AreGuided (task_in asked.now) guide workers.old }
     requires world { (w : WorldState)
-        × HasParts (task_in asked.now) (S.hash_of owners.now) (states_of workers.old) w }
+        × HasParts (task_in asked.now) (S.owner_of owners.now) (states_of workers.old) w }
     ensures given { (w : WorldState)
-        → HasParts (task_in asked.now) (S.hash_of owners.now) (states_of workers.old) w
+        → HasParts (task_in asked.now) (S.owner_of owners.now) (states_of workers.old) w
         → IsLowestInLanes w lanes → w.book.stop ≡ stop → IsGiven w result }
     ensures same { states_of workers.new ≡ states_of workers.old }
 {
@@ -88,9 +88,9 @@ pub(crate) fn ending_of<C: Counting, S: Spread>(
     requires sides { asked.now.bound.now.split.grid ≡ asked.now.goal.grid }
     requires guided { (guide : Guide) × AreGuided (task_in asked.now) guide workers.old }
     requires world { (w : WorldState)
-        × HasParts (task_in asked.now) (S.hash_of owners.now) (states_of workers.old) w }
+        × HasParts (task_in asked.now) (S.owner_of owners.now) (states_of workers.old) w }
     ensures given { (w : WorldState)
-        → HasParts (task_in asked.now) (S.hash_of owners.now) (states_of workers.old) w
+        → HasParts (task_in asked.now) (S.owner_of owners.now) (states_of workers.old) w
         → IsLowestInLanes w lanes → w.book.stop ≡ stop → EndsIn w result }
     ensures same { states_of workers.new ≡ states_of workers.old }
 {
@@ -123,12 +123,12 @@ fn whole_ending<C: Counting, S: Spread>(
     requires sides { asked.now.bound.now.split.grid ≡ asked.now.goal.grid }
     requires guided { (guide : Guide) × AreGuided (task_in asked.now) guide workers.old }
     requires world { (w : WorldState)
-        × HasParts (task_in asked.now) (S.hash_of owners.now) (states_of workers.old) w }
+        × HasParts (task_in asked.now) (S.owner_of owners.now) (states_of workers.old) w }
     ensures given { IfOk result (λ ending. (w : WorldState)
-        → HasParts (task_in asked.now) (S.hash_of owners.now) (states_of workers.old) w
+        → HasParts (task_in asked.now) (S.owner_of owners.now) (states_of workers.old) w
         → IsLowestInLanes w lanes → w.book.stop ≡ stop → EndsWhole w ending) }
     ensures lacking { IfErr result (λ lacking. (w : WorldState)
-        → HasParts (task_in asked.now) (S.hash_of owners.now) (states_of workers.old) w
+        → HasParts (task_in asked.now) (S.owner_of owners.now) (states_of workers.old) w
         → IsLowestInLanes w lanes → HasPlanAbove w lacking.bound) }
     ensures same { states_of workers.new ≡ states_of workers.old }
 {

@@ -1,6 +1,6 @@
 //! The plan of a run, followed back by last moves.
 
-ghost use Rattle.std.specs.Prelude.{◌≡◌, ◌<◌, ◌≤◌, ◌+◌, ◌%◌, Some, IfOk, length};
+ghost use Rattle.std.specs.Prelude.{◌≡◌, ◌<◌, ◌≤◌, ◌+◌, Some, IfOk, length};
 ghost use Rattle.board.specs.Moves.{Moves};
 ghost use Rattle.world_model.specs.Workers.{IsTaskBoard};
 ghost use Rattle.world_model.specs.Worlds.{WorldState};
@@ -16,10 +16,10 @@ use std::alloc::Global;
 use worker_core::Worker;
 use world_model::Known;
 
-// The owner of a board, among so many workers. One alone owns all, whatever the hash.
+// The owner of a board among `workers`. One alone owns all boards.
 fn owner_among<S: Spread>(owners: &S, board: &Board, workers: usize) -> usize
     requires { 0 < workers }
-    ensures value { result ≡ S.hash_of owners.now board.now % workers }
+    ensures value { result ≡ S.owner_of owners.now workers board.now }
     ensures within { result < workers }
 {
     if workers == 1 {
@@ -35,7 +35,7 @@ pub(crate) fn known_of<C: Counting, S: Spread>(
     board: &Board,
 ) -> Option<Known>
     requires { 0 < length workers.now }
-    ensures { result ≡ known_in (S.hash_of owners.now) (states_of workers.now) board.now }
+    ensures { result ≡ known_in (S.owner_of owners.now) (states_of workers.now) board.now }
 {
     let owner = owner_among(owners, board, workers.len());
     workers[owner].lists().get(board.key())
@@ -50,10 +50,10 @@ pub(crate) fn plan_back<C: Counting, S: Spread>(
     reached: Known,
 ) -> Result<(u32, Vec<Move>), OutOfMemory>
     requires world { (w : WorldState)
-        × HasParts (task_in asked.now) (S.hash_of owners.now) (states_of workers.now) w }
-    requires found { known_in (S.hash_of owners.now) (states_of workers.now) asked.now.goal
+        × HasParts (task_in asked.now) (S.owner_of owners.now) (states_of workers.now) w }
+    requires found { known_in (S.owner_of owners.now) (states_of workers.now) asked.now.goal
         ≡ Some reached }
-    ensures { IfOk result (λ found. IsTraced (task_in asked.now) (S.hash_of owners.now)
+    ensures { IfOk result (λ found. IsTraced (task_in asked.now) (S.owner_of owners.now)
         (states_of workers.now) reached.cost found.0 found.1.items) }
 {
     let mut backwards = Vec::new(alloc);
@@ -82,11 +82,11 @@ fn step_back<C: Counting, S: Spread>(
 ) -> (Board, u32, Known)
     requires some { 0 < length workers.now }
     requires costs { asked.now.weights.grid ≡ board.now.grid }
-    requires reached { IsBefore (task_in asked.now) (S.hash_of owners.now) (states_of workers.now)
+    requires reached { IsBefore (task_in asked.now) (S.owner_of owners.now) (states_of workers.now)
         board.now here }
     ensures board { IsTaskBoard (task_in asked.now) result.0 }
     ensures moved { Moves asked.now.weights result.0 here.via board.now result.1 }
-    ensures found { known_in (S.hash_of owners.now) (states_of workers.now) result.0
+    ensures found { known_in (S.owner_of owners.now) (states_of workers.now) result.0
         ≡ Some result.2 }
     ensures cheaper { result.2.cost + result.1 ≤ here.cost }
     ensures low { 1 ≤ result.1 }

@@ -167,9 +167,9 @@ pub fn read<A: Reading, C: Counting, S: Spread>(
     requires sides { asked.now.bound.now.split.grid ≡ asked.now.goal.grid }
     requires guided { (guide : Guide) × AreGuided (task_in asked.now) guide workers.old }
     requires world { (w : WorldState)
-        × HasParts (task_in asked.now) (S.hash_of owners.now) (states_of workers.old) w }
+        × HasParts (task_in asked.now) (S.owner_of owners.now) (states_of workers.old) w }
     ensures given { (w : WorldState)
-        → HasParts (task_in asked.now) (S.hash_of owners.now) (states_of workers.old) w
+        → HasParts (task_in asked.now) (S.owner_of owners.now) (states_of workers.old) w
         → IsLowestInLanes w lanes → w.book.stop ≡ stop → A.gives w result }
     ensures same { states_of workers.new ≡ states_of workers.old }
 {

@@ -39,10 +39,10 @@ pub fn rows_for<C: Counting>(
     cost: u32,
 ) -> Result<Vec<(Board, u32)>, OutOfMemory>
     requires sides { asked.now.bound.now.split.grid ≡ asked.now.goal.grid }
-    requires world { (hash : Position → ℕ) × (w : WorldState)
-        × HasParts (task_in asked.now) hash (states_of workers.now) w }
-    ensures rows { IfOk result (λ rows. (hash : Position → ℕ) (w : WorldState)
-        → HasParts (task_in asked.now) hash (states_of workers.now) w
+    requires world { (owner_among : ℕ → Position → ℕ) × (w : WorldState)
+        × HasParts (task_in asked.now) owner_among (states_of workers.now) w }
+    ensures rows { IfOk result (λ rows. (owner_among : ℕ → Position → ℕ) (w : WorldState)
+        → HasParts (task_in asked.now) owner_among (states_of workers.now) w
         → AreRowsFor w cost rows.items) }
     ensures free { cost ≤ sum_of (parts_of asked.now.bound.now) asked.now.start → IsOk result }
 {
@@ -62,8 +62,8 @@ fn keyed_rows<C: Counting>(
     cost: u32,
 ) -> Result<Vec<KeyedRow>, OutOfMemory>
     requires sides { asked.now.bound.now.split.grid ≡ asked.now.goal.grid }
-    requires world { (hash : Position → ℕ) × (w : WorldState)
-        × HasParts (task_in asked.now) hash (states_of workers.now) w }
+    requires world { (owner_among : ℕ → Position → ℕ) × (w : WorldState)
+        × HasParts (task_in asked.now) owner_among (states_of workers.now) w }
     ensures { IfOk result (λ rows. AreKeyedRows (task_in asked.now) cost (states_of workers.now)
         rows.items) }
 {

@@ -96,7 +96,7 @@ fn solve(
     let Ok(job) = Job::new(*start, goal, *weights, bound, u64::MAX) else {
         return Answer::Wrong("no job");
     };
-    match solve_one(alloc, job, ByBlank, &Free) {
+    match solve_one(alloc, job, &ByBlank, &Free) {
         Ok(outcome) => judge(&outcome, start, weights, least),
         Err(_) => Answer::Refused,
     }

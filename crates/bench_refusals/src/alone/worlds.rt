@@ -48,7 +48,7 @@ pub fn open_world(alloc: Global) -> Answer {
     let Some(job) = job_of(start, &bound) else {
         return Answer::Wrong("no job");
     };
-    match World::new(alloc, job, WORKERS, ByBlank) {
+    match World::new(alloc, job, WORKERS, &ByBlank) {
         Ok(world) => whole_if(is_opening(&world), "another world"),
         Err(fault) => refused_if(matches!(fault, WorldFault::Memory(_)), "another fault"),
     }
@@ -75,7 +75,7 @@ pub fn finish_world(alloc: Global) -> Answer {
     let Some(job) = job_of(start, &bound) else {
         return Answer::Wrong("no job");
     };
-    let Ok(mut world) = World::new(alloc, job, WORKERS, ByBlank) else {
+    let Ok(mut world) = World::new(alloc, job, WORKERS, &ByBlank) else {
         return Answer::Refused;
     };
     for _ in 0..TURNS {

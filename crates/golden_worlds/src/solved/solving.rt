@@ -80,8 +80,8 @@ fn solved(alloc: Global, problem: &Problem, bound: &Bound, division: Division) -
     let shape = problem.goal.shape();
     let job = job_of(problem, bound)?;
     match division {
-        Division::ByBlank => solve_one(alloc, job, ByBlank, &Free).ok(),
-        Division::ByHash => solve_one(alloc, job, Zobrist::new(shape), &Free).ok(),
+        Division::ByBlank => solve_one(alloc, job, &ByBlank, &Free).ok(),
+        Division::ByHash => solve_one(alloc, job, &Zobrist::new(shape), &Free).ok(),
     }
 }
 
@@ -93,11 +93,11 @@ fn ended(alloc: Global, problem: &Problem, bound: &Bound, division: Division) ->
     let job = job_of(problem, bound)?;
     match division {
         Division::ByBlank => {
-            read_one::<WithoutRows, ByBlank, Free>(alloc, job, ByBlank, &Free).ok()
+            read_one::<WithoutRows, ByBlank, Free>(alloc, job, &ByBlank, &Free).ok()
         }
         Division::ByHash => {
             let spread = Zobrist::new(shape);
-            read_one::<WithoutRows, Zobrist, Free>(alloc, job, spread, &Free).ok()
+            read_one::<WithoutRows, Zobrist, Free>(alloc, job, &spread, &Free).ok()
         }
     }
 }

@@ -57,7 +57,7 @@ returns-in-Ok-accepted-clause-run g c apart =
     let solved = rw made.is at (c.in-Ok.ensures.run apart) in
     let part = c.in-Ok-accepted.ensures.same in
     let same = alike p made.cost back.cost made.plan.items back.plan.items made.rows.items back.rows.items (sym part.cost) (sym part.plan) (sym part.rows) in
-    inl (solved_again p made.cost back.cost made.plan back.plan made.rows back.rows same g.S.Spread.hash_of c.args.spread c.args.workers solved)
+    inl (solved_again p made.cost back.cost made.plan back.plan made.rows back.rows same g.S.Spread.owner_of c.args.spread.now c.args.workers solved)
 
 pub returns-in-Err-accepted-clause-refused : goal.returns-in-Err-accepted-clause-refused
 returns-in-Err-accepted-clause-refused g c refusal is =

@@ -6,9 +6,9 @@ use Rattle.hda_run.proofs.alone.go_on.Given as goal
 -- the steps so far are none to halt the run, and the worker is alone still
 abbrev pub invariant-rounds : goal.invariant-rounds
 invariant-rounds g l =
-    let hash = g.S.Spread.hash_of in
-    Reaches (world_of hash l.fn.world) (world_of hash l.world) × IsLone (world_of hash l.world) × (l.world.job ≡ l.fn.world.job)
+    let owner_of = g.S.Spread.owner_of in
+    Reaches (world_of owner_of l.fn.world) (world_of owner_of l.world) × IsLone (world_of owner_of l.world) × (l.world.job ≡ l.fn.world.job)
 
 -- what is left to do
 abbrev pub decreases-rounds : goal.decreases-rounds
-decreases-rounds g l = work_left (world_of g.S.Spread.hash_of l.world)
+decreases-rounds g l = work_left (world_of g.S.Spread.owner_of l.world)

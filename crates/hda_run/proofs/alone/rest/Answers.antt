@@ -5,5 +5,5 @@ use Rattle.hda_run.proofs.alone.rest.Goals as goal
 
 pub returns-clause-stops : goal.returns-clause-stops
 returns-clause-stops g c =
-    let hash = g.S.Spread.hash_of in
-    stops_resting (world_of hash c.args.world.now) (world_of hash c.take.new.world) (world_of hash c.take-2.new.world) c.requires.lone c.requires.stuck (refusal_in c.take.result) (refusal_in c.take-2.result) c.take.ensures.step c.take-2.ensures.step
+    let owner_of = g.S.Spread.owner_of in
+    stops_resting (world_of owner_of c.args.world.now) (world_of owner_of c.take.new.world) (world_of owner_of c.take-2.new.world) c.requires.lone c.requires.stuck (refusal_in c.take.result) (refusal_in c.take-2.result) c.take.ensures.step c.take-2.ensures.step

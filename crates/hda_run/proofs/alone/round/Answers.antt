@@ -7,41 +7,41 @@ use Rattle.hda_run.proofs.AloneLemmas.{expands, takes, stays, reaches_on, refuse
 use Rattle.hda_run.proofs.alone.round.Goals as goal
 
 pub announce_when_met-requires : goal.announce_when_met-requires
-announce_when_met-requires g c = (expands (world_of g.S.Spread.hash_of c.args.world.now) c.requires (world_of g.S.Spread.hash_of c.take.new.world) c.in_default.ensures.step).0
+announce_when_met-requires g c = (expands (world_of g.S.Spread.owner_of c.args.world.now) c.requires (world_of g.S.Spread.owner_of c.take.new.world) c.in_default.ensures.step).0
 
 pub returns-in_default-clause-run : goal.returns-in_default-clause-run
 returns-in_default-clause-run g c =
-    let old = world_of g.S.Spread.hash_of c.args.world.now in
-    let middle = world_of g.S.Spread.hash_of c.take.new.world in
-    let new = world_of g.S.Spread.hash_of c.announce_when_met.new.world in
+    let old = world_of g.S.Spread.owner_of c.args.world.now in
+    let middle = world_of g.S.Spread.owner_of c.take.new.world in
+    let new = world_of g.S.Spread.owner_of c.announce_when_met.new.world in
     reaches_on old middle new (takes (Expand 0) None old middle (λ h. h) c.in_default.ensures.step) c.announce_when_met.ensures.run
 
 pub returns-in_default-clause-less : goal.returns-in_default-clause-less
 returns-in_default-clause-less g c accepted =
-    let old = world_of g.S.Spread.hash_of c.args.world.now in
-    let less = (expands old c.requires (world_of g.S.Spread.hash_of c.take.new.world) c.in_default.ensures.step).1 in
+    let old = world_of g.S.Spread.owner_of c.args.world.now in
+    let less = (expands old c.requires (world_of g.S.Spread.owner_of c.take.new.world) c.in_default.ensures.step).1 in
     subst (λ (n : ℕ). n < work_left old) (sym c.announce_when_met.ensures.same) less
 
 pub be_granted-requires-clause-lone : goal.be_granted-requires-clause-lone
-be_granted-requires-clause-lone g c = (refused_alone (world_of g.S.Spread.hash_of c.args.world.now) c.requires c.in-Err.refusal (world_of g.S.Spread.hash_of c.take.new.world) c.in-Err.ensures.step).lone
+be_granted-requires-clause-lone g c = (refused_alone (world_of g.S.Spread.owner_of c.args.world.now) c.requires c.in-Err.refusal (world_of g.S.Spread.owner_of c.take.new.world) c.in-Err.ensures.step).lone
 
 pub be_granted-requires-clause-spent : goal.be_granted-requires-clause-spent
 be_granted-requires-clause-spent g c =
-    let new = world_of g.S.Spread.hash_of c.take.new.world in
-    subst (λ (r : Refusal). Refuses new (Expand 0) r) c.in-NoAllowance.is (refused_alone (world_of g.S.Spread.hash_of c.args.world.now) c.requires c.in-Err.refusal new c.in-Err.ensures.step).refuses
+    let new = world_of g.S.Spread.owner_of c.take.new.world in
+    subst (λ (r : Refusal). Refuses new (Expand 0) r) c.in-NoAllowance.is (refused_alone (world_of g.S.Spread.owner_of c.args.world.now) c.requires c.in-Err.refusal new c.in-Err.ensures.step).refuses
 
 pub returns-in-Memory-clause-lone : goal.returns-in-Memory-clause-lone
-returns-in-Memory-clause-lone g c = (refused_alone (world_of g.S.Spread.hash_of c.args.world.now) c.requires c.in-Err.refusal (world_of g.S.Spread.hash_of c.take.new.world) c.in-Err.ensures.step).lone
+returns-in-Memory-clause-lone g c = (refused_alone (world_of g.S.Spread.owner_of c.args.world.now) c.requires c.in-Err.refusal (world_of g.S.Spread.owner_of c.take.new.world) c.in-Err.ensures.step).lone
 
 pub returns-in-Memory-clause-stuck : goal.returns-in-Memory-clause-stuck
 returns-in-Memory-clause-stuck g c =
-    let new = world_of g.S.Spread.hash_of c.take.new.world in
-    subst (λ (r : Refusal). Refuses new (Expand 0) r) c.in-Memory.is (refused_alone (world_of g.S.Spread.hash_of c.args.world.now) c.requires c.in-Err.refusal new c.in-Err.ensures.step).refuses
+    let new = world_of g.S.Spread.owner_of c.take.new.world in
+    subst (λ (r : Refusal). Refuses new (Expand 0) r) c.in-Memory.is (refused_alone (world_of g.S.Spread.owner_of c.args.world.now) c.requires c.in-Err.refusal new c.in-Err.ensures.step).refuses
 
 pub returns-in_default-refusal : goal.returns-in_default-refusal
 returns-in_default-refusal g c =
-    let old = world_of g.S.Spread.hash_of c.args.world.now in
-    let new = world_of g.S.Spread.hash_of c.take.new.world in
+    let old = world_of g.S.Spread.owner_of c.args.world.now in
+    let new = world_of g.S.Spread.owner_of c.take.new.world in
     let left = refused_alone old c.requires c.in-Err.refusal new c.in-Err.ensures.step in
     let quiet = quiet_only c.in-Err.refusal left.why c.in_default-refusal.not-NoAllowance c.in_default-refusal.not-Memory in
     record {

@@ -6,13 +6,13 @@ use Rattle.hda_run.proofs.alone.run_alone.Goals as goal
 
 pub go_on-end-requires : goal.go_on-end-requires
 go_on-end-requires g c =
-    let hash = g.S.Spread.hash_of in
+    let owner_of = g.S.Spread.owner_of in
     let opened = c.in_ok-world.ensures.opening in
-    opened_lone (job_of hash c.args.job c.args.spread 1) opened.0 (world_of hash c.in_ok-world.world) opened.1 refl (is_job hash c.args.spread c.args.job 1 c.goal.ensures.task (omega arith, omega arith))
+    opened_lone (job_of owner_of c.args.job c.args.spread.now 1) opened.0 (world_of owner_of c.in_ok-world.world) opened.1 refl (is_job owner_of g.met.S.Spread.owners_are_workers c.args.spread.now c.args.job 1 c.goal.ensures.task (omega arith, omega arith))
 
 pub returns-clause-run : goal.returns-clause-run
 returns-clause-run g c =
-    let hash = g.S.Spread.hash_of in
+    let owner_of = g.S.Spread.owner_of in
     let opened = c.in_ok-world.ensures.opening in
-    alone_from (job_of hash c.args.job c.args.spread 1) opened.0 (world_of hash c.in_ok-world.world) (world_of hash c.go_on-end.new.world) (world_of hash c.stop_for.new.world) opened.1 refl
-    (is_job hash c.args.spread c.args.job 1 c.goal.ensures.task (omega arith, omega arith)) c.go_on-end.ensures.run c.stop_for.ensures.stops
+    alone_from (job_of owner_of c.args.job c.args.spread.now 1) opened.0 (world_of owner_of c.in_ok-world.world) (world_of owner_of c.go_on-end.new.world) (world_of owner_of c.stop_for.new.world) opened.1 refl
+    (is_job owner_of g.met.S.Spread.owners_are_workers c.args.spread.now c.args.job 1 c.goal.ensures.task (omega arith, omega arith)) c.go_on-end.ensures.run c.stop_for.ensures.stops

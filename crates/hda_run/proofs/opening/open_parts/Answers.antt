@@ -1,4 +1,4 @@
-use Rattle.std.proofs.Common.{◌≡◌, ◌%◌, ◌∙◌, ap, subst, sym}
+use Rattle.std.proofs.Common.{◌≡◌, ◌∙◌, ap, subst, sym}
 use Rattle.board.specs.Positions.{Position}
 use Rattle.outcomes.specs.Outcomes.{Task}
 use Rattle.worker_core.specs.Contexts.{ContextModel, task_from}
@@ -16,16 +16,16 @@ first_worker-requires-clause-sides g c =
 
 pub returns-clause-opening : goal.returns-clause-opening
 returns-clause-opening g c =
-    let hash = g.S.Spread.hash_of in
+    let owner_of = g.S.Spread.owner_of in
     let n = c.args.workers in
     let job = c.args.job in
     let via = c.in_ok-first.ensures.state.0 in
-    let opened = opening (job_of hash job c.args.owners n) via in
+    let opened = opening (job_of owner_of job c.args.owners.now n) via in
     let credit = c.workers_with.ensures.credit ∙ c.plain-credit.ensures.credit in
     let book : c.new-book.result ≡ opened.book = c.new-book.ensures ∙ (λ t. record opened.book { credit = credit t; limit = c.limit.ensures t }) in
-    let owner = c.owner-owner.ensures.value ∙ ap (λ (b : Position). hash c.args.owners b % n) c.start.ensures in
+    let owner = c.owner-owner.ensures.value ∙ ap (λ (b : Position). owner_of c.args.owners.now n b) c.start.ensures in
     let first : state_of c.in_ok-first.first ≡ first_worker n (task_in job) via = c.in_ok-first.ensures.state.1 ∙ (λ t. first_worker (c.context-context.ensures.value t).workers (task_from (c.start-2.ensures t) (c.context-context.ensures.value t)) via) in
-    (via, opens hash c.args.owners job n c.in_ok-all.all (state_of c.in_ok-first.first) c.owner-owner.result c.new-book.result c.in_ok-lanes.lanes via c.in_ok-all.ensures.states first owner book c.in_ok-lanes.ensures)
+    (via, opens owner_of (record { job = job; owners = c.args.owners; workers = c.in_ok-all.all; book = c.new-book.result; lanes = c.in_ok-lanes.lanes }) n (state_of c.in_ok-first.first) c.owner-owner.result via c.in_ok-all.ensures.states first owner book c.in_ok-lanes.ensures)
 
 pub returns-clause-guided : goal.returns-clause-guided
 returns-clause-guided g c =

@@ -1,5 +1,5 @@
-use Rattle.batch_runs.specs.Setups.{hash_by}
-use Rattle.setup_runs.proofs.SolvingLemmas.{found_so}
+use Rattle.batch_runs.specs.Setups.{owner_by}
+use Rattle.setup_runs.proofs.SolvingLemmas.{found_so, setup_owners}
 use Rattle.setup_runs.proofs.solving.answer_spread.Goals as goal
 
 pub returns : goal.returns
@@ -8,7 +8,7 @@ returns g c =
     let setup = c.args.setup.now in
     record {
       parity = run.parity;
-      run = λ together. found_so g.A.Reading.gives setup c.args.start.now g.S.Spread.hash_of c.args.spread hash_by setup.spread c.requires.owners c.search_by_workers.result (run.run together);
+      run = λ together. found_so g.A.Reading.gives setup c.args.start.now g.S.Spread.owner_of g.met.S.Spread.owners_are_workers c.args.spread.now owner_by setup_owners setup.spread c.requires.owners c.search_by_workers.result (run.run together);
       answers = run.answers;
       kept = run.kept;
     }

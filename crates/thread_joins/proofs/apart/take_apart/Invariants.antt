@@ -16,5 +16,5 @@ invariant-parts g l =
       workers_room : vec_len l.fn.sealed ≤ vec_capacity l.workers;
       outs_room : vec_len l.fn.sealed ≤ vec_capacity l.outs;
       ins_room : vec_len l.fn.sealed ≤ vec_capacity l.ins;
-      taken : AreTaken g.S.Spread.hash_of g.C.Tokens.workers l.fn.sealed.items (into_iter_items l.one-iterator) l.workers.items l.outs.items l.ins.items;
+      taken : AreTaken g.S.Spread.owner_of g.C.Tokens.workers l.fn.sealed.items (into_iter_items l.one-iterator) l.workers.items l.outs.items l.ins.items;
     }

@@ -15,7 +15,7 @@ use Rattle.thread_joins.proofs.outcome.outcome_of_joined.Goals as goal
 pub outcome_if_kept-found-requires-clause-world : goal.outcome_if_kept-found-requires-clause-world
 outcome_if_kept-found-requires-clause-world g c κs within =
     let has = c.in_ok-joined.ensures.world c.args.job.now c.args.owners.now c.requires.joint in
-    (has.0, world_at g.S.Spread.hash_of c.args.job.now c.args.owners.now g.M.Ledger.parts c.args.book c.join_world.new.book c.in_ok-joined.joined.workers.items c.deref_mut.result.now c.in_ok-joined.joined.ins.items has.0 (sym c.join_world.ensures.book) (sym c.deref_mut.ensures.value) has.1)
+    (has.0, world_at g.S.Spread.owner_of c.args.job.now c.args.owners.now g.M.Ledger.parts c.args.book c.join_world.new.book c.in_ok-joined.joined.workers.items c.deref_mut.result.now c.in_ok-joined.joined.ins.items has.0 (sym c.join_world.ensures.book) (sym c.deref_mut.ensures.value) has.1)
 
 pub count_expanded-requires-clause-whole : goal.count_expanded-requires-clause-whole
 count_expanded-requires-clause-whole g c κs within =
@@ -32,7 +32,7 @@ count_expanded-requires-clause-whole g c κs within =
 pub returns : goal.returns
 returns g c =
     let p = c.args.job.now in
-    let hash_of = g.S.Spread.hash_of in
+    let owner_of = g.S.Spread.owner_of in
     let owners = c.args.owners.now in
     let n = g.M.Ledger.parts in
     let book = c.join_world.new.book in
@@ -41,8 +41,8 @@ returns g c =
     let w = has.0 in
     let new = c.outcome_if_kept-found.new.workers in
     let value = c.deref_mut.ensures.value in
-    let is : IsWorldOf hash_of p owners n book c.deref_mut.result.now joined.ins.items w =
-    world_at hash_of p owners n c.args.book book joined.workers.items c.deref_mut.result.now joined.ins.items w (sym c.join_world.ensures.book) (sym value) has.1 in
+    let is : IsWorldOf owner_of p owners n book c.deref_mut.result.now joined.ins.items w =
+    world_at owner_of p owners n c.args.book book joined.workers.items c.deref_mut.result.now joined.ins.items w (sym c.join_world.ensures.book) (sym value) has.1 in
     let same : states_of new ≡ states_of c.deref_mut.result.now = c.outcome_if_kept-found.ensures.same in
     let e = ap (λ (ws : List WorkerState). length ws) same in
     let e' = ap (λ ws. length ws) value in
@@ -59,4 +59,4 @@ returns g c =
     let limit : book.limit ≡ p.limit = c.stop.ensures.allowed ∙ sym c.requires.limit in
     let at_limit : book.stop ≡ Some Limit → book.granted ≡ book.limit = λ stopped. c.stop.ensures.limit (c.stop.ensures.value ∙ stopped) in
     let no_list : book.stop ≢ Some (Memory Stated) = λ stopped. c.stop.ensures.want Stated (c.stop.ensures.value ∙ stopped) refl in
-    (w, joined_is hash_of p owners n book c.deref_mut.result.now joined.ins.items w expanded is limit sum within high c.stop.ensures.within at_limit no_list, c.outcome_if_kept-found.ensures.given w is)
+    (w, joined_is owner_of p owners n book c.deref_mut.result.now joined.ins.items w expanded is limit sum within high c.stop.ensures.within at_limit no_list, c.outcome_if_kept-found.ensures.given w is)

@@ -27,7 +27,7 @@ returns-clause-given g c = λ book w is stop.
     let p = c.args.job.now in
     let asked = c.asked_in-asked in
     let same = same_task p asked.result.start asked.result.goal asked.result.weights asked.result.bound.now asked.ensures.start asked.ensures.goal asked.ensures.weights asked.ensures.bound in
-    let parts = subst (λ (task : Task). HasParts task (g.S.Spread.hash_of c.args.owners.now) (states_of c.args.workers.now) w) (sym same) is.parts in
+    let parts = subst (λ (task : Task). HasParts task (g.S.Spread.owner_of c.args.owners.now) (states_of c.args.workers.now) w) (sym same) is.parts in
     let sums = ap (λ (tables : Tables). sum_of (parts_of tables)) c.bound.ensures.value ∙ ap (λ (t : Task). t.sum) (sym is.parts.asks) in
     let lowest = lowest_left w g.C.Tokens.workers c.args.ins.items is.lanes is.widths (sum_of (parts_of c.bound.result.now)) c.lowest_in_rows-lowest.result sums c.lowest_in_rows-lowest.ensures in
     c.read.ensures.given w parts lowest (ap (λ (b : BookState). b.stop) is.book_is ∙ stop)

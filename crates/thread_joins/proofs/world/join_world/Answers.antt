@@ -27,7 +27,7 @@ tie_all-requires-after_bounds g c κs within =
 
 pub returns-clause-world : goal.returns-clause-world
 returns-clause-world g c = λ p owners joint.
-    let hash_of = g.S.Spread.hash_of in
+    let owner_of = g.S.Spread.owner_of in
     let n = g.C.Tokens.workers in
     let old = c.in_ok-workers.field-0 in
     let apart = c.in_ok-workers.ensures p owners joint in
@@ -51,8 +51,8 @@ returns-clause-world g c = λ p owners joint.
     (subst (λ (b : BookState). All (λ worker. worker.purse ≤ b.credit) (states_of c.deref_mut.result.now)) e.book audit.bound) in
     let credit : before.stop ≡ Some Quiet → before.credit ≡ 0 = λ quiet. ap (λ (b : BookState). b.credit) (sym after) ∙ c.stop.ensures.quiet (c.stop.ensures.value ∙ (ap (λ (b : BookState). b.stop) after ∙ quiet)) in
     let floors : length before.floors ≡ n = sym c.workers.ensures.value ∙ g.met.C.Tokens.one_count c.workers.result c.workers.ensures.allowed in (
-      world_with (shared_by hash_of p owners n) (parts_in new) before (by_sender n (left_rows new.ins.items)),
-      joined_world hash_of p owners n old new apart (ap (λ ws. states_of ws) items ∙ states) guided e.sent e.received e.in_rings
+      world_with (shared_by owner_of p owners n) (parts_in new) before (by_sender n (left_rows new.ins.items)),
+      joined_world owner_of p owners n old new apart (ap (λ ws. states_of ws) items ∙ states) guided e.sent e.received e.in_rings
           (λ i j low high. e.tied i j (omega (arith, low, count)) (omega (arith, high, count)))
           c.requires.some before floors bound credit
           (λ quiet i j low high. e.quiet quiet i j (omega (arith, low, count)) (omega (arith, high, count)))

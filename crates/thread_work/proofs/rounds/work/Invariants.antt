@@ -7,4 +7,4 @@ invariant-rounds g l =
     (goal.iterator-rounds g).can_next l.iterator'
     × (goal.iterator-rounds g).is_finite l.iterator'
     × (face_of l.part ≡ l.fn.sealed)
-    × Holds g.S.Spread.hash_of g.C.Tokens.workers l.part
+    × Holds g.S.Spread.owner_of g.C.Tokens.workers l.part

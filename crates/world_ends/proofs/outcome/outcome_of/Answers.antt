@@ -11,10 +11,10 @@ use Rattle.world_ends.proofs.outcome.outcome_of.Goals as goal
 pub returns-in-Ok-rows_for-clause-given : goal.returns-in-Ok-rows_for-clause-given
 returns-in-Ok-rows_for-clause-given g c = λ w parts laned stopped.
     let task = task_in c.args.asked.now in
-    let hash = g.S.Spread.hash_of c.args.owners.now in
+    let owner_among = g.S.Spread.owner_of c.args.owners.now in
     let ends = subst (EndsWhole w) c.in-Optimal.is (c.in-Ok.ensures.given w parts laned stopped) in
-    let after = subst (λ (ws : List WorkerState). HasParts task hash ws w) (sym c.in-Ok.ensures.same) parts in
-    (rows_alone w c.in-Optimal.cost c.in-Optimal.plan c.in-Ok-rows_for.rows (c.in-Ok-rows_for.ensures.rows hash w after)).0 ends
+    let after = subst (λ (ws : List WorkerState). HasParts task owner_among ws w) (sym c.in-Ok.ensures.same) parts in
+    (rows_alone w c.in-Optimal.cost c.in-Optimal.plan c.in-Ok-rows_for.rows (c.in-Ok-rows_for.ensures.rows owner_among w after)).0 ends
 
 pub returns-in-Err-rows_for-clause-given : goal.returns-in-Err-rows_for-clause-given
 returns-in-Err-rows_for-clause-given g c = λ w parts laned stopped.
@@ -27,10 +27,10 @@ returns-in-Unsolvable-clause-given g c = λ w parts laned stopped. subst (EndsWh
 pub returns-in-Ok-rows_for-2-clause-given : goal.returns-in-Ok-rows_for-2-clause-given
 returns-in-Ok-rows_for-2-clause-given g c = λ w parts laned stopped.
     let task = task_in c.args.asked.now in
-    let hash = g.S.Spread.hash_of c.args.owners.now in
+    let owner_among = g.S.Spread.owner_of c.args.owners.now in
     let ends = subst (EndsWhole w) c.in-Bounded.is (c.in-Ok.ensures.given w parts laned stopped) in
-    let after = subst (λ (ws : List WorkerState). HasParts task hash ws w) (sym c.in-Ok.ensures.same) parts in
-    bound_rows w c.in-Bounded.bound c.in-Bounded.best c.in-Bounded.cause c.in-Ok-rows_for-2.rows (c.in-Ok-rows_for-2.ensures.rows hash w after) ends
+    let after = subst (λ (ws : List WorkerState). HasParts task owner_among ws w) (sym c.in-Ok.ensures.same) parts in
+    bound_rows w c.in-Bounded.bound c.in-Bounded.best c.in-Bounded.cause c.in-Ok-rows_for-2.rows (c.in-Ok-rows_for-2.ensures.rows owner_among w after) ends
 
 pub returns-in-Err-rows_for-2-clause-given : goal.returns-in-Err-rows_for-2-clause-given
 returns-in-Err-rows_for-2-clause-given g c = λ w parts laned stopped.

@@ -14,13 +14,13 @@ use Rattle.world_ends.proofs.plan.plan_back.Goals as goal
 pub step_back-before-requires-clause-reached : goal.step_back-before-requires-clause-reached
 step_back-before-requires-clause-reached g c κs within =
     let now = c.boards.invariant in
-    before_is (task_in c.args.asked.now) (g.S.Spread.hash_of c.args.owners.now) (states_of c.args.workers.now) c.requires.world.0 c.requires.world.1 c.boards.board c.boards.here now.board now.found (differs c.boards.board c.args.asked.now.start (sym c.boards-test.true ∙ c.ne.ensures))
+    before_is (task_in c.args.asked.now) (g.S.Spread.owner_of c.args.owners.now) (states_of c.args.workers.now) c.requires.world.0 c.requires.world.1 c.boards.board c.boards.here now.board now.found (differs c.boards.board c.args.asked.now.start (sym c.boards-test.true ∙ c.ne.ensures))
 
 -- src/plan.rt:51:5
 pub boards-preserved : goal.boards-preserved
 boards-preserved g c =
     let task = task_in c.args.asked.now in
-    let hash = g.S.Spread.hash_of c.args.owners.now in
+    let owner_among = g.S.Spread.owner_of c.args.owners.now in
     let states = states_of c.args.workers.now in
     let now = c.boards.invariant in
     let back = c.step_back-before.ensures in
@@ -28,7 +28,7 @@ boards-preserved g c =
     let cost = c.step_back-before.result.1 in
     let plan : List Move = reverse c.boards.backwards.items in
     let more : reverse c.push.new.items.items ≡ c.boards.here.via ∷ plan = ap (λ (ms : List Move). reverse ms) c.in_ok-push.ensures.items ∙ reverse-append c.boards.backwards.items (c.boards.here.via ∷ []) in
-    let traced : (w : WorldState) → HasParts task hash states w → IsByLastMoves w before (c.boards.here.via ∷ plan) task.goal = traced_more task hash states before c.boards.board cost c.boards.here plan now.board now.found back.moved now.traced in
+    let traced : (w : WorldState) → HasParts task owner_among states w → IsByLastMoves w before (c.boards.here.via ∷ plan) task.goal = traced_more task owner_among states before c.boards.board cost c.boards.here plan now.board now.found back.moved now.traced in
     let leads : Leads c.args.asked.now.weights before (c.boards.here.via ∷ plan) c.args.asked.now.goal (c.boards.cost + cost) = (c.boards.board, cost, c.boards.cost, back.moved, now.leads, omega arith) in
     record {
       board = back.board;

@@ -12,10 +12,10 @@ abbrev pub invariant-boards : goal.invariant-boards
 invariant-boards g l =
     record {
       board : IsTaskBoard (task_in l.asked) l.board;
-      found : known_in (g.S.Spread.hash_of l.owners) (states_of l.workers) l.board ≡ Some l.here;
+      found : known_in (g.S.Spread.owner_of l.owners) (states_of l.workers) l.board ≡ Some l.here;
       leads : Leads l.asked.weights l.board (reverse l.backwards.items) l.asked.goal l.cost;
       within : l.here.cost + l.cost ≤ l.fn.reached.cost;
-      traced : (w : WorldState) → HasParts (task_in l.asked) (g.S.Spread.hash_of l.owners) (states_of l.workers) w → IsByLastMoves w l.board (reverse l.backwards.items) l.asked.goal;
+      traced : (w : WorldState) → HasParts (task_in l.asked) (g.S.Spread.owner_of l.owners) (states_of l.workers) w → IsByLastMoves w l.board (reverse l.backwards.items) l.asked.goal;
     }
 
 abbrev pub decreases-boards : goal.decreases-boards

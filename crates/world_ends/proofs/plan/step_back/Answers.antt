@@ -21,7 +21,7 @@ unwrap-there-requires g c =
     let has = c.requires.reached in
     let is : c.step.result ≡ Some (has.before, has.cost) = stepped_back c.args.asked.now.weights c.args.board.now c.args.here.via c.undo.result c.step.result has.before has.cost c.undo.ensures c.step.ensures.moves has.board.0 has.moves in
     let same = some_is c.step.result c.unwrap-before.result (has.before, has.cost) c.unwrap-before.ensures is in
-    let there : c.known_of.result ≡ Some has.there = c.known_of.ensures ∙ ap (λ (p : Position × ℕ). known_in (g.S.Spread.hash_of c.args.owners.now) (states_of c.args.workers.now) p.0) same ∙ has.known in
+    let there : c.known_of.result ≡ Some has.there = c.known_of.ensures ∙ ap (λ (p : Position × ℕ). known_in (g.S.Spread.owner_of c.args.owners.now) (states_of c.args.workers.now) p.0) same ∙ has.known in
     rw there refl
 
 -- src/plan.rt:64:1
@@ -46,7 +46,7 @@ returns-clause-cheaper g c =
     let has = c.requires.reached in
     let is : c.step.result ≡ Some (has.before, has.cost) = stepped_back c.args.asked.now.weights c.args.board.now c.args.here.via c.undo.result c.step.result has.before has.cost c.undo.ensures c.step.ensures.moves has.board.0 has.moves in
     let same = some_is c.step.result c.unwrap-before.result (has.before, has.cost) c.unwrap-before.ensures is in
-    let there : c.known_of.result ≡ Some has.there = c.known_of.ensures ∙ ap (λ (p : Position × ℕ). known_in (g.S.Spread.hash_of c.args.owners.now) (states_of c.args.workers.now) p.0) same ∙ has.known in
+    let there : c.known_of.result ≡ Some has.there = c.known_of.ensures ∙ ap (λ (p : Position × ℕ). known_in (g.S.Spread.owner_of c.args.owners.now) (states_of c.args.workers.now) p.0) same ∙ has.known in
     let cost : c.unwrap-there.result.cost ≡ has.there.cost = ap (λ (o : Option Known). (unwrap_or o has.there).cost) (sym c.unwrap-there.ensures ∙ there) in
     let paid : c.unwrap-before.result.1 ≡ has.cost = ap (λ (p : Position × ℕ). p.1) same in
     omega (arith, cost, paid, has.cheaper)

@@ -39,10 +39,10 @@ returns-clause-rows g c =
     let start : task.sum task.start < c.args.cost = subst (λ (n : ℕ). n < c.args.cost) c.of.ensures.value low in
     let rising : IsNonDecreasingBy (λ (row : KeyedRow). row.key) sorted = IsNonDecreasingBy-from_sort (λ (row : KeyedRow). row.key) sorted (c.sort_unstable_by_key.ensures.sorted (λ (row : KeyedRow). row.key) (answers_always _ _ _ (λ f a r h k. search rules))) in
     IfOk-weaker c.with_boards.result (λ (named : Vec (Position × ℕ) Global). AreBoardsOf c.shape.result c.deref.result.now named.items)
-    (λ (rows : Vec (Position × ℕ) Global). (hash : Position → ℕ) (w : WorldState) → HasParts task hash states w → AreRowsFor w c.args.cost rows.items)
-    (λ named is hash w parts.
+    (λ (rows : Vec (Position × ℕ) Global). (owner_among : ℕ → Position → ℕ) (w : WorldState) → HasParts task owner_among states w → AreRowsFor w c.args.cost rows.items)
+    (λ named is owner_among w parts.
     let there : AreBoardsOf task.goal.grid c.deref.result.now named.items = subst (λ (grid : Grid). AreBoardsOf grid c.deref.result.now named.items) c.shape.ensures.value is in
-    rows_are_for task hash states w parts c.args.cost c.in_ok-rows.rows.items sorted named.items c.in_ok-rows.ensures moved rising
+    rows_are_for task owner_among states w parts c.args.cost c.in_ok-rows.rows.items sorted named.items c.in_ok-rows.ensures moved rising
     (subst (λ (xs : List KeyedRow). AreBoardsOf task.goal.grid xs named.items) after there)
     start)
     c.with_boards.ensures

@@ -9,28 +9,28 @@ use Rattle.hda_run.proofs.parts.Parts.announce.Goals as goal
 pub returns-then-me-len-clause-step : goal.returns-then-me-len-clause-step
 returns-then-me-len-clause-step g c =
     let old = c.args.self.now in
-    inl (no_worker g.S.Spread.hash_of old c.args.me (outside old.workers c.len.result c.args.me c.len.ensures c.if-me-len.true), (refl, refl))
+    inl (no_worker g.S.Spread.owner_of old c.args.me (outside old.workers c.len.result c.args.me c.len.ensures c.if-me-len.true), (refl, refl))
 
 pub announce-requires-clause-some : goal.announce-requires-clause-some
 announce-requires-clause-some g c κs _ =
     let old = c.args.self.now in
     let within = inside old.workers c.len.result c.args.me c.len.ensures c.if-me-len.false in
-    some_unsent g.S.Spread.hash_of old c.args.me c.index_mut.result.now within c.index_mut.ensures.value c.requires.shaped
+    some_unsent g.S.Spread.owner_of old c.args.me c.index_mut.result.now within c.index_mut.ensures.value c.requires.shaped
 
 pub returns-clause-step : goal.returns-clause-step
 returns-clause-step g c =
     let old = c.args.self.now in
-    let hash = g.S.Spread.hash_of in
+    let owner_of = g.S.Spread.owner_of in
     let worker = c.index_mut.result.now in
     let within = inside old.workers c.len.result c.args.me c.len.ensures c.if-me-len.false in
-    let role = role_of (world_of hash old) c.args.me in
+    let role = role_of (world_of owner_of old) c.args.me in
     let goal_is = c.keyed_goal-goal.ensures.value in
-    let owner = owner_is hash old c.args.me worker within c.index_mut.ensures.value c.requires.shaped c.keyed_goal-goal.result.now in
-    on_book hash old c.args.me worker within c.index_mut.ensures.value (AnnounceStep role) (refusal_in c.announce.result) c.announce.new.self c.announce.new.book
+    let owner = owner_is owner_of old c.args.me worker within c.index_mut.ensures.value c.requires.shaped c.keyed_goal-goal.result.now in
+    on_book owner_of old c.args.me worker within c.index_mut.ensures.value (AnnounceStep role) (refusal_in c.announce.result) c.announce.new.self c.announce.new.book
     (c.announce.ensures.step role (record { me = refl; ends = sym goal_is }) owner)
 
 pub returns-clause-guided : goal.returns-clause-guided
 returns-clause-guided g c =
     let old = c.args.self.now in
     let within = inside old.workers c.len.result c.args.me c.len.ensures c.if-me-len.false in
-    same_guided g.S.Spread.hash_of old c.args.me c.index_mut.result.now within c.index_mut.ensures.value c.announce.new.self c.announce.ensures.lists c.requires.guided
+    same_guided g.S.Spread.owner_of old c.args.me c.index_mut.result.now within c.index_mut.ensures.value c.announce.new.self c.announce.ensures.lists c.requires.guided

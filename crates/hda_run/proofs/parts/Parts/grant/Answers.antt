@@ -11,23 +11,23 @@ use Rattle.hda_run.proofs.parts.Parts.grant.Goals as goal
 pub returns-then-me-len-clause-step : goal.returns-then-me-len-clause-step
 returns-then-me-len-clause-step g c =
     let old = c.args.self.now in
-    inl (no_worker g.S.Spread.hash_of old c.args.me (outside old.workers c.len.result c.args.me c.len.ensures c.if-me-len.true), (refl, refl))
+    inl (no_worker g.S.Spread.owner_of old c.args.me (outside old.workers c.len.result c.args.me c.len.ensures c.if-me-len.true), (refl, refl))
 
 pub grant-requires-clause-counted : goal.grant-requires-clause-counted
 grant-requires-clause-counted g c κs =
     let old = c.args.self.now in
     let within = inside old.workers c.len.result c.args.me c.len.ensures c.if-me-len.false in
-    grants_counted g.S.Spread.hash_of old c.args.me c.index_mut.result.now within c.index_mut.ensures.value c.requires.credited
+    grants_counted g.S.Spread.owner_of old c.args.me c.index_mut.result.now within c.index_mut.ensures.value c.requires.credited
 
 pub returns-clause-step : goal.returns-clause-step
 returns-clause-step g c =
     let old = c.args.self.now in
-    let hash = g.S.Spread.hash_of in
+    let owner_of = g.S.Spread.owner_of in
     let worker = c.index_mut.result.now in
     let within = inside old.workers c.len.result c.args.me c.len.ensures c.if-me-len.false in
-    let role = role_of (world_of hash old) c.args.me in
-    let guided = is_guided hash old c.args.me worker within c.index_mut.ensures.value c.requires.guided in
-    on_book hash old c.args.me worker within c.index_mut.ensures.value (GrantStep role) (refusal_in c.grant.result) c.grant.new.self c.grant.new.book
+    let role = role_of (world_of owner_of old) c.args.me in
+    let guided = is_guided owner_of old c.args.me worker within c.index_mut.ensures.value c.requires.guided in
+    on_book owner_of old c.args.me worker within c.index_mut.ensures.value (GrantStep role) (refusal_in c.grant.result) c.grant.new.self c.grant.new.book
     (c.grant.ensures.step role (guide_of (task_in old.job)) guided)
 
 pub returns-clause-guided : goal.returns-clause-guided
@@ -35,4 +35,4 @@ returns-clause-guided g c =
     let old = c.args.self.now in
     let task = task_in old.job in
     let within = inside old.workers c.len.result c.args.me c.len.ensures c.if-me-len.false in
-    set_guided g.S.Spread.hash_of old c.args.me c.index_mut.result.now within c.index_mut.ensures.value c.grant.new.self (λ is. c.grant.ensures.guided task (guide_of task) is) c.requires.guided
+    set_guided g.S.Spread.owner_of old c.args.me c.index_mut.result.now within c.index_mut.ensures.value c.grant.new.self (λ is. c.grant.ensures.guided task (guide_of task) is) c.requires.guided

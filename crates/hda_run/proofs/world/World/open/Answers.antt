@@ -5,8 +5,8 @@ use Rattle.hda_run.proofs.world.World.open.Goals as goal
 pub invariant_of-result : goal.invariant_of-result
 invariant_of-result g c =
     let n = c.args.workers in
-    let hash = g.S.Spread.hash_of in
-    let job = job_of hash c.args.job c.args.spread n in
-    let is = is_job hash c.args.spread c.args.job n c.goal.ensures.task c.requires in
+    let owner_of = g.S.Spread.owner_of in
+    let job = job_of owner_of c.args.job c.args.spread.now n in
+    let is = is_job owner_of g.met.S.Spread.owners_are_workers c.args.spread.now c.args.job n c.goal.ensures.task c.requires in
     let opened = c.in_ok-parts.ensures.opening in
-    lawful_opening hash c.in_ok-parts.parts job opened.0 c.openings_are_sound.ensures is opened.1 c.in_ok-parts.ensures.guided
+    lawful_opening owner_of c.in_ok-parts.parts job opened.0 c.openings_are_sound.ensures is opened.1 c.in_ok-parts.ensures.guided

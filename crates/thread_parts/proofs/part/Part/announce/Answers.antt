@@ -1,4 +1,4 @@
-use Rattle.std.proofs.Common.{◌%◌, ℕ, inl, inr, refl, sym, ap}
+use Rattle.std.proofs.Common.{ℕ, inl, inr, refl, sym, ap}
 use Rattle.worker_core.specs.Workers.{state_of, with_book}
 use Rattle.world_model.specs.BookSteps.{AnnounceStep}
 use Rattle.world_model.specs.Turns.{refusal_in, turn}
@@ -10,9 +10,9 @@ pub returns-clause-step : goal.returns-clause-step
 returns-clause-step g c =
     let old = c.args.self.now in
     let n = g.C.Tokens.workers in
-    let hash = g.S.Spread.hash_of in
-    let role = role_of hash n old in
-    let owner = ap (λ (k : ℕ). hash old.owners.now c.keyed_goal-goal.result.now % k) (sym (unsent_count hash n old c.requires)) in
+    let owner_of = g.S.Spread.owner_of in
+    let role = role_of owner_of n old in
+    let owner = ap (λ (k : ℕ). owner_of old.owners.now k c.keyed_goal-goal.result.now) (sym (unsent_count owner_of n old c.requires)) in
     unbarred (AnnounceStep role) (turn (with_book (state_of old.worker) c.args.book.now) (refusal_in c.announce.result) (with_book (state_of c.announce.new.self) c.announce.new.book))
     c.in_default.ensures.goes_on c.in_default.ensures.purse (c.announce.ensures.step role (record { me = refl; ends = sym c.keyed_goal-goal.ensures.value }) owner)
 
@@ -20,10 +20,10 @@ pub returns-clause-holds : goal.returns-clause-holds
 returns-clause-holds g c =
     let old = c.args.self.now in
     let n = g.C.Tokens.workers in
-    let hash = g.S.Spread.hash_of in
-    let role = role_of hash n old in
-    let owner = ap (λ (k : ℕ). hash old.owners.now c.keyed_goal-goal.result.now % k) (sym (unsent_count hash n old c.requires)) in
+    let owner_of = g.S.Spread.owner_of in
+    let role = role_of owner_of n old in
+    let owner = ap (λ (k : ℕ). owner_of old.owners.now k c.keyed_goal-goal.result.now) (sym (unsent_count owner_of n old c.requires)) in
     let step = c.announce.ensures.step role (record { me = refl; ends = sym c.keyed_goal-goal.ensures.value }) owner in
-    holds_with hash n old c.requires c.announce.new.self
+    holds_with owner_of n old c.requires c.announce.new.self
     (c.steps_are_kept.ensures.book n role (part_state old) c.args.book.now c.announce.new.book (refusal_in c.announce.result) (state_of c.announce.new.self) c.requires.role c.requires.keeps c.in_default.ensures.purse (inr (inl step)))
-    (same_guided hash n old c.requires c.announce.new.self c.announce.ensures.lists)
+    (same_guided owner_of n old c.requires c.announce.new.self c.announce.ensures.lists)

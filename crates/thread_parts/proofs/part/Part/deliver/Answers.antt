@@ -14,7 +14,7 @@ returns-clause-step g c =
     let end = c.index_mut-lane.result.now in
     let end' = c.deliver.new.lane in
     let here = c.index_mut-lane.ensures.value in
-    let count = in_count g.S.Spread.hash_of g.C.Tokens.workers old c.requires.holds in
+    let count = in_count g.S.Spread.owner_of g.C.Tokens.workers old c.requires.holds in
     let there : from < length old.ins.items = omega (arith, count, c.requires.there) in
     deliver_by_ring from (part_state old) (part_state (with_in old from worker end end' here)) c.deliver.result
     (on_ok_weaker c.deliver.result (λ has. (has.room, receives old from worker end end' here there has)) c.deliver.ensures.given)
@@ -24,17 +24,17 @@ pub returns-clause-holds : goal.returns-clause-holds
 returns-clause-holds g c =
     let old = c.args.self.now in
     let n = g.C.Tokens.workers in
-    let hash = g.S.Spread.hash_of in
+    let owner_of = g.S.Spread.owner_of in
     let from = c.args.from in
     let worker = c.deliver.new.self in
     let lane = c.index_mut-lane.result.now in
     let here = c.index_mut-lane.ensures.value in
-    let count = in_count hash n old c.requires.holds in
+    let count = in_count owner_of n old c.requires.holds in
     let there : from < length old.ins.items = omega (arith, count, c.requires.there) in
     let new = with_in old from worker lane c.deliver.new.lane here in
-    holds_after hash n old c.requires.holds new refl refl (elim (answered c.deliver.result c.deliver.ensures.given c.deliver.ensures.refused) [
-      | inl has ↦ c.steps_are_kept.ensures.receive n from (role_of hash n old) (part_state old) (part_state new) c.requires.holds.role c.requires.there c.requires.holds.keeps (receives old from worker lane c.deliver.new.lane here there has)
-      | inr same ↦ subst (Keeps n (role_of hash n old)) (sym (none_received old from worker lane c.deliver.new.lane here same.0 same.1)) c.requires.holds.keeps
+    holds_after owner_of n old c.requires.holds new refl refl (elim (answered c.deliver.result c.deliver.ensures.given c.deliver.ensures.refused) [
+      | inl has ↦ c.steps_are_kept.ensures.receive n from (role_of owner_of n old) (part_state old) (part_state new) c.requires.holds.role c.requires.there c.requires.holds.keeps (receives old from worker lane c.deliver.new.lane here there has)
+      | inr same ↦ subst (Keeps n (role_of owner_of n old)) (sym (none_received old from worker lane c.deliver.new.lane here same.0 same.1)) c.requires.holds.keeps
     ]) c.deliver.ensures.lists
 
 pub returns-clause-kept : goal.returns-clause-kept
@@ -50,7 +50,7 @@ returns-clause-seen g c refused =
     let old = c.args.self.now in
     let from = c.args.from in
     let end = c.index_mut-lane.result.now in
-    let count = in_count g.S.Spread.hash_of g.C.Tokens.workers old c.requires.holds in
+    let count = in_count g.S.Spread.owner_of g.C.Tokens.workers old c.requires.holds in
     let there : from < length old.ins.items = omega (arith, count, c.requires.there) in
     left_at old.ins.items from end there c.index_mut-lane.ensures.value
     ∙ none_seen c.deliver.result end c.deliver.new.lane (state_of old.worker) (state_of c.deliver.new.self) c.deliver.ensures.refused c.deliver.ensures.step refused

@@ -9,6 +9,6 @@ pub returns-clause-holds : goal.returns-clause-holds
 returns-clause-holds g c =
     let old = c.args.self.now in
     let n = g.C.Tokens.workers in
-    holds_with g.S.Spread.hash_of n old c.requires.holds c.halt.new.self
-    (c.steps_are_kept.ensures.book n (role_of g.S.Spread.hash_of n old) (part_state old) c.args.book.now c.halt.new.book (refusal_in c.halt.result) (state_of c.halt.new.self) c.requires.holds.role c.requires.holds.keeps c.in_default.ensures.purse (inr (inr (inr (inr (c.args.cause, c.halt.ensures.step))))))
-    (same_guided g.S.Spread.hash_of n old c.requires.holds c.halt.new.self c.halt.ensures.lists)
+    holds_with g.S.Spread.owner_of n old c.requires.holds c.halt.new.self
+    (c.steps_are_kept.ensures.book n (role_of g.S.Spread.owner_of n old) (part_state old) c.args.book.now c.halt.new.book (refusal_in c.halt.result) (state_of c.halt.new.self) c.requires.holds.role c.requires.holds.keeps c.in_default.ensures.purse (inr (inr (inr (inr (c.args.cause, c.halt.ensures.step))))))
+    (same_guided g.S.Spread.owner_of n old c.requires.holds c.halt.new.self c.halt.ensures.lists)

@@ -14,7 +14,7 @@ returns-clause-step g c =
     let end = c.index_mut-lane.result.now in
     let end' = c.send.new.lane in
     let here = c.index_mut-lane.ensures.value in
-    let count = out_count g.S.Spread.hash_of g.C.Tokens.workers old c.requires.holds in
+    let count = out_count g.S.Spread.owner_of g.C.Tokens.workers old c.requires.holds in
     let there : to < length old.outs.items = omega (arith, count, c.requires.there) in
     send_by_ring to (part_state old) (part_state (with_out old to worker end end' here)) c.send.result
     (on_ok_weaker c.send.result (λ has. sends old to worker end end' here there has) c.send.ensures.sent)
@@ -24,17 +24,17 @@ pub returns-clause-holds : goal.returns-clause-holds
 returns-clause-holds g c =
     let old = c.args.self.now in
     let n = g.C.Tokens.workers in
-    let hash = g.S.Spread.hash_of in
+    let owner_of = g.S.Spread.owner_of in
     let to = c.args.to in
     let worker = c.send.new.self in
     let lane = c.index_mut-lane.result.now in
     let here = c.index_mut-lane.ensures.value in
-    let count = out_count hash n old c.requires.holds in
+    let count = out_count owner_of n old c.requires.holds in
     let there : to < length old.outs.items = omega (arith, count, c.requires.there) in
     let new = with_out old to worker lane c.send.new.lane here in
-    holds_after hash n old c.requires.holds new refl refl (elim (answered c.send.result c.send.ensures.sent c.send.ensures.refused) [
-      | inl has ↦ c.steps_are_kept.ensures.send n to (role_of hash n old) (part_state old) (part_state new) c.requires.holds.role c.requires.there c.requires.holds.keeps (sends old to worker lane c.send.new.lane here there has)
-      | inr same ↦ subst (Keeps n (role_of hash n old)) (sym (none_sent old to worker lane c.send.new.lane here same.0 same.1)) c.requires.holds.keeps
+    holds_after owner_of n old c.requires.holds new refl refl (elim (answered c.send.result c.send.ensures.sent c.send.ensures.refused) [
+      | inl has ↦ c.steps_are_kept.ensures.send n to (role_of owner_of n old) (part_state old) (part_state new) c.requires.holds.role c.requires.there c.requires.holds.keeps (sends old to worker lane c.send.new.lane here there has)
+      | inr same ↦ subst (Keeps n (role_of owner_of n old)) (sym (none_sent old to worker lane c.send.new.lane here same.0 same.1)) c.requires.holds.keeps
     ]) c.send.ensures.lists
 
 pub returns-clause-kept : goal.returns-clause-kept

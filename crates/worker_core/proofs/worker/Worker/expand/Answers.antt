@@ -29,7 +29,7 @@ returns-in_default-clause-step g c = λ start.
     let guide = c.requires.guided.1 in
     let is = guided_read c.requires.guided.0 start context context refl guide lists c.requires.guided.2 in
     let none = none_below task guide lists worker refl is c.limit.result (c.in_default.ensures.none guide is.order) in
-    step_for c.args.successors (role_from g.S.Spread.hash_of start context) _
+    step_for c.args.successors (role_from g.S.Spread.owner_of start context) _
     (inl (subst (HasNothingBelow task worker) c.limit.ensures none, (refl, ap (λ (t : Table). record worker { known = t.known }) c.next.ensures.closed)))
 
 pub returns-then-left-eq0-clause-step : goal.returns-then-left-eq0-clause-step
@@ -44,7 +44,7 @@ returns-then-left-eq0-clause-step g c = λ start.
     let first = c.in-Some.ensures.least guide is.order in
     let waits = λ (none : HasNothingBelow task worker (limit_of worker.best)). some_below task guide lists worker refl is c.limit.result next first c.in-Some.ensures.below (subst (HasNothingBelow task worker) (sym c.limit.ensures) none) in
     let spent : worker.allowance ≡ 0 = sym c.left.ensures.value ∙ c.if-left-eq0.true in
-    step_for c.args.successors (role_from g.S.Spread.hash_of start context) _
+    step_for c.args.successors (role_from g.S.Spread.owner_of start context) _
     (inr (waits, inl (spent, (refl, ap (λ (t : Table). record worker { known = t.known }) c.next.ensures.closed))))
 
 pub returns-then-not-has_room-clause-step : goal.returns-then-not-has_room-clause-step
@@ -59,16 +59,16 @@ returns-then-not-has_room-clause-step g c = λ start.
     let is = guided_read c.requires.guided.0 start read context c.context.view_is guide lists c.requires.guided.2 in
     let next = c.in-Some.next in
     let first = c.in-Some.ensures.least guide is.order in
-    let role = role_from g.S.Spread.hash_of start read in
+    let role = role_from g.S.Spread.owner_of start read in
     let b = c.of_key-unpacked.result in
     let known = first.opens.0 in
     let offers = c.offers_of.new.offers in
-    let it = chosen task guide lists is worker refl (g.S.Spread.hash_of inside.owners.now) inside.workers inside.workers inside.me refl c.limit.result c.limit.ensures next first c.in-Some.ensures.below b c.shape.result c.shape.ensures.value c.of_key-unpacked.ensures c.args.successors c.move_left_out.result c.move_left_out.ensures offers c.offers_of.ensures.offered c.offers_of.ensures.within in
+    let it = chosen task guide lists is worker refl (g.S.Spread.owner_of inside.owners.now) inside.workers inside.workers inside.me refl c.limit.result c.limit.ensures next first c.in-Some.ensures.below b c.shape.result c.shape.ensures.value c.of_key-unpacked.ensures c.args.successors c.move_left_out.result c.move_left_out.ensures offers c.offers_of.ensures.offered c.offers_of.ensures.within in
     let all : length worker.unsent ≡ inside.workers = length-map c.args.self.now.unsent.items (λ v. v.items) ∙ c.requires.workers ∙ sym (ap (λ (x : ContextModel g.row.S.Denot). x.workers) c.context.view_is) in
     let some : worker.allowance ≡ 0 → ⊥ = λ none. c.if-left-eq0.false (c.left.ensures.value ∙ none) in
     let none : ¬ HasRoom inside.me worker.unsent offers = λ room. (let wrong = c.if-not-has_room.ensures.1 (subst (λ (xs : List Items). HasRoom inside.me (packets_of xs) offers) (sym c.deref.ensures.value) room) in cc) in
     let full = overfull role worker b known c.move_left_out.result task.sum offers it.offered read.goal.grid inside.workers it.within all none in
-    step_lent g.S.Spread.hash_of start c.args.successors read context c.context.view_is _
+    step_lent g.S.Spread.owner_of start c.args.successors read context c.context.view_is _
     (inr (it.waits, inr (some, (b, known, it.at, inl (subst (λ (o : Option Move). IsOverfull (expansion_by (moves_but o) role worker b known)) it.left_out_is full, (refl, ap (λ (t : Table). record worker { known = t.known }) c.next.ensures.closed))))))
 
 pub returns-then-not-has_room-clause-keeps : goal.returns-then-not-has_room-clause-keeps
@@ -97,17 +97,17 @@ returns-in-Err-clause-step g c = λ start.
     let is = guided_read c.requires.guided.0 start read context c.context.view_is guide lists c.requires.guided.2 in
     let next = c.in-Some.next in
     let first = c.in-Some.ensures.least guide is.order in
-    let role = role_from g.S.Spread.hash_of start read in
+    let role = role_from g.S.Spread.owner_of start read in
     let b = c.of_key-unpacked.result in
     let known = first.opens.0 in
     let offers = c.offers_of.new.offers in
-    let it = chosen task guide lists is worker refl (g.S.Spread.hash_of inside.owners.now) inside.workers inside.workers inside.me refl c.limit.result c.limit.ensures next first c.in-Some.ensures.below b c.shape.result c.shape.ensures.value c.of_key-unpacked.ensures c.args.successors c.move_left_out.result c.move_left_out.ensures offers c.offers_of.ensures.offered c.offers_of.ensures.within in
+    let it = chosen task guide lists is worker refl (g.S.Spread.owner_of inside.owners.now) inside.workers inside.workers inside.me refl c.limit.result c.limit.ensures next first c.in-Some.ensures.below b c.shape.result c.shape.ensures.value c.of_key-unpacked.ensures c.args.successors c.move_left_out.result c.move_left_out.ensures offers c.offers_of.ensures.offered c.offers_of.ensures.within in
     let all : length worker.unsent ≡ inside.workers = length-map c.args.self.now.unsent.items (λ v. v.items) ∙ c.requires.workers ∙ sym (ap (λ (x : ContextModel g.row.S.Denot). x.workers) c.context.view_is) in
     let room = subst (λ (xs : List Items). HasRoom inside.me (packets_of xs) offers) c.deref.ensures.value (c.has_room.ensures.0 (search rules)) in
     let some : worker.allowance ≡ 0 → ⊥ = λ none. c.if-left-eq0.false (c.left.ensures.value ∙ none) in
     let fits = none_overfull role worker b known c.move_left_out.result task.sum offers it.offered read.goal.grid inside.workers it.within all room in
     let same = c.make_places.ensures.same.known ∙ ap (λ (t : Table). t.known) c.next.ensures.closed in
-    step_lent g.S.Spread.hash_of start c.args.successors read context c.context.view_is _
+    step_lent g.S.Spread.owner_of start c.args.successors read context c.context.view_is _
     (inr (it.waits, inr (some, (b, known, it.at, inr (subst (λ (o : Option Move). ¬ IsOverfull (expansion_by (moves_but o) role worker b known)) it.left_out_is fits, inr (c.in-Err.refused, (refl, ap (λ (m : Knowledge). record worker { known = m }) same)))))))
 
 pub returns-in-Err-clause-keeps : goal.returns-in-Err-clause-keeps
@@ -132,11 +132,11 @@ expand_next-requires-clause-ready g c κs within =
     let is = guided_read c.requires.guided.0 start read context c.context.view_is guide lists c.requires.guided.2 in
     let next = c.in-Some.next in
     let first = c.in-Some.ensures.least guide is.order in
-    let role = role_from g.S.Spread.hash_of start read in
+    let role = role_from g.S.Spread.owner_of start read in
     let b = c.of_key-unpacked.result in
     let known = first.opens.0 in
     let offers = c.offers_of.new.offers in
-    let it = chosen task guide lists is worker refl (g.S.Spread.hash_of inside.owners.now) inside.workers inside.workers inside.me refl c.limit.result c.limit.ensures next first c.in-Some.ensures.below b c.shape.result c.shape.ensures.value c.of_key-unpacked.ensures c.args.successors c.move_left_out.result c.move_left_out.ensures offers c.offers_of.ensures.offered c.offers_of.ensures.within in
+    let it = chosen task guide lists is worker refl (g.S.Spread.owner_of inside.owners.now) inside.workers inside.workers inside.me refl c.limit.result c.limit.ensures next first c.in-Some.ensures.below b c.shape.result c.shape.ensures.value c.of_key-unpacked.ensures c.args.successors c.move_left_out.result c.move_left_out.ensures offers c.offers_of.ensures.offered c.offers_of.ensures.within in
     let all : length worker.unsent ≡ inside.workers = length-map c.args.self.now.unsent.items (λ v. v.items) ∙ c.requires.workers ∙ sym (ap (λ (x : ContextModel g.row.S.Denot). x.workers) c.context.view_is) in
     let room = subst (λ (xs : List Items). HasRoom inside.me (packets_of xs) offers) c.deref.ensures.value (c.has_room.ensures.0 (search rules)) in
     subst
@@ -156,11 +156,11 @@ returns-clause-step g c = λ start.
     let is = guided_read c.requires.guided.0 start read context c.context.view_is guide lists c.requires.guided.2 in
     let next = c.in-Some.next in
     let first = c.in-Some.ensures.least guide is.order in
-    let role = role_from g.S.Spread.hash_of start read in
+    let role = role_from g.S.Spread.owner_of start read in
     let b = c.of_key-unpacked.result in
     let known = first.opens.0 in
     let offers = c.offers_of.new.offers in
-    let it = chosen task guide lists is worker refl (g.S.Spread.hash_of inside.owners.now) inside.workers inside.workers inside.me refl c.limit.result c.limit.ensures next first c.in-Some.ensures.below b c.shape.result c.shape.ensures.value c.of_key-unpacked.ensures c.args.successors c.move_left_out.result c.move_left_out.ensures offers c.offers_of.ensures.offered c.offers_of.ensures.within in
+    let it = chosen task guide lists is worker refl (g.S.Spread.owner_of inside.owners.now) inside.workers inside.workers inside.me refl c.limit.result c.limit.ensures next first c.in-Some.ensures.below b c.shape.result c.shape.ensures.value c.of_key-unpacked.ensures c.args.successors c.move_left_out.result c.move_left_out.ensures offers c.offers_of.ensures.offered c.offers_of.ensures.within in
     let all : length worker.unsent ≡ inside.workers = length-map c.args.self.now.unsent.items (λ v. v.items) ∙ c.requires.workers ∙ sym (ap (λ (x : ContextModel g.row.S.Denot). x.workers) c.context.view_is) in
     let room = subst (λ (xs : List Items). HasRoom inside.me (packets_of xs) offers) c.deref.ensures.value (c.has_room.ensures.0 (search rules)) in
     let some : worker.allowance ≡ 0 → ⊥ = λ none. c.if-left-eq0.false (c.left.ensures.value ∙ none) in
@@ -172,7 +172,7 @@ returns-clause-step g c = λ start.
     let done = c.expand_next.ensures.state role task.sum b known c.move_left_out.result me it.at.opens.board.0 sides c.of_key-unpacked.ensures.packed knows it.offered in
     let made = done ∙ ap (λ (m : Knowledge). expansion_by (moves_but c.move_left_out.result) role (record worker { known = m }) b known) same in
     let both = subst (λ (o : Option Move). (¬ IsOverfull (expansion_by (moves_but o) role worker b known)) × (state_of c.expand_next.new.self ≡ expansion_by (moves_but o) role worker b known)) it.left_out_is (fits, made) in
-    step_lent g.S.Spread.hash_of start c.args.successors read context c.context.view_is _
+    step_lent g.S.Spread.owner_of start c.args.successors read context c.context.view_is _
     (inr (it.waits, inr (some, (b, known, it.at, inr (both.0, inl (refl, both.1))))))
 
 pub returns-clause-keeps : goal.returns-clause-keeps
@@ -189,11 +189,11 @@ returns-clause-keeps g c = record {
       let is = guided_read start start read context c.context.view_is guide lists guided in
       let next = c.in-Some.next in
       let first = c.in-Some.ensures.least guide is.order in
-      let role = role_from g.S.Spread.hash_of start read in
+      let role = role_from g.S.Spread.owner_of start read in
       let b = c.of_key-unpacked.result in
       let known = first.opens.0 in
       let offers = c.offers_of.new.offers in
-      let it = chosen task guide lists is worker refl (g.S.Spread.hash_of inside.owners.now) inside.workers inside.workers inside.me refl c.limit.result c.limit.ensures next first c.in-Some.ensures.below b c.shape.result c.shape.ensures.value c.of_key-unpacked.ensures c.args.successors c.move_left_out.result c.move_left_out.ensures offers c.offers_of.ensures.offered c.offers_of.ensures.within in
+      let it = chosen task guide lists is worker refl (g.S.Spread.owner_of inside.owners.now) inside.workers inside.workers inside.me refl c.limit.result c.limit.ensures next first c.in-Some.ensures.below b c.shape.result c.shape.ensures.value c.of_key-unpacked.ensures c.args.successors c.move_left_out.result c.move_left_out.ensures offers c.offers_of.ensures.offered c.offers_of.ensures.within in
       let low = cost_low guide lists.closed next c.limit.result c.args.self.now.best first c.in-Some.ensures.below c.limit.ensures in
       let cost = first.opens.2 in
       let adds = chosen_adds role guide lists is worker b known c.args.successors c.move_left_out.result offers inside.workers it (omega (arith, cost, low)) in

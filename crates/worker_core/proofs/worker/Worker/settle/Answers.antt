@@ -9,7 +9,7 @@ pub returns-then-is_foreign-clause-step : goal.returns-then-is_foreign-clause-st
 returns-then-is_foreign-clause-step g c = λ start.
     let old = c.args.self.now in
     let item = c.in-Some.item.now in
-    let role = role_from g.S.Spread.hash_of start c.args.context.now in
+    let role = role_from g.S.Spread.owner_of start c.args.context.now in
     let held = last_taken old.held.items c.deref.result.now c.pop.new.self.items item c.pop.result c.deref.ensures.0 c.in-Some.ensures.value c.pop.ensures.value c.pop.ensures.items in
     drops role (state_of old) c.pop.new.self.items item held _ (c.if-is_foreign.ensures.yes refl start) refl
 
@@ -25,7 +25,7 @@ pub returns-in-Err-clause-step : goal.returns-in-Err-clause-step
 returns-in-Err-clause-step g c = λ start.
     let old = c.args.self.now in
     let item = c.in-Some.item.now in
-    let role = role_from g.S.Spread.hash_of start c.args.context.now in
+    let role = role_from g.S.Spread.owner_of start c.args.context.now in
     let last = last_held old.held.items c.deref.result.now item c.deref.ensures.0 c.in-Some.ensures.value in
     settles_not role (state_of old) last.0 item last.1 _ c.in-Err.refused (c.if-is_foreign.ensures.no refl start) (λ t. record (state_of old) { known = c.in-Err.ensures.err t })
 
@@ -34,6 +34,6 @@ pub returns-clause-step : goal.returns-clause-step
 returns-clause-step g c = λ start.
     let old = c.args.self.now in
     let item = c.in-Some.item.now in
-    let role = role_from g.S.Spread.hash_of start c.args.context.now in
+    let role = role_from g.S.Spread.owner_of start c.args.context.now in
     let held = last_taken old.held.items c.deref.result.now c.pop-2.new.self.items item c.pop-2.result c.deref.ensures.0 c.in-Some.ensures.value c.pop-2.ensures.value c.pop-2.ensures.items in
     settles role (state_of old) c.pop-2.new.self.items item held _ (c.if-is_foreign.ensures.no refl start) (λ t. record (state_of old) { held = c.pop-2.new.self.items; known = c.in_default-relax_item.ensures.ok t })
