@@ -1,14 +1,13 @@
 -- The hash of a list in which one number is replaced, and so of a board after a slide.
-use Rattle.std.proofs.Common.{◌≡◌, ◌≢◌, ◌+◌, ◌<◌, ℕ, zero, suc, List, [], ◌∷◌, Option, length, bit_xor, refl, sym, ap, ◌∙◌, arith, Some, eqb}
-use Rattle.std.specs.List.{swap, position}
+use Rattle.std.proofs.Common.{◌≡◌, ◌≢◌, ◌+◌, ◌<◌, ℕ, zero, suc, List, [], ◌∷◌, length, bit_xor, sym, ap, ◌∙◌, arith}
+use Rattle.std.specs.List.{swap}
 use Rattle.std.specs.Int.Bits.{xor_assoc, xor_self, xor_zero_r}
 use Rattle.std.proofs.lemmas.Nat.{xor_comm}
-use Rattle.std.proofs.lemmas.Bool.{lt-ltb}
 use Rattle.std.proofs.Math.ListN.{set, get_or}
 use Rattle.std.proofs.lemmas.List.{get_or-set_other, length-set}
 use Rattle.std.proofs.lemmas.List.Edits.{swap_is}
 use Rattle.board.specs.Grids.{Grid, cell_count}
-use Rattle.board.specs.Positions.{Position, IsBoard, blank_of}
+use Rattle.board.specs.Positions.{Position, blank_of}
 use Rattle.board.specs.Moves.{blank_exchange}
 use Rattle.board.proofs.StepLemmas.{blank_stands}
 use Rattle.owners.specs.Hashes.{word_on, hash_from, hash_of}
@@ -68,9 +67,3 @@ hash-slide grid b slide hash there here is hashed to from =
     ∙ ap (bit_xor (bit_xor (hash_from n 0 b.tiles) (word_on n slide.tile (blank_of b)))) from
     ∙ sym swapped
     ∙ ap (λ (k : ℕ). hash_from k 0 (swap b.tiles (blank_of b) slide.from)) (sym count)
-
--- the blank is found where it stands
-pub blank-found : (b : Position) (found : Option ℕ) → IsBoard b → found ≡ position (λ tile. eqb tile 0) b.tiles → found ≡ Some (blank_of b)
-blank-found b found board is =
-    let within : blank_of b < length b.tiles = omega (arith, (blank_stands b board).0, board.one_each) in
-    is ∙ rw (lt-ltb (blank_of b) (length b.tiles) within) refl

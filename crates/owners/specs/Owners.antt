@@ -1,5 +1,5 @@
 -- Who owns which board.
-use Rattle.std.specs.Prelude.{ℕ, ◌≡◌, ◌<◌, ◌%◌}
+use Rattle.std.specs.Prelude.{ℕ, ◌<◌, ◌%◌}
 use Rattle.std.proofs.Math.Nat.{mod-lt}
 use Rattle.board.specs.Positions.{Position, blank_of}
 use Rattle.owners.specs.Hashes.{hash_of}

@@ -41,7 +41,8 @@ pub trait Spread {
     /// The worker that owns a board, of `workers` workers.
     fn owner(&self, board: &Board, workers: usize) -> usize
         requires { 0 < workers }
-        ensures { result ≡ owner_of self.now workers board.now };
+        ensures value { result ≡ owner_of self.now workers board.now }
+        ensures within { result < workers };
 
     /// The hash of a board, of a spread that has hashes.
     fn hash(&self, board: &Board) -> Option<u64>

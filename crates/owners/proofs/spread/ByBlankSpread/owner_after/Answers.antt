@@ -1,7 +1,6 @@
-use Rattle.std.proofs.Common.{◌<◌, sym, subst}
-use Rattle.board.specs.Grids.{Grid, cell_count}
-use Rattle.board.proofs.MoveLemmas.{blank_after}
-use Rattle.owners.proofs.spread.ByBlankSpread.hash_after.Goals as goal
+use Rattle.std.proofs.Common.{◌%◌, ℕ, ◌∙◌, ap, sym}
+use Rattle.owners.proofs.MovedLemmas.{blank_moved}
+use Rattle.owners.proofs.spread.ByBlankSpread.owner_after.Goals as goal
 
 pub returns : goal.returns
-returns c = λ b is hash. sym (blank_after b is.board c.args.slide.from (subst (λ (grid : Grid). c.args.slide.from < cell_count grid) (sym is.sides) is.within))
+returns c = λ b has. c.worker_of.ensures.value ∙ ap (λ (k : ℕ). k % c.args.workers) (sym (blank_moved c.requires.moved.0 b c.args.moved c.requires.moved.1 has))

@@ -1,16 +1,22 @@
-use Rattle.std.proofs.Common.{◌∙◌, ap, arith}
+use Rattle.std.proofs.Common.{◌%◌, ℕ, ◌∙◌, ap, sym, arith}
 use Rattle.board.specs.Grids.{cell_count}
+use Rattle.board.specs.Positions.{Position}
 use Rattle.board.proofs.StepLemmas.{blank_stands}
-use Rattle.owners.specs.Hashes.{word_on}
+use Rattle.owners.specs.Hashes.{hash_of, word_on}
 use Rattle.owners.proofs.HashLemmas.{hash-slide}
-use Rattle.owners.proofs.zobrist.ZobristSpread.hash_after.Goals as goal
+use Rattle.owners.proofs.MovedLemmas.{after_slide}
+use Rattle.owners.proofs.zobrist.ZobristSpread.owner_after.Goals as goal
 
 pub word-there-requires-clause-cell : goal.word-there-requires-clause-cell
 word-there-requires-clause-cell c =
-    let is = c.requires.1 in
-    omega (arith, (blank_stands c.requires.0 is.board).0, ap cell_count is.sides, is.blank, c.cells-cells.ensures.value)
+    let is = c.requires.moved.1.slide in
+    omega (arith, (blank_stands c.requires.moved.0 is.board).0, ap cell_count is.sides, is.blank, c.cells-cells.ensures.value)
 
 pub returns : goal.returns
-returns c = λ b is hash.
-    let slide = c.args.slide in
-    hash-slide c.args.shape b slide c.args.hash c.word-there.result c.word-here.result is hash (c.word-there.ensures ∙ ap (λ n. word_on n slide.tile slide.to) c.cells-cells.ensures.value) (c.word-here.ensures ∙ ap (λ n. word_on n slide.tile slide.from) c.cells-cells.ensures.value)
+returns c = λ b has.
+    let before = c.requires.moved.0 in
+    let moved = c.args.moved in
+    let slide = moved.slide in
+    let is = c.requires.moved.1 in
+    let after = hash-slide moved.shape before slide c.args.hash c.word-there.result c.word-here.result is.slide c.requires.moved.2 (c.word-there.ensures ∙ ap (λ n. word_on n slide.tile slide.to) c.cells-cells.ensures.value) (c.word-here.ensures ∙ ap (λ n. word_on n slide.tile slide.from) c.cells-cells.ensures.value) in
+    c.worker_of.ensures.value ∙ ap (λ (k : ℕ). k % c.args.workers) (after ∙ ap (λ (p : Position). hash_of p) (sym (after_slide before b moved is has)))

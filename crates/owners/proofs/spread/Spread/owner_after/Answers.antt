@@ -1,0 +1,6 @@
+use Rattle.std.proofs.Common.{◌∙◌, ap}
+use Rattle.owners.proofs.MovedLemmas.{one_board}
+use Rattle.owners.proofs.spread.Spread.owner_after.Goals as goal
+
+pub returns : goal.returns
+returns g c = λ b has. c.owner.ensures.value ∙ ap (g.Self.Spread.owner_of c.args.self.now c.args.workers) (one_board c.args.moved.shape c.args.moved.key c.of_key.result b c.of_key.ensures has)
