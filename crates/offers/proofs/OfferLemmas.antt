@@ -9,10 +9,11 @@ use Rattle.board.specs.Grids.{cell_count}
 use Rattle.board.specs.Neighbours.{LiesTowards, neighbour}
 use Rattle.board.specs.Moves.{successor, successor_at, blank_exchange}
 use Rattle.board.specs.Positions.{Position, IsBoard, blank_of}
-use Rattle.board.proofs.MoveLemmas.{blank_after, cell_below, other_cell}
+use Rattle.board.proofs.MoveLemmas.{blank_after, cell_below, exchange_board, other_cell}
 use Rattle.board.proofs.NeighbourLemmas.{neighbour_lies}
 use Rattle.board.proofs.StepLemmas.{blank_stands, tile_above}
-use Rattle.owners.specs.Slides.{IsSlide}
+use Rattle.board.specs.Keys.{HasKey}
+use Rattle.owners.specs.Slides.{IsSlide, IsMoved}
 use Rattle.world_model.specs.declared.parts.Item.{Item}
 use Rattle.lower_bound.specs.Bounds.{Part, sum_of}
 use Rattle.successor_sums.specs.declared.unpacked.Successor.{Successor}
@@ -20,43 +21,51 @@ use Rattle.successor_sums.specs.ByMoves.{FourOf, OfFour, before, entries_of, of_
 use Rattle.successor_sums.specs.Unpacked.{told_of, is_left_out, but, successors_but}
 use Rattle.successor_sums.proofs.SumLemmas.{absent_too, found, kept_by, of_four_by}
 use Rattle.offers.specs.declared.offer.Offer.{Offer}
-use Rattle.offers.specs.Offers.{Offers, item_by, AreOffered, IsOffered}
+use Rattle.offers.specs.Offers.{Offers, item_by, moved_by, AreOffered, IsOffered}
 use Rattle.std.proofs.lemmas.List.{drop_more}
 use Rattle.std.proofs.lemmas.List.Sums.{sum_by-cons, sum_by-drop_more}
 use Rattle.offers.specs.Room.{go, goes}
 
--- what is told of a successor is where a tile slides from
-slide_of : (rule : CostRule) (parts : List Part) (b : Position) (m : Move) (blank from : ℕ) (told : Successor) → IsBoard b → blank ≡ blank_of b → neighbour b.grid m (blank_of b) ≡ Some from → told ≡ told_of parts b (successor_at rule b from) → IsSlide b.grid b (record { tile = told.tile; from = told.cell; to = blank })
-slide_of rule parts b m blank from told board is found same =
+-- by what is told of a successor a tile slides onto the blank's cell, and that leads to the key
+moved_of : (rule : CostRule) (parts : List Part) (b : Position) (m : Move) (blank from : ℕ) (told : Successor) → IsBoard b → blank ≡ blank_of b → neighbour b.grid m (blank_of b) ≡ Some from → told ≡ told_of parts b (successor_at rule b from) → IsMoved b (moved_by b told blank)
+moved_of rule parts b m blank from told board is found same =
     let lies : LiesTowards b.grid m (blank_of b) from = (neighbour_lies b.grid m (blank_of b) from (blank_stands b board).0).0 found in
     let within : from < cell_count b.grid = cell_below b.grid m (blank_of b) from lies in
     let at : blank_of (blank_exchange b from) ≡ from = blank_after b board from within in
     let cell : told.cell ≡ from = ap (λ (s : Successor). s.cell) same ∙ at in
     let tile : told.tile ≡ slice_index b.tiles from = ap (λ (s : Successor). s.tile) same ∙ ap (slice_index b.tiles) at in
     let above = tile_above b from board within (other_cell b.grid m (blank_of b) from lies) in
-    record {
+    let slide : IsSlide b.grid b (moved_by b told blank).slide = record {
       board = board;
       sides = refl;
       within = subst (λ (k : ℕ). k < cell_count b.grid) (sym cell) within;
       tile = ap (slice_index b.tiles) cell ∙ sym tile;
       some = subst (λ (t : ℕ). 0 < t) (sym tile) above;
       blank = sym is;
+    } in
+    record {
+      slide = slide;
+      key = subst (λ (k : ℕ). HasKey b.grid told.key (blank_exchange b k)) (sym cell) (record {
+        board = exchange_board b (blank_of b) from board (blank_stands b board).0 within;
+        sides = refl;
+        packed = ap (λ (s : Successor). s.key) (sym same);
+      });
     }
 
-slides_by : (rule : CostRule) (parts : List Part) (b : Position) (m : Move) (blank : ℕ) (to : Option ℕ) (told : Option Successor) → IsBoard b → blank ≡ blank_of b → neighbour b.grid m (blank_of b) ≡ to → told ≡ option_map (told_of parts b) (option_map (successor_at rule b) to) → IfSome told (λ s. IsSlide b.grid b (record { tile = s.tile; from = s.cell; to = blank }))
-slides_by rule parts b m blank to None board is found same = tt
-slides_by rule parts b m blank None (Some told) board is found same = absurd (none same)
+moves_by : (rule : CostRule) (parts : List Part) (b : Position) (m : Move) (blank : ℕ) (to : Option ℕ) (told : Option Successor) → IsBoard b → blank ≡ blank_of b → neighbour b.grid m (blank_of b) ≡ to → told ≡ option_map (told_of parts b) (option_map (successor_at rule b) to) → IfSome told (λ s. IsMoved b (moved_by b s blank))
+moves_by rule parts b m blank to None board is found same = tt
+moves_by rule parts b m blank None (Some told) board is found same = absurd (none same)
   where
     none : {s : Successor} → ◌≡◌ {A = Option Successor} (Some s) None → ⊥
     none e = cc
-slides_by rule parts b m blank (Some from) (Some told) board is found same = slide_of rule parts b m blank from told board is found cc
+moves_by rule parts b m blank (Some from) (Some told) board is found same = moved_of rule parts b m blank from told board is found cc
 
--- in each move of which something is told a tile slides onto the blank's cell
-pub slides_at : (rule : CostRule) (parts : List Part) (left_out : Option Move) (told : FourOf Successor) (b : Position) (blank : ℕ) → IsBoard b → blank ≡ blank_of b → told ≡ successors_but left_out rule parts b → (i : ℕ) (e : Move × Successor) → i < length (entries_of told) → IsSlide b.grid b (record { tile = (get_or (entries_of told) i e).1.tile; from = (get_or (entries_of told) i e).1.cell; to = blank })
-slides_at rule parts left_out told b blank board at is i e low =
+-- so it is by each move of which something is told
+pub moves_at : (rule : CostRule) (parts : List Part) (left_out : Option Move) (told : FourOf Successor) (b : Position) (blank : ℕ) → IsBoard b → blank ≡ blank_of b → told ≡ successors_but left_out rule parts b → (i : ℕ) (e : Move × Successor) → i < length (entries_of told) → IsMoved b (moved_by b (get_or (entries_of told) i e).1 blank)
+moves_at rule parts left_out told b blank board at is i e low =
     let m = (get_or (entries_of told) i e).0 in
     let made = kept_by left_out (λ k. option_map (told_of parts b) (successor rule b k)) told is i e low in
-    slides_by rule parts b m blank (neighbour b.grid m (blank_of b)) (Some (get_or (entries_of told) i e).1) board at refl (sym made.1)
+    moves_by rule parts b m blank (neighbour b.grid m (blank_of b)) (Some (get_or (entries_of told) i e).1) board at refl (sym made.1)
 
 module _ (rule : CostRule) (parts : List Part) (b : Position) (cost : ℕ) (m : Move) where
   -- of a board that is there something is told

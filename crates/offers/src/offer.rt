@@ -149,8 +149,9 @@ fn owner_after<S: Spread>(owners: &S, hashed: Hashed, moved: Moved) -> usize
     requires some { 0 < hashed.workers }
     requires moved { (b : Position) × IsMoved b moved
         × IfSome hashed.hash (λ hash. hash ≡ S.hash_of owners.now b) }
-    ensures { (b : Position) → HasKey moved.shape moved.key b
+    ensures value { (b : Position) → HasKey moved.shape moved.key b
         → result ≡ S.owner_of owners.now hashed.workers b }
+    ensures within { result < hashed.workers }
 {
     if let Some(hash) = hashed.hash {
         return owners.owner_after(hash, moved, hashed.workers);

@@ -1,35 +1,25 @@
-use Rattle.std.proofs.Common.{◌≡◌, ◌<◌, ◌≤◌, ◌%◌, ℕ, ◌∷◌, [], List, Some, get_or, length, sym, ap, ◌∙◌, subst, ⊎_elim, arith}
+use Rattle.std.proofs.Common.{◌≡◌, ◌<◌, ◌≤◌, ℕ, ◌∷◌, [], List, Some, get_or, length, sym, ap, ◌∙◌, subst, ⊎_elim, arith}
 use Rattle.std.specs.Prelude.{option_map}
 use Rattle.std.proofs.Math.Nat.{eq-or-lt_of_le}
 use Rattle.std.proofs.lemmas.List.{length-append}
 use Rattle.board.specs.declared.moves.Move.{Move}
 use Rattle.board.specs.declared.moves.Move.TheVariants.{U}
-use Rattle.board.specs.Keys.{HasKey}
 use Rattle.board.specs.Moves.{successor}
-use Rattle.board.specs.Positions.{Position}
 use Rattle.lower_bound.specs.declared.bound.TheConstants.{GREATEST_SUM}
 use Rattle.lower_bound.specs.Bounds.{sum_of}
 use Rattle.lower_bound.specs.Tables.{parts_of}
-use Rattle.owners.specs.Slides.{IsSlide}
+use Rattle.owners.specs.Slides.{IsMoved}
 use Rattle.successor_sums.specs.declared.unpacked.Successor.{Successor}
 use Rattle.successor_sums.specs.ByMoves.{IsBehind, entries_of}
 use Rattle.successor_sums.specs.Unpacked.{told_of}
 use Rattle.successor_sums.proofs.SumLemmas.{put_entry, at_end, at_entries, before_end, behind_those, of_entries, kept_by}
 use Rattle.offers.specs.declared.offer.Offer.{Offer}
-use Rattle.offers.specs.Offers.{item_by, IsOffered, IsWithin}
-use Rattle.offers.proofs.OfferLemmas.{all_offered, slides_at}
+use Rattle.offers.specs.Offers.{item_by, moved_by, IsOffered, IsWithin}
+use Rattle.offers.proofs.OfferLemmas.{all_offered, moves_at}
 use Rattle.offers.proofs.offer.offers_of.Goals as goal
 
 abbrev any : Move × Successor
 any = (U, record { key = 0; tile = 0; cell = 0; cost = 0; sum = 0 })
-
-pub offer_by-offer-requires-clause-keys : goal.offer_by-offer-requires-clause-keys
-offer_by-offer-requires-clause-keys g c =
-    let test = c.told-test.true in
-    let all = c.len-place-end.ensures.value in
-    let told = c.successors_but.new.told in
-    let low : c.told.place < length (entries_of told) = omega (arith, test, all) in
-    subst (λ (x : Move × Successor). (λ (s : Successor). (x : Position) × HasKey c.args.unpacked.now.grid s.key x) x.1) (c.entry-direction.ensures any) (at_entries (λ (s : Successor). (x : Position) × HasKey c.args.unpacked.now.grid s.key x) told c.successors_but.ensures.keys c.told.place any low)
 
 pub offer_by-offer-requires-clause-costs : goal.offer_by-offer-requires-clause-costs
 offer_by-offer-requires-clause-costs g c =
@@ -47,15 +37,15 @@ offer_by-offer-requires-clause-sums g c =
     let low : c.told.place < length (entries_of told) = omega (arith, test, all) in
     subst (λ (x : Move × Successor). (λ (s : Successor). s.sum ≤ GREATEST_SUM) x.1) (c.entry-direction.ensures any) (at_entries (λ (s : Successor). s.sum ≤ GREATEST_SUM) told c.successors_but.ensures.sums c.told.place any low)
 
-pub offer_by-offer-requires-clause-slides : goal.offer_by-offer-requires-clause-slides
-offer_by-offer-requires-clause-slides g c =
+pub offer_by-offer-requires-clause-moved : goal.offer_by-offer-requires-clause-moved
+offer_by-offer-requires-clause-moved g c =
     let test = c.told-test.true in
     let all = c.len-place-end.ensures.value in
     let told = c.successors_but.new.told in
     let low : c.told.place < length (entries_of told) = omega (arith, test, all) in
     let b = c.args.unpacked.now in
-    subst (λ (x : Move × Successor). IsSlide b.grid b (record { tile = x.1.tile; from = x.1.cell; to = c.blank.result })) (c.entry-direction.ensures any)
-    (slides_at c.args.weights.now (parts_of c.args.bound.now) c.args.left_out told b c.blank.result c.blank.ensures.board c.blank.ensures.value c.successors_but.ensures.value c.told.place any low)
+    subst (λ (x : Move × Successor). IsMoved b (moved_by b x.1 c.blank.result)) (c.entry-direction.ensures any)
+    (moves_at c.args.weights.now (parts_of c.args.bound.now) c.args.left_out told b c.blank.result c.blank.ensures.board c.blank.ensures.value c.successors_but.ensures.value c.told.place any low)
 
 pub put_if-requires : goal.put_if-requires
 put_if-requires g c =
@@ -97,8 +87,8 @@ told-preserved g c =
           (eq-or-lt_of_le (omega (arith, lt)));
       offered = λ j d lt.
           ⊎_elim
-          (λ (is : j ≡ c.told.place). subst (λ (x : Move × Offer). IsOffered (sum_of (parts_of c.args.bound.now)) (λ p. g.S.Spread.hash_of c.args.owners.now p % c.args.workers) (item_by c.args.weights.now b c.args.cost x.0) (Some x.1)) (sym (here j d is)) is_offered)
-          (λ (less : j < c.told.place). subst (λ (x : Move × Offer). IsOffered (sum_of (parts_of c.args.bound.now)) (λ p. g.S.Spread.hash_of c.args.owners.now p % c.args.workers) (item_by c.args.weights.now b c.args.cost x.0) (Some x.1)) (sym (there j d less)) (c.told.invariant.offered j d less))
+          (λ (is : j ≡ c.told.place). subst (λ (x : Move × Offer). IsOffered (sum_of (parts_of c.args.bound.now)) (g.S.Spread.owner_of c.args.owners.now c.args.workers) (item_by c.args.weights.now b c.args.cost x.0) (Some x.1)) (sym (here j d is)) is_offered)
+          (λ (less : j < c.told.place). subst (λ (x : Move × Offer). IsOffered (sum_of (parts_of c.args.bound.now)) (g.S.Spread.owner_of c.args.owners.now c.args.workers) (item_by c.args.weights.now b c.args.cost x.0) (Some x.1)) (sym (there j d less)) (c.told.invariant.offered j d less))
           (eq-or-lt_of_le (omega (arith, lt)));
       within = λ j d lt.
           ⊎_elim
@@ -112,7 +102,7 @@ returns-clause-offered g c =
     let end = c.told-test.false in
     let all = c.len-place-end.ensures.value in
     let before = c.told.invariant.all in
-    all_offered c.args.weights.now (parts_of c.args.bound.now) c.args.left_out c.args.unpacked.now c.args.cost (λ p. g.S.Spread.hash_of c.args.owners.now p % c.args.workers) c.successors_but.new.told c.told.offers c.successors_but.ensures.value (omega (arith, end, all, before))
+    all_offered c.args.weights.now (parts_of c.args.bound.now) c.args.left_out c.args.unpacked.now c.args.cost (g.S.Spread.owner_of c.args.owners.now c.args.workers) c.successors_but.new.told c.told.offers c.successors_but.ensures.value (omega (arith, end, all, before))
     (λ j d e lt. c.told.invariant.moves j d e (omega (arith, end, all, lt)))
     (λ j d lt. c.told.invariant.offered j d (omega (arith, end, all, lt)))
 

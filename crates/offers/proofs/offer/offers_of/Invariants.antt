@@ -1,4 +1,4 @@
-use Rattle.std.proofs.Common.{◌≡◌, ◌<◌, ◌%◌, ℕ, Some, length, get_or}
+use Rattle.std.proofs.Common.{◌≡◌, ◌<◌, ℕ, Some, length, get_or}
 use Rattle.board.specs.declared.moves.Move.{Move}
 use Rattle.lower_bound.specs.Bounds.{sum_of}
 use Rattle.lower_bound.specs.Tables.{parts_of}
@@ -13,6 +13,6 @@ abbrev pub invariant-told : goal.invariant-told
 invariant-told g l = record {
   all : length (entries_of l.offers) ≡ l.place;
   moves : (j : ℕ) (d : Move × Offer) (e : Move × Successor) → j < l.place → (get_or (entries_of l.offers) j d).0 ≡ (get_or (entries_of l.told) j e).0;
-  offered : (j : ℕ) (d : Move × Offer) → j < l.place → IsOffered (sum_of (parts_of l.bound)) (λ b. g.S.Spread.hash_of l.owners b % l.workers) (item_by l.weights l.unpacked l.cost (get_or (entries_of l.offers) j d).0) (Some (get_or (entries_of l.offers) j d).1);
+  offered : (j : ℕ) (d : Move × Offer) → j < l.place → IsOffered (sum_of (parts_of l.bound)) (g.S.Spread.owner_of l.owners l.workers) (item_by l.weights l.unpacked l.cost (get_or (entries_of l.offers) j d).0) (Some (get_or (entries_of l.offers) j d).1);
   within : (j : ℕ) (d : Move × Offer) → j < l.place → IsWithin l.unpacked.grid l.cost l.workers (get_or (entries_of l.offers) j d).1;
 }
