@@ -76,7 +76,7 @@ fn print_both<R: Threads + Wait + Print + AllocGlobal + Sync>(
     groups: &[&[u8]],
     runs: u64,
 ) -> io::Result<()> {
-    for division in Division::ALL {
+    for division in Division::HASHED {
         let team = Team { workers, division };
         let Some(Count { proved, found }) = count_runs(rt, rt.alloc(), team, groups, runs) else {
             return Err(ErrorKind::OutOfMemory.into());
@@ -121,7 +121,7 @@ fn count_kept<R: Threads + Wait + Sync>(rt: &R, alloc: Global) -> Option<Kept> {
     let bound = bound_of(alloc, &problem.goal, &problem.weights, &GROUPS)?;
     let mut count = Kept { kept: 0, runs: 0 };
     for workers in 2..17 {
-        for division in Division::ALL {
+        for division in Division::HASHED {
             let team = Team { workers, division };
             for _ in 0..RUNS {
                 let answer = answer_of_threads(rt, alloc, &problem, &bound, team, &Free);

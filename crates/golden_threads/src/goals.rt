@@ -89,7 +89,7 @@ fn count_goal<R: Threads + Wait + Sync>(
     let bound = bound_of(alloc, &problem.goal, &problem.weights, &[])?;
     let due = Answer::Plan(cost);
     for workers in 2..MOST_WORKERS + 1 {
-        for division in Division::ALL {
+        for division in Division::HASHED {
             let team = Team { workers, division };
             let with_rows = answer_with_rows(rt, alloc, &problem, &bound, team, &Free);
             let without_rows = answer_without_rows(rt, alloc, &problem, &bound, team, &Free);

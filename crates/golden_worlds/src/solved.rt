@@ -12,9 +12,10 @@ use cases::{CASES, RUN_START, RUNS, Run};
 use hda_run::{Job, WorldFault, run_and_finish};
 use lower_bound::Bound;
 use outcomes::Outcome;
-use owners::ByBlank;
+use owners::{ByBlank, Zobrist};
 use std::alloc::Global;
 use std::io::{self, ErrorKind, Print};
+use test_worlds::{ByRow, Division};
 
 /// Prints what is answered to each job and to each list of steps.
 pub fn print_solved(rt: &(impl Print + AllocGlobal)) -> io::Result<()> {
@@ -48,7 +49,15 @@ fn print_result(rt: &impl Print, answer: &Option<Result<Outcome, WorldFault>>) -
 fn answer(alloc: Global, run: &Run) -> Option<Result<Outcome, WorldFault>> {
     let bound = no_tables(alloc, Shape::new(2, 2).ok()?);
     let job = job_of(&bound)?;
-    Some(run_and_finish(alloc, job, run.workers, &ByBlank, run.steps))
+    let Run { workers, steps, .. } = *run;
+    Some(match run.division {
+        Division::ByBlank => run_and_finish(alloc, job, workers, &ByBlank, steps),
+        Division::ByHash => {
+            let spread = Zobrist::new(Shape::new(2, 2).ok()?);
+            run_and_finish(alloc, job, workers, &spread, steps)
+        }
+        Division::ByRow => run_and_finish(alloc, job, workers, &ByRow, steps),
+    })
 }
 
 // The job at unit cost, without a limit.

@@ -1,2 +1,3 @@
 -- What the worker of a trial is lent, and how it stands.
 pub mod Jobs
+pub mod Rows

@@ -6,12 +6,14 @@
 
 mod gates;
 mod problems;
+mod rows;
 mod solving;
 mod steps;
 mod tables;
 
 pub use gates::{Counter, Delay};
 pub use problems::{Answer, Division, Job, Problem, Team};
+pub use rows::ByRow;
 pub use solving::{answer_of_threads, answer_with_rows, answer_without_rows};
 pub use steps::{expand, hire, meet, settle};
 pub use tables::bound_of;

@@ -29,17 +29,23 @@ pub enum Division {
     ByBlank,
     /// By the hash of the whole board.
     ByHash,
+    /// By whether the blank is in the last row: by no hash modulo the number of workers.
+    ByRow,
 }
 
 impl Division {
-    /// Both ways.
-    pub const ALL: [Division; 2] = [Division::ByBlank, Division::ByHash];
+    /// By a hash: the ways that the program offers.
+    pub const HASHED: [Division; 2] = [Division::ByBlank, Division::ByHash];
+
+    /// Each way.
+    pub const ALL: [Division; 3] = [Division::ByBlank, Division::ByHash, Division::ByRow];
 
     /// The word for it.
     pub fn word(self) -> &'static str {
         match self {
             Division::ByBlank => "blank",
             Division::ByHash => "hash",
+            Division::ByRow => "row",
         }
     }
 }

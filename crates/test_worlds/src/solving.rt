@@ -4,6 +4,7 @@ ghost use Rattle.lower_bound.specs.Tables.{ArePotentials};
 ghost use Rattle.hda_run.specs.Worlds.{IsWorkerCount};
 
 use crate::problems::{Answer, Division, Problem, Team};
+use crate::rows::ByRow;
 use board::Board;
 use certificate::{Certificate, Claim, Parts, Version};
 use certificate_check::check;
@@ -34,6 +35,7 @@ pub fn answer_with_rows<R: Threads + Wait + Sync, G: Gate + Sync>(
             let spread = Zobrist::new(problem.goal.shape());
             solve_by(rt, alloc, problem, bound, team.workers, &spread, gate)
         }
+        Division::ByRow => solve_by(rt, alloc, problem, bound, team.workers, &ByRow, gate),
     }
 }
 
@@ -57,6 +59,7 @@ pub fn answer_without_rows<R: Threads + Wait + Sync, G: Gate + Sync>(
             let spread = Zobrist::new(problem.goal.shape());
             end_by(rt, alloc, problem, bound, team.workers, &spread, gate)
         }
+        Division::ByRow => end_by(rt, alloc, problem, bound, team.workers, &ByRow, gate),
     }
 }
 
@@ -81,6 +84,7 @@ pub fn answer_of_threads<R: Threads + Wait + Sync, G: Gate + Sync>(
             let spread = Zobrist::new(problem.goal.shape());
             find_by(rt, alloc, problem, bound, team.workers, &spread, gate)
         }
+        Division::ByRow => find_by(rt, alloc, problem, bound, team.workers, &ByRow, gate),
     }
 }
 

@@ -19,7 +19,7 @@ const WORKERS: [usize; 4] = [2, 3, 4, 16];
 pub fn print_runs<R: Threads + Wait + Print + AllocGlobal + Sync>(rt: &R) -> io::Result<()> {
     println!(rt; "# {START:?} at unit cost, with tables for {GROUPS:?}")?;
     for workers in WORKERS {
-        for division in Division::ALL {
+        for division in Division::HASHED {
             print_run(rt, Team { workers, division })?;
         }
     }

@@ -20,7 +20,7 @@ const LEFT_BY_EACH: u64 = 256;
 /// two workers expand a board under a limit that one grant uses up.
 pub fn print_runs<R: Threads + Wait + Print + AllocGlobal + Sync>(rt: &R) -> io::Result<()> {
     println!(rt; "# {START:?} at unit cost, limit {LIMIT}")?;
-    for division in Division::ALL {
+    for division in Division::HASHED {
         print_run(
             rt,
             Team {
@@ -42,7 +42,7 @@ pub fn print_runs<R: Threads + Wait + Print + AllocGlobal + Sync>(rt: &R) -> io:
     }
     rt.println("")?;
     println!(rt; "# The same board, limit {SMALL_LIMIT}")?;
-    for division in Division::ALL {
+    for division in Division::HASHED {
         print_run(
             rt,
             Team {

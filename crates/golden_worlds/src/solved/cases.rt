@@ -1,5 +1,6 @@
 //! The jobs, and the lists of steps.
 
+use test_worlds::Division;
 use world_model::Step;
 
 /// What moves cost.
@@ -19,15 +20,6 @@ impl Costs {
             Costs::Face => "face",
         }
     }
-}
-
-/// How boards are divided among workers.
-#[derive(Clone, Copy)]
-pub enum Division {
-    /// By the blank's cell.
-    ByBlank,
-    /// By the hash of the whole board.
-    ByHash,
 }
 
 /// A job that one worker solves alone: to lead a board to Korf's goal.
@@ -151,6 +143,7 @@ pub static CASES: [Case; 13] = [
 pub struct Run {
     pub title: &'static str,
     pub workers: usize,
+    pub division: Division,
     pub steps: &'static [Step],
 }
 
@@ -179,26 +172,51 @@ const SOLVED: &[Step] = &[
     Step::Rest(1),
 ];
 
+// Worker 0 owns the start and the goal, worker 2 the boards whose blank is in the last row.
+const SOLVED_BY_ROW: &[Step] = &[
+    Step::Grant(0),
+    Step::Expand(0),
+    Step::Announce(0),
+    Step::Send(0, 2),
+    Step::Draw(0),
+    Step::Send(0, 2),
+    Step::Deliver(2, 0),
+    Step::Settle(2),
+    Step::Rest(2),
+    Step::Rest(1),
+    Step::Rest(0),
+];
+
 /// The lists.
-pub static RUNS: [Run; 4] = [
+pub static RUNS: [Run; 5] = [
     Run {
         title: "Two workers find a plan, and rest",
         workers: 2,
+        division: Division::ByBlank,
         steps: SOLVED,
     },
     Run {
         title: "The goal is still in a lane",
         workers: 2,
+        division: Division::ByBlank,
         steps: SENT,
+    },
+    Run {
+        title: "Three workers, of whom one owns no board",
+        workers: 3,
+        division: Division::ByRow,
+        steps: SOLVED_BY_ROW,
     },
     Run {
         title: "No worker",
         workers: 0,
+        division: Division::ByBlank,
         steps: SOLVED,
     },
     Run {
         title: "More workers than there may be",
         workers: 17,
+        division: Division::ByBlank,
         steps: SOLVED,
     },
 ];

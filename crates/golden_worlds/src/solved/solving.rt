@@ -3,7 +3,7 @@
 ghost use Rattle.std.specs.Prelude.{◌≡◌, IfSome};
 ghost use Rattle.lower_bound.specs.Tables.{ArePotentials};
 
-use crate::solved::cases::{Case, Costs, Division};
+use crate::solved::cases::{Case, Costs};
 use board::{Board, Move, Shape, Weights};
 use hda_run::{Free, Job, read_one, solve_one};
 use lower_bound::Bound;
@@ -11,7 +11,7 @@ use outcomes::{Ending, Outcome};
 use owners::{ByBlank, Zobrist};
 use std::alloc::Global;
 use std::io::{self, ErrorKind, Print};
-use test_worlds::bound_of;
+use test_worlds::{ByRow, Division, bound_of};
 use world_ends::WithoutRows;
 
 // A job without its tables.
@@ -82,6 +82,7 @@ fn solved(alloc: Global, problem: &Problem, bound: &Bound, division: Division) -
     match division {
         Division::ByBlank => solve_one(alloc, job, &ByBlank, &Free).ok(),
         Division::ByHash => solve_one(alloc, job, &Zobrist::new(shape), &Free).ok(),
+        Division::ByRow => solve_one(alloc, job, &ByRow, &Free).ok(),
     }
 }
 
@@ -99,6 +100,7 @@ fn ended(alloc: Global, problem: &Problem, bound: &Bound, division: Division) ->
             let spread = Zobrist::new(shape);
             read_one::<WithoutRows, Zobrist, Free>(alloc, job, &spread, &Free).ok()
         }
+        Division::ByRow => read_one::<WithoutRows, ByRow, Free>(alloc, job, &ByRow, &Free).ok(),
     }
 }
 
