@@ -1,5 +1,5 @@
 -- The two ends of a ring, and those of all rings of a run.
-use Rattle.std.specs.Prelude.{◌≡◌, ◌≢◌, ℕ, ◌<◌, List, [], ◌∷◌, ◌++◌, Vec, map, length, Some, slice_get, slice_index_or}
+use Rattle.std.specs.Prelude.{◌≡◌, ◌≢◌, ℕ, ◌<◌, List, [], ◌∷◌, ◌++◌, Vec, map, length, replicate, Some, slice_get, slice_index_or}
 use denote.RawPtr.{Ptr}
 use Rattle.std.specs.declared.alloc.Global.{Global}
 use Rattle.rtrb.specs.Shared.{Names}
@@ -102,3 +102,22 @@ pub record ArePaired (n : ℕ) (outs ins : List (List Ring)) : Type 0 where
 -- each ring has its room
 abbrev pub HaveRoom : List (List Ring) → Type 0
 HaveRoom outs = (i j : ℕ) (ring : Ring) → slice_get (slice_index_or outs i []) j ≡ Some ring → IsRoomBetween i j (room_of ring)
+
+-- the rings of n workers as they begin: nothing was sent or received by them, and each has its room
+pub record AreNew (n : ℕ) (outs : List (Vec SendingEnd Global)) (ins : List (Vec ReceivingEnd Global)) : Type 0 where
+  pub paired : ArePaired n (rings_of_outs outs) (rings_of_ins ins)
+  pub sent : sent_rows outs ≡ replicate n (replicate n [])
+  pub received : received_rows ins ≡ replicate n (replicate n [])
+  pub rooms : HaveRoom (rings_of_outs outs)
+
+-- the ring at `to` of the one list is that at `from` of the other
+pub record IsSameRing (outs : List Ring) (to : ℕ) (ins : List Ring) (from : ℕ) : Type 0 where
+  pub sender : to < length outs
+  pub receiver : from < length ins
+  pub same : slice_get outs to ≡ slice_get ins from
+
+-- the ends of one worker after the one from worker `from` was looked at: only what it has seen and not taken may be another
+pub record IsLookedAt (from : ℕ) (ins ins' : List ReceivingEnd) : Type 0 where
+  pub rings : in_rings ins' ≡ in_rings ins
+  pub received : received_lanes ins' ≡ received_lanes ins
+  pub others : (k : ℕ) → k ≢ from → slice_index_or (left_lanes ins') k [] ≡ slice_index_or (left_lanes ins) k []

@@ -7,5 +7,5 @@ mod rows;
 mod ties;
 
 pub use ends::{NoRing, Receiver, Sender};
-pub use rows::{NoMemory, Rings, open_rings, take_row};
+pub use rows::{Ends, NoMemory, Rings, open_rings, take_row};
 pub use ties::tie;

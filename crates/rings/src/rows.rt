@@ -1,11 +1,11 @@
 //! The rings of a run.
 
-ghost use Rattle.std.specs.Prelude.{ℕ, ◌≡◌, ◌≤◌, ◌<◌, ◌∷◌, ◌++◌, [], length, vec_len, replicate};
+ghost use Rattle.std.specs.Prelude.{ℕ, ◌≡◌, ◌≤◌, ◌<◌, ◌∷◌, ◌++◌, [], length, vec_len};
 ghost use Rattle.std.specs.Prelude.{IfOk, Some, slice_get, slice_index_or};
 ghost use Rattle.world_model.specs.declared.limits.TheConstants.{LANE_LIMIT};
 ghost use Rattle.rings.specs.Rings.{Ring, out_rings, in_rings, sent_lanes, received_lanes};
-ghost use Rattle.rings.specs.Rings.{rings_of_outs, rings_of_ins, sent_rows, received_rows};
-ghost use Rattle.rings.specs.Rings.{lane_at, ArePaired, HaveRoom, IsRoomBetween, room_of};
+ghost use Rattle.rings.specs.Rings.{rings_of_ins, received_rows};
+ghost use Rattle.rings.specs.Rings.{lane_at, AreNew, IsRoomBetween, room_of};
 
 use crate::ends::{NoRing, Receiver, Sender, open_ring};
 use memory::OutOfMemory;
@@ -21,6 +21,13 @@ pub struct Rings<C: Counting> {
     pub ins: Vec<Vec<Receiver<C>>>,
 }
 
+/// One worker's ends of the rings of a run: `outs[j]` of that to worker j, `ins[j]` of that from it.
+#[derive(Drop)]
+pub struct Ends<C: Counting> {
+    pub outs: Vec<Sender<C>>,
+    pub ins: Vec<Receiver<C>>,
+}
+
 /// Memory was refused: for a list, or for a ring.
 #[derive(Clone, Copy, Debug, PartialEq, Eq)]
 pub enum NoMemory {
@@ -30,13 +37,7 @@ pub enum NoMemory {
 
 /// A ring from each of `n` workers to each.
 pub fn open_rings<C: Counting>(alloc: Global, n: usize) -> Result<Rings<C>, NoMemory>
-    ensures paired { IfOk result (λ rings. ArePaired n
-        (rings_of_outs rings.outs.items) (rings_of_ins rings.ins.items)) }
-    ensures sent { IfOk result (λ rings. sent_rows rings.outs.items
-        ≡ replicate n (replicate n [])) }
-    ensures received { IfOk result (λ rings. received_rows rings.ins.items
-        ≡ replicate n (replicate n [])) }
-    ensures rooms { IfOk result (λ rings. HaveRoom (rings_of_outs rings.outs.items)) }
+    ensures { IfOk result (λ rings. AreNew n rings.outs.items rings.ins.items) }
 {
     let mut ins = match no_receivers(alloc, n) {
         Ok(ins) => ins,

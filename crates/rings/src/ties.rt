@@ -1,9 +1,9 @@
 //! What is known of a ring once both ends of it are in one thread.
 
-ghost use Rattle.std.specs.Prelude.{ℕ, ◌≡◌, ◌≢◌, ◌≤◌, ◌<◌, ◌++◌, [], length, vec_len};
-ghost use Rattle.std.specs.Prelude.{slice_get, slice_index_or};
+ghost use Rattle.std.specs.Prelude.{◌≡◌, ◌≤◌, ◌++◌, [], length, slice_index_or};
 ghost use Rattle.world_model.specs.declared.limits.TheConstants.{LANE_LIMIT};
 ghost use Rattle.rings.specs.Rings.{out_rings, in_rings, sent_lanes, received_lanes, left_lanes};
+ghost use Rattle.rings.specs.Rings.{IsSameRing, IsLookedAt};
 
 use crate::ends::{Receiver, Sender};
 use message_ledger::Counting;
@@ -17,21 +17,14 @@ pub fn tie<C: Counting>(
     ins: &mut Vec<Receiver<C>>,
     from: usize,
 ) -> usize
-    requires to { to < vec_len outs.old }
-    requires from { from < vec_len ins.old }
-    requires pair { slice_get (out_rings outs.old.items) to
-        ≡ slice_get (in_rings ins.old.items) from }
+    requires { IsSameRing (out_rings outs.old.items) to (in_rings ins.old.items) from }
     ensures tied { slice_index_or (received_lanes ins.new.items) from []
         ++ slice_index_or (left_lanes ins.new.items) from []
         ≡ slice_index_or (sent_lanes outs.new.items) to [] }
     ensures count { result ≡ length (slice_index_or (left_lanes ins.new.items) from []) }
     ensures few { result ≤ LANE_LIMIT }
     ensures outs { outs.new.items ≡ outs.old.items }
-    ensures ins_len { vec_len ins.new ≡ vec_len ins.old }
-    ensures rings { in_rings ins.new.items ≡ in_rings ins.old.items }
-    ensures received { received_lanes ins.new.items ≡ received_lanes ins.old.items }
-    ensures others { (k : ℕ) → k ≢ from → slice_index_or (left_lanes ins.new.items) k []
-        ≡ slice_index_or (left_lanes ins.old.items) k [] }
+    ensures ins { IsLookedAt from ins.old.items ins.new.items }
 {
     ins[from].look_beside(&mut outs[to])
 }

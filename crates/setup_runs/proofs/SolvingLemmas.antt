@@ -1,5 +1,5 @@
 -- What the setup's workers answer is what its rules allow.
-use Rattle.std.proofs.Common.{ℕ, ◌≡◌, ◌⊎◌, ◌↔◌, ◌<◌, None, Some, Result, Ok, Err, IfOk, refl, ap, subst, inl, inr, sym, arith}
+use Rattle.std.proofs.Common.{ℕ, ◌≡◌, ◌⊎◌, ◌↔◌, None, Some, Result, Ok, Err, IfOk, refl, ap, subst, inl, inr, sym, arith}
 use Rattle.std.specs.Prelude.{◌≤◌}
 use Rattle.board.specs.Grids.{cell_count}
 use Rattle.board.specs.Positions.{Position}

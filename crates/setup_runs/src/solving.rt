@@ -16,6 +16,7 @@ use owners::{ByBlank, Spread, Zobrist};
 use std::alloc::Global;
 use std::sync::Wait;
 use std::thread::Threads;
+use thread_runs::laws::owners_are_workers;
 use thread_runs::search_by_workers;
 use world_ends::Reading;
 
@@ -70,6 +71,7 @@ fn answer_spread<A: Reading, R: Threads + Wait + Sync, S: Spread + Sync, G: Gate
     ensures answers { IfOk result (A.answers (task_of setup.now start.now)) }
     ensures kept { IfOk result (λ answer. EndsWholeRun (A.end answer)) }
 {
+    owners_are_workers::<S>();
     let workers = setup.worker_count();
     search_by_workers::<A, R, S, G>(rt, alloc, job_for(setup, start), workers, spread, gate)
 }

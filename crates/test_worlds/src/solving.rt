@@ -15,6 +15,7 @@ use owners::{ByBlank, Spread, Zobrist};
 use std::alloc::Global;
 use std::sync::Wait;
 use std::thread::Threads;
+use thread_parts::Search;
 use thread_runs::{run_by_threads, search_by_workers, solve};
 use world_ends::{WithRows, WithoutRows};
 
@@ -144,7 +145,12 @@ fn find_by<R: Threads + Wait + Sync, S: Spread + Sync, G: Gate + Sync>(
     let Some(job) = job_of(problem, bound) else {
         return Some(Answer::Invalid);
     };
-    match run_by_threads::<WithRows, R, S, G>(rt, alloc, &job, workers, spread, gate) {
+    let search = Search {
+        job: &job,
+        owners: spread,
+        workers,
+    };
+    match run_by_threads::<WithRows, R, S, G>(rt, alloc, &search, gate) {
         Ok(Some(outcome)) => Some(answer_of_outcome(alloc, problem, bound, outcome)),
         Ok(None) => None,
         Err(_refused) => Some(Answer::NoMemory),

@@ -8,7 +8,9 @@ pub mod laws;
 mod looks;
 mod lowest;
 mod outcome;
+mod team;
 mod ties;
 mod world;
 
 pub use outcome::outcome_of_joined;
+pub use team::Team;

@@ -1,10 +1,10 @@
 //! Whether a world of joined workers is kept.
 
-ghost use Rattle.std.specs.Prelude.{◌≡◌, ◌↔◌, ◌≤◌, ◌<◌, ◌*◌, true, All, IsTrue, Some, length};
+ghost use Rattle.std.specs.Prelude.{◌≡◌, ◌↔◌, ◌<◌, ◌*◌, true, All, IsTrue, Some, length};
 ghost use Rattle.std.specs.Prelude.{option_map};
 ghost use Rattle.outcomes.specs.Outcomes.{Task};
 ghost use Rattle.search_lists.specs.Orders.{Guide};
-ghost use Rattle.world_model.specs.declared.limits.TheConstants.{GREATEST_GRANT, WORKER_LIMIT};
+ghost use Rattle.world_model.specs.declared.limits.TheConstants.{GREATEST_GRANT};
 ghost use Rattle.world_model.specs.declared.parts.Known.{Known};
 ghost use Rattle.world_model.specs.Costs.{limit_of};
 ghost use Rattle.world_model.specs.Quiet.{IsKept};
@@ -17,39 +17,39 @@ ghost use Rattle.hda_run.specs.Problems.{task_in};
 ghost use Rattle.thread_joins.specs.Worlds.{AreAtRest};
 
 use board::Board;
-use hda_run::Job;
 use incumbent::Best;
 use message_ledger::{Counting, Tokens};
 use owners::Spread;
 use quiescence::Book;
+use thread_parts::Search;
 use worker_core::Worker;
 use world_model::{GREATEST_GRANT, Known, Stop};
 
 /// Whether the world of these workers is kept, where it stopped so and, if by Quiet, all is at
 /// rest. An outcome is taken from such worlds alone.
 pub(crate) fn is_kept<C: Tokens, S: Spread>(
-    job: &Job<'_>,
-    owners: &S,
+    search: &Search<'_, S>,
     book: &Book<C>,
     workers: &mut [Worker<C>],
 ) -> bool
-    requires limit { job.now.limit ≡ C.limit }
-    requires some { 0 < length workers.old }
-    requires few { length workers.old ≤ WORKER_LIMIT }
-    requires guided { AreGuided (task_in job.now) (guide_of (task_in job.now)) workers.old }
-    ensures kept { (w : WorldState)
-        → HasParts (task_in job.now) (S.owner_of owners.now) (states_of workers.old) w
+    requires limit { search.now.job.now.limit ≡ C.limit }
+    requires count { length workers.old ≡ search.now.workers }
+    requires guided { AreGuided (task_in search.now.job.now)
+        (guide_of (task_in search.now.job.now)) workers.old }
+    ensures kept { (w : WorldState) → HasParts (task_in search.now.job.now)
+        (S.owner_of search.now.owners.now) (states_of workers.old) w
         → w.book ≡ book.now → (book.now.stop ≡ Some Stop.Quiet → AreAtRest w)
         → IsTrue result ↔ IsKept w }
     ensures same { states_of workers.new ≡ states_of workers.old }
-    ensures guided { AreGuided (task_in job.now) (guide_of (task_in job.now)) workers.new }
+    ensures guided { AreGuided (task_in search.now.job.now)
+        (guide_of (task_in search.now.job.now)) workers.new }
 {
     let Some(stop) = book.stop() else {
         return false;
     };
     match stop {
-        Stop::Quiet => is_quiet(job, owners, book.best(), workers),
-        Stop::Limit => has_spent(job, owners, workers),
+        Stop::Quiet => is_quiet(search, book.best(), workers),
+        Stop::Limit => has_spent(search, workers),
         Stop::Memory(_) => true,
         Stop::Start => false,
     }
@@ -58,21 +58,23 @@ pub(crate) fn is_kept<C: Tokens, S: Spread>(
 // Whether no open board is below the limit of the best cost, and this is the cost at which the goal
 // is known.
 fn is_quiet<C: Counting, S: Spread>(
-    job: &Job<'_>,
-    owners: &S,
+    search: &Search<'_, S>,
     best: Best,
     workers: &mut [Worker<C>],
 ) -> bool
     requires some { 0 < length workers.old }
-    requires guided { AreGuided (task_in job.now) (guide_of (task_in job.now)) workers.old }
+    requires guided { AreGuided (task_in search.now.job.now)
+        (guide_of (task_in search.now.job.now)) workers.old }
     ensures quiet { IsTrue result ↔ ((option_map (λ known. known.cost)
-        (known_in (S.owner_of owners.now) (states_of workers.old) job.now.goal) ≡ best)
-        × All (λ worker. HasNothingBelow (task_in job.now) worker (limit_of best))
+        (known_in (S.owner_of search.now.owners.now) (states_of workers.old)
+        search.now.job.now.goal) ≡ best)
+        × All (λ worker. HasNothingBelow (task_in search.now.job.now) worker (limit_of best))
         (states_of workers.old)) }
     ensures same { states_of workers.new ≡ states_of workers.old }
-    ensures guided { AreGuided (task_in job.now) (guide_of (task_in job.now)) workers.new }
+    ensures guided { AreGuided (task_in search.now.job.now)
+        (guide_of (task_in search.now.job.now)) workers.new }
 {
-    if !is_reached(job, owners, best, workers) {
+    if !is_reached(search, best, workers) {
         return false;
     }
     are_high(workers, best.limit())
@@ -80,16 +82,16 @@ fn is_quiet<C: Counting, S: Spread>(
 
 // Whether the goal is known at just the best cost that was announced.
 fn is_reached<C: Counting, S: Spread>(
-    job: &Job<'_>,
-    owners: &S,
+    search: &Search<'_, S>,
     best: Best,
     workers: &[Worker<C>],
 ) -> bool
     requires { 0 < length workers.now }
-    ensures { IsTrue result ↔ (option_map (λ known. known.cost)
-        (known_in (S.owner_of owners.now) (states_of workers.now) job.now.goal) ≡ best) }
+    ensures { IsTrue result ↔ (option_map (λ known. known.cost) (known_in
+        (S.owner_of search.now.owners.now) (states_of workers.now) search.now.job.now.goal)
+        ≡ best) }
 {
-    let Some(known) = known_of(owners, workers, job.goal()) else {
+    let Some(known) = known_of(search.owners, workers, search.job.goal()) else {
         return best.cost().is_none();
     };
     let Some(cost) = best.cost() else {
@@ -99,17 +101,16 @@ fn is_reached<C: Counting, S: Spread>(
 }
 
 // Whether the start is expanded, or the limit is no more than one grant for each worker.
-fn has_spent<C: Counting, S: Spread>(job: &Job<'_>, owners: &S, workers: &[Worker<C>]) -> bool
-    requires some { 0 < length workers.now }
-    requires few { length workers.now ≤ WORKER_LIMIT }
-    ensures { IsTrue result ↔ (GREATEST_GRANT * length workers.now < job.now.limit
-        → (known : Known) × (known_in (S.owner_of owners.now) (states_of workers.now) job.now.start
-        ≡ Some known) × (known.expanded ≡ true)) }
+fn has_spent<C: Counting, S: Spread>(search: &Search<'_, S>, workers: &[Worker<C>]) -> bool
+    requires { length workers.now ≡ search.now.workers }
+    ensures { IsTrue result ↔ (GREATEST_GRANT * length workers.now < search.now.job.now.limit
+        → (known : Known) × (known_in (S.owner_of search.now.owners.now) (states_of workers.now)
+        search.now.job.now.start ≡ Some known) × (known.expanded ≡ true)) }
 {
-    if job.limit() <= GREATEST_GRANT * workers.len() as u64 {
+    if search.job.limit() <= GREATEST_GRANT * workers.len() as u64 {
         return true;
     }
-    let Some(known) = known_of(owners, workers, job.start()) else {
+    let Some(known) = known_of(search.owners, workers, search.job.start()) else {
         return false;
     };
     known.expanded

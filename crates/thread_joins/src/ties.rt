@@ -1,11 +1,10 @@
 //! The rings of a run, once both ends of each are in one thread.
 
-ghost use Rattle.std.specs.Prelude.{ℕ, ◌≡◌, ◌≢◌, ◌<◌, [], Some, length, vec_len};
-ghost use Rattle.std.specs.Prelude.{slice_get, slice_index_or};
+ghost use Rattle.std.specs.Prelude.{ℕ, ◌≡◌, ◌<◌, [], Some, length, vec_len, slice_index_or};
 ghost use Rattle.rings.specs.Rings.{out_rings, in_rings, sent_lanes, received_lanes, left_lanes};
 ghost use Rattle.rings.specs.Rings.{rings_of_outs, rings_of_ins, sent_rows, received_rows};
-ghost use Rattle.rings.specs.Rings.{left_rows, lane_at, ArePaired};
-ghost use Rattle.thread_joins.specs.Lanes.{IsTied};
+ghost use Rattle.rings.specs.Rings.{left_rows, lane_at, ArePaired, IsSameRing, IsLookedAt};
+ghost use Rattle.thread_joins.specs.Lanes.{IsTied, AreLookedAt, AreSameEnds};
 
 use message_ledger::Tokens;
 use quiescence::Book;
@@ -23,12 +22,7 @@ pub(crate) fn tie_all<C: Tokens>(
     requires { ArePaired (vec_len ins.old) (rings_of_outs outs.old.items)
         (rings_of_ins ins.old.items) }
     ensures book { book.new ≡ book.old }
-    ensures outs_len { vec_len outs.new ≡ vec_len outs.old }
-    ensures ins_len { vec_len ins.new ≡ vec_len ins.old }
-    ensures out_rings { rings_of_outs outs.new.items ≡ rings_of_outs outs.old.items }
-    ensures in_rings { rings_of_ins ins.new.items ≡ rings_of_ins ins.old.items }
-    ensures sent { sent_rows outs.new.items ≡ sent_rows outs.old.items }
-    ensures received { received_rows ins.new.items ≡ received_rows ins.old.items }
+    ensures same { AreSameEnds outs.old.items outs.new.items ins.old.items ins.new.items }
     ensures tied { (i j : ℕ) → i < vec_len ins.old → j < vec_len ins.old
         → IsTied (lane_at (sent_rows outs.new.items) i j)
         (lane_at (received_rows ins.new.items) j i) (lane_at (left_rows ins.new.items) j i) }
@@ -48,23 +42,16 @@ fn tie_row<C: Tokens>(
     ins: &mut Vec<Vec<Receiver<C>>>,
     i: usize,
 )
-    requires len { vec_len outs.old ≡ vec_len ins.old }
-    requires inside { (j : ℕ) → j < vec_len ins.old
-        → i < length (slice_index_or (rings_of_ins ins.old.items) j []) }
-    requires pairs { (j : ℕ) → j < vec_len ins.old → slice_get (out_rings outs.old.items) j
-        ≡ slice_get (slice_index_or (rings_of_ins ins.old.items) j []) i }
+    requires { (j : ℕ) → j < vec_len ins.old → IsSameRing (out_rings outs.old.items) j
+        (slice_index_or (rings_of_ins ins.old.items) j []) i }
     ensures book { book.new ≡ book.old }
     ensures outs { outs.new.items ≡ outs.old.items }
-    ensures ins_len { vec_len ins.new ≡ vec_len ins.old }
-    ensures in_rings { rings_of_ins ins.new.items ≡ rings_of_ins ins.old.items }
-    ensures received { received_rows ins.new.items ≡ received_rows ins.old.items }
+    ensures ins { AreLookedAt i ins.old.items ins.new.items }
     ensures tied { (j : ℕ) → j < vec_len ins.old
         → IsTied (slice_index_or (sent_lanes outs.new.items) j [])
         (lane_at (received_rows ins.new.items) j i) (lane_at (left_rows ins.new.items) j i) }
     ensures quiet { book.old.stop ≡ Some Stop.Quiet → (j : ℕ) → j < vec_len ins.old
         → lane_at (left_rows ins.new.items) j i ≡ [] }
-    ensures others { (j k : ℕ) → k ≢ i → lane_at (left_rows ins.new.items) j k
-        ≡ lane_at (left_rows ins.old.items) j k }
 {
     'receivers: for j in 0..ins.len() {
         tie_ring(book, outs, j, &mut ins[j], i);
@@ -79,22 +66,15 @@ fn tie_ring<C: Tokens>(
     ins: &mut Vec<Receiver<C>>,
     from: usize,
 )
-    requires to { to < vec_len outs.old }
-    requires from { from < vec_len ins.old }
-    requires pair { slice_get (out_rings outs.old.items) to
-        ≡ slice_get (in_rings ins.old.items) from }
+    requires { IsSameRing (out_rings outs.old.items) to (in_rings ins.old.items) from }
     ensures book { book.new ≡ book.old }
     ensures outs { outs.new.items ≡ outs.old.items }
-    ensures ins_len { vec_len ins.new ≡ vec_len ins.old }
-    ensures in_rings { in_rings ins.new.items ≡ in_rings ins.old.items }
-    ensures received { received_lanes ins.new.items ≡ received_lanes ins.old.items }
+    ensures ins { IsLookedAt from ins.old.items ins.new.items }
     ensures tied { IsTied (slice_index_or (sent_lanes outs.new.items) to [])
         (slice_index_or (received_lanes ins.new.items) from [])
         (slice_index_or (left_lanes ins.new.items) from []) }
     ensures quiet { book.old.stop ≡ Some Stop.Quiet
         → slice_index_or (left_lanes ins.new.items) from [] ≡ [] }
-    ensures others { (k : ℕ) → k ≢ from → slice_index_or (left_lanes ins.new.items) k []
-        ≡ slice_index_or (left_lanes ins.old.items) k [] }
 {
     let left = tie(outs, to, ins, from);
     if left == 0 {

@@ -4,14 +4,12 @@ use Rattle.std.specs.Prelude.{slice_get, slice_index_or, unwrap_or, OnOk, OnErr,
 use Rattle.std.proofs.lemmas.List.{map-set, length-replicate, length-map}
 use Rattle.std.specs.Ordering.{nat_cmp}
 use Rattle.std.proofs.lemmas.Bool.Decides.{eqb_tells}
-use Rattle.board.specs.CostRules.{CostRule}
 use Rattle.board.specs.Positions.{Position}
 use Rattle.board.specs.declared.moves.Move.{Move}
 use Rattle.board.specs.Keys.{key_of}
 use Rattle.owners.specs.Owners.{AreWorkers}
 use Rattle.outcomes.specs.Outcomes.{Task}
-use Rattle.lower_bound.specs.Tables.{Tables}
-use Rattle.world_model.specs.declared.limits.TheConstants.{LANE_LIMIT, PACKET_LIMIT, WORKER_LIMIT}
+use Rattle.world_model.specs.declared.limits.TheConstants.{LANE_LIMIT, WORKER_LIMIT}
 use Rattle.world_model.specs.Workers.{Packet, Lane, packet_for, WorkerState, Role}
 use Rattle.world_model.specs.declared.steps.Refusal.{Refusal}
 use Rattle.world_model.specs.Books.{BookState}
@@ -26,14 +24,13 @@ use Rattle.thread_model.specs.Changes.{with_packet, Sends, Receives, with_worker
 use Rattle.thread_model.specs.Parts.{PartState, IsRole, Keeps}
 use Rattle.thread_model.specs.Laws.{SettlingIsKept, DroppingIsKept, OpeningsAreKept}
 use Rattle.search_lists.specs.Lists.{Lists}
-use Rattle.search_lists.specs.Orders.{Guide}
 use Rattle.message_ledger.specs.Spending.{Spending}
 use Rattle.worker_core.specs.declared.worker.Worker.{Worker}
 use Rattle.worker_core.specs.Contexts.{ContextModel, role_from}
 use Rattle.worker_core.specs.Expanding.{role_by}
 use Rattle.worker_core.specs.Roles.{IsGuided, guide_of}
 use Rattle.worker_core.specs.Serving.{Serves, StaysGuided}
-use Rattle.worker_core.specs.Workers.{state_of, at_lane, packets_of, with_book}
+use Rattle.worker_core.specs.Workers.{state_of, at_lane, with_book}
 use Rattle.worker_core.specs.Settling.{SettleOrDrop}
 use Rattle.rings.specs.Rings.{SendingEnd, ReceivingEnd, TakesIn, GivesOut, Looks, sent_lanes, received_lanes, left_lanes}
 use Rattle.hda_run.specs.Problems.{Problem, context_in, task_in}

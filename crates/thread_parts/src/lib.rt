@@ -9,7 +9,9 @@ mod opening;
 mod own_steps;
 mod part;
 mod sealed;
+mod search;
 
-pub use opening::open_part;
+pub use opening::{Means, open_part};
 pub use part::Part;
 pub use sealed::Sealed;
+pub use search::Search;

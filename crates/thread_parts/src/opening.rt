@@ -1,9 +1,8 @@
 //! The part with which a run begins.
 
-ghost use Rattle.std.specs.Prelude.{◌≡◌, ◌≢◌, ◌<◌, ◌≤◌, [], IfOk, replicate};
+ghost use Rattle.std.specs.Prelude.{◌≡◌, ◌≢◌, ◌<◌, ◌%◌, [], IfOk, replicate};
 ghost use Rattle.board.specs.declared.moves.Move.{Move};
 ghost use Rattle.worker_core.specs.Roles.{IsGuided, guide_of};
-ghost use Rattle.world_model.specs.declared.limits.TheConstants.{WORKER_LIMIT};
 ghost use Rattle.rings.specs.Rings.{out_rings, in_rings, sent_lanes, received_lanes};
 ghost use Rattle.hda_run.specs.Problems.{task_in};
 ghost use Rattle.worker_core.specs.Workers.{state_of};
@@ -13,46 +12,50 @@ ghost use Rattle.thread_parts.specs.Parts.{face};
 
 use crate::part::Part;
 use crate::sealed::Sealed;
+use crate::search::Search;
 use board::Move;
-use hda_run::Job;
 use memory::OutOfMemory;
 use message_ledger::{Allowance, Counting, Purse, Tokens};
 use owners::Spread;
-use rings::{Receiver, Sender};
+use rings::Ends;
 use std::alloc::Global;
 use thread_model::laws::openings_are_kept;
 use worker_core::Worker;
 use worker_core::laws::tasks_have_guides;
 use world_model::Item;
 
-/// The part of one of so many workers with which a run begins, over rings by which nothing went
-/// yet. The start's owner knows the start, and has to have a purse that isn't empty.
+/// What a worker begins with: its part of the credit, and what it may expand.
+#[derive(Drop)]
+pub struct Means<C: Counting> {
+    pub purse: Purse<C>,
+    pub allowance: Allowance<C>,
+}
+
+/// The part of worker `me` with which a run begins, over rings by which nothing went yet. The
+/// start's owner knows the start, and has to have a purse that isn't empty.
 pub fn open_part<'a, S: Spread, C: Tokens>(
     alloc: Global,
-    job: &'a Job<'a>,
-    owners: &'a S,
+    search: &Search<'a, S>,
     me: usize,
-    workers: usize,
-    outs: Vec<Sender<C>>,
-    ins: Vec<Receiver<C>>,
-    purse: Purse<C>,
-    allowance: Allowance<C>,
+    ends: Ends<C>,
+    means: Means<C>,
 ) -> Result<Sealed<'a, S, C>, OutOfMemory>
-    requires count { workers ≡ C.workers }
-    requires few { workers ≤ WORKER_LIMIT }
-    requires there { me < workers }
-    requires purse { S.owner_of owners.now workers job.now.start ≡ me → 0 < purse }
-    requires sent { sent_lanes outs.items ≡ replicate workers [] }
-    requires received { received_lanes ins.items ≡ replicate workers [] }
-    ensures { IfOk result (λ part. part ≡ face job.now owners.now me (out_rings outs.items)
-        (in_rings ins.items)) }
+    requires count { search.now.workers ≡ C.workers }
+    requires there { me < search.now.workers }
+    requires purse { S.owner_of search.now.owners.now search.now.workers
+        search.now.job.now.start ≡ me → 0 < means.purse }
+    requires sent { sent_lanes ends.outs.items ≡ replicate search.now.workers [] }
+    requires received { received_lanes ends.ins.items ≡ replicate search.now.workers [] }
+    ensures { IfOk result (λ part. part ≡ face search.now.job.now search.now.owners.now me
+        (out_rings ends.outs.items) (in_rings ends.ins.items)) }
 {
     openings_are_kept();
-    let _ = job.goal();
-    let worker = open_worker(alloc, job, owners, me, workers, purse, allowance)?;
+    let _ = search.job.goal();
+    let worker = open_worker(alloc, search, me, means)?;
+    let Ends { outs, ins } = ends;
     Ok(Sealed::new(Part {
-        job,
-        owners,
+        job: search.job,
+        owners: search.owners,
         me,
         worker,
         outs,
@@ -60,36 +63,35 @@ pub fn open_part<'a, S: Spread, C: Tokens>(
     }))
 }
 
-// One of so many workers, which knows the start if it owns it.
+// Worker `me`, which knows the start if it owns it.
 fn open_worker<S: Spread, C: Counting>(
     alloc: Global,
-    job: &Job,
-    owners: &S,
+    search: &Search<'_, S>,
     me: usize,
-    workers: usize,
-    purse: Purse<C>,
-    allowance: Allowance<C>,
+    means: Means<C>,
 ) -> Result<Worker<C>, OutOfMemory>
-    requires few { workers ≤ WORKER_LIMIT }
-    requires there { me < workers }
-    ensures first { S.owner_of owners.now workers job.now.start ≡ me
-        → IfOk result (λ worker. (via : Move) × (state_of worker
-        ≡ with_means purse allowance (first_worker workers (task_in job.now) via))) }
-    ensures idle { S.owner_of owners.now workers job.now.start ≢ me
-        → IfOk result (λ worker. state_of worker
-        ≡ with_means purse allowance (idle_worker workers)) }
-    ensures guided { IfOk result (λ worker.
-        IsGuided (task_in job.now) (guide_of (task_in job.now)) worker.lists) }
+    requires { me < search.now.workers }
+    ensures first { S.owner_of search.now.owners.now search.now.workers
+        search.now.job.now.start ≡ me → IfOk result (λ worker. (via : Move) × (state_of worker
+        ≡ with_means means.purse means.allowance
+        (first_worker search.now.workers (task_in search.now.job.now) via))) }
+    ensures idle { S.owner_of search.now.owners.now search.now.workers
+        search.now.job.now.start ≢ me → IfOk result (λ worker. state_of worker
+        ≡ with_means means.purse means.allowance (idle_worker search.now.workers)) }
+    ensures guided { IfOk result (λ worker. IsGuided (task_in search.now.job.now)
+        (guide_of (task_in search.now.job.now)) worker.lists) }
 {
     tasks_have_guides();
-    let context = job.context(me, workers, owners);
+    let workers = search.workers;
+    let context = search.job.context(me, workers, search.owners);
+    let Means { purse, allowance } = means;
     let mut worker = Worker::new(alloc, workers, purse, allowance)?;
-    let owner = owners.owner(job.start(), workers);
+    let owner = search.owners.owner(search.job.start(), workers);
     if owner != me {
         return Ok(worker);
     }
     let item = Item {
-        board: *job.start(),
+        board: *search.job.start(),
         cost: 0,
         via: Move::U,
     };

@@ -1,3 +1,4 @@
 -- Runs by threads.
 pub mod Solved
 pub mod Laws
+pub mod Ledgers

@@ -1,10 +1,16 @@
 //! The laws of what so many workers answer: each is the contract of a function that does nothing.
 
+ghost use Rattle.owners.specs.Owners.{AreWorkers};
 ghost use Rattle.thread_runs.specs.Laws.{OneIsAlone, SolvedRunsEnd, LimitsAreKept};
 ghost use Rattle.thread_runs.specs.Laws.{ThreadsAreAsAsked, WholeRunsSayWhy};
 
 use owners::Spread;
 use world_ends::Reading;
+
+/// Each board's owner is one of the workers: the law of a spread, for calls that may start threads.
+pub fn owners_are_workers<S: Spread>()
+    ensures { AreWorkers S.owner_of }
+{}
 
 /// What one worker is asked for is found by it alone.
 pub fn one_is_alone<A: Reading, S: Spread>()

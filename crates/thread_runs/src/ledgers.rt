@@ -1,11 +1,11 @@
 //! Runs by threads, each over two ledgers of its own.
 
 ghost use Rattle.std.specs.Prelude.{◌≡◌, ◌+◌, ◌^◌, IfOk};
-ghost use Rattle.hda_run.specs.Worlds.{IsWorkerCount};
 ghost use Rattle.thread_joins.specs.Threads.{IsFoundByThreads};
+ghost use Rattle.thread_runs.specs.Ledgers.{AreBlanksOf};
 
-use crate::teams::{Team, run_team};
-use hda_run::{Gate, Job};
+use crate::teams::run_team;
+use hda_run::Gate;
 use message_ledger::Capped;
 use owners::Spread;
 use rings::NoMemory;
@@ -15,25 +15,33 @@ use std::sync::Wait;
 use std::sync::ledger::{Blank, Ledger};
 use std::thread::Threads;
 use thread_joins::outcome_of_joined;
+use thread_parts::Search;
 use world_ends::Reading;
 
-/// What is found of a run by `workers` threads, in this reading. None exactly where the world of their
-/// joined workers is not kept. The error is that memory was refused for what threads begin or end
-/// with.
+/// Two new ledgers, which no types stand for yet: that of the credit, and that of what is granted.
+#[derive(Drop)]
+pub(crate) struct Blanks {
+    pub(crate) credit: Blank,
+    pub(crate) grants: Blank,
+}
+
+/// What is found of a search by as many threads as it has workers, in this reading. None exactly
+/// where the world of their joined workers is not kept. The error is that memory was refused for what
+/// threads begin or end with.
 pub fn run_by_threads<A: Reading, R: Threads + Wait + Sync, S: Spread + Sync, G: Gate + Sync>(
     rt: &R,
     alloc: Global,
-    job: &Job<'_>,
-    workers: usize,
-    owners: &S,
+    search: &Search<'_, S>,
     gate: &G,
 ) -> Result<Option<A::Answer>, NoMemory>
-    requires { IsWorkerCount workers }
-    ensures { IfOk result (IsFoundByThreads A.gives S.owner_of job.now owners.now workers) }
+    ensures { IfOk result (IsFoundByThreads A.gives S.owner_of search.now.job.now
+        search.now.owners.now search.now.workers) }
 {
-    let credit = Blank::new(u64::MAX);
-    let grants = Blank::new(workers as u64);
-    run_over::<A, R, S, G, Brand, Brand>(rt, alloc, job, workers, owners, gate, credit, grants)
+    let blanks = Blanks {
+        credit: Blank::new(u64::MAX),
+        grants: Blank::new(search.workers as u64),
+    };
+    run_over::<A, R, S, G, Brand, Brand>(rt, alloc, search, gate, blanks)
 }
 
 // The same over these ledgers. That of what is granted knows the limit.
@@ -47,30 +55,19 @@ fn run_over<
 >(
     rt: &R,
     alloc: Global,
-    job: &Job<'_>,
-    workers: usize,
-    owners: &S,
+    search: &Search<'_, S>,
     gate: &G,
-    credit: Blank,
-    grants: Blank,
+    blanks: Blanks,
 ) -> Result<Option<A::Answer>, NoMemory>
-    requires count { IsWorkerCount workers }
-    requires limit { job.now.limit ≡ M.limit }
-    requires credit_name { credit.name ≡ L.name }
-    requires credit_parts { credit.parts ≡ L.parts }
-    requires credit_all { credit.parts + 1 ≡ 2 ^ 64 }
-    requires grants_name { grants.name ≡ M.name }
-    requires grants_parts { grants.parts ≡ M.parts }
-    requires grants_all { grants.parts ≡ workers }
-    ensures { IfOk result (IsFoundByThreads A.gives S.owner_of job.now owners.now workers) }
+    requires blanks { AreBlanksOf L.name L.parts M.name M.parts blanks }
+    requires credit { L.parts + 1 ≡ 2 ^ 64 }
+    requires count { search.now.workers ≡ M.parts }
+    requires limit { search.now.job.now.limit ≡ M.limit }
+    ensures { IfOk result (IsFoundByThreads A.gives S.owner_of search.now.job.now
+        search.now.owners.now M.parts) }
 {
-    let team = run_team::<R, S, G, L, M>(rt, alloc, job, workers, owners, gate, credit, grants)?;
-    let Team {
-        parts,
-        book,
-        tickets,
-    } = team;
-    match outcome_of_joined::<A, S, L, M>(alloc, job, owners, book, tickets, parts) {
+    let team = run_team::<R, S, G, L, M>(rt, alloc, search, gate, blanks)?;
+    match outcome_of_joined::<A, S, L, M>(alloc, search, team) {
         Ok(found) => Ok(found),
         Err(refused) => Err(NoMemory::List(refused)),
     }

@@ -11,6 +11,7 @@ ghost use Rattle.hda_run.specs.Worlds.{IsWorkerCount};
 ghost use Rattle.thread_joins.specs.Threads.{IsFoundByThreads};
 ghost use Rattle.thread_runs.specs.Solved.{IsFoundByWorkers, IsSolved, IsLeftToOne};
 
+use crate::laws::owners_are_workers;
 use crate::ledgers::run_by_threads;
 use board::laws::plans_keep_the_class;
 use hda_run::{Gate, Job, WorldFault, are_apart, is_worker_count, search_one};
@@ -21,6 +22,7 @@ use std::alloc::Global;
 use std::sync::Wait;
 use std::thread::Threads;
 use thread_joins::laws::joined_worlds_answer;
+use thread_parts::Search;
 use world_ends::{Reading, WithRows};
 
 /// Solves a job by so many workers, each in a thread of its own; one worker alone does so in the
@@ -86,7 +88,12 @@ pub fn search_by_workers<
     if are_apart(&job) {
         return Ok(A::of_parity());
     }
-    if let Some(answer) = found_by_threads::<A, R, S, G>(rt, alloc, &job, workers, spread, gate) {
+    let search = Search {
+        job: &job,
+        owners: spread,
+        workers,
+    };
+    if let Some(answer) = found_by_threads::<A, R, S, G>(rt, alloc, &search, gate) {
         return Ok(answer);
     }
     search_one::<A, S, G>(alloc, job, spread, gate)
@@ -96,27 +103,27 @@ pub fn search_by_workers<
 fn found_by_threads<A: Reading, R: Threads + Wait + Sync, S: Spread + Sync, G: Gate + Sync>(
     rt: &R,
     alloc: Global,
-    job: &Job<'_>,
-    workers: usize,
-    spread: &S,
+    search: &Search<'_, S>,
     gate: &G,
 ) -> Option<A::Answer>
-    requires { IsWorkerCount workers }
-    ensures run { IfSome result (λ answer. (2 ≤ workers)
-        × IsFoundByThreads A.gives S.owner_of job.now spread.now workers (Some answer)) }
-    ensures left { IfNone result (IsLeftToOne S.owner_of job.now spread.now workers) }
-    ensures answers { IfSome result (A.answers (task_in job.now)) }
+    ensures run { IfSome result (λ answer. (2 ≤ search.now.workers)
+        × IsFoundByThreads A.gives S.owner_of search.now.job.now search.now.owners.now
+        search.now.workers (Some answer)) }
+    ensures left { IfNone result (IsLeftToOne S.owner_of search.now.job.now search.now.owners.now
+        search.now.workers) }
+    ensures answers { IfSome result (A.answers (task_in search.now.job.now)) }
     ensures kept { IfSome result (λ answer. EndsWholeRun (A.end answer)) }
 {
     A::keep_laws();
     joined_worlds_answer::<A>();
+    owners_are_workers::<S>();
     // This call gives that the sums are lower bounds.
-    let _ = job.bound();
-    if workers == 1 {
+    let _ = search.job.bound();
+    if search.workers == 1 {
         return None;
     }
-    let _ = job.goal();
-    match run_by_threads::<A, R, S, G>(rt, alloc, job, workers, spread, gate) {
+    let _ = search.job.goal();
+    match run_by_threads::<A, R, S, G>(rt, alloc, search, gate) {
         Ok(found) => found,
         Err(_refused) => None,
     }

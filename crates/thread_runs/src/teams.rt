@@ -1,34 +1,26 @@
 //! Threads that were joined after a run.
 
 ghost use Rattle.std.specs.Prelude.{◌≡◌, ◌+◌, ◌^◌, IfOk};
-ghost use Rattle.hda_run.specs.Worlds.{IsWorkerCount};
 ghost use Rattle.thread_joins.specs.Joints.{IsJoint};
+ghost use Rattle.thread_runs.specs.Ledgers.{AreBlanksOf};
 
-use crate::opening::open_parts;
-use hda_run::{Gate, Job};
-use message_ledger::{Capped, Credit, Grants, Shares, Tickets};
+use crate::ledgers::Blanks;
+use crate::opening::{Funds, open_parts};
+use hda_run::Gate;
+use message_ledger::{Capped, Credit, Grants, Shares};
 use owners::Spread;
 use quiescence::Book;
 use rings::{NoMemory, open_rings};
 use std::alloc::Global;
-use std::sync::ledger::{Blank, Ledger};
+use std::sync::ledger::Ledger;
 use std::sync::{Mutex, Wait};
 use std::thread::Threads;
-use thread_parts::Sealed;
-use thread_work::{Signs, run_all};
+use thread_joins::Team;
+use thread_parts::Search;
+use thread_work::{Signs, Site, run_all};
 
-/// What is left of a run whose threads were all joined: the parts in their order, the book, and the
-/// tickets, each of which was taken.
-#[derive(Drop)]
-pub(crate) struct Team<'a, S: Spread, L: Ledger + Send + Sync, M: Capped + Send + Sync> {
-    pub(crate) parts: Vec<Sealed<'a, S, Shares<L, M>>>,
-    pub(crate) book: Book<Shares<L, M>>,
-    pub(crate) tickets: Tickets<M>,
-}
-
-/// Runs a job by so many workers, each in a thread of its own, over two new ledgers: that of the
-/// credit, and that of what is granted. The error is that memory was refused for what they begin
-/// with.
+/// Searches with a thread for each worker, over two new ledgers, and returns what is left once all
+/// were joined. The error is that memory was refused for what they begin with.
 pub(crate) fn run_team<
     'a,
     R: Threads + Wait + Sync,
@@ -39,44 +31,49 @@ pub(crate) fn run_team<
 >(
     rt: &R,
     alloc: Global,
-    job: &'a Job<'a>,
-    workers: usize,
-    owners: &'a S,
+    search: &Search<'a, S>,
     gate: &G,
-    credit_blank: Blank,
-    grants_blank: Blank,
+    blanks: Blanks,
 ) -> Result<Team<'a, S, L, M>, NoMemory>
-    requires count { IsWorkerCount workers }
-    requires limit { job.now.limit ≡ M.limit }
-    requires credit_name { credit_blank.name ≡ L.name }
-    requires credit_parts { credit_blank.parts ≡ L.parts }
-    requires credit_all { credit_blank.parts + 1 ≡ 2 ^ 64 }
-    requires grants_name { grants_blank.name ≡ M.name }
-    requires grants_parts { grants_blank.parts ≡ M.parts }
-    requires grants_all { grants_blank.parts ≡ workers }
-    ensures joint { IfOk result (λ team. IsJoint job.now owners.now M.parts team.parts.items) }
-    ensures taken { IfOk result (λ team. team.tickets ≡ 0) }
+    requires blanks { AreBlanksOf L.name L.parts M.name M.parts blanks }
+    requires credit { L.parts + 1 ≡ 2 ^ 64 }
+    requires count { search.now.workers ≡ M.parts }
+    requires limit { search.now.job.now.limit ≡ M.limit }
+    ensures { IfOk result (λ team. IsJoint search.now.job.now search.now.owners.now M.parts
+        team.parts.items) }
 {
-    let (mut credit, seed) = Credit::<Shares<L, M>>::shared(credit_blank);
-    let (grants, mut tickets) = Grants::<Shares<L, M>>::shared(grants_blank);
-    let rings = open_rings(alloc, workers)?;
-    let opened = open_parts(
-        alloc,
-        job,
-        owners,
-        workers,
-        rings,
-        &mut tickets,
-        &mut credit,
+    let Blanks {
+        credit: credit_blank,
+        grants: grants_blank,
+    } = blanks;
+    let (credit, seed) = Credit::<Shares<L, M>>::shared(credit_blank);
+    let (grants, tickets) = Grants::<Shares<L, M>>::shared(grants_blank);
+    let rings = open_rings(alloc, search.workers)?;
+    let mut funds = Funds {
+        credit,
         seed,
-    );
-    let parts = match opened {
+        tickets,
+    };
+    let parts = match open_parts(alloc, search, rings, &mut funds) {
         Ok(parts) => parts,
         Err(refused) => return Err(NoMemory::List(refused)),
     };
-    let book = Mutex::new(Book::new(credit, grants, job.limit(), workers));
+    let Funds {
+        credit,
+        tickets,
+        ..
+    } = funds;
+    let book = Book::new(credit, grants, search.job.limit(), search.workers);
+    let book = Mutex::new(book);
     let signs = Signs::new();
-    let parts = run_all(rt, alloc, gate, &signs, parts, &book);
+    let site = Site {
+        rt,
+        alloc,
+        gate,
+        signs: &signs,
+        book: &book,
+    };
+    let parts = run_all(&site, parts);
     Ok(Team {
         parts,
         book: book.into_inner(),

@@ -12,4 +12,5 @@ mod threads;
 
 pub use rounds::work;
 pub use signs::Signs;
+pub use site::Site;
 pub use threads::run_all;

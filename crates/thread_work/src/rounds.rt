@@ -3,14 +3,11 @@
 ghost use Rattle.std.specs.Prelude.{◌≡◌};
 ghost use Rattle.thread_parts.specs.Parts.{Holds, IsKept};
 
-use crate::signs::Signs;
 use crate::site::Site;
 use hda_run::{Gate, Kind};
 use message_ledger::Tokens;
 use owners::Spread;
-use quiescence::Book;
-use std::alloc::Global;
-use std::sync::{Mutex, Wait};
+use std::sync::Wait;
 use thread_parts::{Part, Sealed};
 use world_model::Refusal;
 
@@ -20,25 +17,14 @@ const EXPANSIONS_IN_A_ROUND: u32 = 16;
 
 /// Works with a part until the book has stopped, and gives it back with the face that it had.
 pub fn work<'a, S: Spread, C: Tokens, R: Wait, G: Gate>(
-    rt: &R,
-    alloc: Global,
-    gate: &G,
-    signs: &Signs,
+    site: &Site<'_, R, G, C>,
     sealed: Sealed<'a, S, C>,
-    book: &Mutex<Book<C>>,
 ) -> Sealed<'a, S, C>
     ensures { result ≡ sealed.entry }
 {
-    let site = Site {
-        rt,
-        alloc,
-        gate,
-        signs,
-        book,
-    };
     let mut part = sealed.open();
     let mut turns = 0u32;
-    'rounds: for _ in rt.forever() {
+    'rounds: for _ in site.rt.forever() {
         if site.is_over() {
             return Sealed::new(part);
         }
@@ -46,7 +32,7 @@ pub fn work<'a, S: Spread, C: Tokens, R: Wait, G: Gate>(
             turns = 0;
             continue;
         }
-        signs.wait(rt, part.me, turns);
+        site.signs.wait(site.rt, part.me, turns);
         turns = turns.saturating_add(1);
     }
     unreachable!()

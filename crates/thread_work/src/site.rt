@@ -9,10 +9,10 @@ use std::sync::Mutex;
 /// What all workers of a run work with beside their parts. The book is locked for one step or one
 /// look at a time, and no lock is held while the gate is passed.
 #[derive(Drop)]
-pub(crate) struct Site<'a, R, G, C: Tokens> {
-    pub(crate) rt: &'a R,
-    pub(crate) alloc: Global,
-    pub(crate) gate: &'a G,
-    pub(crate) signs: &'a Signs,
-    pub(crate) book: &'a Mutex<Book<C>>,
+pub struct Site<'a, R, G, C: Tokens> {
+    pub rt: &'a R,
+    pub alloc: Global,
+    pub gate: &'a G,
+    pub signs: &'a Signs,
+    pub book: &'a Mutex<Book<C>>,
 }

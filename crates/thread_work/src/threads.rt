@@ -4,14 +4,12 @@ ghost use Rattle.std.specs.Prelude.{◌≡◌, IfOk, IfErr, vec_capacity};
 ghost use Rattle.thread_work.specs.Promises.{promised};
 
 use crate::rounds::work;
-use crate::signs::Signs;
+use crate::site::Site;
 use hda_run::Gate;
 use message_ledger::Tokens;
 use owners::Spread;
-use quiescence::Book;
-use std::alloc::Global;
 use std::snapshot::Snapshot;
-use std::sync::{Mutex, Wait};
+use std::sync::Wait;
 use std::thread;
 use std::thread::{Promise, PromisedHandle, Scope, Threads};
 use thread_parts::Sealed;
@@ -34,22 +32,15 @@ pub fn run_all<
     C: Tokens + Send + Sync,
     R: Threads + Wait + Sync,
     G: Gate + Sync,
->(
-    rt: &R,
-    alloc: Global,
-    gate: &G,
-    signs: &Signs,
-    parts: Vec<Sealed<'a, S, C>>,
-    book: &Mutex<Book<C>>,
-) -> Vec<Sealed<'a, S, C>>
+>(site: &Site<'_, R, G, C>, parts: Vec<Sealed<'a, S, C>>) -> Vec<Sealed<'a, S, C>>
     ensures { result.items ≡ parts.entry.items }
 {
     thread::scope(
         thread::scope_env(),
-        rt,
+        site.rt,
         |scope| -> Vec<Sealed<S, C>>
             ensures { result.items ≡ parts.entry.items }
-        { run_parts(scope, rt, alloc, gate, signs, book, parts) },
+        { run_parts(scope, site, parts) },
     )
 }
 
@@ -65,11 +56,7 @@ fn run_parts<
     G: Gate + Sync + 's,
 >(
     scope: &'s Scope<'s, E>,
-    rt: &'s R,
-    alloc: Global,
-    gate: &'s G,
-    signs: &'s Signs,
-    book: &'s Mutex<Book<C>>,
+    site: &'s Site<'s, R, G, C>,
     parts: Vec<Sealed<'a, S, C>>,
 ) -> Vec<Sealed<'a, S, C>>
     ensures all { result.items ≡ parts.entry.items }
@@ -79,9 +66,9 @@ fn run_parts<
     let Some(part) = parts.pop() else {
         return parts;
     };
-    let started = start_one(scope, rt, alloc, gate, signs, book, part);
-    let mut parts = run_parts(scope, rt, alloc, gate, signs, book, parts);
-    parts.push_reserved(take_back(rt, started));
+    let started = start_one(scope, site, part);
+    let mut parts = run_parts(scope, site, parts);
+    parts.push_reserved(take_back(site.rt, started));
     parts
 }
 
@@ -97,11 +84,7 @@ fn start_one<
     G: Gate + Sync + 's,
 >(
     scope: &'s Scope<'s, E>,
-    rt: &'s R,
-    alloc: Global,
-    gate: &'s G,
-    signs: &'s Signs,
-    book: &'s Mutex<Book<C>>,
+    site: &'s Site<'s, R, G, C>,
     part: Sealed<'a, S, C>,
 ) -> Result<PromisedHandle<Sealed<'a, S, C>, Given<'a, S, C>>, Sealed<'a, S, C>>
     ensures started { IfOk result (λ handle. promised handle ≡ part.entry) }
@@ -110,12 +93,12 @@ fn start_one<
     let given = Given(Snapshot::of(&part));
     let job = move || -> Sealed<S, C>
         ensures { result ≡ part.entry }
-    { work(rt, alloc, gate, signs, part, book) };
+    { work(site, part) };
     match scope.spawn_with(given, job) {
         Ok(handle) => Ok(handle),
         Err(refused) => {
-            let _ = book.lock(rt).halt(HaltCause::Start);
-            signs.mark_stopped();
+            let _ = site.book.lock(site.rt).halt(HaltCause::Start);
+            site.signs.mark_stopped();
             Err((refused.value)())
         }
     }

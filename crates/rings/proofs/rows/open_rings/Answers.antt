@@ -1,7 +1,7 @@
-use Rattle.std.proofs.Common.{rules, ℕ, arith, ◌≡◌, ◌++◌, ◌∷◌, [], ap, ◌∙◌, length}
+use Rattle.std.proofs.Common.{rules, ℕ, arith, ◌≡◌, ◌++◌, ◌∷◌, [], ap, ◌∙◌, length, subst}
 use Rattle.std.proofs.lemmas.List.{map-append, length-map}
-use Rattle.rings.specs.Rings.{Ring, SendingEnd, ReceivingEnd, IsRoomBetween, room_of, out_rings, sent_lanes, received_lanes, rings_of_outs, rings_of_ins, sent_rows, received_rows}
-use Rattle.rings.proofs.GridLemmas.{nil_row, all_nil_rows, as_wide, rows_more, length_end, grid_more}
+use Rattle.rings.specs.Rings.{Ring, SendingEnd, ReceivingEnd, IsRoomBetween, room_of, out_rings, in_rings, sent_lanes, received_lanes, rings_of_outs, rings_of_ins, sent_rows, received_rows}
+use Rattle.rings.proofs.GridLemmas.{nil_row, all_nil_rows, as_wide, rows_more, length_end, grid_more, grid_paired, IsGrid}
 use Rattle.rings.proofs.rows.open_rings.Goals as goal
 
 pub rows-preserved : goal.rows-preserved
@@ -24,21 +24,22 @@ rows-preserved g c =
       ends.received inv.5,
     )
 
-pub returns-clause-sent : goal.returns-clause-sent
-returns-clause-sent g c =
+pub returns : goal.returns
+returns g c =
     let inv = c.rows.invariant in
     let outs = c.rows.outs.items in
-    let n = c.args.n in
-    let len : length outs ≡ n = omega (arith, inv.0, c.rows.outs.ok.0) in
-    all_nil_rows (sent_rows outs) n n (length-map outs (λ row. sent_lanes row.items) ∙ len)
-    (λ i low. as_wide (λ row. row.items) (λ (out : SendingEnd). out.sent) (λ (out : SendingEnd). out.ring) outs i ∙ inv.2.rows_out i (omega (arith, low))) inv.3
-
-pub returns-clause-received : goal.returns-clause-received
-returns-clause-received g c =
-    let inv = c.rows.invariant in
     let ins = c.rows.ins.items in
     let n = c.args.n in
     let all : c.rows.from ≡ n = omega arith in
-    let len : length ins ≡ n = omega (arith, inv.1, c.rows.ins.ok.0) in
-    all_nil_rows (received_rows ins) n n (length-map ins (λ row. received_lanes row.items) ∙ len)
-    (λ j low. as_wide (λ row. row.items) (λ (into : ReceivingEnd). into.received) (λ (into : ReceivingEnd). into.ring) ins j ∙ (inv.2.rows_in j low ∙ all)) inv.5
+    let len_outs : length outs ≡ n = omega (arith, inv.0, c.rows.outs.ok.0) in
+    let len_ins : length ins ≡ n = omega (arith, inv.1, c.rows.ins.ok.0) in
+    let many_outs = length-map outs (λ row. out_rings row.items) ∙ len_outs in
+    let many_ins = length-map ins (λ row. in_rings row.items) ∙ len_ins in
+    record {
+      paired = grid_paired n (rings_of_outs outs) (rings_of_ins ins) many_outs many_ins (subst (λ (k : ℕ). IsGrid n k (rings_of_outs outs) (rings_of_ins ins)) all inv.2);
+      sent = all_nil_rows (sent_rows outs) n n (length-map outs (λ row. sent_lanes row.items) ∙ len_outs)
+          (λ i low. as_wide (λ row. row.items) (λ (out : SendingEnd). out.sent) (λ (out : SendingEnd). out.ring) outs i ∙ inv.2.rows_out i (omega (arith, low))) inv.3;
+      received = all_nil_rows (received_rows ins) n n (length-map ins (λ row. received_lanes row.items) ∙ len_ins)
+          (λ j low. as_wide (λ row. row.items) (λ (into : ReceivingEnd). into.received) (λ (into : ReceivingEnd). into.ring) ins j ∙ (inv.2.rows_in j low ∙ all)) inv.5;
+      rooms = inv.4;
+    }

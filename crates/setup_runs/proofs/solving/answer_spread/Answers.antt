@@ -8,7 +8,7 @@ returns g c =
     let setup = c.args.setup.now in
     record {
       parity = run.parity;
-      run = λ together. found_so g.A.Reading.gives setup c.args.start.now g.S.Spread.owner_of g.met.S.Spread.owners_are_workers c.args.spread.now owner_by setup_owners setup.spread c.requires.owners c.search_by_workers.result (run.run together);
+      run = λ together. found_so g.A.Reading.gives setup c.args.start.now g.S.Spread.owner_of c.owners_are_workers.ensures c.args.spread.now owner_by setup_owners setup.spread c.requires.owners c.search_by_workers.result (run.run together);
       answers = run.answers;
       kept = run.kept;
     }

@@ -14,12 +14,12 @@ use Rattle.thread_joins.proofs.outcome.outcome_of_joined.Goals as goal
 
 pub outcome_if_kept-found-requires-clause-world : goal.outcome_if_kept-found-requires-clause-world
 outcome_if_kept-found-requires-clause-world g c κs within =
-    let has = c.in_ok-joined.ensures.world c.args.job.now c.args.owners.now c.requires.joint in
-    (has.0, world_at g.S.Spread.owner_of c.args.job.now c.args.owners.now g.M.Ledger.parts c.args.book c.join_world.new.book c.in_ok-joined.joined.workers.items c.deref_mut.result.now c.in_ok-joined.joined.ins.items has.0 (sym c.join_world.ensures.book) (sym c.deref_mut.ensures.value) has.1)
+    let has = c.in_ok-joined.ensures.world c.args.search.now.job.now c.args.search.now.owners.now c.requires.joint in
+    (has.0, world_at g.S.Spread.owner_of c.args.search.now.job.now c.args.search.now.owners.now g.M.Ledger.parts c.args.team.book c.join_world.new.book c.in_ok-joined.joined.workers.items c.deref_mut.result.now c.in_ok-joined.joined.ins.items has.0 (sym c.join_world.ensures.book) (sym c.deref_mut.ensures.value) has.1)
 
 pub count_expanded-requires-clause-whole : goal.count_expanded-requires-clause-whole
 count_expanded-requires-clause-whole g c κs within =
-    let has = c.in_ok-joined.ensures.world c.args.job.now c.args.owners.now c.requires.joint in
+    let has = c.in_ok-joined.ensures.world c.args.search.now.job.now c.args.search.now.owners.now c.requires.joint in
     let workers = c.in_ok-joined.joined.workers in
     let new = c.outcome_if_kept-found.new.workers in
     let value = c.deref_mut.ensures.value in
@@ -31,9 +31,9 @@ count_expanded-requires-clause-whole g c κs within =
 
 pub returns : goal.returns
 returns g c =
-    let p = c.args.job.now in
+    let p = c.args.search.now.job.now in
     let owner_of = g.S.Spread.owner_of in
-    let owners = c.args.owners.now in
+    let owners = c.args.search.now.owners.now in
     let n = g.M.Ledger.parts in
     let book = c.join_world.new.book in
     let joined = c.in_ok-joined.joined in
@@ -42,7 +42,7 @@ returns g c =
     let new = c.outcome_if_kept-found.new.workers in
     let value = c.deref_mut.ensures.value in
     let is : IsWorldOf owner_of p owners n book c.deref_mut.result.now joined.ins.items w =
-    world_at owner_of p owners n c.args.book book joined.workers.items c.deref_mut.result.now joined.ins.items w (sym c.join_world.ensures.book) (sym value) has.1 in
+    world_at owner_of p owners n c.args.team.book book joined.workers.items c.deref_mut.result.now joined.ins.items w (sym c.join_world.ensures.book) (sym value) has.1 in
     let same : states_of new ≡ states_of c.deref_mut.result.now = c.outcome_if_kept-found.ensures.same in
     let e = ap (λ (ws : List WorkerState). length ws) same in
     let e' = ap (λ ws. length ws) value in

@@ -17,17 +17,17 @@ lowest_in_rows-lowest-requires-after_bounds g c κs within =
 
 pub read-requires-clause-guided : goal.read-requires-clause-guided
 read-requires-clause-guided g c κs within =
-    let p = c.args.job.now in
+    let p = c.args.search.now.job.now in
     let asked = c.asked_in-asked in
     let same = same_task p asked.result.start asked.result.goal asked.result.weights asked.result.bound.now asked.ensures.start asked.ensures.goal asked.ensures.weights asked.ensures.bound in
     (guide_of (task_in p), subst (λ (task : Task). AreGuided task (guide_of (task_in p)) c.args.workers.now) (sym same) c.requires.2.guided)
 
 pub returns-clause-given : goal.returns-clause-given
 returns-clause-given g c = λ book w is stop.
-    let p = c.args.job.now in
+    let p = c.args.search.now.job.now in
     let asked = c.asked_in-asked in
     let same = same_task p asked.result.start asked.result.goal asked.result.weights asked.result.bound.now asked.ensures.start asked.ensures.goal asked.ensures.weights asked.ensures.bound in
-    let parts = subst (λ (task : Task). HasParts task (g.S.Spread.owner_of c.args.owners.now) (states_of c.args.workers.now) w) (sym same) is.parts in
+    let parts = subst (λ (task : Task). HasParts task (g.S.Spread.owner_of c.args.search.now.owners.now) (states_of c.args.workers.now) w) (sym same) is.parts in
     let sums = ap (λ (tables : Tables). sum_of (parts_of tables)) c.bound.ensures.value ∙ ap (λ (t : Task). t.sum) (sym is.parts.asks) in
     let lowest = lowest_left w g.C.Tokens.workers c.args.ins.items is.lanes is.widths (sum_of (parts_of c.bound.result.now)) c.lowest_in_rows-lowest.result sums c.lowest_in_rows-lowest.ensures in
     c.read.ensures.given w parts lowest (ap (λ (b : BookState). b.stop) is.book_is ∙ stop)

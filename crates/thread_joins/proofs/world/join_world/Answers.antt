@@ -52,7 +52,7 @@ returns-clause-world g c = λ p owners joint.
     let credit : before.stop ≡ Some Quiet → before.credit ≡ 0 = λ quiet. ap (λ (b : BookState). b.credit) (sym after) ∙ c.stop.ensures.quiet (c.stop.ensures.value ∙ (ap (λ (b : BookState). b.stop) after ∙ quiet)) in
     let floors : length before.floors ≡ n = sym c.workers.ensures.value ∙ g.met.C.Tokens.one_count c.workers.result c.workers.ensures.allowed in (
       world_with (shared_by owner_of p owners n) (parts_in new) before (by_sender n (left_rows new.ins.items)),
-      joined_world owner_of p owners n old new apart (ap (λ ws. states_of ws) items ∙ states) guided e.sent e.received e.in_rings
+      joined_world owner_of p owners n old new apart (ap (λ ws. states_of ws) items ∙ states) guided e.same.sent e.same.received e.same.in_rings
           (λ i j low high. e.tied i j (omega (arith, low, count)) (omega (arith, high, count)))
           c.requires.some before floors bound credit
           (λ quiet i j low high. e.quiet quiet i j (omega (arith, low, count)) (omega (arith, high, count)))

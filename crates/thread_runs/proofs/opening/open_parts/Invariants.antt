@@ -8,13 +8,14 @@ use Rattle.thread_runs.proofs.opening.open_parts.Given as goal
 
 abbrev pub invariant-workers : goal.invariant-workers
 invariant-workers g l =
-    (vec_len l.parts ≡ l.me)
-    × (l.fn.workers ≤ vec_capacity l.parts)
-    × (vec_len l.outs ≡ l.fn.workers)
-    × (vec_len l.ins ≡ l.fn.workers)
-    × (l.tickets + l.me ≡ l.fn.workers)
-    × (l.credit ≡ l.fn.credit)
-    × (l.me ≤ l.owner → 0 < l.seed)
-    × ((k : ℕ) → l.me ≤ k → slice_get l.outs.items k ≡ slice_get l.fn.rings.outs.items k)
-    × ((k : ℕ) → l.me ≤ k → slice_get l.ins.items k ≡ slice_get l.fn.rings.ins.items k)
-    × ((i : ℕ) (it : Face _) → slice_get l.parts.items i ≡ Some it → IsFace l.fn.job l.fn.owners (rings_of_outs l.fn.rings.outs.items) (rings_of_ins l.fn.rings.ins.items) i it)
+    record {
+      count : vec_len l.parts ≡ l.me;
+      room : l.search.workers ≤ vec_capacity l.parts;
+      outs : vec_len l.outs ≡ l.search.workers;
+      ins : vec_len l.ins ≡ l.search.workers;
+      tickets : l.funds.tickets + l.me ≡ l.search.workers;
+      seed : l.me ≤ l.owner → 0 < l.funds.seed;
+      later_outs : (k : ℕ) → l.me ≤ k → slice_get l.outs.items k ≡ slice_get l.fn.rings.outs.items k;
+      later_ins : (k : ℕ) → l.me ≤ k → slice_get l.ins.items k ≡ slice_get l.fn.rings.ins.items k;
+      faces : (i : ℕ) (it : Face _) → slice_get l.parts.items i ≡ Some it → IsFace l.search.job.now l.search.owners.now (rings_of_outs l.fn.rings.outs.items) (rings_of_ins l.fn.rings.ins.items) i it;
+    }
