@@ -8,7 +8,7 @@ ghost use Rattle.table_sets.specs.Built.{AreBuilt, AreBuiltFolded, AreEach, IsEa
 
 use crate::group_tables::{GroupTable, shared_frames};
 use board::{Board, Weights};
-use database_build::{Folded, Frame, Table};
+use database_build::{Folded, Table};
 use lower_bound::Bound;
 use memory::{OutOfMemory, push, with_capacity};
 use pattern_index::{Group, Partition};
@@ -86,11 +86,10 @@ fn build_each<T: GroupTable + Send>(
     ensures { IfOk result
         (λ tables. AreEach (T.is_true weights.now goal.now) groups.now tables.items) }
 {
-    let frames = shared_frames(alloc, groups)?;
     if count_views(groups) < PARALLEL_VIEWS {
-        return build_one_after_the_other(alloc, &frames, groups, goal, weights);
+        return build_one_after_the_other(alloc, groups, goal, weights);
     }
-    build_side_by_side(rt, alloc, &frames, groups, goal, weights)
+    build_side_by_side(rt, alloc, groups, goal, weights)
 }
 
 // How many views the groups have in all.
@@ -108,7 +107,6 @@ fn count_views(groups: &[Group]) -> usize
 // The tables, built by this thread.
 fn build_one_after_the_other<T: GroupTable>(
     alloc: Global,
-    frames: &[Frame],
     groups: &[Group],
     goal: &Board,
     weights: &Weights,
@@ -117,9 +115,10 @@ fn build_one_after_the_other<T: GroupTable>(
     ensures { IfOk result
         (λ tables. AreEach (T.is_true weights.now goal.now) groups.now tables.items) }
 {
+    let frames = shared_frames(alloc, groups)?;
     let mut tables = Vec::new(alloc);
     'groups: for group in groups {
-        let table = T::build_for(alloc, frames, group, goal, weights)?;
+        let table = T::build_for(alloc, &frames, group, goal, weights)?;
         push(&mut tables, table)?;
     }
     Ok(tables)
@@ -129,7 +128,6 @@ fn build_one_after_the_other<T: GroupTable>(
 fn build_side_by_side<T: GroupTable + Send>(
     rt: &(impl Threads + Sync),
     alloc: Global,
-    frames: &[Frame],
     groups: &[Group],
     goal: &Board,
     weights: &Weights,
@@ -139,6 +137,7 @@ fn build_side_by_side<T: GroupTable + Send>(
     ensures { IfOk result
         (λ tables. AreEach (T.is_true weights.now goal.now) groups.now tables.items) }
 {
+    let frames = shared_frames(alloc, groups)?;
     let mut places = empty_places(alloc, groups.len())?;
     par_for_each_mut(
         rt,
@@ -149,7 +148,7 @@ fn build_side_by_side<T: GroupTable + Send>(
             ensures { MatchOption place.new ⊥ (λ built. IfOk built
                 (IsEachAt (T.is_true weights.entry.now goal.entry.now) groups.entry.now i)) }
         {
-            *place = Some(T::build_for(alloc, frames, &groups[i], goal, weights));
+            *place = Some(T::build_for(alloc, &frames, &groups[i], goal, weights));
         },
     );
     take_tables(alloc, places)
