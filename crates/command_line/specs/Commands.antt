@@ -3,6 +3,7 @@ use Rattle.std.specs.Prelude.{ℕ, ◌≡◌, true, List, [], ◌∷◌, Some, c
 use Rattle.std.specs.Borrow.{Bor}
 use Rattle.clap.specs.Words.{Text, Rule, App, new_rule, new_app, with_rule, with_subcommand}
 use Rattle.clap.specs.declared.builder.action.ArgAction.TheVariants.{Set, SetTrue}
+use Rattle.clap.specs.declared.builder.value_parser.ValueParser.{ValueParser}
 use Rattle.clap.specs.declared.builder.value_parser.ValueParser.TheVariants as value
 
 -- the words that an option may have as its value, as code holds them
@@ -17,17 +18,21 @@ option_rule name = record (new_rule name) { long = Some name; action = Some Set;
 abbrev pub side_rule : Text → Rule
 side_rule name = record (option_rule name) { required = true; parser = Some (value.Unsigned 2 5) }
 
--- an option of a number between two, with the value that it has where it is left out
-abbrev pub number_rule : Text → ℕ → ℕ → Text → Rule
-number_rule name least most given = record (option_rule name) { parser = Some (value.Unsigned least most); defaults = given ∷ [] }
-
 -- an option of any text, with the one that it has where it is left out
 abbrev pub text_rule : Text → Text → Rule
 text_rule name given = record (option_rule name) { defaults = given ∷ [] }
 
+-- the same option, whose values are parsed so, with the one that it has where it is left out
+abbrev pub parsed_rule : Rule → ValueParser → Text → Rule
+parsed_rule rule parser given = record rule { parser = Some parser; defaults = given ∷ [] }
+
+-- an option of a number between two, with the one that it has where it is left out
+abbrev pub number_rule : Text → ℕ → ℕ → Text → Rule
+number_rule name least most given = parsed_rule (option_rule name) (value.Unsigned least most) given
+
 -- an option of one of some words, with the one that it has where it is left out
 abbrev pub choice_rule : Text → Choices → Text → Rule
-choice_rule name choices given = record (option_rule name) { parser = Some (value.Names choices); defaults = given ∷ [] }
+choice_rule name choices given = parsed_rule (option_rule name) (value.Names choices) given
 
 -- an option without a value
 abbrev pub flag_rule : Text → Rule

@@ -4,8 +4,8 @@ ghost use Rattle.std.specs.Prelude.{◌≡◌, IfOk, IfErr, false};
 ghost use Rattle.clap.specs.Words.{app_of, rule_of, kind_of};
 ghost use Rattle.clap.specs.declared.builder.command.Command.TheViews.{out-Command};
 ghost use Rattle.clap.specs.declared.error.kind.ErrorKind.TheVariants.{OutOfMemory};
-ghost use Rattle.command_line.specs.Commands.{option_rule, side_rule, number_rule, text_rule};
-ghost use Rattle.command_line.specs.Commands.{choice_rule, flag_rule, puzzle_app, program_app};
+ghost use Rattle.command_line.specs.Commands.{option_rule, side_rule, text_rule, parsed_rule};
+ghost use Rattle.command_line.specs.Commands.{flag_rule, puzzle_app, program_app};
 
 use crate::help;
 use clap::builder::ValueParser;
@@ -66,14 +66,19 @@ fn puzzle<'a>(alloc: Global, name: &'a str, spreads: &'a [&'a str]) -> Result<Co
         .arg(option(alloc, "goal", "TILES", help::GOAL))?
         .arg(option(alloc, "groups", "GROUPS", help::GROUPS))?
         .arg(flag(alloc, "fold", help::FOLD))?
-        .arg(number(alloc, "workers", help::WORKERS, 1, 16, "1"))?
-        .arg(choice(alloc, "spread", "SPREAD", help::SPREAD, spreads, "zobrist"))?
-        .arg(number(
-            alloc,
-            "limit",
-            help::LIMIT,
-            0,
-            u64::MAX,
+        .arg(parsed(
+            option(alloc, "workers", "N", help::WORKERS),
+            ValueParser::Unsigned(1, 16),
+            "1",
+        ))?
+        .arg(parsed(
+            option(alloc, "spread", "SPREAD", help::SPREAD),
+            ValueParser::Names(spreads),
+            "zobrist",
+        ))?
+        .arg(parsed(
+            option(alloc, "limit", "N", help::LIMIT),
+            ValueParser::Unsigned(0, u64::MAX),
             "18446744073709551615",
         ))?;
     Ok(command)
@@ -101,23 +106,6 @@ fn side<'a>(alloc: Global, name: &'a str, help: &'a str) -> Arg<'a>
         .value_parser(ValueParser::unsigned(2, 5))
 }
 
-// An option of a number.
-fn number<'a>(
-    alloc: Global,
-    name: &'a str,
-    help: &'a str,
-    least: u64,
-    most: u64,
-    given: &'a str,
-) -> Arg<'a>
-    ensures rule { rule_of result ≡ number_rule name.entry.now least most given.entry.now }
-    ensures local { result.global ≡ false }
-{
-    option(alloc, name, "N", help)
-        .value_parser(ValueParser::unsigned(least, most))
-        .default_value(given)
-}
-
 // An option of any text, with the one that it has where it is left out.
 fn text<'a>(alloc: Global, name: &'a str, value: &'a str, help: &'a str, given: &'a str) -> Arg<'a>
     ensures rule { rule_of result ≡ text_rule name.entry.now given.entry.now }
@@ -126,21 +114,12 @@ fn text<'a>(alloc: Global, name: &'a str, value: &'a str, help: &'a str, given: 
     option(alloc, name, value, help).default_value(given)
 }
 
-// An option of one of some words.
-fn choice<'a>(
-    alloc: Global,
-    name: &'a str,
-    value: &'a str,
-    help: &'a str,
-    choices: &'a [&'a str],
-    given: &'a str,
-) -> Arg<'a>
-    ensures rule { rule_of result ≡ choice_rule name.entry.now choices.entry given.entry.now }
-    ensures local { result.global ≡ false }
+// An option whose values are parsed so, with the one that it has where it is left out.
+fn parsed<'a>(arg: Arg<'a>, parser: ValueParser<'a>, given: &'a str) -> Arg<'a>
+    ensures rule { rule_of result ≡ parsed_rule (rule_of arg.entry) parser.entry given.entry.now }
+    ensures local { result.global ≡ arg.entry.global }
 {
-    option(alloc, name, value, help)
-        .value_parser(ValueParser::Names(choices))
-        .default_value(given)
+    arg.value_parser(parser).default_value(given)
 }
 
 // An option without a value.
