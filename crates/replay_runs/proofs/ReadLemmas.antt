@@ -1,9 +1,9 @@
 -- Replies to lines, one after the other.
-use Rattle.std.proofs.Common.{◌≡◌, ◌≢◌, inl, inr, ℕ, ◌+◌, ◌≤◌, List, [], ◌∷◌, ◌++◌, Bool, true, false, Result, Ok, Err, All, length, refl, sym, ap, ◌∙◌, subst, arith, append_assoc, codes, if◌then◌else◌, Option, None, Some, append-nil}
+use Rattle.std.proofs.Common.{◌≡◌, ◌≢◌, ◌↔◌, inl, inr, ℕ, ◌+◌, ◌≤◌, List, [], ◌∷◌, ◌++◌, Bool, true, false, Result, Ok, Err, All, length, refl, sym, ap, ◌∙◌, subst, arith, append_assoc, codes, if◌then◌else◌, Option, None, Some, append-nil}
 use Rattle.std.proofs.KnownBytes.{Appends-nil, Appends-trans}
 use Rattle.byte_streams.specs.Streams.{SourceState, SinkState, Change, from_to}
 use Rattle.byte_streams.specs.declared.source.ReadFailed.{ReadFailed}
-use Rattle.batch_lines.specs.Lines.{is_passed_over, without_return, kind_of}
+use Rattle.batch_lines.specs.Lines.{is_passed_over, without_return}
 use Rattle.batch_lines.specs.Readings.{IsJudged, Reading, ReadsLine}
 use Rattle.batch_lines.specs.declared.lines.Line.{Line}
 use Rattle.batch_lines.specs.declared.lines.LineKind.TheVariants.{PassedOver, Within, TooLong}
@@ -18,22 +18,20 @@ use Rattle.world_model.specs.declared.steps.Refusal.{Refusal}
 use Rattle.world_model.specs.declared.steps.Step.{Step}
 use Rattle.world_model.specs.Worlds.{WorldState}
 use Rattle.world_model.specs.Steps.{IsRun}
-use Rattle.replay_runs.specs.Replies.{Reply, replies_text, status_of, TextSays, RepliesToText, RepliesToKind, RepliesTo, RepliesToEach, Changes, steps_of, reply_text, is_fine, are_fine}
+use Rattle.replay_runs.specs.Replies.{Reply, replies_text, status_of, TextSays, RepliesToText, RepliesToKind, RepliesTo, RepliesToEach, Changes, steps_of, reply_text, reply_to, is_fine, are_fine}
 use Rattle.replay_runs.specs.Replies.Reply.{passed_over, no_step, taken}
 use Rattle.batch_runs.specs.declared.faults.LinesFault.TheVariants.{Read, Write, Memory}
 use Rattle.replay_runs.specs.Stepping.{IsReplied, IsReportOf, AnswersLines, Finishes}
-use Rattle.board.specs.declared.moves.Move.{Move}
 use Rattle.board.specs.Positions.{Position}
 use Rattle.batch_lines.specs.Words.{IsEntry, IsFirstEntryFault, entry_code}
 use Rattle.batch_lines.specs.declared.words.EntryFault.{EntryFault}
 use Rattle.outcomes.specs.declared.outcome.Outcome.{Outcome}
 use Rattle.outcomes.specs.Endings.{without_rows}
 use Rattle.reports.specs.Reports.{outcome_data, refused_data, report_text}
-use Rattle.world_model.specs.Openings.{opening}
 use Rattle.world_model.specs.Laws.{RunsAnswer}
 use Rattle.batch_runs.specs.Meanings.{Names}
 use Rattle.batch_runs.specs.declared.faults.LinesFault.{LinesFault}
-use Rattle.replay_runs.specs.Replays.{Jobs, IsGuidedJob, IsRefusedBy, IsPlay, IsEnd, Replays, Refuses}
+use Rattle.replay_runs.specs.Replays.{Jobs, IsWithin, OpensRun, IsRefusedBy, IsPlay, IsEnd, Replays, Refuses}
 
 -- ---- one reply more
 
@@ -168,9 +166,10 @@ answers_lost a b c q r s w v x y fine failure answering lost kept begun lines ha
 pub over_said : (kind : LineKind) (bytes : List ℕ) → kind ≡ PassedOver → RepliesToKind kind bytes passed_over
 over_said kind bytes is = subst (λ (k : LineKind). RepliesToKind k bytes passed_over) (sym is) refl
 
--- a line that is to be read says a step
-pub step_said : (kind : LineKind) (bytes : List ℕ) (step : Step) (refusal : Option Refusal) → kind ≡ Within → TextSays bytes step → RepliesToKind kind bytes (taken step refusal)
-step_said kind bytes step refusal is said = subst (λ (k : LineKind). RepliesToKind k bytes (taken step refusal)) (sym is) said
+-- a line that is to be read says a step, or none
+pub step_said : (kind : LineKind) (bytes : List ℕ) (step : Option Step) (refusal : Option Refusal) → kind ≡ Within → ((s : Step) → (step ≡ Some s) ↔ TextSays bytes s) → RepliesToKind kind bytes (reply_to step refusal)
+step_said kind bytes None refusal is says = subst (λ (k : LineKind). RepliesToKind k bytes no_step) (sym is) (λ s said. let never : None ≡ Some s = (says s).1 said in absurd (cc))
+step_said kind bytes (Some step) refusal is says = subst (λ (k : LineKind). RepliesToKind k bytes (taken step refusal)) (sym is) ((says step).0 refl)
 
 -- ---- How replays end.
 
@@ -219,27 +218,22 @@ refused_long jobs line kept PassedOver judged here long = absurd (here (sym judg
 refused_long jobs line kept Within judged here long = absurd (long refl)
 refused_long jobs line kept TooLong judged here long = inl (inl (sym judged.judged, refl))
 
--- a line that is to be read has a first fault
-pub refused_fault : (jobs : Jobs) (line bytes : List ℕ) (fault : EntryFault) → kind_of line ≡ Within → bytes ≡ without_return line → IsFirstEntryFault jobs.grid bytes fault → IsRefusedBy jobs line (entry_code fault)
-refused_fault jobs line bytes fault within same first = inl (inr (within, (fault, subst (λ (bs : List ℕ). IsFirstEntryFault jobs.grid bs fault) same first, refl)))
+-- the bytes that were kept of a line that is to be read are its own
+pub within_bytes : (line kept bytes : List ℕ) (kind : LineKind) → IsJudged line kind kept → kind ≡ Within → bytes ≡ kept → IsWithin line bytes
+within_bytes line kept bytes kind judged within same = (sym judged.judged ∙ within, same ∙ judged.whole within)
 
--- memory is wanting for a board that the line names
-pub refused_want : (jobs : Jobs) (line bytes id : List ℕ) (board : Position) → kind_of line ≡ Within → bytes ≡ without_return line → IsEntry jobs.grid bytes id board → jobs.lacks board → IsRefusedBy jobs line (codes "V3")
-refused_want jobs line bytes id board within same entry lacks = inr (id, board, (within, subst (λ (bs : List ℕ). IsEntry jobs.grid bs id board) same entry), lacks, refl)
+-- a line that is to be read has a first fault
+pub refused_fault : (jobs : Jobs) (line bytes : List ℕ) (fault : EntryFault) → IsWithin line bytes → IsFirstEntryFault jobs.grid bytes fault → IsRefusedBy jobs line (entry_code fault)
+refused_fault jobs line bytes fault (within, same) first = inl (inr (within, (fault, subst (λ (bs : List ℕ). IsFirstEntryFault jobs.grid bs fault) same first, refl)))
+
+-- it names a board
+pub names_by : (jobs : Jobs) (line bytes id : List ℕ) (board : Position) → IsWithin line bytes → IsEntry jobs.grid bytes id board → Names jobs.grid line id board
+names_by jobs line bytes id board (within, same) entry = (within, subst (λ (bs : List ℕ). IsEntry jobs.grid bs id board) same entry)
 
 -- ---- a play
 
--- the board line begins a run
-pub record IsBegun (jobs : Jobs) (passed : List (List ℕ)) (line id : List ℕ) (w : WorldState) : Type 0 where
-  pub board : Position
-  pub via : Move
-  pub before : All IsPassedOver passed
-  pub named : Names jobs.grid line id board
-  pub opens : w ≡ opening (jobs.job board) via
-  pub guided : IsGuidedJob (jobs.job board)
-
-abbrev pub begun_play : (jobs : Jobs) (passed later : List (List ℕ)) (line id : List ℕ) (w end : WorldState) (replies : List Reply) → (begun : IsBegun jobs passed line id w) → IsReplied (from_to w end) later replies → (play : IsPlay jobs ((passed ++ line ∷ []) ++ later) id replies end) × (play.board ≡ begun.board)
-begun_play jobs passed later line id w end replies begun replied = (
+abbrev pub begun_play : (jobs : Jobs) (passed later : List (List ℕ)) (line id : List ℕ) (w end : WorldState) (replies : List Reply) → All IsPassedOver passed → (begun : OpensRun jobs line id w) → IsReplied (from_to w end) later replies → (play : IsPlay jobs ((passed ++ line ∷ []) ++ later) id replies end) × (play.board ≡ begun.board)
+begun_play jobs passed later line id w end replies before begun replied = (
   record {
     passed = passed;
     line = line;
@@ -247,16 +241,16 @@ begun_play jobs passed later line id w end replies begun replied = (
     board = begun.board;
     via = begun.via;
     parts = append_assoc passed (line ∷ []) later;
-    before = begun.before;
+    before = before;
     named = begun.named;
     replied = subst (λ (o : WorldState). IsReplied (from_to o end) later replies) begun.opens replied;
   },
   refl,
 )
 
-begun_end : RunsAnswer → (jobs : Jobs) (passed later : List (List ℕ)) (line id : List ℕ) (w end : WorldState) (replies : List Reply) (outcome : Outcome) → IsBegun jobs passed line id w → IsReplied (from_to w end) later replies → IsReportOf end outcome → IsEnd jobs ((passed ++ line ∷ []) ++ later) id replies outcome
-begun_end law jobs passed later line id w end replies outcome begun replied given =
-    let play = begun_play jobs passed later line id w end replies begun replied in
+begun_end : RunsAnswer → (jobs : Jobs) (passed later : List (List ℕ)) (line id : List ℕ) (w end : WorldState) (replies : List Reply) (outcome : Outcome) → All IsPassedOver passed → OpensRun jobs line id w → IsReplied (from_to w end) later replies → IsReportOf end outcome → IsEnd jobs ((passed ++ line ∷ []) ++ later) id replies outcome
+begun_end law jobs passed later line id w end replies outcome before begun replied given =
+    let play = begun_play jobs passed later line id w end replies before begun replied in
     record {
       world = end;
       play = play.0;
@@ -264,14 +258,14 @@ begun_end law jobs passed later line id w end replies outcome begun replied give
       answers = law (jobs.job begun.board) begun.via _ end outcome begun.guided.0 begun.guided.1 play.0.replied.run given.0;
     }
 
-pub played : RunsAnswer → (jobs : Jobs) (source : Change SourceState) (sink : Change SinkState) (passed : List (List ℕ)) (line id : List ℕ) (w : WorldState) (result : Result ℕ LinesFault) → IsBegun jobs passed line id w → Finishes source (passed ++ line ∷ []) w id sink result → Replays jobs source sink result
-played law jobs source sink passed line id w (Ok status) begun (later, replies, end, outcome, all, replied, given, put, is, readable, kept) =
-    (inr (inr ((passed ++ line ∷ []) ++ later, id, replies, outcome, all, begun_end law jobs passed later line id w end replies outcome begun replied given, put, is)), readable, kept)
-played law jobs source sink passed line id w (Err Read) begun (later, replies, end, lost, replied, put, kept) =
-    (((passed ++ line ∷ []) ++ later, lost, inr (id, replies, end, (begun_play jobs passed later line id w end replies begun replied).0, put)), kept)
-played law jobs source sink passed line id w (Err Write) begun (inl (later, replies, end, first, replied, begins, readable, failed)) =
-    (inr (inl ((passed ++ line ∷ []) ++ later, id, replies, end, first, (begun_play jobs passed later line id w end replies begun replied).0, begins)), readable, failed)
-played law jobs source sink passed line id w (Err Write) begun (inr (later, replies, end, outcome, all, replied, given, begins, readable, failed)) =
-    (inr (inr ((passed ++ line ∷ []) ++ later, id, replies, outcome, all, begun_end law jobs passed later line id w end replies outcome begun replied given, begins)), readable, failed)
-played law jobs source sink passed line id w (Err (Memory lacking)) begun (later, replies, end, all, replied, put, readable, kept) =
-    (inr ((passed ++ line ∷ []) ++ later, id, replies, end, all, (begun_play jobs passed later line id w end replies begun replied).0, put), readable, kept)
+pub played : RunsAnswer → (jobs : Jobs) (source : Change SourceState) (sink : Change SinkState) (passed : List (List ℕ)) (line id : List ℕ) (w : WorldState) (result : Result ℕ LinesFault) → All IsPassedOver passed → OpensRun jobs line id w → Finishes source (passed ++ line ∷ []) w id sink result → Replays jobs source sink result
+played law jobs source sink passed line id w (Ok status) before begun (later, replies, end, outcome, all, replied, given, put, is, readable, kept) =
+    (inr (inr ((passed ++ line ∷ []) ++ later, id, replies, outcome, all, begun_end law jobs passed later line id w end replies outcome before begun replied given, put, is)), readable, kept)
+played law jobs source sink passed line id w (Err Read) before begun (later, replies, end, lost, replied, put, kept) =
+    (((passed ++ line ∷ []) ++ later, lost, inr (id, replies, end, (begun_play jobs passed later line id w end replies before begun replied).0, put)), kept)
+played law jobs source sink passed line id w (Err Write) before begun (inl (later, replies, end, first, replied, begins, readable, failed)) =
+    (inr (inl ((passed ++ line ∷ []) ++ later, id, replies, end, first, (begun_play jobs passed later line id w end replies before begun replied).0, begins)), readable, failed)
+played law jobs source sink passed line id w (Err Write) before begun (inr (later, replies, end, outcome, all, replied, given, begins, readable, failed)) =
+    (inr (inr ((passed ++ line ∷ []) ++ later, id, replies, outcome, all, begun_end law jobs passed later line id w end replies outcome before begun replied given, begins)), readable, failed)
+played law jobs source sink passed line id w (Err (Memory lacking)) before begun (later, replies, end, all, replied, put, readable, kept) =
+    (inr ((passed ++ line ∷ []) ++ later, id, replies, end, all, (begun_play jobs passed later line id w end replies before begun replied).0, put), readable, kept)

@@ -6,6 +6,8 @@ use Rattle.board.specs.Positions.{Position}
 use Rattle.board.specs.Rows.{IsLowerBound}
 use Rattle.byte_streams.specs.Streams.{SourceState, SinkState, Change, from_to}
 use Rattle.byte_streams.specs.Sink.{Puts, PutsBeginning, WritesAll, FailsWriting}
+use Rattle.batch_lines.specs.Lines.{without_return, kind_of}
+use Rattle.batch_lines.specs.declared.lines.LineKind.TheVariants.{Within}
 use Rattle.outcomes.specs.Outcomes.{Answers}
 use Rattle.outcomes.specs.Endings.{without_rows}
 use Rattle.outcomes.specs.declared.outcome.Outcome.{Outcome}
@@ -36,6 +38,18 @@ IsGuidedJob job = IsJob job × IsLowerBound job.task.rule job.task.sum job.task.
 abbrev pub IsRefusedBy : Jobs → List ℕ → List ℕ → Type 0
 IsRefusedBy jobs line code =
     HasFault jobs.grid line code ⊎ ((id : List ℕ) × (board : Position) × Names jobs.grid line id board × jobs.lacks board × (code ≡ codes "V3"))
+
+-- the line is to be read, and these are its bytes
+abbrev pub IsWithin : List ℕ → List ℕ → Type 0
+IsWithin line bytes = (kind_of line ≡ Within) × (bytes ≡ without_return line)
+
+-- the line names a board by this id, and the board's job opens with this world
+pub record OpensRun (jobs : Jobs) (line id : List ℕ) (w : WorldState) : Type 0 where
+  pub board : Position
+  pub via : Move
+  pub named : Names jobs.grid line id board
+  pub opens : w ≡ opening (jobs.job board) via
+  pub guided : IsGuidedJob (jobs.job board)
 
 -- the first line that isn't passed over is refused, and this is its report
 pub record RefusesFirst (jobs : Jobs) (source : Change SourceState) (output : List ℕ) : Type 0 where

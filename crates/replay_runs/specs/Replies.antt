@@ -1,5 +1,5 @@
 -- What is replied to the lines after the board line, which say steps.
-use Rattle.std.specs.Prelude.{ℕ, ◌≡◌, ◌&&◌, List, [], ◌∷◌, ◌++◌, Bool, true, false, Option, Result, Ok, Err, IsUtf8, codes, if◌then◌else◌, ⊤}
+use Rattle.std.specs.Prelude.{ℕ, ◌≡◌, ◌&&◌, List, [], ◌∷◌, ◌++◌, Bool, true, false, Option, None, Some, Result, Ok, Err, IsUtf8, codes, if◌then◌else◌, ⊤}
 use Rattle.byte_streams.specs.Streams.{SinkState, Change}
 use Rattle.byte_streams.specs.Sink.{WritesAll, FailsWriting}
 use Rattle.byte_streams.specs.declared.sink.WriteFailed.{WriteFailed}
@@ -97,9 +97,10 @@ Changes world passed_over = world.after ≡ world.before
 Changes world no_step = world.after ≡ world.before
 Changes world (taken step refusal) = Next step (turn world.before refusal world.after)
 
--- the reply to a line of this kind with these bytes, and what it does to the world
-abbrev pub GivesReply : LineKind → List ℕ → Change WorldState → Reply → Type 0
-GivesReply kind bytes world reply = RepliesToKind kind bytes reply × Changes world reply
+-- the reply to a line that says this step, or none, where the step is refused so, or isn't refused
+abbrev pub reply_to : Option Step → Option Refusal → Reply
+reply_to None refusal = no_step
+reply_to (Some step) refusal = taken step refusal
 
 -- the text is written, and this is told; or the sink has failed
 abbrev pub WritesLine : Change SinkState → List ℕ → Bool → Result Bool WriteFailed → Type 0

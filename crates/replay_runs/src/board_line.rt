@@ -1,17 +1,15 @@
 //! The board line, and the replay that it begins.
 
-ghost use Rattle.std.specs.Prelude.{◌≡◌, ◌≤◌, ◌+◌, ◌⊎◌, ◌++◌, ◌∷◌, [], IfOk, OnErr, List, ℕ, length, false};
+ghost use Rattle.std.specs.Prelude.{◌≡◌, ◌≤◌, ◌⊎◌, IfOk, IfErr, OnErr, List, ℕ, length};
 ghost use Rattle.board.specs.declared.moves.Move.{Move};
-ghost use Rattle.byte_streams.specs.Streams.{SourceState, change, from_to};
-ghost use Rattle.batch_lines.specs.Lines.{kind_of, without_return};
-ghost use Rattle.batch_lines.specs.declared.lines.LineKind.TheVariants.{Within};
+ghost use Rattle.byte_streams.specs.Streams.{change};
 ghost use Rattle.world_model.specs.Openings.{opening};
 ghost use Rattle.batch_runs.specs.Batches.{HasFailed};
-ghost use Rattle.batch_runs.specs.FirstLines.{FindsFirst, HasRead};
-ghost use Rattle.replay_runs.specs.Replays.{Jobs, IsGuidedJob, Replays, Refuses};
+ghost use Rattle.replay_runs.specs.Replays.{Jobs, IsGuidedJob, IsWithin, OpensRun, IsRefusedBy};
+ghost use Rattle.replay_runs.specs.Replays.{Replays, Refuses};
 
 use crate::sending::send;
-use crate::stepping::{Run, replay_steps};
+use crate::stepping::{Opened, Run, replay_steps};
 use arrayvec::ArrayVec;
 use batch_lines::{EntryFault, LINE_LIMIT, LineKind, LineReader, read_entry};
 use batch_runs::{LinesFault, find_line};
@@ -65,53 +63,37 @@ pub fn replay_lines<S: Source, K: Sink, R: Run + Drop, O: Opener<R> + Drop>(
         return refuse(alloc, sink, EntryFault::NoText.code(), line.number);
     };
     let kept = copy_line(reader.bytes());
-    replay_board(
-        alloc,
-        source,
-        sink,
-        &mut reader,
-        shape,
-        opener,
-        line.number,
-        kept.as_slice(),
-    )
-}
-
-// The same from a board line that is to be read: its number and its bytes.
-fn replay_board<S: Source, K: Sink, R: Run + Drop, O: Opener<R> + Drop>(
-    alloc: Global,
-    source: &mut S,
-    sink: &mut K,
-    reader: &mut LineReader,
-    shape: Shape,
-    opener: O,
-    number: u64,
-    bytes: &[u8],
-) -> Result<u8, LinesFault>
-    requires { (O.jobs opener).grid ≡ shape }
-    ensures replays { (begun : SourceState) (passed : List (List ℕ)) (line : List ℕ)
-        → FindsFirst (from_to begun (S.state source.old)) passed line
-        → HasRead (from_to begun (S.state source.old)) reader.old (passed ++ line ∷ [])
-        → kind_of line ≡ Within → bytes.now ≡ without_return line → number ≡ length passed + 1
-        → (S.state source.old).has_failed ≡ false
-        → Replays (O.jobs opener) (from_to begun (S.state source.new))
-        (change K.state sink.old sink.new) result }
-    ensures flushed { K.is_flushed sink.new ⊎ (sink.new ≡ sink.old)
-        ⊎ HasFailed (K.state sink.new) }
-{
-    let entry = match read_entry(shape, bytes) {
-        Ok(entry) => entry,
-        Err(fault) => return refuse(alloc, sink, fault.code(), number),
-    };
-    let run = match opener.open(alloc, &entry.board) {
-        Ok(run) => run,
-        Err(refused) => {
-            return refuse(alloc, sink, SolveFault::Memory(refused).code(), number);
-        }
+    let opened = match open_run(alloc, shape, opener, kept.as_slice()) {
+        Ok(opened) => opened,
+        Err(code) => return refuse(alloc, sink, code, line.number),
     };
     // By this law the outcome answers the board's task.
     runs_keep_sound();
-    replay_steps(alloc, source, sink, reader, run, entry.id)
+    replay_steps(alloc, source, sink, &mut reader, opened)
+}
+
+// Opens the run of the board that a line names by these bytes. The error is the code by which the
+// line is refused.
+fn open_run<'a, R: Run + Drop, O: Opener<R> + Drop>(
+    alloc: Global,
+    shape: Shape,
+    opener: O,
+    bytes: &'a [u8],
+) -> Result<Opened<'a, R>, &'static str>
+    requires { (O.jobs opener).grid ≡ shape }
+    ensures opened { IfOk result (λ opened. (line : List ℕ) → IsWithin line bytes.entry.now
+        → OpensRun (O.jobs opener) line opened.id.now (R.world opened.run)) }
+    ensures refused { IfErr result (λ code. (line : List ℕ) → IsWithin line bytes.entry.now
+        → IsRefusedBy (O.jobs opener) line code.now) }
+{
+    let entry = match read_entry(shape, bytes) {
+        Ok(entry) => entry,
+        Err(fault) => return Err(fault.code()),
+    };
+    match opener.open(alloc, &entry.board) {
+        Ok(run) => Ok(Opened { run, id: entry.id }),
+        Err(refused) => Err(SolveFault::Memory(refused).code()),
+    }
 }
 
 // Writes the report of a line that is refused. Answers the status 1.

@@ -1,16 +1,17 @@
 //! Lines that say steps, and the report at their end.
 
-ghost use Rattle.std.specs.Prelude.{◌≡◌, ◌≢◌, ◌⊎◌, IfOk, OnOk, List, ℕ};
+ghost use Rattle.std.specs.Prelude.{◌≡◌, ◌≢◌, ◌⊎◌, IfOk, OnOk, List, ℕ, Option};
 ghost use Rattle.byte_streams.specs.Streams.{SourceState, change, from_to};
 ghost use Rattle.batch_lines.specs.declared.lines.LineKind.TheVariants.{PassedOver};
+ghost use Rattle.world_model.specs.declared.steps.Refusal.{Refusal};
 ghost use Rattle.world_model.specs.Turns.{turn, refusal_in};
 ghost use Rattle.world_model.specs.Worlds.{WorldState};
 ghost use Rattle.world_model.specs.Steps.{Next};
 ghost use Rattle.world_model.specs.Outcomes.{IsGiven};
 ghost use Rattle.batch_runs.specs.Batches.{HasFailed};
 ghost use Rattle.batch_runs.specs.FirstLines.{HasRead};
-ghost use Rattle.replay_runs.specs.Replies.{Reply, GivesReply, WritesReply, WritesLine, line_of};
-ghost use Rattle.replay_runs.specs.Replies.{status_of};
+ghost use Rattle.replay_runs.specs.Replies.{RepliesToKind, Changes, WritesReply, WritesLine};
+ghost use Rattle.replay_runs.specs.Replies.{reply_to, line_of, status_of};
 ghost use Rattle.replay_runs.specs.Stepping.{AnswersLines, Finishes};
 
 use crate::sending::{send, send_word};
@@ -37,24 +38,30 @@ pub trait Run {
         ensures { IsGiven (world self) result };
 }
 
+/// A run that a board line has opened, and the id that the line gives.
+#[derive(Drop)]
+pub(crate) struct Opened<'a, R> {
+    pub(crate) run: R,
+    pub(crate) id: &'a str,
+}
+
 /// Answers each line of the source that isn't passed over, and then writes the report of the run's
-/// outcome by this id. Answers the status.
+/// outcome by its id. Returns the status.
 pub(crate) fn replay_steps<S: Source, K: Sink, R: Run + Drop>(
     alloc: Global,
     source: &mut S,
     sink: &mut K,
     reader: &mut LineReader,
-    run: R,
-    id: &str,
+    opened: Opened<R>,
 ) -> Result<u8, LinesFault>
     ensures replays { (begun : SourceState) (lines : List (List ℕ))
         → HasRead (from_to begun (S.state source.old)) reader.old lines
-        → Finishes (from_to begun (S.state source.new)) lines (R.world run) id.now
-        (change K.state sink.old sink.new) result }
+        → Finishes (from_to begun (S.state source.new)) lines (R.world opened.entry.run)
+        opened.entry.id.now (change K.state sink.old sink.new) result }
     ensures flushed { K.is_flushed sink.new ⊎ (sink.new ≡ sink.old)
         ⊎ HasFailed (K.state sink.new) }
 {
-    let mut run = run;
+    let Opened { mut run, id } = opened;
     let said = match answer_lines(alloc, source, sink, reader, &mut run) {
         Ok(said) => said,
         Err(fault) => return Err(fault),
@@ -109,7 +116,8 @@ fn answer_lines<S: Source, K: Sink, R: Run>(
         match line.kind {
             LineKind::PassedOver => {}
             _ => {
-                said = match answer_line(alloc, sink, run, line.kind, reader.bytes(), said) {
+                let step = step_in(line.kind, reader.bytes());
+                said = match answer_step(alloc, sink, run, step, said) {
                     Ok(said) => said,
                     Err(_) => return Err(LinesFault::Write),
                 };
@@ -118,29 +126,38 @@ fn answer_lines<S: Source, K: Sink, R: Run>(
     }
 }
 
-// Answers a line that isn't passed over, whose bytes are given where it is to be read. Tells whether
-// it said a step, as those before did or not.
-fn answer_line<K: Sink, R: Run>(
+// The step that a line says by these bytes, which are given where it is to be read.
+fn step_in(kind: LineKind, bytes: &[u8]) -> Option<Step>
+    requires { kind ≢ PassedOver }
+    ensures { (refusal : Option Refusal) → RepliesToKind kind bytes.now (reply_to result refusal) }
+{
+    let LineKind::Within = kind else {
+        return None;
+    };
+    read_step(bytes)
+}
+
+// Takes the step that a line says, if it says one, and answers the line. Returns whether each line up
+// to it said one.
+fn answer_step<K: Sink, R: Run>(
     alloc: Global,
     sink: &mut K,
     run: &mut R,
-    kind: LineKind,
-    bytes: &[u8],
+    step: Option<Step>,
     said: bool,
 ) -> Result<bool, WriteFailed>
-    requires { kind ≢ PassedOver }
-    ensures reply { (reply : Reply) × GivesReply kind bytes.now (change R.world run.old run.new) reply
-        × WritesReply (change K.state sink.old sink.new) reply said result }
+    ensures reply { (refusal : Option Refusal)
+        × Changes (change R.world run.old run.new) (reply_to step refusal)
+        × WritesReply (change K.state sink.old sink.new) (reply_to step refusal) said result }
     ensures last { OnOk result (K.is_flushed sink.new) }
 {
-    let LineKind::Within = kind else {
-        return tell(sink, NO_STEP, false);
-    };
-    let Some(step) = read_step(bytes) else {
-        return tell(sink, NO_STEP, false);
-    };
-    let answer = run.step(alloc, step);
-    tell(sink, answer_word(answer), said)
+    match step {
+        Some(step) => {
+            let answer = run.step(alloc, step);
+            tell(sink, answer_word(answer), said)
+        }
+        None => tell(sink, NO_STEP, false),
+    }
 }
 
 // Writes a word on a line of its own, passes it on, and answers what is told of it.
