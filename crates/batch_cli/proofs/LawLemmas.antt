@@ -1,5 +1,5 @@
 -- What the program leaves in an empty output, and what of its message in the error stream.
-use Rattle.std.proofs.Common.{◌≡◌, ◌∙◌, Bool, List, [], ◌∷◌, Option, None, Some, inl, inr, sym, ap, subst, map, arith, codes, ℕ, ◌≢◌, Result, Ok, Err, refl, ◌⊎◌, ◌<◌, append-nil, string_bytes, ◌++◌}
+use Rattle.std.proofs.Common.{◌≡◌, ◌∙◌, Bool, false, List, [], ◌∷◌, Option, None, Some, inl, inr, sym, ap, subst, map, arith, codes, ℕ, ◌≢◌, Result, Ok, Err, refl, ◌⊎◌, ◌<◌, append-nil, string_bytes, ◌++◌}
 use Rattle.std.specs.Io.KnownBytes.{Appends}
 use Rattle.batch_runs.proofs.BatchLemmas.{run_true, outputs_true}
 use Rattle.setup_runs.specs.Solving.{rules_of, certifying_rules_of}
@@ -52,11 +52,13 @@ use Rattle.batch_cli.specs.Setups.{AreFit, IsFit, AreTablesFor, IsSetupOf, IsDef
 use Rattle.batch_cli.specs.declared.faults.BatchFault.{BatchFault}
 use Rattle.batch_cli.specs.declared.endings.Ending.{Ending}
 use Rattle.batch_cli.specs.declared.endings.Ending.TheVariants.{NoTexts, Refused, NoMemory, Ran, Answered, Shown, Faulted}
-use Rattle.batch_cli.specs.Endings.{status_of, HasNotBegun}
-use Rattle.batch_cli.specs.Programs.{ending_of, after_flush, FlushesBehind, IsUnused, Solves, Certifies, Judges, Rewrites, TakesSteps, Shows, EndsRun, EndsRequest, EndsBy}
+use Rattle.batch_cli.specs.declared.commands.Command.{Command}
+use Rattle.batch_cli.specs.declared.commands.Command.TheVariants as command
+use Rattle.batch_cli.specs.Endings.{status_of, HasNotBegun, Tells as ReportsEnding}
+use Rattle.batch_cli.specs.Programs.{ending_of, after_flush, FlushesBehind, IsUnused, Solves, Certifies, Judges, Rewrites, TakesSteps, Shows, EndsRun, EndsRequest, EndsBy, Runs}
 use Rattle.batch_cli.specs.declared.faults.BatchFault.TheVariants.{Write}
 use Rattle.batch_cli.specs.Faults.{of_lines, of_certify, of_check, of_upgrade}
-use Rattle.batch_cli.specs.Headline.{IsTrue, IsTrueOf, IsTrueBy, JudgesTruly, StatesTruth, UpgradesTruly, WritesReplay}
+use Rattle.batch_cli.specs.Headline.{IsTrue, IsTrueOf, IsTrueBy, RunsProgram, JudgesTruly, StatesTruth, UpgradesTruly, WritesReplay}
 use Rattle.option_texts.specs.declared.faults.GroupsFault.TheVariants as groups
 use Rattle.batch_runs.specs.declared.faults.LinesFault.TheVariants as lines
 use Rattle.certificate_runs.specs.declared.faults.CertifyFault.TheVariants as certify
@@ -174,7 +176,7 @@ status_ran ran sink ending status (flushed, flush, is) told other =
     after ∙ ap status_of (unchanged ran flushed (λ e. other (after ∙ e)))
 
 -- nor does the program end as one that has not begun
-pub begun_flushed : (ran : Ending) (flushed : Result (Unit {0}) WriteFailed) → ¬ HasNotBegun ran → ¬ HasNotBegun (after_flush ran flushed)
+begun_flushed : (ran : Ending) (flushed : Result (Unit {0}) WriteFailed) → ¬ HasNotBegun ran → ¬ HasNotBegun (after_flush ran flushed)
 begun_flushed ran (Ok done) begun = begun
 begun_flushed NoTexts (Err failed) begun = λ idle. idle
 begun_flushed (Refused refusal) (Err failed) begun = λ idle. idle
@@ -184,9 +186,20 @@ begun_flushed (Answered status) (Err failed) begun = λ idle. idle
 begun_flushed Shown (Err failed) begun = λ idle. idle
 begun_flushed (Faulted fault) (Err failed) begun = λ idle. idle
 
-pub begun_run : {A E : Type 0} (well : A → Ending) (early : E → BatchFault) (result : Result A E) → ((a : A) → ¬ HasNotBegun (well a)) → ¬ HasNotBegun (ending_of well early result)
+begun_run : {A E : Type 0} (well : A → Ending) (early : E → BatchFault) (result : Result A E) → ((a : A) → ¬ HasNotBegun (well a)) → ¬ HasNotBegun (ending_of well early result)
 begun_run well early (Ok a) begun = begun a
 begun_run well early (Err fault) begun = λ idle. idle
+
+begun_command : (command : Command) (source : Change SourceState) (sink : Change SinkState) (ending : Ending) → Runs command source sink ending → ¬ HasNotBegun ending
+begun_command (command.Solve setup progress) source sink ending (result, run, is) = λ idle. begun_run Ran of_lines result (λ counts never. never) (subst HasNotBegun is idle)
+begun_command (command.Certify setup progress) source sink ending (result, run, is) = λ idle. begun_run Answered of_certify result (λ status never. never) (subst HasNotBegun is idle)
+begun_command command.Check source sink ending (result, run, is) = λ idle. begun_run Answered of_check result (λ status never. never) (subst HasNotBegun is idle)
+begun_command command.Upgrade source sink ending (result, run, is) = λ idle. begun_run Answered of_upgrade result (λ status never. never) (subst HasNotBegun is idle)
+begun_command (command.Replay setup) source sink ending (result, run, is) = λ idle. begun_run Answered of_lines result (λ status never. never) (subst HasNotBegun is idle)
+begun_command (command.Show text) source sink ending (unread, (result, run, is)) = λ idle. begun_run (λ done. Shown) (λ failed. Write) result (λ done never. never) (subst HasNotBegun is idle)
+
+pub begun_ended : (command : Command) (source : Change SourceState) (sink : Change SinkState) (ending : Ending) → EndsRun (Runs command source) sink ending → ¬ HasNotBegun ending
+begun_ended command source sink ending ended = λ idle. begun_flushed ended.ran ended.flush.0 (begun_command command source (from_to sink.before ended.between) ended.ran ended.run) (subst HasNotBegun ended.flush.2 idle)
 
 -- ---- what the program writes is true: what was written stays behind a flush
 
@@ -413,7 +426,7 @@ module _ (source : Change SourceState) (sink : Change SinkState) (ending : Endin
   request_true (Help text) (unread, run) = inl (shown (string_bytes text) run)
   request_true (Version text) (unread, run) = inl (shown (string_bytes text) run)
 
-  pub words_true : (words : List Text) → EndsBy words source sink ending → IsTrueBy words status source sink
+  words_true : (words : List Text) → EndsBy words source sink ending → IsTrueBy words status source sink
   words_true words (inl (request, asks, ends)) = inl (request, asks, request_true request ends)
   words_true words (inr (refusal, fails, unused, is)) = inr (refusal, fails, told ∙ ap status_of is, unused)
 
@@ -423,15 +436,10 @@ module _ (source : Change SourceState) (sink : Change SinkState) (ending : Endin
   abbrev BatchOrNone : Type 0
   BatchOrNone = ((¬ HasNotBegun ending) × IsTrue status source sink) ⊎ (HasNotBegun ending × OutOfMemory × (status ≡ 4))
 
-  solve_begun : (setup : SetupState) → EndsRun (Solves source setup) sink ending → ¬ HasNotBegun ending
-  solve_begun setup ended not_begun =
-      let ran : ¬ HasNotBegun ended.ran = λ early. begun_run Ran of_lines ended.run.0 (λ counts never. never) (subst HasNotBegun ended.run.2 early) in
-      begun_flushed ended.ran ended.flush.0 ran (subst HasNotBegun ended.flush.2 not_begun)
-
   default_true : (request : Request) → WordsAsk [] request → EndsRequest request source sink ending → BatchOrNone
   default_true (Solve o) defaults (inl (setup, is, run)) =
       let all = solved source sink ending status told setup run in
-      inl (solve_begun setup run, (setup, default_setup o setup defaults is, all.0, all.1))
+      inl (begun_ended (command.Solve setup false) source sink ending run, (setup, default_setup o setup defaults is, all.0, all.1))
   default_true (Solve o) defaults (inr (lacking, unused, is)) = inr (subst HasNotBegun (sym is) tt, lacking, told ∙ ap status_of is)
   default_true (Certify o) never ends = absurd never
   default_true Check never ends = absurd never
@@ -453,11 +461,29 @@ module _ (source : Change SourceState) (sink : Change SinkState) (ending : Endin
   none_true (inl (request, asks, ends)) = default_true request asks ends
   none_true (inr (refusal, fails, unused, is)) = default_refused refusal fails is
 
-  -- the program's clause of a batch: what was done to the streams is told apart by whether the run has begun
-  pub batch_true : {Flushed Unread Unwritten : Type 0} → (words : List Text) → words ≡ [] → EndsBy words source sink ending → Flushed ⊎ HasNotBegun ending → (HasNotBegun ending → Unread × Unwritten) → (Flushed × IsTrue status source sink) ⊎ (OutOfMemory × (status ≡ 4) × Unread × Unwritten)
-  batch_true words none ends flushed unused = by_batch (none_true (subst (λ (w : List Text). EndsBy w source sink ending) none ends)) flushed unused
-    where
-      by_batch : {Flushed Unread Unwritten : Type 0} → BatchOrNone → Flushed ⊎ HasNotBegun ending → (HasNotBegun ending → Unread × Unwritten) → (Flushed × IsTrue status source sink) ⊎ (OutOfMemory × (status ≡ 4) × Unread × Unwritten)
-      by_batch (inl (begun, all)) (inl flushed) unused = inl (flushed, all)
-      by_batch (inl (begun, all)) (inr idle) unused = absurd (begun idle)
-      by_batch (inr (idle, lacking, four)) flushed unused = let kept = unused idle in inr (lacking, four, kept.0, kept.1)
+  -- ---- what the program's contract says
+
+  -- A command was run, and the sink flushed behind it or failed; or nothing was begun.
+  abbrev pub IsEnded : Type 0 → Type 0 → Type 0
+  IsEnded Flushed Untouched = (Flushed × (¬ HasNotBegun ending)) ⊎ (HasNotBegun ending × Untouched)
+
+  flushed_or_not : {Flushed Untouched : Type 0} → IsEnded Flushed Untouched → Flushed ⊎ Untouched
+  flushed_or_not (inl (flushed, ran)) = inl flushed
+  flushed_or_not (inr (idle, untouched)) = inr untouched
+
+  untouched : {Flushed Untouched : Type 0} → IsEnded Flushed Untouched → HasNotBegun ending → Untouched
+  untouched (inl (flushed, ran)) idle = absurd (ran idle)
+  untouched (inr (never, kept)) idle = kept
+
+  batch_true : {Flushed Untouched : Type 0} → BatchOrNone → IsEnded Flushed Untouched → (Flushed × IsTrue status source sink) ⊎ (OutOfMemory × (status ≡ 4) × Untouched)
+  batch_true (inl (ran, all)) (inl (flushed, same)) = inl (flushed, all)
+  batch_true (inl (ran, all)) (inr (idle, kept)) = absurd (ran idle)
+  batch_true (inr (idle, lacking, four)) ended = inr (lacking, four, untouched ended idle)
+
+  pub runs_program : {Flushed Untouched : Type 0} → (words : List Text) (errors : Change SinkState) → ReportsEnding errors ending status → EndsBy words source sink ending → IsEnded Flushed Untouched → RunsProgram words source sink errors status Flushed Untouched
+  runs_program words errors tells ends ended = record {
+    ended = (ending, tells, ends, untouched ended);
+    truth = words_true words ends;
+    batch = λ none. batch_true (none_true (subst (λ (w : List Text). EndsBy w source sink ending) none ends)) ended;
+    flushed = flushed_or_not ended;
+  }

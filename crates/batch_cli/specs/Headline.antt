@@ -19,7 +19,9 @@ use Rattle.command_line.specs.declared.requests.Request.TheVariants.{Solve, Cert
 use Rattle.command_line.specs.Faults.{refusal_status}
 use Rattle.command_line.specs.Requests.{WordsAsk, WordsFail}
 use Rattle.batch_cli.specs.Setups.{IsSetupOf, IsDefaultSetup}
-use Rattle.batch_cli.specs.Programs.{IsUnused}
+use Rattle.batch_cli.specs.declared.endings.Ending.{Ending}
+use Rattle.batch_cli.specs.Endings.{Tells, HasNotBegun}
+use Rattle.batch_cli.specs.Programs.{IsUnused, EndsBy}
 
 -- For some default setup a beginning was written of an output that tells the truth of the lines that were read, and with the status 0 or 1 all of one that tells it of all lines; with 0 none of them is bounded or refused.
 abbrev pub IsTrue : ℕ → Change SourceState → Change SinkState → Type 0
@@ -64,3 +66,10 @@ abbrev pub IsTrueBy : List Text → ℕ → Change SourceState → Change SinkSt
 IsTrueBy words status source sink =
     ((request : Request) × WordsAsk words request × (IsTrueOf request status source sink ⊎ (OutOfMemory × (status ≡ 4) × IsUnused source sink)))
     ⊎ ((refusal : NoRequest) × WordsFail words refusal × (status ≡ refusal_status refusal) × IsUnused source sink)
+
+-- A run of the program with these words: what it did to its streams, and its exit status. `Flushed` says that the sink is flushed at the end or has failed, `Untouched` that neither the source nor the sink was used.
+pub record RunsProgram (words : List Text) (source : Change SourceState) (sink errors : Change SinkState) (status : ℕ) (Flushed Untouched : Type 0) : Type 0 where
+  pub ended : (ending : Ending) × Tells errors ending status × EndsBy words source sink ending × (HasNotBegun ending → Untouched)
+  pub truth : IsTrueBy words status source sink
+  pub batch : words ≡ [] → (Flushed × IsTrue status source sink) ⊎ (OutOfMemory × (status ≡ 4) × Untouched)
+  pub flushed : Flushed ⊎ Untouched

@@ -25,6 +25,8 @@ use Rattle.command_line.specs.declared.requests.Request.TheVariants.{Solve, Cert
 use Rattle.command_line.specs.Requests.{WordsAsk, WordsFail}
 use Rattle.batch_cli.specs.declared.faults.BatchFault.{BatchFault}
 use Rattle.batch_cli.specs.declared.faults.BatchFault.TheVariants.{Write}
+use Rattle.batch_cli.specs.declared.commands.Command.{Command}
+use Rattle.batch_cli.specs.declared.commands.Command.TheVariants as command
 use Rattle.batch_cli.specs.declared.endings.Ending.{Ending}
 use Rattle.batch_cli.specs.declared.endings.Ending.TheVariants.{Refused, NoMemory, Ran, Answered, Shown, Faulted}
 use Rattle.batch_cli.specs.Faults.{of_lines, of_certify, of_check, of_upgrade}
@@ -109,3 +111,22 @@ abbrev pub EndsBy : List Text → Change SourceState → Change SinkState → En
 EndsBy words source sink ending =
     ((request : Request) × WordsAsk words request × EndsRequest request source sink ending)
     ⊎ ((refusal : NoRequest) × WordsFail words refusal × IsUnused source sink × (ending ≡ Refused refusal))
+
+-- ---- commands, ready to run
+
+-- a run of a command, without the flush that follows it
+abbrev pub Runs : Command → Change SourceState → Change SinkState → Ending → Type 0
+Runs (command.Solve setup progress) source sink ending = Solves source setup sink ending
+Runs (command.Certify setup progress) source sink ending = Certifies source setup sink ending
+Runs command.Check source sink ending = Judges source sink ending
+Runs command.Upgrade source sink ending = Rewrites source sink ending
+Runs (command.Replay setup) source sink ending = TakesSteps source setup sink ending
+Runs (command.Show text) source sink ending = (source.after ≡ source.before) × Shows (string_bytes text) sink ending
+
+-- a run of the command, and the flush that follows it, end what is requested
+abbrev pub Serves : Request → Command → Type 0
+Serves request command = (source : Change SourceState) (sink : Change SinkState) (ending : Ending) → EndsRun (Runs command source) sink ending → EndsRequest request source sink ending
+
+-- what is requested ends without memory, where nothing is read or written
+abbrev pub LacksMemory : Request → OutOfMemory → Type 0
+LacksMemory request lacking = (source : Change SourceState) (sink : Change SinkState) → IsUnused source sink → EndsRequest request source sink NoMemory

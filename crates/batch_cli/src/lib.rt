@@ -2,11 +2,13 @@
 //! checked and upgraded, and runs replayed step by step.
 #![tactic(auto)]
 
+mod commands;
 mod endings;
 mod faults;
 pub mod laws;
 mod program;
 mod progress;
+mod runner;
 mod setups;
 
 pub use batch_lines::{

@@ -5,7 +5,6 @@ ghost use Rattle.lower_bound.specs.Tables.{ArePotentials};
 ghost use Rattle.batch_cli.specs.Setups.{AreFit, AreTablesFor, IsSetupOf};
 
 use batch_runs::Setup;
-use board::{Board, Weights};
 use command_line::Options;
 use lower_bound::Bound;
 use memory::OutOfMemory;
@@ -34,30 +33,31 @@ pub(crate) fn setup_of(
         limit,
         progress: _,
     } = options;
-    let bound = bound_for(rt, alloc, fold, groups, &goal, &costs)?;
     let setup = Setup::new(alloc, goal, costs)
-        .bound(bound)
         .limit(limit)
-        .spread(spread);
-    Ok(setup.workers(workers as usize).unwrap())
+        .spread(spread)
+        .workers(workers as usize)
+        .unwrap();
+    let bound = bound_for(rt, alloc, &setup, groups, fold)?;
+    Ok(setup.bound(bound))
 }
 
-// The tables of the groups, folded where that is asked for.
+// The tables of the groups for a setup's goal and costs, folded where that is asked for.
 fn bound_for(
     rt: &(impl Threads + Sync),
     alloc: Global,
-    fold: bool,
+    setup: &Setup,
     groups: Partition,
-    goal: &Board,
-    weights: &Weights,
+    fold: bool,
 ) -> Result<Bound, OutOfMemory>
-    requires goal { goal.now.grid ≡ groups.grid }
-    requires weights { weights.now.grid ≡ groups.grid }
-    ensures built { IfOk result (AreTablesFor fold groups weights.now goal.now) }
-    ensures potentials { IfOk result (ArePotentials weights.now goal.now) }
+    requires { setup.now.goal.grid ≡ groups.grid }
+    ensures built { IfOk result (AreTablesFor fold groups setup.now.rule setup.now.goal) }
+    ensures potentials { IfOk result (ArePotentials setup.now.rule setup.now.goal) }
 {
+    let goal = setup.goal();
+    let weights = setup.weights();
     if fold {
-        return build_folded_bound(rt, alloc, groups, goal, weights);
+        return build_folded_bound(rt, alloc, groups, &goal, &weights);
     }
-    build_bound(rt, alloc, groups, goal, weights)
+    build_bound(rt, alloc, groups, &goal, &weights)
 }

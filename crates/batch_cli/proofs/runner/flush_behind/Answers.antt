@@ -1,5 +1,5 @@
 use Rattle.std.proofs.Common.{Ok, Err, refl}
-use Rattle.batch_cli.proofs.program.flush_behind.Goals as goal
+use Rattle.batch_cli.proofs.runner.flush_behind.Goals as goal
 
 pub returns-in-Ok-clause-ended : goal.returns-in-Ok-clause-ended
 returns-in-Ok-clause-ended g c = (Ok tt, c.in-Ok.ensures.flushes, refl)

@@ -1,0 +1,7 @@
+use Rattle.batch_cli.proofs.commands.command_for.Goals as goal
+
+pub returns-in-Help-clause-command : goal.returns-in-Help-clause-command
+returns-in-Help-clause-command g c = rw c.in-Help.is (λ source sink ending ended. (ended.run.0, record { between = ended.between; ran = ended.ran; run = ended.run.1; flush = ended.flush }))
+
+pub returns-in-Version-clause-command : goal.returns-in-Version-clause-command
+returns-in-Version-clause-command g c = rw c.in-Version.is (λ source sink ending ended. (ended.run.0, record { between = ended.between; ran = ended.ran; run = ended.run.1; flush = ended.flush }))

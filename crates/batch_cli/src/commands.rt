@@ -1,0 +1,61 @@
+//! Commands, ready to run.
+
+ghost use Rattle.std.specs.Prelude.{IfOk, IfErr};
+ghost use Rattle.batch_cli.specs.Setups.{IsFit};
+ghost use Rattle.batch_cli.specs.Programs.{Serves, LacksMemory};
+
+use crate::setups::setup_of;
+use batch_runs::Setup;
+use command_line::Request;
+use memory::OutOfMemory;
+use std::alloc::Global;
+use std::thread::Threads;
+
+/// What a request asks for, ready to run: its tables are built.
+#[derive(Drop)]
+pub(crate) enum Command {
+    /// Solves the boards of the source, and reports progress where that is asked for.
+    Solve { setup: Setup, progress: bool },
+    /// Solves the first board of the source, and writes its certificate.
+    Certify { setup: Setup, progress: bool },
+    /// Checks the certificate of the source.
+    Check,
+    /// Writes the certificate of the source in version 2.
+    Upgrade,
+    /// Replays the steps of the source.
+    Replay(Setup),
+    /// Writes a text of help.
+    Show(String),
+}
+
+/// The command that a request asks for. The error: out of memory for its tables.
+pub(crate) fn command_for(
+    rt: &(impl Threads + Sync),
+    alloc: Global,
+    request: Request,
+) -> Result<Command, OutOfMemory>
+    requires { IsFit request }
+    ensures command { IfOk result (Serves request) }
+    ensures lacking { IfErr result (LacksMemory request) }
+{
+    match request {
+        Request::Solve(options) => {
+            let progress = options.progress;
+            let setup = setup_of(rt, alloc, options)?;
+            Ok(Command::Solve { setup, progress })
+        }
+        Request::Certify(options) => {
+            let progress = options.progress;
+            let setup = setup_of(rt, alloc, options)?;
+            Ok(Command::Certify { setup, progress })
+        }
+        Request::Check => Ok(Command::Check),
+        Request::Upgrade => Ok(Command::Upgrade),
+        Request::Replay(options) => {
+            let setup = setup_of(rt, alloc, options)?;
+            Ok(Command::Replay(setup))
+        }
+        Request::Help(text) => Ok(Command::Show(text)),
+        Request::Version(text) => Ok(Command::Show(text)),
+    }
+}

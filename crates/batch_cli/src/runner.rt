@@ -1,0 +1,175 @@
+//! How commands run.
+
+ghost use Rattle.std.specs.Prelude.{◌≡◌, ◌⊎◌, Err, map, string_bytes};
+ghost use Rattle.byte_streams.specs.Streams.{change};
+ghost use Rattle.byte_streams.specs.declared.sink.WriteFailed.{WriteFailed};
+ghost use Rattle.batch_runs.specs.Batches.{HasFailed};
+ghost use Rattle.batch_cli.specs.Endings.{HasNotBegun};
+ghost use Rattle.batch_cli.specs.Programs.{Solves, Certifies, Judges, Rewrites, TakesSteps};
+ghost use Rattle.batch_cli.specs.Programs.{Shows, FlushesBehind, EndsBy, Runs, after_flush};
+
+use crate::commands::{Command, command_for};
+use crate::endings::Ending;
+use crate::faults::BatchFault;
+use crate::progress::WhereAsked;
+use batch_runs::Setup;
+use byte_streams::{Sink, Source};
+use certificate_runs::{run_check, run_upgrade};
+use command_line::read_words;
+use hda_run::Gate;
+use replay_runs::run_replay;
+use setup_runs::{run_batch, run_cert};
+use std::alloc::Global;
+use std::sync::Wait;
+use std::thread::Threads;
+
+/// What commands run with: threads, memory, and the gate that searches pass.
+#[derive(Clone, Copy)]
+pub(crate) struct Runner<'a, R, G> {
+    pub rt: &'a R,
+    pub alloc: Global,
+    pub gate: &'a G,
+}
+
+impl<'a, R: Threads + Wait + Sync, G: Gate + Sync> Runner<'a, R, G> {
+    /// Does what the words ask for, and returns how the program ends. Each command is followed by a
+    /// flush; without one, nothing is read or written.
+    pub(crate) fn end_program<S: Source, K: Sink>(
+        &self,
+        words: &[String],
+        source: &mut S,
+        sink: &mut K,
+    ) -> Ending
+        ensures ended { EndsBy (map string_bytes words.now) (change S.state source.old source.new)
+            (change K.state sink.old sink.new) result }
+        ensures begun { ((K.is_flushed sink.new ⊎ HasFailed (K.state sink.new))
+            × (¬ HasNotBegun result))
+            ⊎ (HasNotBegun result × ((source.new ≡ source.old) × (sink.new ≡ sink.old))) }
+    {
+        let request = match read_words(self.alloc, words) {
+            Ok(request) => request,
+            Err(refusal) => return Ending::Refused(refusal),
+        };
+        let Ok(command) = command_for(self.rt, self.alloc, request) else {
+            return Ending::NoMemory;
+        };
+        let ending = self.run(&command, source, sink);
+        flush_behind(sink, ending)
+    }
+
+    // Runs a command; no flush follows.
+    fn run<S: Source, K: Sink>(&self, command: &Command, source: &mut S, sink: &mut K) -> Ending
+        ensures { Runs command.now (change S.state source.old source.new)
+            (change K.state sink.old sink.new) result }
+    {
+        match command {
+            Command::Solve { setup, progress } => self.solve(setup, *progress, source, sink),
+            Command::Certify { setup, progress } => self.certify(setup, *progress, source, sink),
+            Command::Check => self.check(source, sink),
+            Command::Upgrade => self.upgrade(source, sink),
+            Command::Replay(setup) => self.replay(setup, source, sink),
+            Command::Show(text) => show(sink, text.as_str()),
+        }
+    }
+
+    fn solve<S: Source, K: Sink>(
+        &self,
+        setup: &Setup,
+        progress: bool,
+        source: &mut S,
+        sink: &mut K,
+    ) -> Ending
+        ensures { Solves (change S.state source.old source.new) setup.now
+            (change K.state sink.old sink.new) result }
+    {
+        let gate = WhereAsked {
+            gate: self.gate,
+            is_asked: progress,
+        };
+        match run_batch(self.rt, self.alloc, source, sink, setup, &gate) {
+            Ok(counts) => Ending::Ran(counts),
+            Err(fault) => Ending::Faulted(BatchFault::from(fault)),
+        }
+    }
+
+    fn certify<S: Source, K: Sink>(
+        &self,
+        setup: &Setup,
+        progress: bool,
+        source: &mut S,
+        sink: &mut K,
+    ) -> Ending
+        ensures { Certifies (change S.state source.old source.new) setup.now
+            (change K.state sink.old sink.new) result }
+    {
+        let gate = WhereAsked {
+            gate: self.gate,
+            is_asked: progress,
+        };
+        match run_cert(self.rt, self.alloc, source, sink, setup, &gate) {
+            Ok(status) => Ending::Answered(status),
+            Err(fault) => Ending::Faulted(BatchFault::from(fault)),
+        }
+    }
+
+    fn check<S: Source, K: Sink>(&self, source: &mut S, sink: &mut K) -> Ending
+        ensures { Judges (change S.state source.old source.new) (change K.state sink.old sink.new)
+            result }
+    {
+        match run_check(self.rt, self.alloc, source, sink) {
+            Ok(status) => Ending::Answered(status),
+            Err(fault) => Ending::Faulted(BatchFault::from(fault)),
+        }
+    }
+
+    fn upgrade<S: Source, K: Sink>(&self, source: &mut S, sink: &mut K) -> Ending
+        ensures { Rewrites (change S.state source.old source.new) (change K.state sink.old sink.new)
+            result }
+    {
+        match run_upgrade(self.alloc, source, sink) {
+            Ok(status) => Ending::Answered(status),
+            Err(fault) => Ending::Faulted(BatchFault::from(fault)),
+        }
+    }
+
+    fn replay<S: Source, K: Sink>(&self, setup: &Setup, source: &mut S, sink: &mut K) -> Ending
+        ensures { TakesSteps (change S.state source.old source.new) setup.now
+            (change K.state sink.old sink.new) result }
+    {
+        match run_replay(self.rt, self.alloc, source, sink, setup) {
+            Ok(status) => Ending::Answered(status),
+            Err(fault) => Ending::Faulted(BatchFault::from(fault)),
+        }
+    }
+}
+
+// Writes a text.
+fn show<K: Sink>(sink: &mut K, text: &str) -> Ending
+    ensures { Shows text.now (change K.state sink.old sink.new) result }
+{
+    match sink.put(text.as_bytes()) {
+        Ok(()) => Ending::Shown,
+        Err(_) => Ending::Faulted(BatchFault::Write),
+    }
+}
+
+// Flushes the sink behind a run, and returns how the program ends: the first fault decides.
+fn flush_behind<K: Sink>(sink: &mut K, ending: Ending) -> Ending
+    ensures ended { FlushesBehind ending (change K.state sink.old sink.new) result }
+    ensures flushed { K.is_flushed sink.new ⊎ HasFailed (K.state sink.new) }
+{
+    match sink.flush() {
+        Ok(()) => ending,
+        Err(_) => unflushed(ending),
+    }
+}
+
+// How the program ends where what a run has written cannot be passed on.
+fn unflushed(ending: Ending) -> Ending
+    ensures { (failed : WriteFailed) → result ≡ after_flush ending (Err failed) }
+{
+    match ending {
+        Ending::Faulted(fault) => Ending::Faulted(fault),
+        _ => Ending::Faulted(BatchFault::Write),
+    }
+}
