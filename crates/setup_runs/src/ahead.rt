@@ -1,6 +1,6 @@
 //! Small boards, which are solved side by side before their lines are taken.
 
-ghost use Rattle.std.specs.Prelude.{◌≡◌, ◌≢◌, ◌<◌, ◌≤◌, ℕ, All, IfSome, Option, Some, Vec, false};
+ghost use Rattle.std.specs.Prelude.{◌≡◌, ◌≢◌, ◌≤◌, ℕ, All, IfSome, Option, Some, Vec, false};
 ghost use Rattle.std.specs.declared.alloc.Global.{Global};
 ghost use Rattle.board.specs.declared.moves.Move.{Move};
 ghost use Rattle.board.specs.Grids.{cell_count};
@@ -40,30 +40,46 @@ pub(crate) struct Place {
     pub(crate) ending: Option<Ending>,
 }
 
-/// The endings of a board and of those that the first whole lines among these bytes name, the first
-/// one last: each by one worker, side by side in as many threads as the setup has workers. There are
-/// none where the setup has one worker, the boards are not small or few, or memory is refused.
-pub(crate) fn end_ahead<R: Threads + Sync, G: Gate + Sync>(
-    rt: &R,
+/// A board and those that the first whole lines among these bytes name, where they are worth solving
+/// ahead. They are not where the setup has one worker, the boards are not small or few, or memory is
+/// refused.
+pub(crate) fn places_ahead(
     alloc: Global,
     setup: &Setup,
     start: &Board,
     held: &[u8],
+) -> Option<Vec<Place>>
+    requires { start.now.grid ≡ setup.now.goal.grid }
+    ensures small { IfSome result (λ places. cell_count setup.now.goal.grid ≤ 9) }
+    ensures boards { IfSome result
+        (λ places. All (λ place. Stands setup.now.goal.grid place) places.items) }
+{
+    let shape = setup.shape();
+    if setup.worker_count() == 1 || SMALL_CELLS < shape.cells() {
+        return None;
+    }
+    let places = places_among(alloc, start, whole_lines(held));
+    if places.len() < FEWEST_BOARDS {
+        return None;
+    }
+    Some(places)
+}
+
+/// The endings of the first of these boards, up to one that has none, the first one last: each by one
+/// worker, side by side in as many threads as the setup has workers.
+pub(crate) fn end_ahead<R: Threads + Sync, G: Gate + Sync>(
+    rt: &R,
+    alloc: Global,
+    setup: &Setup,
+    places: Vec<Place>,
     gate: &G,
 ) -> Vec<(Board, Ending)>
-    requires { start.now.grid ≡ setup.now.goal.grid }
+    requires small { cell_count setup.now.goal.grid ≤ 9 }
+    requires boards { All (λ place. Stands setup.now.goal.grid place) places.items }
     ensures { AreAllowed (rules_of setup.now) result.items }
 {
-    let workers = setup.worker_count();
-    let shape = setup.shape();
-    if workers == 1 || SMALL_CELLS < shape.cells() {
-        return Vec::new(alloc);
-    }
-    let mut places = places_among(alloc, start, whole_lines(held));
-    if places.len() < FEWEST_BOARDS {
-        return Vec::new(alloc);
-    }
-    end_places(rt, alloc, setup, places.as_mut_slice(), workers, gate);
+    let mut places = places;
+    end_places(rt, alloc, setup, places.as_mut_slice(), gate);
     take_endings(alloc, setup, places)
 }
 
@@ -128,16 +144,14 @@ fn place_of(shape: Shape, kind: LineKind, bytes: &[u8]) -> Option<Place>
     })
 }
 
-// Solves each board, in so many threads.
+// Solves each board, in as many threads as the setup has workers.
 fn end_places<R: Threads + Sync, G: Gate + Sync>(
     rt: &R,
     alloc: Global,
     setup: &Setup,
     places: &mut [Place],
-    workers: usize,
     gate: &G,
 )
-    requires some { 0 < workers }
     requires small { cell_count setup.now.goal.grid ≤ 9 }
     requires boards { All (λ place. Stands setup.now.goal.grid place) places.old }
     ensures { All (λ place. IsAnswered setup.now place) places.new }
@@ -145,7 +159,7 @@ fn end_places<R: Threads + Sync, G: Gate + Sync>(
     for_each_mut(
         rt,
         places,
-        workers,
+        setup.worker_count(),
         &|_: usize, place: &mut Place|
             requires stands { Stands setup.now.goal.grid place.old }
             requires small { cell_count setup.now.goal.grid ≤ 9 }

@@ -6,7 +6,7 @@ ghost use Rattle.batch_runs.specs.Batches.{ReportsLines, HasFailed, MayGive, Are
 ghost use Rattle.batch_runs.specs.Headline.{IsTrueRun};
 ghost use Rattle.setup_runs.specs.Solving.{rules_of};
 
-use crate::ahead::end_ahead;
+use crate::ahead::{end_ahead, places_ahead};
 use crate::solving::answer_board;
 use batch_runs::{LinesFault, Ruled, Setup, Solver, Summary, run_lines};
 use board::{Board, Shape};
@@ -103,7 +103,12 @@ pub fn run_batch<R: Threads + Wait + Sync, S: Source, K: Sink, G: Gate + Sync>(
     let ahead = |start: &Board, held: &[u8]| -> Vec<(Board, Ending)>
         requires { start.now.grid ≡ setup.now.goal.grid }
         ensures { AreAllowed (rules_of setup.entry.now) result.items }
-    { end_ahead(rt, alloc, setup, start, held, gate) };
+    {
+        match places_ahead(alloc, setup, start, held) {
+            Some(places) => end_ahead(rt, alloc, setup, places, gate),
+            None => Vec::new(alloc),
+        }
+    };
     let guided = Guided {
         setup,
         solve,
