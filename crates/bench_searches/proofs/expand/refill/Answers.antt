@@ -1,6 +1,6 @@
 use Rattle.std.proofs.Common.{◌∙◌, length, refl, ap, arith, subst, sym}
-use Rattle.board.specs.Positions.{blank_of}
 use Rattle.message_ledger.specs.Spending.{Spending}
+use Rattle.owners.specs.Owners.{owner_by_blank}
 use Rattle.search_lists.specs.Lists.{Lists}
 use Rattle.worker_core.specs.Contexts.{task_from}
 use Rattle.worker_core.specs.Expanding.{role_by}
@@ -12,7 +12,7 @@ use Rattle.bench_searches.proofs.expand.refill.Goals as goal
 pub grant-requires-clause-counted : goal.grant-requires-clause-counted
 grant-requires-clause-counted c κs =
     let inside = c.context.inside in
-    let role = role_by (task_of inside.goal.now inside.goal.now inside.weights.now inside.bound.now) blank_of (length c.args.worker.now.unsent.items) 0 in
+    let role = role_by (task_of inside.goal.now inside.goal.now inside.weights.now inside.bound.now) owner_by_blank (length c.args.worker.now.unsent.items) 0 in
     let same = announced role (with_book (state_of c.args.worker.now) c.args.book.now) (with_book (state_of c.announce.new.self) c.announce.new.book) _ (c.announce.ensures.step role (record { me = refl; ends = refl }) refl) in
     let kept = ap (λ (it : Spending). it.granted) c.announce.ensures.allowance in
     let counted = c.requires.counted in
@@ -21,7 +21,7 @@ grant-requires-clause-counted c κs =
 pub returns-clause-counted : goal.returns-clause-counted
 returns-clause-counted c =
     let inside = c.context.inside in
-    let role = role_by (task_of inside.goal.now inside.goal.now inside.weights.now inside.bound.now) blank_of (length c.args.worker.now.unsent.items) 0 in
+    let role = role_by (task_of inside.goal.now inside.goal.now inside.weights.now inside.bound.now) owner_by_blank (length c.args.worker.now.unsent.items) 0 in
     let same = announced role (with_book (state_of c.args.worker.now) c.args.book.now) (with_book (state_of c.announce.new.self) c.announce.new.book) _ (c.announce.ensures.step role (record { me = refl; ends = refl }) refl) in
     let kept = ap (λ (it : Spending). it.granted) c.announce.ensures.allowance in
     let counted = c.requires.counted in
