@@ -8,7 +8,7 @@ use Rattle.batch_cli.specs.declared.faults.BatchFault.TheVariants.{Read, Write, 
 use Rattle.batch_cli.specs.declared.endings.Ending.{Ending}
 use Rattle.batch_cli.specs.declared.endings.Ending.TheVariants.{NoTexts, Refused, NoMemory, Ran, Answered, Shown, Faulted}
 
--- 0 where each line is optimal or unsolvable, and for a text; 1 where some line is bounded or refused; what a run over one line, one certificate or one replay answers; 2 for the words; 3 for streams that failed; 4 for want of memory
+-- 0 where each line is optimal or unsolvable, and for a text; 1 where some line is bounded or refused; what a run over one line, one certificate or one replay answers; 2 for the words; 3 for streams that failed; 4 where memory ran out
 abbrev pub status_of : Ending → ℕ
 status_of NoTexts = 2
 status_of (Refused refusal) = refusal_status refusal

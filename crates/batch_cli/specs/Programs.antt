@@ -90,7 +90,7 @@ pub record EndsRun (runs : Change SinkState → Ending → Type 0) (sink : Chang
 abbrev pub LacksTables : Change SourceState → Change SinkState → Ending → Type 0
 LacksTables source sink ending = OutOfMemory × IsUnused source sink × (ending ≡ NoMemory)
 
--- such a run of a setup that the options say, or want of memory for its tables
+-- such a run of a setup that the options say, or being out of memory for its tables
 abbrev pub EndsSetup : Options → (SetupState → Change SinkState → Ending → Type 0) → Change SourceState → Change SinkState → Ending → Type 0
 EndsSetup o runs source sink ending = ((setup : SetupState) × IsSetupOf o setup × EndsRun (runs setup) sink ending) ⊎ LacksTables source sink ending
 

@@ -30,7 +30,7 @@ pub enum Ending {
 
 impl Ending {
     /// The exit status: 0 where each line is optimal or unsolvable, 1 where some line is bounded or
-    /// refused, 2 for words, 3 for a stream that failed, 4 for want of memory, 5 for a certificate
+    /// refused, 2 for words, 3 for a stream that failed, 4 where memory ran out, 5 for a certificate
     /// that is refused.
     pub fn status(&self) -> u8
         ensures { result ≡ status_of self.now }
