@@ -1,6 +1,6 @@
-# What some scripts of this folder share. Each times the part of bench_kernels that `part` names beside the same in plain
-# Rust (bench/NAME.rs). PROGRAM may name a bench_kernels that is built already. A script that sources this file is at the
-# top of the repository then.
+# What some scripts of this folder share. Each times the part of bench_searches that `part` names beside the same in
+# plain Rust (bench/NAME.rs). PROGRAM may name a bench_searches that is built already. A script that sources this file is
+# at the top of the repository then.
 set -euo pipefail
 shopt -s inherit_errexit
 export LC_ALL=C
@@ -18,11 +18,12 @@ fail() {
 # Builds the plain program and, unless PROGRAM names one, the proved one, both for the processor that rt builds for.
 build() {
     rustc --edition 2024 -C opt-level=3 -C target-cpu=x86-64-v2 -o "$made/plain" "bench/$name.rs"
-    if [[ -z ${PROGRAM:-} ]] && ! (cd crates/bench_kernels && rt run) >"$made/log" 2>&1; then
+    local crate=crates/bench_searches
+    if [[ -z ${PROGRAM:-} ]] && ! (cd $crate && rt run) >"$made/log" 2>&1 <$crate/stdin; then
         cat "$made/log" >&2
-        fail 'bench_kernels was not proved, built and run'
+        fail 'bench_searches was not proved, built and run'
     fi
-    cp "${PROGRAM:-crates/bench_kernels/out/bench_kernels}" "$made/proved"
+    cp "${PROGRAM:-$crate/out/bench_searches}" "$made/proved"
 }
 
 # The most kilobytes of addresses that the proved program has.

@@ -1,4 +1,4 @@
-//! The search of `bench_kernels containers` in plain safe Rust: over the same containers, and, where the second word is
+//! The search of `bench_searches containers` in plain safe Rust: over the same containers, and, where the second word is
 //! `map`, over a `HashMap` with a fast hash.
 
 use std::collections::HashMap;

@@ -1,4 +1,4 @@
-//! The ranks of `bench_kernels rank` in plain safe Rust, to time a rank beside it.
+//! The ranks of `bench_searches rank` in plain safe Rust, to time a rank beside it.
 
 use std::env;
 use std::process::ExitCode;

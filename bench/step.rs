@@ -1,4 +1,4 @@
-//! The walk of `bench_kernels step` in plain safe Rust, to time a step of the board beside it.
+//! The walk of `bench_searches step` in plain safe Rust, to time a step of the board beside it.
 
 use std::env;
 use std::process::ExitCode;

@@ -1,4 +1,4 @@
-//! The expansions of `bench_kernels sums` in plain safe Rust, to time an expansion beside it.
+//! The expansions of `bench_searches sums` in plain safe Rust, to time an expansion beside it.
 
 use std::env;
 use std::process::ExitCode;

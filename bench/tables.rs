@@ -1,7 +1,7 @@
-//! The tables of `bench_kernels` in plain safe Rust, to time the building of tables beside them: by a search over views,
+//! The tables of `bench_searches` in plain safe Rust, to time the building of tables beside them: by a search over views,
 //! or, as fast as we can make it, over regions (`regions.rs`).
 //!
-//! usage: tables views|regions PART WORDS..    with the part and the words that bench_kernels takes
+//! usage: tables views|regions PART WORDS..    with the part and the words that bench_searches takes
 
 use std::env;
 use std::process::ExitCode;

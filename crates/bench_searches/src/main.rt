@@ -1,7 +1,27 @@
-//! Searches that the scripts of `bench/` time, and that `checks/stress` repeats, in parts:
+//! What the scripts of `bench/` time, and what `checks/stress` repeats: parts of a search, and
+//! whole searches.
 //!
 //!     bench_searches                            a small run of each part, under its name
 //!     bench_searches PART                       the small run of that part
+//!
+//!     bench_searches step SIDE STEPS            steps of a board
+//!     bench_searches rank SIDE TILES RANKS      ranks of views of a group of the first tiles
+//!     bench_searches table ROWS COLS COUNT..    tables: the first group has the first tiles, and
+//!                                               each takes the next
+//!     bench_searches weighed WEIGHTS GOAL ROWS COLS COUNT..
+//!                                               the same for other weights and goals: 0 for the
+//!                                               usual ones, 1 for face cost, else what they are
+//!                                               drawn by
+//!     bench_searches folded ..                  the same, folded
+//!     bench_searches group WEIGHTS GOAL ROWS COLS TILE..
+//!                                               the table of the group with these tiles
+//!     bench_searches group-folded ..            the same, folded
+//!     bench_searches built .., built-folded ..
+//!                                               tables that are built and not read
+//!     bench_searches sums SIDE BOARDS ROUNDS COUNT..
+//!                                               expansions of random boards, with the sums of
+//!                                               tables of random values, of groups as above
+//!     bench_searches containers COUNT           a search until this many boards are known
 //!
 //!     bench_searches expand COUNT               a search by one worker: expands this many boards
 //!                                               of 4 by 4, with tables of the tiles 1 to 5, 6 to
@@ -26,6 +46,7 @@
 mod batch;
 mod expand;
 mod finish;
+mod kernels;
 mod threads;
 
 use std::env;
@@ -36,7 +57,19 @@ use std::sync::Wait;
 use std::thread::Threads;
 
 // The parts, in the order in which they are run.
-const PARTS: [&str; 4] = ["expand", "finish", "batch", "threads"];
+const PARTS: [&str; 11] = [
+    "step",
+    "rank",
+    "table",
+    "weighed",
+    "folded",
+    "sums",
+    "containers",
+    "expand",
+    "finish",
+    "batch",
+    "threads",
+];
 
 fn main(rt: HostRuntime) -> ExitCode {
     let Some(words) = read_words(&rt) else {
@@ -76,14 +109,17 @@ where
         "finish" => finish::run(rt, words),
         "batch" => batch::run(rt, words, input, output),
         "threads" => threads::run(rt, words),
-        _ => 2,
+        _ => kernels::run(rt, part, words),
     }
 }
 
 // Says which words the program takes, and answers the exit status for others.
 fn refuse(rt: &impl Eprint) -> ExitCode {
     let _ = rt.eprintln(
-        "usage: bench_searches [expand [COUNT] | finish [plain | guided] \
+        "usage: bench_searches [step [SIDE STEPS] | rank [SIDE TILES RANKS] \
+         | table [ROWS COLS COUNT..] | weighed [WEIGHTS GOAL ROWS COLS COUNT..] \
+         | folded [WEIGHTS GOAL ROWS COLS COUNT..] | sums [SIDE BOARDS ROUNDS COUNT..] \
+         | containers [COUNT] | expand [COUNT] | finish [plain | guided] \
          | batch [ROWS COLS [WORKERS [SPREAD [TABLES [uncounted]]]]] | threads [SEED COUNT]]",
     );
     ExitCode::from(2)

@@ -1,12 +1,17 @@
-//! Prints what searches by tables answer beside a breadth-first search, in two parts, each under its
-//! word:
+//! Prints what searches by tables answer, and what the checker says of their plans, in four parts,
+//! each under its word. The first two compare with a breadth-first search; the others are about a
+//! board that is as far from the goal as one of 3 by 3 can be:
 //!
 //!     golden_searches guided      known lines, and each partition of the tiles of small shapes
 //!     golden_searches weighted    drawn weights, and certificates with a byte changed
+//!     golden_searches checked     the checker's own tables, folded ones, and those of other problems
+//!     golden_searches altered     certificates with one row altered, at each of 500 places
 //!
-//! Without a word it prints both parts. The exit status is 1 where no part has that word.
+//! Without a word it prints all parts. The exit status is 1 where no part has that word.
 #![tactic(auto)]
 
+mod altered;
+mod checked;
 mod guided;
 mod problems;
 mod weighted;
@@ -18,7 +23,7 @@ use std::sync::Wait;
 use std::thread::Threads;
 
 // The words of the parts, in the order in which they are printed.
-const PARTS: [&str; 2] = ["guided", "weighted"];
+const PARTS: [&str; 4] = ["guided", "weighted", "checked", "altered"];
 
 fn main(rt: HostRuntime) -> io::Result<()> {
     if let Some(word) = first_word(&rt)? {
@@ -44,6 +49,8 @@ fn print_part<R: Print + AllocGlobal + Threads + Wait + Sync>(
     match word {
         "guided" => guided::print_guided(rt),
         "weighted" => weighted::print_weighted(rt),
+        "checked" => checked::print_checked(rt),
+        "altered" => altered::print_altered(rt),
         _ => Err(ErrorKind::InvalidInput.into()),
     }
 }

@@ -1,15 +1,36 @@
-//! What one worker answers of a board, without a limit.
+//! What is asked of one worker, and what it answers of a board, without a limit.
 
+ghost use Rattle.std.specs.Prelude.{◌≡◌, IfSome};
 ghost use Rattle.lower_bound.specs.Tables.{ArePotentials};
 
-use board::{Board, Weights};
+use board::{Board, Shape, Weights};
 use certificate::{Certificate, Claim, Parts, Version};
 use hda_run::{Free, Job, read_one, solve_one};
 use lower_bound::Bound;
 use outcomes::{Ending, Outcome};
 use owners::Zobrist;
 use std::alloc::Global;
+use test_worlds::FAR_START;
 use world_ends::WithoutRows;
+
+/// What moves cost.
+#[derive(Clone, Copy, Debug)]
+pub enum Costs {
+    /// Every move costs 1.
+    Unit,
+    /// To move tile t costs t.
+    Face,
+}
+
+/// What the moves of boards of this shape cost.
+pub fn weights_of(costs: Costs, shape: Shape) -> Weights
+    ensures sides { result.grid ≡ shape }
+{
+    match costs {
+        Costs::Unit => Weights::unit(shape),
+        Costs::Face => Weights::face(shape),
+    }
+}
 
 /// A board, the goal, and what moves cost.
 #[derive(Clone, Copy)]
@@ -70,8 +91,8 @@ pub fn ending_of(alloc: Global, problem: &Problem, bound: &Bound) -> Option<Endi
     read_one::<WithoutRows, Zobrist, Free>(alloc, job, &spread, &Free).ok()
 }
 
-// The search for a plan, or None where its parts are not of one shape.
-fn job_of<'a>(problem: &Problem, bound: &'a Bound) -> Option<Job<'a>>
+/// The search for a plan, or None where its parts are not of one shape.
+pub fn job_of<'a>(problem: &Problem, bound: &'a Bound) -> Option<Job<'a>>
     requires { ArePotentials problem.now.weights problem.now.goal bound.now }
 {
     let Problem {
@@ -80,4 +101,28 @@ fn job_of<'a>(problem: &Problem, bound: &'a Bound) -> Option<Job<'a>>
         weights,
     } = *problem;
     Job::new(start, goal, weights, bound, u64::MAX).ok()
+}
+
+/// A board that is as far from Korf's goal as one of 3 by 3 can be, and that goal, at these costs.
+pub fn problem_at(costs: Costs) -> Option<Problem>
+    ensures sides { IfSome result (λ p. p.weights.grid ≡ p.goal.grid) }
+{
+    let shape = Shape::new(3, 3).ok()?;
+    let start = Board::from_tiles(shape, &FAR_START).ok()?;
+    Some(Problem {
+        start,
+        goal: Board::goal(shape),
+        weights: weights_of(costs, shape),
+    })
+}
+
+/// The certificate of the plan that one worker finds, with the groups of the tables that guide it.
+/// None where it finds none, or memory was refused.
+pub fn certificate_of(alloc: Global, problem: &Problem, bound: &Bound) -> Option<Certificate>
+    requires { ArePotentials problem.now.weights problem.now.goal bound.now }
+{
+    match answer_of(alloc, problem, bound)? {
+        Answer::Plan(certificate) => Some(certificate),
+        _ => None,
+    }
 }

@@ -1,7 +1,7 @@
 //! What rows of words ask for.
 //!
-//! A row is a line of the input that begins with no `#`: the words after the program's name,
-//! with a space between two. What is printed is the row behind `$ tilesolve`, and then what is
+//! A row is a line of the input that begins with no `#` and has no tab: the words after the program's
+//! name, with a space between two. What is printed is the row behind `$ tilesolve`, and then what is
 //! asked for: the subcommand and what its options say, or the text that the words ask for behind
 //! `> `. Where nothing is asked for, it is the status, and what goes to standard error behind `! `.
 
@@ -10,15 +10,13 @@ use board::{Board, Weights};
 use command_line::{NoRequest, Options, Request, read_words};
 use pattern_index::Partition;
 use std::alloc::Global;
-use std::io::{self, BufRead, BufReader, Print, Read};
+use std::io::{self, Print};
 
-/// Reads the rows of an input, and prints for each what its words ask for.
-pub fn print_rows(rt: &(impl Print + AllocGlobal), input: impl Read + Drop) -> io::Result<()> {
-    let table = BufReader::new(rt.alloc(), input)?;
-    for line in table.lines(rt.alloc()) {
-        let line = line?;
-        if !line.starts_with('#') {
-            print_row(rt, line.as_str())?;
+/// Prints for each row of an input what its words ask for.
+pub fn print_rows(rt: &(impl Print + AllocGlobal), table: &str) -> io::Result<()> {
+    for row in table.lines() {
+        if !row.starts_with('#') && !row.contains('\t') {
+            print_row(rt, row)?;
         }
     }
     Ok(())
@@ -39,8 +37,8 @@ fn print_row(rt: &(impl Print + AllocGlobal), row: &str) -> io::Result<()> {
     rt.println("")
 }
 
-// The words of a text with a space between two, or none where it is empty.
-fn words_of(alloc: Global, text: &str) -> io::Result<Vec<String>> {
+/// The words of a text with a space between two, or none where it is empty.
+pub fn words_of(alloc: Global, text: &str) -> io::Result<Vec<String>> {
     if text.is_empty() {
         return Ok(Vec::new(alloc));
     }

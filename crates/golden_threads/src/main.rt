@@ -1,17 +1,29 @@
-//! Prints what workers in threads answer of boards whose least cost is known: how often they find
-//! it, also while one of them is held, slow, or stopped by a limit.
+//! Prints what workers answer of boards whose least cost is known, in threads and in worlds on one
+//! thread. With the name of a part it prints that part alone, else each under its name:
 //!
-//!     golden_threads         prints each part, under its name
-//!     golden_threads PART    prints that part alone: costs, goals, held or gated
+//!     costs        all boards of small shapes
+//!     goals        goals that are near
+//!     held         a board while one of two workers is held
+//!     gated        a board while a limit stops workers, or one of them is slow
+//!     drawn        worlds after each beginning of a list of random steps
+//!     solved       worlds after one worker's own run, and after given steps
 //!
 //! The exit status is 1 where a part fails, and 2 for a name of no part.
 #![tactic(auto)]
 
+ghost use Rattle.std.specs.Prelude.{◌≡◌, []};
+
 mod costs;
+mod drawn;
 mod gated;
 mod goals;
 mod held;
+mod solved;
 
+use board::Shape;
+use lower_bound::Bound;
+use pattern_index::Partition;
+use std::alloc::Global;
 use std::env::FillError;
 use std::io::{self, Eprint, Print};
 use std::process::ExitCode;
@@ -19,7 +31,8 @@ use std::rt::Env;
 use std::sync::Wait;
 use std::thread::Threads;
 
-const PARTS: [&str; 4] = ["costs", "goals", "held", "gated"];
+// The parts, in the order in which they are printed.
+const PARTS: [&str; 6] = ["costs", "goals", "held", "gated", "drawn", "solved"];
 
 fn main(rt: HostRuntime) -> ExitCode {
     let mut buffer = [0; 16];
@@ -58,7 +71,9 @@ fn run_part<R: Threads + Wait + Print + Eprint + AllocGlobal + Sync>(rt: &R, nam
             1
         }
         None => {
-            let _ = rt.eprintln("usage: golden_threads [costs | goals | held | gated]");
+            let _ = rt.eprintln(
+                "usage: golden_threads [costs | goals | held | gated | drawn | solved]",
+            );
             2
         }
     }
@@ -74,6 +89,17 @@ fn print_part<R: Threads + Wait + Print + AllocGlobal + Sync>(
         "goals" => Some(goals::print_counts(rt)),
         "held" => Some(held::print_cost(rt)),
         "gated" => Some(gated::print_runs(rt)),
+        "drawn" => Some(drawn::print_drawn(rt)),
+        "solved" => Some(solved::print_solved(rt)),
         _ => None,
     }
+}
+
+/// The bound of no group, whose sums are 0.
+pub fn no_tables(alloc: Global, shape: Shape) -> Bound
+    ensures sides { result.split.grid ≡ shape }
+    ensures tables { (result.lookups ≡ []) × (result.folds ≡ []) }
+{
+    let partition = Partition::new(shape, Vec::new(alloc)).unwrap();
+    Bound::new(partition, Vec::new(alloc)).unwrap()
 }

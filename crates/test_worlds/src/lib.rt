@@ -4,6 +4,7 @@
 //! checker accepts its certificate.
 #![tactic(auto)]
 
+mod far_board;
 mod gates;
 mod problems;
 mod rows;
@@ -11,6 +12,7 @@ mod solving;
 mod steps;
 mod tables;
 
+pub use far_board::{FAR_GROUPS, FAR_START, far_problem};
 pub use gates::{Counter, Delay};
 pub use problems::{Answer, Division, Job, Problem, Team};
 pub use rows::ByRow;

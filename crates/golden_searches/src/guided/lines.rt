@@ -1,10 +1,9 @@
 //! Lines whose reports are known.
 
-ghost use Rattle.std.specs.Prelude.{◌≡◌, IfSome};
-
 use crate::guided::tables::bound_of;
+use crate::problems::{Costs, weights_of};
 use batch_runs::{Setup, SpreadKind};
-use board::{Board, Shape, Weights};
+use board::{Board, Shape};
 use byte_streams::{ByteSink, ByteSource};
 use hda_run::Free;
 use setup_runs::run_batch;
@@ -12,15 +11,6 @@ use std::alloc::Global;
 use std::io::{self, ErrorKind, Print};
 use std::sync::Wait;
 use std::thread::Threads;
-
-/// What moves cost.
-#[derive(Clone, Copy, Debug)]
-pub enum Costs {
-    /// Every move costs 1.
-    Unit,
-    /// To move tile t costs t.
-    Face,
-}
 
 /// A line, and what its batch has in common.
 #[derive(Clone, Copy)]
@@ -238,14 +228,4 @@ pub fn setup_of<R: Threads + Sync>(rt: &R, alloc: Global, asked: &Asked) -> Opti
         return setup.folded(alloc).ok();
     }
     Some(setup)
-}
-
-// What the moves of boards of this shape cost.
-fn weights_of(costs: Costs, shape: Shape) -> Weights
-    ensures sides { result.grid ≡ shape }
-{
-    match costs {
-        Costs::Unit => Weights::unit(shape),
-        Costs::Face => Weights::face(shape),
-    }
 }

@@ -2,13 +2,15 @@
 
 ghost use Rattle.lower_bound.specs.Tables.{ArePotentials};
 
-use crate::gated::{GROUPS, START, problem};
 use lower_bound::Bound;
 use std::alloc::Global;
 use std::io::{self, ErrorKind, Print};
 use std::sync::Wait;
 use std::thread::Threads;
-use test_worlds::{Answer, Delay, Division, Problem, Team, answer_with_rows, bound_of};
+use test_worlds::{
+    Answer, Delay, Division, FAR_GROUPS, FAR_START, Problem, Team, answer_with_rows, bound_of,
+    far_problem,
+};
 
 // So many turns the slow worker spins after each step, more than a step takes.
 const TURNS: u32 = 1000;
@@ -17,7 +19,7 @@ const WORKERS: [usize; 4] = [2, 3, 4, 16];
 
 /// Prints what is answered where the first worker is slow, and where the last is, by both spreads.
 pub fn print_runs<R: Threads + Wait + Print + AllocGlobal + Sync>(rt: &R) -> io::Result<()> {
-    println!(rt; "# {START:?} at unit cost, with tables for {GROUPS:?}")?;
+    println!(rt; "# {FAR_START:?} at unit cost, with tables for {FAR_GROUPS:?}")?;
     for workers in WORKERS {
         for division in Division::HASHED {
             print_run(rt, Team { workers, division })?;
@@ -40,8 +42,8 @@ fn print_run<R: Threads + Wait + Print + AllocGlobal + Sync>(rt: &R, team: Team)
 // What is answered where the first worker is slow, and where the last is; or None where memory was
 // refused.
 fn run<R: Threads + Wait + Sync>(rt: &R, alloc: Global, team: Team) -> Option<(Answer, Answer)> {
-    let problem = problem(u64::MAX)?;
-    let bound = bound_of(alloc, &problem.goal, &problem.weights, &GROUPS)?;
+    let problem = far_problem(u64::MAX)?;
+    let bound = bound_of(alloc, &problem.goal, &problem.weights, &FAR_GROUPS)?;
     let first = run_delayed(rt, alloc, &problem, &bound, team, 0);
     let last = run_delayed(
         rt,

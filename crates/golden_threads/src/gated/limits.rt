@@ -1,12 +1,13 @@
 //! Runs that a limit on expansions stops.
 
-use crate::gated::{START, problem};
 use outcomes::Cause;
 use std::alloc::Global;
 use std::io::{self, ErrorKind, Print};
 use std::sync::Wait;
 use std::thread::Threads;
-use test_worlds::{Answer, Counter, Division, Team, answer_with_rows, bound_of};
+use test_worlds::{
+    Answer, Counter, Division, FAR_START, Team, answer_with_rows, bound_of, far_problem,
+};
 
 const LIMIT: u64 = 4000;
 
@@ -19,7 +20,7 @@ const LEFT_BY_EACH: u64 = 256;
 /// Prints whether a limit bounds the runs of one worker, and of four, by both spreads; and whether
 /// two workers expand a board under a limit that one grant uses up.
 pub fn print_runs<R: Threads + Wait + Print + AllocGlobal + Sync>(rt: &R) -> io::Result<()> {
-    println!(rt; "# {START:?} at unit cost, limit {LIMIT}")?;
+    println!(rt; "# {FAR_START:?} at unit cost, limit {LIMIT}")?;
     for division in Division::HASHED {
         print_run(
             rt,
@@ -91,7 +92,7 @@ fn run<R: Threads + Wait + Sync>(
     team: Team,
     limit: u64,
 ) -> Option<(Answer, u64)> {
-    let problem = problem(limit)?;
+    let problem = far_problem(limit)?;
     let bound = bound_of(alloc, &problem.goal, &problem.weights, &[])?;
     let counter = Counter::new();
     let answer = answer_with_rows(rt, alloc, &problem, &bound, team, &counter);

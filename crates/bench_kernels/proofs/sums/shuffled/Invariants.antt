@@ -1,5 +1,0 @@
-use Rattle.std.proofs.Common.{◌≡◌, length}
-use Rattle.bench_kernels.proofs.sums.shuffled.Given as goal
-
-abbrev pub invariant-places : goal.invariant-places
-invariant-places l = length l.numbers ≡ 25

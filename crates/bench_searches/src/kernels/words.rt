@@ -1,0 +1,163 @@
+//! The parts that words name.
+
+ghost use Rattle.std.specs.Prelude.{◌≡◌, All, IfSome};
+
+use crate::kernels::sums::drawn_bound;
+use crate::kernels::tables::Task;
+use board::Shape;
+use lower_bound::Bound;
+use pattern_index::Group;
+use std::alloc::Global;
+
+// The tiles that the boards of some shape have.
+const TILES: [u8; 24] = [
+    1, 2, 3, 4, 5, 6, 7, 8, 9, 10, 11, 12, 13, 14, 15, 16, 17, 18, 19, 20, 21, 22, 23, 24,
+];
+
+// Parts, each with the numbers of its small run.
+const SMALL: [(&str, &[usize]); 7] = [
+    ("step", &[3, 1000]),
+    ("rank", &[4, 5, 1000]),
+    ("table", &[2, 3, 2, 3]),
+    ("weighed", &[7, 1, 2, 3, 2, 3]),
+    ("folded", &[1, 7, 2, 3, 2, 3]),
+    ("sums", &[3, 100, 2, 3, 4]),
+    ("containers", &[1000]),
+];
+
+/// A part with its numbers.
+#[derive(Drop)]
+pub enum Part {
+    /// Steps from the goal of a shape.
+    Steps(Shape, u32),
+    /// Ranks of views of a group.
+    Ranks(Group, u32),
+    /// The tables of these groups for a task.
+    Tables(Vec<Group>, Task),
+    /// A count of boards, and how often each is expanded, with the sums of a bound.
+    Sums(Bound, u32, u32),
+    /// A search until this many boards are known.
+    Containers(usize),
+}
+
+/// The part of a name by the words after it, or by its small run without words. `None` where they name
+/// no part, or there is no memory for it.
+pub fn read_words(alloc: Global, name: &str, words: &[String]) -> Option<Part> {
+    let mut numbers = Vec::new(alloc);
+    for word in words {
+        numbers.push(word.parse().ok()?).ok()?;
+    }
+    if numbers.is_empty() {
+        return read_part(alloc, name, small(name));
+    }
+    read_part(alloc, name, &numbers)
+}
+
+// The numbers of the small run of a part; none for a name of no part.
+fn small(name: &str) -> &'static [usize] {
+    for (part, numbers) in SMALL {
+        if part == name {
+            return numbers;
+        }
+    }
+    &[]
+}
+
+// The part of a name with its numbers, or `None` where there is none, or no memory for it.
+fn read_part(alloc: Global, name: &str, numbers: &[usize]) -> Option<Part> {
+    match (name, numbers) {
+        ("step", [side, steps]) => {
+            let shape = shape_of(*side, *side)?;
+            Some(Part::Steps(shape, u32::try_from(*steps).ok()?))
+        }
+        ("rank", [side, count, ranks]) => {
+            let group = Group::new(shape_of(*side, *side)?, TILES.get(..*count)?).ok()?;
+            Some(Part::Ranks(group, u32::try_from(*ranks).ok()?))
+        }
+        ("table", [rows, cols, counts @ ..]) => {
+            let shape = shape_of(*rows, *cols)?;
+            Some(Part::Tables(read_groups(alloc, shape, counts)?, Task::plain()))
+        }
+        ("weighed", [weights, goal, rows, cols, counts @ ..]) => {
+            let shape = shape_of(*rows, *cols)?;
+            let task = task_of(*weights, *goal, true);
+            Some(Part::Tables(read_groups(alloc, shape, counts)?, task))
+        }
+        ("folded", [weights, goal, rows, cols, counts @ ..]) => {
+            let shape = shape_of(*rows, *cols)?;
+            let task = task_of(*weights, *goal, true).folded();
+            Some(Part::Tables(read_groups(alloc, shape, counts)?, task))
+        }
+        ("built", [weights, goal, rows, cols, counts @ ..]) => {
+            let shape = shape_of(*rows, *cols)?;
+            let task = task_of(*weights, *goal, false);
+            Some(Part::Tables(read_groups(alloc, shape, counts)?, task))
+        }
+        ("built-folded", [weights, goal, rows, cols, counts @ ..]) => {
+            let shape = shape_of(*rows, *cols)?;
+            let task = task_of(*weights, *goal, false).folded();
+            Some(Part::Tables(read_groups(alloc, shape, counts)?, task))
+        }
+        ("group", [weights, goal, rows, cols, tiles @ ..]) => {
+            let shape = shape_of(*rows, *cols)?;
+            let task = task_of(*weights, *goal, true);
+            Some(Part::Tables(group_of(alloc, shape, tiles)?, task))
+        }
+        ("group-folded", [weights, goal, rows, cols, tiles @ ..]) => {
+            let shape = shape_of(*rows, *cols)?;
+            let task = task_of(*weights, *goal, true).folded();
+            Some(Part::Tables(group_of(alloc, shape, tiles)?, task))
+        }
+        ("sums", [side, boards, rounds, counts @ ..]) => {
+            let shape = shape_of(*side, *side)?;
+            let groups = read_groups(alloc, shape, counts)?;
+            let bound = drawn_bound(alloc, shape, groups)?;
+            let boards = u32::try_from(*boards).ok()?;
+            Some(Part::Sums(bound, boards, u32::try_from(*rounds).ok()?))
+        }
+        ("containers", [count]) => Some(Part::Containers(*count)),
+        _ => None,
+    }
+}
+
+// The task of these numbers.
+fn task_of(weights: usize, goal: usize, is_read: bool) -> Task {
+    Task {
+        weights: weights as u64,
+        goal: goal as u64,
+        is_folded: false,
+        is_read,
+    }
+}
+
+// The shape with these sides.
+fn shape_of(rows: usize, cols: usize) -> Option<Shape> {
+    Shape::new(u8::try_from(rows).ok()?, u8::try_from(cols).ok()?).ok()
+}
+
+// The group of these tiles alone.
+fn group_of(alloc: Global, shape: Shape, tiles: &[usize]) -> Option<Vec<Group>>
+    ensures { IfSome result (λ groups. All (λ g. g.grid ≡ shape) groups.items) }
+{
+    let mut numbers = Vec::new(alloc);
+    'tiles: for tile in tiles {
+        numbers.push(u8::try_from(*tile).ok()?).ok()?;
+    }
+    let mut groups = Vec::new(alloc);
+    groups.push(Group::new(shape, &numbers).ok()?).ok()?;
+    Some(groups)
+}
+
+// Groups of these counts of tiles: the first has the first tiles, and each takes the next.
+fn read_groups(alloc: Global, shape: Shape, counts: &[usize]) -> Option<Vec<Group>>
+    ensures { IfSome result (λ groups. All (λ g. g.grid ≡ shape) groups.items) }
+{
+    let mut groups = Vec::new(alloc);
+    let mut left = TILES.as_slice();
+    'counts: for count in counts {
+        let group = Group::new(shape, left.get(..*count)?).ok()?;
+        groups.push(group).ok()?;
+        left = left.get(*count..)?;
+    }
+    Some(groups)
+}
