@@ -3,7 +3,7 @@
 use board::Board;
 use owners::Spread;
 
-/// The last worker owns the boards whose blank is in the last row, and worker 0 all others.
+/// The worker in the middle owns the boards whose blank is in the last row, and worker 0 all others.
 #[derive(Clone, Copy, Debug)]
 pub struct ByRow;
 
@@ -17,6 +17,6 @@ impl Spread for ByRow {
     fn owner(&self, board: &Board, workers: usize) -> usize {
         let shape = board.shape();
         let is_above = board.blank() + (shape.cols() as usize) < shape.cells();
-        if is_above { 0 } else { workers - 1 }
+        if is_above { 0 } else { workers / 2 }
     }
 }

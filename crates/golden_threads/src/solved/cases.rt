@@ -172,18 +172,18 @@ const SOLVED: &[Step] = &[
     Step::Rest(1),
 ];
 
-// Worker 0 owns the start and the goal, worker 2 the boards whose blank is in the last row.
+// Worker 0 owns the start and the goal, worker 1 the boards whose blank is in the last row.
 const SOLVED_BY_ROW: &[Step] = &[
     Step::Grant(0),
     Step::Expand(0),
     Step::Announce(0),
-    Step::Send(0, 2),
+    Step::Send(0, 1),
     Step::Draw(0),
-    Step::Send(0, 2),
-    Step::Deliver(2, 0),
-    Step::Settle(2),
-    Step::Rest(2),
+    Step::Send(0, 1),
+    Step::Deliver(1, 0),
+    Step::Settle(1),
     Step::Rest(1),
+    Step::Rest(2),
     Step::Rest(0),
 ];
 
