@@ -242,7 +242,11 @@ fn owners_of_boards(rt: HostRuntime) {
     for (rows, cols, tiles, by_hash, by_blank) in &OWNERS {
         let shape = shape_of(&rt, *rows, *cols);
         let board = board_of(&rt, shape, tiles);
-        assert_eq!(rt; owners_of(&Zobrist::new(shape), &board), *by_hash);
+        let zobrist = Zobrist::new(shape);
+        assert_eq!(rt; owners_of(&zobrist, &board), *by_hash);
         assert_eq!(rt; owners_of(&ByBlank, &board), *by_blank);
+        // With hashes the search needs no board of a successor.
+        assert!(rt; zobrist.hash(&board).is_some());
+        assert!(rt; ByBlank.hash(&board).is_some());
     }
 }
