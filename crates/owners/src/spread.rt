@@ -1,6 +1,6 @@
 //! Ways to divide boards among workers.
 
-ghost use Rattle.std.specs.Prelude.{◌≡◌, ◌<◌, ◌%◌, ◌==◌, ℕ, IfSome};
+ghost use Rattle.std.specs.Prelude.{◌≡◌, ◌<◌, ◌%◌, ◌==◌, ℕ, Option, None};
 ghost use Rattle.board.specs.Keys.{HasKey};
 ghost use Rattle.board.specs.Positions.{Position};
 ghost use Rattle.owners.specs.Owners.{AreWorkers};
@@ -28,15 +28,16 @@ pub struct Moved {
 }
 
 /// A way to divide boards among workers. The owner of a board depends on the spread, the number of
-/// workers and the board alone. To write one, give `owner` with its ghost member and the law; a
-/// spread that finds an owner faster from the hash of the board before it gives `hash` and
-/// `owner_after` too.
+/// workers and the board alone. To write one, give `owner` with its ghost member and the law, and a
+/// `hash` that answers None. A spread that finds a successor's owner faster from the hash of the
+/// board before gives `hash_of`, `hash` and `owner_after`. One that finds it faster from the slide
+/// alone gives `owner_after`, and None as the hash.
 pub trait Spread {
     /// The owner of a board among a number of workers, which are numbered from 0.
     ghost owner_of: { Self → ℕ → Position → ℕ };
 
-    /// The hash of a board, of a spread that has hashes.
-    ghost hash_of: { Self → Position → ℕ } = { λ s b. 0 };
+    /// The hash of a board, from a spread that has hashes; from one that has none, None.
+    ghost hash_of: { Self → Position → Option ℕ } = { λ s b. None };
 
     /// The worker that owns a board, of `workers` workers.
     fn owner(&self, board: &Board, workers: usize) -> usize
@@ -44,16 +45,14 @@ pub trait Spread {
         ensures value { result ≡ owner_of self.now workers board.now }
         ensures within { result < workers };
 
-    /// The hash of a board, of a spread that has hashes.
+    /// The hash of a board, as `owner_after` takes it of the board before a slide. None means that
+    /// the spread has no hashes: its `owner_after` finds the owner without one.
     fn hash(&self, board: &Board) -> Option<u64>
-        ensures { IfSome result (λ hash. hash ≡ hash_of self.now board.now) }
-    {
-        let _ = board;
-        None
-    }
+        ensures { result ≡ hash_of self.now board.now };
 
-    /// The worker that owns the board after a slide, by the hash of the board before it.
-    fn owner_after(&self, hash: u64, moved: Moved, workers: usize) -> usize
+    /// The worker that owns the board after a slide, of `workers` workers. It is given what `hash`
+    /// answers for the board before the slide.
+    fn owner_after(&self, hash: Option<u64>, moved: Moved, workers: usize) -> usize
         requires some { 0 < workers }
         requires moved { (b : Position) × IsMoved b moved × (hash ≡ hash_of self.now b) }
         ensures { (b : Position) → HasKey moved.shape moved.key b
@@ -68,7 +67,8 @@ pub trait Spread {
 }
 
 /// The worker, of `workers` workers, that owns what has this hash: its remainder. To divide by a
-/// number that the compiler knows is much faster, so common numbers of workers are told apart.
+/// number that the compiler knows is much faster, so common numbers of workers have arms of their
+/// own.
 pub fn worker_of(hash: u64, workers: usize) -> usize
     requires { 0 < workers }
     ensures value { result ≡ hash % workers }
@@ -103,10 +103,10 @@ impl Spread for ByBlank {
 
     // The slide says where the blank goes: no hash is needed.
     fn hash(&self, _board: &Board) -> Option<u64> {
-        Some(0)
+        None
     }
 
-    fn owner_after(&self, _hash: u64, moved: Moved, workers: usize) -> usize {
+    fn owner_after(&self, _hash: Option<u64>, moved: Moved, workers: usize) -> usize {
         worker_of(moved.slide.from as u64, workers)
     }
 }

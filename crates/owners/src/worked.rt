@@ -1,6 +1,6 @@
-//! Words and hashes that are known.
+//! Words, hashes and owners that are known.
 
-ghost use Rattle.owners.specs.Worked.{FirstWords, GoalHashes};
+ghost use Rattle.owners.specs.Worked.{FirstWords, GoalHashes, OwnersOfBoards};
 
 /// The first three words.
 pub fn first_words()
@@ -10,4 +10,9 @@ pub fn first_words()
 /// The hashes of two goals.
 pub fn hashes_of_goals()
     ensures { GoalHashes }
+{}
+
+/// The owners of two boards among 2, 3, 5 and 16 workers.
+pub fn owners_of_boards()
+    ensures { OwnersOfBoards }
 {}

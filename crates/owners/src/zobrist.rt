@@ -80,12 +80,13 @@ fn fill(words: &mut [u64])
 }
 
 impl Spread for Zobrist {
+    ghost use Rattle.std.specs.Prelude.{Some};
     ghost use Rattle.owners.specs.Hashes.{hash_of};
     ghost use Rattle.owners.specs.Owners.{owner_by_hash, owner_by_hash-lt};
 
     ghost owner_of = { λ z. owner_by_hash };
 
-    ghost hash_of = { λ z. hash_of };
+    ghost hash_of = { λ z b. Some (hash_of b) };
 
     ghost owners_are_workers = { λ z. owner_by_hash-lt };
 
@@ -97,10 +98,11 @@ impl Spread for Zobrist {
         Some(self.hash_board(board))
     }
 
-    fn owner_after(&self, hash: u64, moved: Moved, workers: usize) -> usize {
+    fn owner_after(&self, hash: Option<u64>, moved: Moved, workers: usize) -> usize {
+        let before = hash.unwrap();
         let cells = moved.shape.cells();
         let there = self.word(cells, moved.slide.tile, moved.slide.to);
         let here = self.word(cells, moved.slide.tile, moved.slide.from);
-        worker_of(hash ^ there ^ here, workers)
+        worker_of(before ^ there ^ here, workers)
     }
 }

@@ -245,8 +245,8 @@ fn owners_of_boards(rt: HostRuntime) {
         let zobrist = Zobrist::new(shape);
         assert_eq!(rt; owners_of(&zobrist, &board), *by_hash);
         assert_eq!(rt; owners_of(&ByBlank, &board), *by_blank);
-        // With hashes the search needs no board of a successor.
+        // Owners by the hash need that of the board before, those by the blank need none.
         assert!(rt; zobrist.hash(&board).is_some());
-        assert!(rt; ByBlank.hash(&board).is_some());
+        assert!(rt; ByBlank.hash(&board).is_none());
     }
 }

@@ -19,4 +19,8 @@ impl Spread for ByRow {
         let is_above = board.blank() + (shape.cols() as usize) < shape.cells();
         if is_above { 0 } else { workers / 2 }
     }
+
+    fn hash(&self, _board: &Board) -> Option<u64> {
+        None
+    }
 }
