@@ -1,1 +1,2 @@
 pub mod PartLemmas
+pub mod SlideLemmas

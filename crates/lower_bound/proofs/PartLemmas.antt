@@ -1,11 +1,10 @@
--- How values are kept by groups, which folded table has a tile, and which tiles a move leaves where they were.
+-- How values are kept by groups, and which tiles a move leaves where they were.
 use Rattle.std.proofs.Common.{◌≡◌, ◌⊎◌, ℕ, zero, suc, ◌+◌, ◌≤◌, true, false, eqb, List, [], ◌∷◌, get_or, refl, sym, ap, ◌∙◌, subst, inl, inr, ⊎_elim, arith, ◌<◌, map, length, ◌++◌, ◌≢◌, take, drop, set, cond}
-use Rattle.std.specs.Prelude.{All, AllPairs, Contains, sum_by, slice_index, slice_index_or}
+use Rattle.std.specs.Prelude.{All, AllPairs, Contains, sum_by, slice_index}
 use Rattle.std.specs.List.{AllByRecursion}
-use Rattle.std.proofs.lemmas.List.{length-map, get_or-map, append-nil, get_or_default}
-use Rattle.std.proofs.Math.Nat.{eq-or-lt_of_le}
+use Rattle.std.proofs.lemmas.List.{length-map, get_or-map, append-nil}
 use Rattle.std.proofs.lemmas.List.Sums.{sum_by-cons}
-use Rattle.std.proofs.lemmas.Bool.{cases_Bool, eqb-true, eqb-false, cases_order, cond-false, ne_eqb}
+use Rattle.std.proofs.lemmas.Bool.{cases_Bool, eqb-true, eqb-false, cond-false, ne_eqb}
 use Rattle.std.proofs.lemmas.List.Elements.{recursion_from_All, All-map, All-from_recursion}
 use Rattle.board.specs.Grids.{Grid, cell_count}
 use Rattle.board.specs.Positions.{Position, IsBoard, blank_of, cell_of}
@@ -15,9 +14,8 @@ use Rattle.pattern_index.specs.Selections.{IsGroup, Selection, IsSelection, IsTi
 use Rattle.pattern_index.specs.Splits.{ShareNoTile, Split, IsSplit, AreApart}
 use Rattle.pattern_index.proofs.ViewMoveLemmas.{board_view, seen_move}
 use Rattle.database_build.specs.Folds.{Fold, IsFoldOf, folded_in}
-use Rattle.lower_bound.specs.Folded.{AreFolded, AreFoldsOf, IsFoldedPotential, folded_parts, part_folded, value_for, AreFoldedPotentials, AreAsBefore, IsBefore, value_by, values_of}
-use Rattle.lower_bound.specs.ByTile.{IsTableWith}
-use Rattle.lower_bound.specs.Laws.{FoldedSumsAreLowerBounds, AreOneEach, FoldedBoundsSayNoMore, ATileHasOneTable, MovesMoveOneTile}
+use Rattle.lower_bound.specs.Folded.{AreFolded, AreFoldsOf, IsFoldedPotential, folded_parts, part_folded, value_for, AreFoldedPotentials, IsBefore, values_of}
+use Rattle.lower_bound.specs.Laws.{FoldedSumsAreLowerBounds, AreOneEach, FoldedBoundsSayNoMore, MovesMoveOneTile}
 use Rattle.board.specs.declared.moves.Move.{Move}
 use Rattle.board.specs.CostRules.{CostRule}
 use Rattle.board.specs.Moves.{Moves}
@@ -93,117 +91,6 @@ module _ (before b : Position) (folds : List Fold) (i : ℕ) (d : Fold) (values 
       let one : suc i ≡ i + 1 = omega arith in
       let both : n ≡ get_or (map (value_for b) folds) i 0 = value ∙ sym now in
       (λ j. set (so_far j) i (both j)) ∙ mixed_set i (map (value_for b) folds) olds (omega arith) (omega arith) ∙ ap (λ k. mixed k (map (value_for b) folds) olds) one
-
--- ---- a sum of which one value changes
-
--- sums of the same values
-all_same : (f g : Fold → ℕ) (folds : List Fold) (d : Fold) → ((j : ℕ) → j < length folds → f (get_or folds j d) ≡ g (get_or folds j d)) → sum_by f folds ≡ sum_by g folds
-all_same f g [] d same = refl
-all_same f g (x ∷ xs) d same =
-    let here : f x ≡ g x = same 0 (omega arith) in
-    let rest = all_same f g xs d (λ j j_in. same (suc j) (omega (arith, j_in))) in
-    let one = sum_by-cons f x xs in
-    let other = sum_by-cons g x xs in
-    omega arith
-
--- sums of values that are the same but for one
-one_changed : (f g : Fold → ℕ) (folds : List Fold) (i : ℕ) (d : Fold) → i < length folds → ((j : ℕ) → j < length folds → j ≢ i → f (get_or folds j d) ≡ g (get_or folds j d)) → sum_by f folds + g (get_or folds i d) ≡ sum_by g folds + f (get_or folds i d)
-one_changed f g [] i d i_in same = absurd (omega (arith, i_in))
-one_changed f g (x ∷ xs) zero d i_in same =
-    let rest = all_same f g xs d (λ j j_in. same (suc j) (omega (arith, j_in)) (λ e. absurd (omega (arith, e)))) in
-    let one = sum_by-cons f x xs in
-    let other = sum_by-cons g x xs in
-    omega arith
-one_changed f g (x ∷ xs) (suc i) d i_in same =
-    let here : f x ≡ g x = same 0 (omega arith) (λ e. absurd (omega (arith, e))) in
-    let rest = one_changed f g xs i d (omega (arith, i_in)) (λ j j_in ne. same (suc j) (omega (arith, j_in)) (λ e. ne (omega (arith, e)))) in
-    let one = sum_by-cons f x xs in
-    let other = sum_by-cons g x xs in
-    omega arith
-
--- one of two different places is before the other
-one_before : (j i : ℕ) → j ≢ i → (j < i) ⊎ (i < j)
-one_before zero zero ne = absurd (ne refl)
-one_before zero (suc i) ne = inl (omega arith)
-one_before (suc j) zero ne = inr (omega arith)
-one_before (suc j) (suc i) ne =
-    ⊎_elim (λ (lt : j < i). inl (omega (arith, lt))) (λ (gt : i < j). inr (omega (arith, gt))) (one_before j i (λ e. ne (ap suc e)))
-
--- where one of the groups has the tile that moved, its value alone changes
-pub moved_sum : (before after : List ℕ) (tile : ℕ) (folds : List Fold) (i : ℕ) (d : Fold) → i < length folds → AreAsBefore before after tile folds → AllPairs (λ (f g : Fold). ShareNoTile f.selection.tiles g.selection.tiles) folds → Contains (get_or folds i d).selection.tiles tile → sum_by (value_by before) folds + value_by after (get_or folds i d) ≡ sum_by (value_by after) folds + value_by before (get_or folds i d)
-moved_sum before after tile folds i d i_in others apart has =
-    one_changed (value_by before) (value_by after) folds i d i_in (λ j j_in ne. others j d j_in
-    (⊎_elim
-    (λ (lt : j < i). λ within. apart j i d lt i_in tile within has)
-    (λ (gt : i < j). λ within. apart i j d gt j_in tile has within)
-    (one_before j i ne)))
-
--- ---- which group has a tile
-
--- of the first i tables the one at the place has the tile, or none has
-pub record IsFound (folds : List Fold) (tile place i : ℕ) : Type 0 where
-  pub few : place ≤ length folds
-  pub some : place < length folds → (d : Fold) → Contains (get_or folds place d).selection.tiles tile
-  pub none : length folds ≤ place → (k : ℕ) (d : Fold) → k < i → k < length folds → ¬ Contains (get_or folds k d).selection.tiles tile
-
-pub found_here : (folds : List Fold) (tile place i : ℕ) (here : Fold) → i < length folds → here ≡ get_or folds i here → Contains here.selection.tiles tile → place ≡ i → IsFound folds tile place (i + 1)
-found_here folds tile place i here within is has same = record {
-  few = omega (arith, within, same);
-  some = λ lt d. subst (λ (f : Fold). Contains f.selection.tiles tile) (is ∙ get_or_default folds i here d within ∙ ap (λ k. get_or folds k d) (sym same)) has;
-  none = λ past k d lt k_in. absurd (omega (arith, within, same, past));
-}
-
-pub found_before : (folds : List Fold) (tile place next i : ℕ) (here : Fold) → i < length folds → here ≡ get_or folds i here → ¬ Contains here.selection.tiles tile → next ≡ place → IsFound folds tile place i → IsFound folds tile next (i + 1)
-found_before folds tile place next i here within is without same before = subst (λ (p : ℕ). IsFound folds tile p (i + 1)) (sym same) (record {
-  few = before.few;
-  some = before.some;
-  none = λ past k d lt k_in.
-      ⊎_elim
-      (λ (e : k ≡ i). λ has. without (subst (λ (f : Fold). Contains f.selection.tiles tile) (ap (λ n. get_or folds n d) e ∙ get_or_default folds i d here within ∙ sym is) has))
-      (λ (low : k < i). before.none past k d low k_in)
-      (eq-or-lt_of_le (omega (arith, lt)));
-})
-
--- ---- why a tile has one folded table
-
--- where none of the groups has a tile, no table does
-none_there : (folds : List Fold) (tile place : ℕ) → All (λ (fold : Fold). ¬ Contains fold.selection.tiles tile) folds → ((d : Fold) → Contains (slice_index_or folds place d).selection.tiles tile) → ¬ (place < length folds)
-none_there [] tile place without has lt = absurd (omega (arith, lt))
-none_there (x ∷ xs) tile place without has lt = without place x lt (has x)
-
-module _ (folds : List Fold) (tile place : ℕ) (is : IsTableWith folds tile place) where
-  -- a table whose group has the tile stands at the place
-  has_place : AllPairs (λ (f g : Fold). ShareNoTile f.selection.tiles g.selection.tiles) folds → (i : ℕ) (d : Fold) → i < length folds → Contains (slice_index_or folds i d).selection.tiles tile → place ≡ i
-  has_place apart i d i_in has =
-      ⊎_elim
-      (λ (past : place ≡ length folds). absurd (is.none (omega (arith, past)) i d i_in has))
-      (λ (lt : place < length folds).
-      ⊎_elim
-      (λ (same : place ≡ i). same)
-      (λ (differ : (place < i) ⊎ (i < place)).
-      ⊎_elim
-      (λ (low : place < i). absurd (apart place i d low i_in tile (is.some lt d) has))
-      (λ (high : i < place). absurd (apart i place d high lt tile has (is.some lt d)))
-      differ)
-      (cases_order place i))
-      (eq-or-lt_of_le is.few)
-
-  -- and the group of the table at the place has the tile
-  place_has : (i : ℕ) (d : Fold) → i < length folds → place ≡ i → Contains (slice_index_or folds i d).selection.tiles tile
-  place_has i d i_in e = subst (λ (k : ℕ). Contains (slice_index_or folds k d).selection.tiles tile) e (is.some (omega (arith, e, i_in)) d)
-
-  -- where none has it, no table stands at the place
-  none_has : All (λ (fold : Fold). ¬ Contains fold.selection.tiles tile) folds → place ≡ length folds
-  none_has without =
-      ⊎_elim
-      (λ (past : place ≡ length folds). past)
-      (λ (lt : place < length folds). absurd (none_there folds tile place without (is.some lt) lt))
-      (eq-or-lt_of_le is.few)
-
-pub has_one_table : ATileHasOneTable
-has_one_table folds places tile are low =
-    let is = are tile low in
-    ((λ apart i d i_in. (has_place folds tile (slice_index places tile) is apart i d i_in, place_has folds tile (slice_index places tile) is i d i_in)), none_has folds tile (slice_index places tile) is)
 
 -- ---- a move leaves all tiles but one where they were
 
@@ -538,20 +425,6 @@ table_grids tables is = each_lookup (λ g. g.grid ≡ tables.split.grid) tables 
 
 pub fold_grids : (tables : Tables) → IsTables tables → All (λ fold. fold.selection.grid ≡ tables.split.grid) tables.folds
 fold_grids tables is = each_fold (λ g. g.grid ≡ tables.split.grid) tables is is.partition.of_grid
-
--- the groups of folded tables share no tile
-pub each_apart : (tables : Tables) → IsTables tables → AllPairs (λ (f g : Fold). ShareNoTile f.selection.tiles g.selection.tiles) tables.folds
-each_apart tables is =
-    ⊎_elim (λ (whole : AreTablesOf tables.split.groups tables.lookups × AreWhole tables). λ i j d lt j_in. (let long : length tables.folds ≡ 0 = ap length whole.1 in absurd (omega (arith, long, j_in))))
-    (λ (folded : AreFoldsOf tables.split.groups tables.folds × (tables.lookups ≡ [])). λ i j d lt j_in.
-    (let count : length (map (λ (fold : Fold). fold.selection) tables.folds) ≡ length tables.folds = length-map tables.folds (λ (fold : Fold). fold.selection) in
-    let count' : length (map (λ (fold : Fold). fold.selection) tables.folds) ≡ length tables.split.groups = ap length folded.0 in
-    let share = is.partition.apart i j d.selection lt (omega (arith, count, count', j_in)) in
-    let at : (k : ℕ) → k < length tables.folds → get_or tables.split.groups k d.selection ≡ (get_or tables.folds k d).selection = λ k k_in.
-    ap (λ (gs : List Selection). get_or gs k d.selection) (sym folded.0) ∙ get_or-map (λ (fold : Fold). fold.selection) tables.folds k d d.selection k_in in
-    subst (λ (g : Selection). ShareNoTile g.tiles (get_or tables.folds j d).selection.tiles) (at i (omega (arith, lt, j_in)))
-    (subst (λ (g : Selection). ShareNoTile (get_or tables.split.groups i d.selection).tiles g.tiles) (at j j_in) share)))
-    is.one_each
 
 -- so each is of the grid of a board that fits
 pub grids_fit : (tables : Tables) (lookups : List Lookup) (grid : Grid) → IsTables tables → tables.lookups ≡ lookups → grid ≡ tables.split.grid → All (λ table. table.selection.grid ≡ grid) lookups

@@ -1,9 +1,9 @@
 -- Folded tables for the groups of a partition, and what they say of a board, group by group.
-use Rattle.std.specs.Prelude.{ℕ, ◌≡◌, ◌≢◌, ◌<◌, List, [], ◌∷◌, map, All, Contains, ⊤}
+use Rattle.std.specs.Prelude.{ℕ, ◌≡◌, ◌≢◌, ◌<◌, List, [], ◌∷◌, map, All, ⊤}
 use Rattle.board.specs.Grids.{cell_count}
 use Rattle.board.specs.Positions.{Position, cell_of}
 use Rattle.board.specs.CostRules.{CostRule}
-use Rattle.pattern_index.specs.Views.{IsView, view_at, view_of}
+use Rattle.pattern_index.specs.Views.{view_at, view_of}
 use Rattle.pattern_index.specs.Selections.{Selection}
 use Rattle.database_build.specs.Values.{IsPotential}
 use Rattle.database_build.specs.Tables.{Lookup, value_in}
@@ -52,11 +52,3 @@ IsBefore before b tile = (number : ℕ) → 0 < number → number < cell_count b
 -- what a folded table says of a board, by the cell of each of its numbers
 abbrev pub value_by : List ℕ → Fold → ℕ
 value_by cells fold = folded_in fold (view_at fold.selection.tiles cells)
-
--- what each folded table's group sees of a board, by the cell of each number, is a view
-abbrev pub AreViews : List ℕ → List Fold → Type 0
-AreViews cells folds = All (λ fold. IsView fold.selection.grid fold.selection.tiles (view_at fold.selection.tiles cells)) folds
-
--- each folded table whose group doesn't have the tile says of the cells after what it said of those before
-abbrev pub AreAsBefore : List ℕ → List ℕ → ℕ → List Fold → Type 0
-AreAsBefore before after tile folds = All (λ fold. ¬ Contains fold.selection.tiles tile → value_by before fold ≡ value_by after fold) folds

@@ -1,5 +1,5 @@
 -- The laws of sums. Each is the contract of a function that does nothing.
-use Rattle.std.specs.Prelude.{ℕ, ◌≡◌, ◌<◌, ◌≤◌, ◌↔◌, List, length, All, AllPairs, Contains, get_or, slice_index, slice_index_or, sum}
+use Rattle.std.specs.Prelude.{ℕ, ◌≡◌, ◌⊎◌, ◌<◌, ◌≤◌, ◌↔◌, List, length, All, AllPairs, Contains, get_or, slice_index, slice_index_or, sum}
 use Rattle.board.specs.declared.moves.Move.{Move}
 use Rattle.board.specs.Positions.{Position, IsBoard, blank_of}
 use Rattle.board.specs.CostRules.{CostRule}
@@ -7,13 +7,15 @@ use Rattle.board.specs.Moves.{Moves}
 use Rattle.board.specs.Rows.{IsLowerBound}
 use Rattle.pattern_index.specs.Selections.{Selection}
 use Rattle.pattern_index.specs.Splits.{Split, IsSplit, ShareNoTile}
+use Rattle.pattern_index.specs.Views.{view_of}
 use Rattle.database_build.specs.Folds.{Fold}
 use Rattle.lower_bound.specs.Bounds.{Part, IsBound, sum_of}
-use Rattle.lower_bound.specs.Tables.{Tables, IsTables, AreTablesOf, ArePotentials, parts_of}
+use Rattle.lower_bound.specs.Tables.{Tables, IsTables, AreTablesOf, AreConsistent, ArePotentials, parts_of}
 use Rattle.lower_bound.specs.Lists.{AreListed, IsFoldedBound}
 use Rattle.lower_bound.specs.declared.bound.TableList.{TableList}
 use Rattle.lower_bound.specs.declared.bound.TableList.TheVariants.{Whole, Folded}
-use Rattle.lower_bound.specs.ByTile.{AreTablesByTile}
+use Rattle.lower_bound.specs.ByTile.{AreGroupsByTile}
+use Rattle.lower_bound.specs.Slides.{IsUntold, TellsBoth}
 use Rattle.lower_bound.specs.Folded.{AreFoldsOf, AreFoldedPotentials, IsBefore, folded_parts, values_of}
 
 -- a sum of potentials of groups that share no tile is admissible: never above the cost of a plan
@@ -67,12 +69,31 @@ MovesMoveOneTile = (rule : CostRule) (b : Position) (m : Move) (b' : Position) (
 abbrev pub ValuesAddUp : Type 0
 ValuesAddUp = (parts : List Part) (b : Position) → sum (values_of parts b) ≡ sum_of parts b
 
--- where no two groups share a tile, a group has a tile exactly where its table stands at the tile's place;
--- where no group has the tile, the place is behind the last table
-abbrev pub ATileHasOneTable : Type 0
-ATileHasOneTable =
-    (folds : List Fold) (places : List ℕ) (tile : ℕ)
-    → AreTablesByTile folds places
+-- where no two groups share a tile, a group has a tile exactly where it stands at the tile's place; where no group has
+-- the tile, the place is behind the last group
+abbrev pub ATileHasOneGroup : Type 0
+ATileHasOneGroup =
+    (groups : List Selection) (places : List ℕ) (tile : ℕ)
+    → AreGroupsByTile groups places
     → tile < 25
-    → (AllPairs (λ f g. ShareNoTile f.selection.tiles g.selection.tiles) folds → (i : ℕ) (d : Fold) → i < length folds → Contains (slice_index_or folds i d).selection.tiles tile ↔ (slice_index places tile ≡ i))
-    × (All (λ fold. ¬ Contains fold.selection.tiles tile) folds → slice_index places tile ≡ length folds)
+    → (AllPairs (λ g h. ShareNoTile g.tiles h.tiles) groups → (i : ℕ) (d : Selection) → i < length groups → Contains (slice_index_or groups i d).tiles tile ↔ (slice_index places tile ≡ i))
+    × (All (λ group. ¬ Contains group.tiles tile) groups → slice_index places tile ≡ length groups)
+
+-- where whole tables are potentials, a move changes what is said by the group that has the tile that moves, and by no other: to
+-- move any other tile costs a group nothing, so its value can neither fall nor rise; a folded one doesn't see the blank
+abbrev pub MovesChangeOneValue : Type 0
+MovesChangeOneValue =
+    (tables : Tables) (rule : CostRule) (b : Position) (m : Move) (b' : Position) (c : ℕ)
+    → IsTables tables
+    → AreConsistent tables
+    → IsBoard b
+    → b.grid ≡ tables.split.grid
+    → Moves rule b m b' c
+    → All (λ part. ¬ Contains part.tiles (get_or b.tiles (blank_of b') 0) → part.value (view_of part.tiles b) ≡ part.value (view_of part.tiles b')) (parts_of tables)
+
+-- a folded table tells both values by sparse place, or one of them is not told so, and not both
+abbrev pub BothAreToldOrNot : Type 0
+BothAreToldOrNot =
+    (before after : List ℕ) (fold : Fold)
+    → (IsUntold before after fold ⊎ TellsBoth before after fold)
+    × (TellsBoth before after fold → ¬ IsUntold before after fold)

@@ -6,3 +6,4 @@ pub mod Lists
 pub mod Faults
 pub mod Laws
 pub mod ByTile
+pub mod Slides

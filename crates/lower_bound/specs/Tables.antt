@@ -45,3 +45,10 @@ parts_of tables = map part_of tables.lookups ++ folded_parts tables.folds
 pub record ArePotentials (rule : CostRule) (goal : Position) (tables : Tables) : Type 0 where
   pub whole : All (λ table. IsPotential rule table.selection.tiles goal (value_in table)) tables.lookups
   pub folded : AreFoldedPotentials rule goal tables.folds
+
+-- each whole table is a potential for some goal and some costs; of folded ones nothing is asked
+pub record AreConsistent (tables : Tables) : Type 0 where
+  pub rule : CostRule
+  pub goal : Position
+  pub grid : goal.grid ≡ tables.split.grid
+  pub whole : All (λ table. IsPotential rule table.selection.tiles goal (value_in table)) tables.lookups

@@ -1,6 +1,6 @@
 //! Tables for the groups of a partition, whole or folded, whose values are added.
 
-ghost use Rattle.std.specs.Prelude.{◌≡◌, ◌↔◌, ◌*◌, ◌<◌, ◌≤◌, [], length, slice_get, All, Some, sum_by};
+ghost use Rattle.std.specs.Prelude.{◌≡◌, ◌↔◌, ◌+◌, ◌*◌, ◌<◌, ◌≤◌, [], length, slice_get, All, Some, sum_by};
 ghost use Rattle.std.specs.Prelude.{IsTrue, IsOk, IsErrOf, IfOk, MatchOption, Ok};
 ghost use Rattle.board.specs.Positions.{Position};
 ghost use Rattle.board.specs.CostRules.{CostRule};
@@ -10,12 +10,14 @@ ghost use Rattle.database_build.specs.Tables.{value_in};
 ghost use Rattle.database_build.specs.declared.faults.TableFault.{TableFault};
 ghost use Rattle.lower_bound.specs.Bounds.{sum_of};
 ghost use Rattle.lower_bound.specs.Folded.{AreFoldsOf, AreFolded, IsBefore, value_for, values_of};
-ghost use Rattle.lower_bound.specs.Tables.{IsTables, AreTablesOf, ArePotentials, AreWhole};
+ghost use Rattle.lower_bound.specs.Tables.{IsTables, AreTablesOf, AreConsistent, ArePotentials, AreWhole};
 ghost use Rattle.lower_bound.specs.Tables.{parts_of};
 ghost use Rattle.lower_bound.specs.Lists.{AreListed, IsFoldedBound};
-ghost use Rattle.lower_bound.specs.ByTile.{AreTablesByTile};
+ghost use Rattle.lower_bound.specs.Slides.{HasCells, IsSlide};
 
-use crate::parts::{MOST_GROUPS, Parts, find_tables_by_tile};
+use crate::by_tile::find_groups_by_tile;
+use crate::parts::{MOST_GROUPS, Parts};
+use crate::slides::{folded_after, sum_folded as sum_folded_at, sum_whole, whole_after};
 use board::Board;
 use database_build::{Folded, NO_VALUE, Table, TableFault, fold};
 use memory::{OutOfMemory, push, with_capacity};
@@ -31,7 +33,7 @@ pub const GREATEST_SUM: u32 = 1_572_840;
 pub struct Bound {
     partition: Partition,
     held: Held,
-    // Of each number that may be a tile the place of the folded table whose group has it.
+    // Of each number that may be a tile the place of the group that has it.
     by_tile: [usize; 25],
 }
 
@@ -53,15 +55,15 @@ pub enum TableList<'a> {
 
 impl Model for Bound {
     ghost use Rattle.lower_bound.specs.Tables.{Tables, IsTables};
-    ghost use Rattle.lower_bound.specs.Held.{tables_in, folds_in};
-    ghost use Rattle.lower_bound.specs.ByTile.{AreTablesByTile};
+    ghost use Rattle.lower_bound.specs.Held.{tables_in};
+    ghost use Rattle.lower_bound.specs.ByTile.{AreGroupsByTile};
 
     ghost Value = { Tables };
 
     ghost view = { λ b. tables_in b.partition b.held };
 
     ghost invariant = { λ b. IsTables (tables_in b.partition b.held)
-        × AreTablesByTile (folds_in b.held) b.by_tile };
+        × AreGroupsByTile b.partition.groups b.by_tile };
 }
 
 impl Bound {
@@ -77,10 +79,11 @@ impl Bound {
         if !are_tables_of(partition.groups(), &tables) {
             return Err(TableFault::WrongCount);
         }
+        let by_tile = find_groups_by_tile(partition.groups());
         Ok(Bound {
             partition,
             held: Held::Whole(tables),
-            by_tile: find_tables_by_tile(&[]),
+            by_tile,
         })
     }
 
@@ -95,7 +98,7 @@ impl Bound {
         if !are_folds_of(partition.groups(), &folds) {
             return Err(TableFault::WrongCount);
         }
-        let by_tile = find_tables_by_tile(&folds);
+        let by_tile = find_groups_by_tile(partition.groups());
         Ok(Bound {
             partition,
             held: Held::Folded(folds),
@@ -115,13 +118,12 @@ impl Bound {
         let Bound {
             partition,
             held,
-            by_tile: _,
+            by_tile,
         } = self;
         let folds = match held {
             Held::Whole(tables) => fold_all(alloc, tables)?,
             Held::Folded(kept) => kept,
         };
-        let by_tile = find_tables_by_tile(&folds);
         Ok(Bound {
             partition,
             held: Held::Folded(folds),
@@ -144,6 +146,53 @@ impl Bound {
         match &self.held {
             Held::Whole(tables) => sum_values(tables, board),
             Held::Folded(folds) => sum_folded(folds, board),
+        }
+    }
+
+    /// The sum of a board, by the cell of each of its numbers (`cells_of`): as `of`, without making
+    /// a view.
+    pub fn sum_at(&self, cells: &[u8; 25]) -> u32
+        requires { (b : Position) × HasCells self.now.split.grid cells.now b }
+        ensures value { (b : Position) → HasCells self.now.split.grid cells.now b
+            → result ≡ sum_of (parts_of self.now) b }
+        ensures high { result ≤ GREATEST_SUM }
+        ensures nothing_below { (b : Position) → HasCells self.now.split.grid cells.now b
+            → (rule : CostRule) (goal : Position) → ArePotentials rule goal self.now
+            → NothingBelow rule b goal result }
+    {
+        match &self.held {
+            Held::Whole(tables) => sum_whole(tables, cells),
+            Held::Folded(folds) => sum_folded_at(folds, cells),
+        }
+    }
+
+    /// The sum of the board to which a move of a tile leads, by the sum of the board before it and
+    /// the cell of each number there. Only the table is read whose group has the tile, for what it
+    /// said and what it says. No other says something else, where whole tables are consistent.
+    pub fn sum_after(&self, sum: u32, cells: &[u8; 25], tile: u8) -> u32
+        requires consistent { AreConsistent self.now }
+        requires slide { (b : Position) × (b' : Position)
+            × IsSlide self.now.split.grid cells.now tile b b'
+            × (sum ≡ sum_of (parts_of self.now) b) }
+        requires low { sum ≤ GREATEST_SUM }
+        ensures value { (b b' : Position) → IsSlide self.now.split.grid cells.now tile b b'
+            → sum ≡ sum_of (parts_of self.now) b → result ≡ sum_of (parts_of self.now) b' }
+        ensures high { result ≤ sum + NO_VALUE }
+    {
+        let place = self.by_tile[tile as usize];
+        match &self.held {
+            Held::Whole(tables) => {
+                if place >= tables.len() {
+                    return sum;
+                }
+                whole_after(&tables[place], sum, cells, tile)
+            }
+            Held::Folded(folds) => {
+                if place >= folds.len() {
+                    return sum;
+                }
+                folded_after(&folds[place], sum, cells, tile)
+            }
         }
     }
 
@@ -199,14 +248,6 @@ impl Bound {
             Held::Whole(tables) => TableList::Whole(tables),
             Held::Folded(folds) => TableList::Folded(folds),
         }
-    }
-
-    /// Of each number that may be a tile the place of the folded table whose group has it, or how
-    /// many folded tables there are where none has.
-    pub fn tables_by_tile(&self) -> &[usize; 25]
-        ensures { AreTablesByTile self.now.folds result.now }
-    {
-        &self.by_tile
     }
 
     /// The table of a group, by the group's place in the partition; None where it is folded.

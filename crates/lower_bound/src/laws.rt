@@ -3,8 +3,9 @@
 ghost use Rattle.std.specs.Prelude.{◌≡◌, ◌*◌};
 ghost use Rattle.lower_bound.specs.Laws.{SumsAreLowerBounds, TablesAreLowerBounds};
 ghost use Rattle.lower_bound.specs.Laws.{FoldedSumsAreLowerBounds, MovesMoveOneTile, ValuesAddUp};
-ghost use Rattle.lower_bound.specs.Laws.{ATileHasOneTable, ListedTablesAreOneEach};
-ghost use Rattle.lower_bound.specs.Laws.{FoldedBoundsSayNoMore};
+ghost use Rattle.lower_bound.specs.Laws.{ATileHasOneGroup, ListedTablesAreOneEach};
+ghost use Rattle.lower_bound.specs.Laws.{FoldedBoundsSayNoMore, MovesChangeOneValue};
+ghost use Rattle.lower_bound.specs.Laws.{BothAreToldOrNot};
 
 use crate::bound::GREATEST_SUM;
 use database_build::NO_VALUE;
@@ -45,8 +46,20 @@ pub fn values_add_up()
     ensures { ValuesAddUp }
 {}
 
-/// Of groups that share no tile one at most has a tile, and its table stands at the tile's place.
-/// Where none has it, the place is behind the last table.
-pub fn a_tile_has_one_table()
-    ensures { ATileHasOneTable }
+/// Of groups that share no tile one at most has a tile, and stands at the tile's place. Where none
+/// has it, the place is behind the last group.
+pub fn a_tile_has_one_group()
+    ensures { ATileHasOneGroup }
+{}
+
+/// Where whole tables are potentials, a move changes the value of one group at most: that of the
+/// tile that moves. Of folded tables it does so whatever they hold.
+pub fn moves_change_one_value()
+    ensures { MovesChangeOneValue }
+{}
+
+/// A folded table tells both values by sparse place, or one is not there, or the table has too many
+/// sparse places.
+pub fn both_are_told_or_not()
+    ensures { BothAreToldOrNot }
 {}

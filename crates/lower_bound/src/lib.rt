@@ -3,11 +3,14 @@
 #![tactic(auto)]
 
 mod bound;
+mod by_tile;
 mod faults;
 pub mod laws;
 mod parts;
+mod slides;
 
 pub use bound::{Bound, GREATEST_SUM, TableList};
 pub use database_build::{TableFault, is_potential};
 pub use faults::PatternFault;
-pub use parts::{Parts, place_with, sum_after};
+pub use parts::Parts;
+pub use slides::exchange;

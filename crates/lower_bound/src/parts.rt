@@ -1,13 +1,8 @@
 //! The values of the groups of a board, one by one.
 
-ghost use Rattle.std.specs.Prelude.{ℕ, ◌≡◌, ◌+◌, ◌*◌, ◌≤◌, length, map, sum, sum_by, All, AllPairs};
-ghost use Rattle.std.specs.Prelude.{◌<◌, Contains, slice_index_or};
+ghost use Rattle.std.specs.Prelude.{◌≡◌, ◌*◌, ◌≤◌, length, map, sum, All};
 ghost use Rattle.board.specs.Positions.{Position};
-ghost use Rattle.pattern_index.specs.Splits.{ShareNoTile};
-ghost use Rattle.database_build.specs.Folds.{Fold};
 ghost use Rattle.lower_bound.specs.Folded.{folded_parts, values_of, value_for, IsBefore};
-ghost use Rattle.lower_bound.specs.Folded.{value_by, AreViews, AreAsBefore};
-ghost use Rattle.lower_bound.specs.ByTile.{AreTablesByTile};
 
 use crate::bound::GREATEST_SUM;
 use board::Board;
@@ -70,21 +65,6 @@ impl Parts {
         }
     }
 
-    /// The values of a board, by the cell of each of its numbers (`cells_of`): as `of`, without
-    /// making a view.
-    pub fn at(folds: &[Folded], cells: &[u8; 25]) -> Self
-        requires few { length folds.now ≤ MOST_GROUPS }
-        requires views { AreViews cells.now folds.now }
-        ensures { result ≡ map (value_by cells.now) folds.now }
-    {
-        let mut values = [0; MOST_GROUPS];
-        'tables: for i in 0..folds.len() {
-            values[i] = folds[i].value_at(cells);
-        }
-        let count = folds.len() as u8;
-        Parts { count, values }
-    }
-
     /// Their sum.
     pub fn sum(&self) -> u32
         ensures value { result ≡ sum self.now }
@@ -92,60 +72,6 @@ impl Parts {
     {
         add_up(&self.values[..self.count as usize])
     }
-}
-
-/// The sum of the values of a board, by the cell of each of its numbers, where this is the sum
-/// before a tile moved. Only the group of that tile is looked up, for what it said and what it says.
-pub fn sum_after(folds: &[Folded], sum: u32, before: &[u8; 25], after: &[u8; 25], tile: u8) -> u32
-    requires before { AreViews before.now folds.now }
-    requires after { AreViews after.now folds.now }
-    requires others { AreAsBefore before.now after.now tile folds.now }
-    requires apart { AllPairs
-        (λ f g. ShareNoTile f.selection.tiles g.selection.tiles) folds.now }
-    requires sum { sum ≡ sum_by (value_by before.now) folds.now }
-    requires low { sum ≤ GREATEST_SUM }
-    ensures value { result ≡ sum_by (value_by after.now) folds.now }
-    ensures high { result ≤ sum + NO_VALUE }
-{
-    'tables: for fold in folds {
-        if fold.has_tile(tile) {
-            let was = fold.value_at(before);
-            let is = fold.value_at(after);
-            return sum - u32::from(was) + u32::from(is);
-        }
-    }
-    sum
-}
-
-/// The place of the folded table whose group has a tile, or how many tables there are where none
-/// has. All are asked, so that nothing is guessed.
-pub fn place_with(folds: &[Folded], tile: u8) -> usize
-    ensures some { result < length folds.now → (d : Fold)
-        → Contains (slice_index_or folds.now result d).selection.tiles tile }
-    ensures none { length folds.now ≤ result
-        → All (λ fold. ¬ Contains fold.selection.tiles tile) folds.now }
-    ensures few { result ≤ length folds.now }
-{
-    let mut place = folds.len();
-    'tables: for table in 0..folds.len() {
-        place = if folds[table].has_tile(tile) {
-            table
-        } else {
-            place
-        };
-    }
-    place
-}
-
-/// Of each number that may be a tile what `place_with` answers of it.
-pub(crate) fn find_tables_by_tile(folds: &[Folded]) -> [usize; 25]
-    ensures { AreTablesByTile folds.now result }
-{
-    let mut by_tile = [0; 25];
-    'numbers: for number in 0..25 {
-        by_tile[number] = place_with(folds, number as u8);
-    }
-    by_tile
 }
 
 // Adds values.

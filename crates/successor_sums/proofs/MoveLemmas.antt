@@ -1,13 +1,12 @@
--- What a move changes: cells, keys, ranks and sparse places.
-use Rattle.std.proofs.Common.{◌≡◌, ◌≢◌, ℕ, zero, suc, ◌+◌, ◌-◌, ◌*◌, ◌/◌, ◌%◌, ◌^◌, ◌<◌, ◌≤◌, List, [], ◌∷◌, length, get_or, set, refl, sym, ap, ◌∙◌, subst, arith, Some, ⊎_elim, take, map}
-use Rattle.std.specs.Prelude.{swap, slice_index, Contains}
+-- What a move changes: cells and keys.
+use Rattle.std.proofs.Common.{◌≡◌, ◌≢◌, ℕ, zero, suc, ◌+◌, ◌-◌, ◌*◌, ◌/◌, ◌%◌, ◌^◌, ◌<◌, ◌≤◌, List, [], ◌∷◌, length, get_or, set, refl, sym, ap, ◌∙◌, subst, arith, Some, ⊎_elim, take}
+use Rattle.std.specs.Prelude.{swap, slice_index}
 use Rattle.std.proofs.Math.Nat.{pow-suc, pow-le-pow_right, mod-eq_of_lt, mul-add-div_right, mul-add-mod_self_right}
 use Rattle.std.proofs.lemmas.Nat.{pow-add, pow_pos, mul-le, div-mul-add, mod-mul-add}
-use Rattle.std.proofs.lemmas.List.{length-set, get_or-set_other, get_or-set_same, take_all, get_or_default}
+use Rattle.std.proofs.lemmas.List.{length-set, get_or-set_other, get_or-set_same, take_all}
 use Rattle.std.proofs.lemmas.List.Edits.{swap_is}
 use Rattle.std.specs.Int.Digits.{AllBelowBase}
 use Rattle.std.proofs.lemmas.Bool.{cases_eq, cases_lt}
-use Rattle.std.proofs.lemmas.Bool.Decides.{nat_tests}
 use Rattle.std.proofs.lemmas.List.Elements.{recursion_from_All}
 use Rattle.board.specs.Grids.{Grid, cell_count, IsShape}
 use Rattle.board.specs.Digits.{digits_of}
@@ -18,21 +17,13 @@ use Rattle.board.proofs.StepLemmas.{blank_stands, tile_above, tile_below}
 use Rattle.board.proofs.KeyLemmas.{digits_of-key, packed_number-lt, key_of-lt, tiles_small, packed_number-more}
 use Rattle.board.specs.declared.moves.Move.{Move}
 use Rattle.board.specs.Neighbours.{LiesTowards, neighbour}
-use Rattle.board.proofs.TileLemmas.{across, cell_is, has_cell}
+use Rattle.board.proofs.TileLemmas.{cell_is, has_cell}
 use Rattle.board.proofs.NeighbourLemmas.{cells_above, neighbour_lies}
-use Rattle.board.proofs.MoveLemmas.{cell_of-exchange, exchange_board, other_cell, cell_below}
-use Rattle.pattern_index.specs.Selections.{Selection, IsSelection}
-use Rattle.pattern_index.specs.Sparse.{sparse_in, stride_of}
-use Rattle.pattern_index.specs.Views.{IsView, view_at}
-use Rattle.pattern_index.proofs.GroupLemmas.{groups_small, cells_high}
-use Rattle.pattern_index.proofs.RankLemmas.{below_in, differ_from_pairs}
-use Rattle.pattern_index.proofs.PlaceLemmas.{place_listing}
-use Rattle.pattern_index.proofs.SparseLemmas.{moved, sparse_small, stride_low, pow_low}
-use Rattle.database_build.specs.Folds.{Fold}
-use Rattle.lower_bound.specs.Folded.{IsBefore}
-use Rattle.successor_sums.specs.Unpacked.{board_in, AreCellsOf, IsUnpacked, cells_after, IsSmall, IsUntold, SomeIsUntold}
+use Rattle.board.proofs.MoveLemmas.{exchange_board, other_cell, cell_below}
+use Rattle.lower_bound.specs.Slides.{AreCellsOf, exchanged}
+use Rattle.lower_bound.proofs.SlideLemmas.{cells_exchanged}
+use Rattle.successor_sums.specs.Unpacked.{board_in, IsUnpacked}
 use Rattle.successor_sums.specs.declared.unpacked.UnpackedBoard.TheInside.{Inside}
-use Rattle.successor_sums.specs.declared.unpacked.Successor.{Successor}
 
 -- ---- the key of a board after a move, by the board's own
 
@@ -107,66 +98,6 @@ moved_key b to board to_below other =
     let key : packed_number (set (set b.tiles (blank_of b) t) to 0) ≡ packed_number (swap b.tiles (blank_of b) to) = ap packed_number both in
     (omega arith, omega arith)
 
--- ---- what a move changes: the cell of each number after an exchange
-
-across_first : (i j : ℕ) → across i j i ≡ j
-across_first i j = grind (arith, nat_tests)
-
-across_second : (i j : ℕ) → j ≢ i → across i j j ≡ i
-across_second i j ne = grind (arith, nat_tests)
-
-across_other : (i j k : ℕ) → k ≢ i → k ≢ j → across i j k ≡ k
-across_other i j k ne ne' = grind (arith, nat_tests)
-
-cells_exchanged : (b : Position) (cells : List ℕ) (to : ℕ) → IsBoard b → AreCellsOf b cells → cell_count b.grid ≤ 25 → to < cell_count b.grid → to ≢ blank_of b → AreCellsOf (blank_exchange b to) (set (set cells 0 to) (get_or b.tiles to 0) (blank_of b))
-cells_exchanged b cells to board of few to_below other = record {
-  all = length-set (set cells 0 to) t (blank_of b) ∙ length-set cells 0 to ∙ of.all;
-  are = at;
-}
-  where
-    t : ℕ
-    t = get_or b.tiles to 0
-
-    at : (number : ℕ) → number < cell_count b.grid → get_or (set (set cells 0 to) (get_or b.tiles to 0) (blank_of b)) number 0 ≡ cell_of (blank_exchange b to) number
-    at number low =
-        let e = board.one_each in
-        let size = of.all in
-        let stands = blank_stands b board in
-        let above = tile_above b to board to_below other in
-        let below = tile_below b to board to_below in
-        let long : length (set cells 0 to) ≡ 25 = length-set cells 0 to ∙ of.all in
-        let moved = cell_of-exchange b (blank_of b) to board stands.0 to_below number low in
-        ⊎_elim
-        (λ (same : number ≡ get_or b.tiles to 0).
-        let here : cell_of b number ≡ to = ap (cell_of b) same ∙ cell_is b board.different to (get_or b.tiles to 0) (omega arith) refl in
-        ap (λ (k : ℕ). get_or (set (set cells 0 to) (get_or b.tiles to 0) (blank_of b)) k 0) same
-        ∙ get_or-set_same (set cells 0 to) (get_or b.tiles to 0) (blank_of b) 0 (omega arith)
-        ∙ sym (moved ∙ ap (across (blank_of b) to) here ∙ across_second (blank_of b) to other))
-        (λ (ne : number ≢ get_or b.tiles to 0).
-        get_or-set_other (set cells 0 to) (get_or b.tiles to 0) number (blank_of b) 0 ne
-        ∙ ⊎_elim
-        (λ (zero_is : number ≡ 0).
-        ap (λ (k : ℕ). get_or (set cells 0 to) k 0) zero_is
-        ∙ get_or-set_same cells 0 to 0 (omega arith)
-        ∙ sym (moved ∙ ap (λ (k : ℕ). across (blank_of b) to (cell_of b k)) zero_is ∙ across_first (blank_of b) to))
-        (λ (ne' : number ≢ 0).
-        let found = has_cell b board number low in
-        let off_blank : cell_of b number ≢ blank_of b = λ s. ne' (sym found.1 ∙ ap (λ (k : ℕ). get_or b.tiles k 0) s ∙ stands.1) in
-        let off_to : cell_of b number ≢ to = λ s. ne (sym found.1 ∙ ap (λ (k : ℕ). get_or b.tiles k 0) s) in
-        get_or-set_other cells 0 number to 0 ne' ∙ of.are number low ∙ sym (moved ∙ across_other (blank_of b) to (cell_of b number) off_blank off_to))
-        (cases_eq number 0))
-        (cases_eq number (get_or b.tiles to 0))
-
--- each number but the blank's and that of the tile moved stays where it was
-others_stay : (b : Position) (to : ℕ) → IsBoard b → to < cell_count b.grid → to ≢ blank_of b → IsBefore b (blank_exchange b to) (get_or b.tiles to 0)
-others_stay b to board to_below other number some low ne =
-    let stands = blank_stands b board in
-    let found = has_cell b board number low in
-    let not_zero : number ≢ 0 = λ zero_is. absurd (omega (arith, some, zero_is)) in
-    let off_blank : cell_of b number ≢ blank_of b = λ s. not_zero (sym found.1 ∙ ap (λ (k : ℕ). get_or b.tiles k 0) s ∙ stands.1) in
-    let off_to : cell_of b number ≢ to = λ s. ne (sym found.1 ∙ ap (λ (k : ℕ). get_or b.tiles k 0) s) in
-    sym (cell_of-exchange b (blank_of b) to board stands.0 to_below number low ∙ across_other (blank_of b) to (cell_of b number) off_blank off_to)
-
 -- ---- what lies in memory
 
 pub few_cells : (grid : Grid) → IsShape grid → cell_count grid ≤ 25
@@ -204,8 +135,7 @@ pub record IsLedTo (inside : Inside) (to tile : ℕ) : Type 0 where
   pub key_is : inside.key - tile * 32 ^ (cell_count (board_in inside).grid - 1 - to) + tile * 32 ^ (cell_count (board_in inside).grid - 1 - slice_index inside.cells 0) ≡ key_of (blank_exchange (board_in inside) to)
   pub key_fits : key_of (blank_exchange (board_in inside) to) < 2 ^ 125
   pub board : IsBoard (blank_exchange (board_in inside) to)
-  pub cells : (cells : List ℕ) → AreCellsOf (board_in inside) cells → AreCellsOf (blank_exchange (board_in inside) to) (set (set cells 0 to) tile (slice_index cells 0))
-  pub others : IsBefore (board_in inside) (blank_exchange (board_in inside) to) tile
+  pub cells : (cells : List ℕ) → AreCellsOf (board_in inside) cells → AreCellsOf (blank_exchange (board_in inside) to) (exchanged cells tile)
 
 module _ (inside : Inside) (grid : Grid) (m : Move) (to : ℕ) (unpacked : IsUnpacked inside) (same : grid ≡ (board_in inside).grid) (lies : LiesTowards grid m (slice_index inside.cells 0) to) where
   abbrev b : Position
@@ -248,8 +178,7 @@ module _ (inside : Inside) (grid : Grid) (m : Move) (to : ℕ) (unpacked : IsUnp
         key_is = (λ i. sym unpacked.key i - get_or b.tiles to 0 * 32 ^ (cell_count b.grid - 1 - to) + get_or b.tiles to 0 * 32 ^ (cell_count b.grid - 1 - blank i)) ∙ key.1;
         key_fits = fits;
         board = after;
-        cells = λ cs of. subst (λ (x : ℕ). AreCellsOf (blank_exchange b to) (set (set cs 0 to) (get_or b.tiles to 0) x)) (sym (of.are 0 (cells_above b.grid unpacked.board.sides))) (cells_exchanged b cs to unpacked.board of few below other);
-        others = others_stay b to unpacked.board below other;
+        cells = λ cs of. cells_exchanged b cs to unpacked.board of below other;
       }
 
   -- the tile is a digit of the key
@@ -322,41 +251,3 @@ module _ (grid : Grid) (key cell rest : ℕ) (b : Position) (has : HasKey grid k
     where
       past : (x y : ℕ) → x - 1 ≤ y → y ≢ x - 1 → x ≤ y
       past x y le ne = ⊎_elim (λ (h : y < x). absurd (ne (omega arith))) (λ (h : x ≤ y). h) (cases_lt y x)
-
--- ---- what a move makes of a sparse place
-
-module _ (g : Selection) (selection : IsSelection g) (cells : List ℕ) (r : Successor) (all : length cells ≡ 25) (small : IsSmall r) (view : IsView g.grid g.tiles (view_at g.tiles cells)) where
-  others : (number : ℕ) → 0 < number → number ≢ r.tile → slice_index (cells_after cells r) number ≡ slice_index cells number
-  others number some other =
-      get_or-set_other (set cells 0 r.cell) r.tile number (slice_index cells 0) 0 other
-      ∙ get_or-set_other cells 0 number r.cell 0 (λ e. absurd (omega (arith, e, some)))
-
-  here : slice_index (cells_after cells r) r.tile ≡ slice_index cells 0
-  here = get_or-set_same (set cells 0 r.cell) r.tile (slice_index cells 0) 0 (let long = length-set cells 0 r.cell in omega (arith, long, all, small.1))
-
-  -- what it was and what it is
-  pub next_place : sparse_in g.grid (view_at g.tiles (cells_after cells r)) + slice_index cells r.tile * stride_of (cell_count g.grid) g.tiles r.tile ≡ sparse_in g.grid (view_at g.tiles cells) + slice_index cells 0 * stride_of (cell_count g.grid) g.tiles r.tile
-  next_place =
-      moved (cell_count g.grid) r.tile cells (cells_after cells r) others g.tiles (recursion_from_All (λ t. 0 < t) g.tiles (λ k d k_in. (selection.group.tiles k d k_in).0)) (differ_from_pairs g.tiles selection.group.different)
-      ∙ ap (λ c. sparse_in g.grid (view_at g.tiles cells) + c * stride_of (cell_count g.grid) g.tiles r.tile) here
-
-  pub place_low : sparse_in g.grid (view_at g.tiles cells) ≤ 3814697265625
-  place_low =
-      let few = cells_high g.grid selection.sides in
-      let short = (groups_small g selection).0 in
-      let long = view.one_each in
-      sparse_small (cell_count g.grid) (map (slice_index cells) g.tiles) few (omega (arith, long, short)) (below_in (cell_count g.grid) (map (slice_index cells) g.tiles) (place_listing g.grid g.tiles (view_at g.tiles cells) view))
-
-  pub times_low : (cell : ℕ) → cell < 256 → cell * stride_of (cell_count g.grid) g.tiles r.tile ≤ 972747802734375
-  times_low cell low =
-      let few = cells_high g.grid selection.sides in
-      let short = (groups_small g selection).0 in
-      let room = (groups_small g selection).1 in
-      let top = stride_low (cell_count g.grid) g.tiles r.tile (omega (arith, room)) in
-      let power = pow_low (cell_count g.grid) (length g.tiles) few short in
-      let product : cell * stride_of (cell_count g.grid) g.tiles r.tile ≤ 255 * 3814697265625 = mul-le cell (stride_of (cell_count g.grid) g.tiles r.tile) 255 3814697265625 (omega (arith, low)) (omega (arith, top, power)) in
-      omega (arith, product)
-
--- one table that has the tile, with a untold value, is enough
-pub untold : (folds : List Fold) (before after : List ℕ) (tile table : ℕ) (fold : Fold) → table < length folds → fold ≡ get_or folds table fold → ((d : Fold) → Contains (get_or folds table d).selection.tiles tile) → IsUntold before after fold → SomeIsUntold folds before after tile
-untold folds before after tile table fold within at has some = (table, within, λ d. (has d, subst (λ (f : Fold). IsUntold before after f) (at ∙ get_or_default folds table fold d within) some))

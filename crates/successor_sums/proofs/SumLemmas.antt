@@ -1,39 +1,29 @@
 -- Entries for the moves, and the sum of a board after each.
-use Rattle.std.proofs.Common.{◌≡◌, ◌≢◌, ℕ, zero, suc, ◌<◌, ◌≤◌, List, [], ◌∷◌, ◌++◌, length, get_or, Option, Some, None, refl, sym, ap, ◌∙◌, subst, arith, ◌+◌, Bool, true, false, set, ⊎_elim, map}
-use Rattle.std.specs.Prelude.{⊤, IfSome, if◌then◌else◌, All, AllPairs, slice_index, sum, sum_by, option_map}
+use Rattle.std.proofs.Common.{◌≡◌, ◌≢◌, ℕ, zero, suc, ◌<◌, ◌≤◌, List, [], ◌∷◌, ◌++◌, length, get_or, Option, Some, None, refl, sym, ap, ◌∙◌, subst, arith, ◌+◌, Bool, true, false, set, ⊎_elim}
+use Rattle.std.specs.Prelude.{⊤, IfSome, if◌then◌else◌, slice_index, option_map}
 use Rattle.std.specs.List.{AllByRecursion}
-use Rattle.std.proofs.lemmas.List.Elements.{All-from_recursion, recursion_from_All, All-weaker}
+use Rattle.std.proofs.lemmas.List.Elements.{All-from_recursion, recursion_from_All}
 use Rattle.std.proofs.lemmas.List.{length-set}
 use Rattle.std.proofs.lemmas.Bool.{cases_Bool, cond-true, cond-false}
-use Rattle.std.proofs.lemmas.List.Sums.{sum_by-cons}
 use mir.Val.{bool_byte}
 use Rattle.board.specs.declared.moves.Move.{Move}
 use Rattle.board.specs.declared.moves.Move.TheVariants.{U, L, R, D}
-use Rattle.board.specs.declared.costs.TheConstants.{GREATEST_EXPANDED_COST}
-use Rattle.board.specs.Grids.{Grid, cell_count}
+use Rattle.board.specs.Grids.{Grid}
 use Rattle.board.specs.Positions.{Position, IsBoard, blank_of}
-use Rattle.board.specs.CostRules.{CostRule}
+use Rattle.board.specs.CostRules.{CostRule, weight_of}
 use Rattle.board.specs.Neighbours.{neighbour}
 use Rattle.board.specs.Moves.{blank_exchange, successor, successor_at}
-use Rattle.board.specs.Keys.{HasKey}
-use Rattle.board.proofs.NeighbourLemmas.{cells_above}
-use Rattle.pattern_index.specs.Views.{Sight, IsView, view_of, view_at}
-use Rattle.pattern_index.specs.Splits.{ShareNoTile}
-use Rattle.pattern_index.specs.Selections.{Selection, IsTile, IsGroup}
-use Rattle.pattern_index.proofs.StorageLemmas.{looked_up}
-use Rattle.pattern_index.proofs.ViewMoveLemmas.{board_view}
-use Rattle.database_build.specs.Tables.{Lookup, value_in}
-use Rattle.database_build.specs.Folds.{Fold, folded_in}
-use Rattle.lower_bound.specs.Bounds.{Part, sum_of}
-use Rattle.lower_bound.specs.Folded.{AreAsBefore, IsBefore, value_by, value_for}
-use Rattle.lower_bound.specs.Tables.{Tables, IsTables, AreWhole, parts_of}
-use Rattle.lower_bound.proofs.PartLemmas.{tables_sum, folds_sum, each_apart, each_lookup, each_fold, few_folds, table_grids, fold_grids, whole_parts, all_folded_parts, value_stays}
-use Rattle.lower_bound.specs.declared.bound.TheConstants.{GREATEST_SUM}
+use Rattle.board.proofs.NeighbourLemmas.{neighbour_lies}
+use Rattle.board.proofs.StepLemmas.{blank_stands}
 use Rattle.successor_sums.specs.ByMoves.{FourOf, IsBehind, OfFour, before, entries_of, four_by, of_move, IsListed, first_of, four_from, four_in, with_move}
 use Rattle.successor_sums.specs.declared.by_moves.ByMoves.TheInside.{Inside}
-use Rattle.successor_sums.specs.Whole.{sum_by_cells}
 use Rattle.successor_sums.specs.Exits.{IsToldOf}
-use Rattle.successor_sums.specs.Unpacked.{told_of, is_left_out, but, cells_after, AreCellsOf, IsNextTo, IsReached, IsSmall, IsSumOf, IsSummed, AreSummed, SeesViews, with_sum}
+use Rattle.lower_bound.specs.Bounds.{Part, sum_of}
+use Rattle.lower_bound.specs.Slides.{AreCellsOf, HasCells, IsSlide, exchanged}
+use Rattle.lower_bound.specs.Tables.{Tables, parts_of}
+use Rattle.lower_bound.specs.declared.bound.TheConstants.{GREATEST_SUM}
+use Rattle.successor_sums.specs.Unpacked.{AreSummed, FitsGrid, IsReached, IsUnpacked, board_in, but, is_left_out, told_of, with_sum}
+use Rattle.successor_sums.specs.declared.unpacked.UnpackedBoard.TheInside.{Inside as Unpacked}
 use Rattle.successor_sums.specs.declared.unpacked.Successor.{Successor}
 
 -- ---- the entries of what stands for some of the four moves: what holds of each entry
@@ -312,135 +302,40 @@ put_listed {A = A} inside m x false listed behind =
     let four : four_from (first_of (inside.count + bool_byte false) (set inside.moves inside.count m) (set inside.items inside.count x)) ≡ four_in inside = ap four_from made in
     (record { moves = length-set inside.moves inside.count m ∙ listed.moves; items = length-set inside.items inside.count x ∙ listed.items; few = omega (arith, none, few); order = made ∙ listed.order ∙ sym (ap entries_of four) }, four ∙ sym put.2)
 
--- ---- the sum of a board, by the cell of each number
-
--- what a group sees of a board
-seen_at : (b : Position) (cells tiles : List ℕ) → IsBoard b → AreCellsOf b cells → IsGroup b.grid tiles → view_at tiles cells ≡ view_of tiles b
-seen_at b cells tiles board of group =
-    let low = recursion_from_All (λ tile. tile < cell_count b.grid) tiles (All-weaker (λ tile. IsTile b.grid tile) (λ tile. tile < cell_count b.grid) (λ tile h. h.1) tiles group.tiles) in
-    let some = cells_above b.grid board.sides in
-    λ i. record { blank = of.are 0 some i; cells = looked_up b cells tiles of.are low i }
-
--- so what it sees is a view
-view_there : (b : Position) (cells : List ℕ) (g : Selection) → IsBoard b → AreCellsOf b cells → g.grid ≡ b.grid → IsGroup b.grid g.tiles → IsView g.grid g.tiles (view_at g.tiles cells)
-view_there b cells g board of same group =
-    subst (λ (grid : Grid). IsView grid g.tiles (view_at g.tiles cells)) (sym same)
-    (subst (λ (v : Sight). IsView b.grid g.tiles v) (sym (seen_at b cells g.tiles board of group)) (board_view g.tiles b board group))
-
--- numbers added up are the sum over what they are of
-pub sum-mapped : {X : Type 0} (f : X → ℕ) (xs : List X) → sum (map f xs) ≡ sum_by f xs
-sum-mapped f [] = refl
-sum-mapped {X = X} f (x ∷ xs) =
-    let rest = sum-mapped f xs in
-    let one = sum_by-cons f x xs in
-    let other = sum_by-cons (λ (n : ℕ). n) (f x) (map f xs) in
-    omega arith
-
--- sums of what is the same
-pub same_sums : {X : Type 0} (f g : X → ℕ) (xs : List X) → AllByRecursion (λ x. f x ≡ g x) xs → sum_by f xs ≡ sum_by g xs
-same_sums f g [] all = refl
-same_sums {X = X} f g (x ∷ xs) all =
-    let rest = same_sums f g xs all.1 in
-    let here = all.0 in
-    let one = sum_by-cons f x xs in
-    let other = sum_by-cons g x xs in
-    omega arith
-
-module _ (tables : Tables) (b : Position) (cells : List ℕ) (is : IsTables tables) (board : IsBoard b) (same : tables.split.grid ≡ b.grid) (of : AreCellsOf b cells) where
-  -- the groups, those of the whole tables and those of the folded ones
-  groups : All (λ g. IsGroup b.grid g.tiles) tables.split.groups
-  groups k d k_in = subst (λ (grid : Grid). IsGroup grid (get_or tables.split.groups k d).tiles) (is.partition.of_grid k d k_in ∙ same) (is.partition.groups k d k_in).group
-
-  whole_groups : All (λ table. IsGroup b.grid table.selection.tiles) tables.lookups
-  whole_groups = each_lookup (λ g. IsGroup b.grid g.tiles) tables is groups
-
-  folded_groups : All (λ fold. IsGroup b.grid fold.selection.tiles) tables.folds
-  folded_groups = each_fold (λ g. IsGroup b.grid g.tiles) tables is groups
-
-  -- what each group sees is a view
-  pub views_at : All (λ table. IsView table.selection.grid table.selection.tiles (view_at table.selection.tiles cells)) tables.lookups
-  views_at k d k_in = view_there b cells (get_or tables.lookups k d).selection board of (table_grids tables is k d k_in ∙ same) (whole_groups k d k_in)
-
-  pub fold_views_at : All (λ fold. IsView fold.selection.grid fold.selection.tiles (view_at fold.selection.tiles cells)) tables.folds
-  fold_views_at k d k_in = view_there b cells (get_or tables.folds k d).selection board of (fold_grids tables is k d k_in ∙ same) (folded_groups k d k_in)
-
-  -- what the tables say adds up to the sum of the board
-  pub whole_sum : AreWhole tables → sum_by_cells tables.lookups cells ≡ sum_of (parts_of tables) b
-  whole_sum whole =
-      same_sums (λ table. value_in table (view_at table.selection.tiles cells)) (λ table. value_in table (view_of table.selection.tiles b)) tables.lookups
-      (recursion_from_All (λ (table : Lookup). value_in table (view_at table.selection.tiles cells) ≡ value_in table (view_of table.selection.tiles b)) tables.lookups
-      (λ k d k_in. ap (value_in (get_or tables.lookups k d)) (seen_at b cells (get_or tables.lookups k d).selection.tiles board of (whole_groups k d k_in))))
-      ∙ tables_sum tables.lookups b
-      ∙ ap (λ (ps : List Part). sum_of ps b) (sym (whole_parts tables whole))
-
-  said : All (λ fold. value_by cells fold ≡ value_for b fold) tables.folds
-  said k d k_in = ap (folded_in (get_or tables.folds k d)) (seen_at b cells (get_or tables.folds k d).selection.tiles board of (folded_groups k d k_in))
-
-  pub folded_sum : tables.lookups ≡ [] → sum_by (value_by cells) tables.folds ≡ sum_of (parts_of tables) b
-  folded_sum folded =
-      same_sums (value_by cells) (value_for b) tables.folds (recursion_from_All (λ (fold : Fold). value_by cells fold ≡ value_for b fold) tables.folds said)
-      ∙ folds_sum tables.folds b
-      ∙ ap (λ (ps : List Part). sum_of ps b) (sym (all_folded_parts tables folded))
-
--- each folded table says of a board what it said before a tile moved, but for that with the tile
-pub as_before : (tables : Tables) (b x : Position) (cells cells' : List ℕ) (tile : ℕ) → IsTables tables → IsBoard b → IsBoard x → x.grid ≡ b.grid → tables.split.grid ≡ b.grid → AreCellsOf b cells → AreCellsOf x cells' → IsBefore b x tile → AreAsBefore cells cells' tile tables.folds
-as_before tables b x cells cells' tile is board board' grid same of of' before i d i_in without =
-    said tables b cells is board same of i d i_in
-    ∙ value_stays b x tile (get_or tables.folds i d) before
-    (recursion_from_All (λ t. IsTile x.grid t) (get_or tables.folds i d).selection.tiles (folded_groups tables x cells' is board' (same ∙ sym grid) of' i d i_in).tiles) without
-    ∙ sym (said tables x cells' is board' (same ∙ sym grid) of' i d i_in)
-
--- the folded tables of a bound are no more than a partition may have groups, and their groups share no tile
-pub folds_few : (tables : Tables) (folds : List Fold) → IsTables tables → folds ≡ tables.folds → length folds ≤ 24
-folds_few tables folds is same = subst (λ (fs : List Fold). length fs ≤ 24) (sym same) (few_folds tables is)
-
-pub folds_apart : (tables : Tables) (folds : List Fold) → IsTables tables → folds ≡ tables.folds → AllPairs (λ (f g : Fold). ShareNoTile f.selection.tiles g.selection.tiles) folds
-folds_apart tables folds is same = subst (λ (fs : List Fold). AllPairs (λ (f g : Fold). ShareNoTile f.selection.tiles g.selection.tiles) fs) (sym same) (each_apart tables is)
-
--- the sum of a board is that of its cells, where it is known
-pub known_sum : (tables : Tables) (b : Position) (cells : List ℕ) → IsTables tables → IsBoard b → tables.split.grid ≡ b.grid → AreCellsOf b cells → tables.lookups ≡ [] → (sum : Option ℕ) → IfSome sum (λ n. (n ≡ sum_of (parts_of tables) b) × (n ≤ GREATEST_EXPANDED_COST)) → IsSumOf tables.folds cells sum
-known_sum tables b cells is board same of folded None none = tt
-known_sum tables b cells is board same of folded (Some n) at = (at.0 ∙ sym (folded_sum tables b cells is board same of folded), at.1)
-
 -- ---- what was reached
 
-small : (rule : CostRule) (b : Position) (m : Move) (r : Successor) → IsReached rule b m r → IsSmall r
-small rule b m r at = (omega (arith, at.cell, at.below, at.few), omega (arith, at.tile_low, at.few))
+-- the board, with its cells
+pub has_cells : (tables : Tables) (inside : Unpacked) (b : Position) → IsUnpacked inside → board_in inside ≡ b → tables.split.grid ≡ b.grid → HasCells tables.split.grid inside.cells b
+has_cells tables inside b unpacked is same = record { board = subst IsBoard is unpacked.board; sides = sym same; listed = subst (λ (p : Position). AreCellsOf p inside.cells) is unpacked.cells }
 
-module _ (tables : Tables) (b : Position) (is : IsTables tables) (same : tables.split.grid ≡ b.grid) (rule : CostRule) (m : Move) where
-  -- its groups see views
-  pub sees_whole : (cells : List ℕ) (r : Successor) → AreCellsOf b cells → IsReached rule b m r → SeesViews tables.lookups cells r
-  sees_whole cells r of at = (small rule b m r at, views_at tables (blank_exchange b at.to) (cells_after cells r) is at.board same (at.cells cells of))
+module _ (tables : Tables) (inside : Unpacked) (b : Position) (unpacked : IsUnpacked inside) (is : board_in inside ≡ b) (same : tables.split.grid ≡ b.grid) (rule : CostRule) (m : Move) (r : Successor) (at : IsReached rule b m r) where
+  -- a move leads to what was reached
+  pub slides : IsSlide tables.split.grid inside.cells r.tile b (blank_exchange b at.to)
+  slides =
+      let has = has_cells tables inside b unpacked is same in
+      record {
+        before = has;
+        rule = rule;
+        direction = m;
+        cost = weight_of rule (slice_index b.tiles at.to);
+        moves = record { cell = at.to; towards = (neighbour_lies b.grid m (blank_of b) at.to (blank_stands b has.board).0).0 at.found; after = refl; cost = refl };
+        moved = at.tile ∙ sym (ap (slice_index b.tiles) at.blank);
+      }
 
-  -- and it is next to the board
-  pub next_to : (cells : List ℕ) (r : Successor) → IsBoard b → AreCellsOf b cells → IsReached rule b m r → IsNextTo tables.folds cells r
-  next_to cells r board of at = (
-    small rule b m r at,
-    fold_views_at tables (blank_exchange b at.to) (cells_after cells r) is at.board same (at.cells cells of),
-    as_before tables b (blank_exchange b at.to) cells (cells_after cells r) r.tile is board at.board refl same of (at.cells cells of) at.others,
-  )
+  -- and it has its cells
+  pub has_after : HasCells tables.split.grid (exchanged inside.cells r.tile) (blank_exchange b at.to)
+  has_after = let has = has_cells tables inside b unpacked is same in record { board = at.board; sides = sym same; listed = at.cells inside.cells has.listed }
+
+  -- its sum is told by its cell
+  pub by_cell : sum_of (parts_of tables) (blank_exchange b at.to) ≡ sum_of (parts_of tables) (blank_exchange b r.cell)
+  by_cell = ap (λ (k : ℕ). sum_of (parts_of tables) (blank_exchange b k)) (sym at.cell)
+
+  pub small : r.tile < 25
+  small = omega (arith, at.tile_low, at.few)
 
 -- ---- what is told of a successor
 
--- the sums by the cells of boards are theirs
-abbrev pub SumsUp : Grid → List Part → (List ℕ → ℕ) → Type 0
-SumsUp grid parts sum = (x : Position) (cells : List ℕ) → IsBoard x → x.grid ≡ grid → AreCellsOf x cells → sum cells ≡ sum_of parts x
-
-pub whole_sums : (tables : Tables) (grid : Grid) → IsTables tables → tables.split.grid ≡ grid → AreWhole tables → SumsUp grid (parts_of tables) (sum_by_cells tables.lookups)
-whole_sums tables grid is same whole x cells board at of = whole_sum tables x cells is board (same ∙ sym at) of whole
-
-pub folded_sums : (tables : Tables) (grid : Grid) → IsTables tables → tables.split.grid ≡ grid → tables.lookups ≡ [] → SumsUp grid (parts_of tables) (λ cells. sum_by (value_by cells) tables.folds)
-folded_sums tables grid is same folded x cells board at of = folded_sum tables x cells is board (same ∙ sym at) of folded
-
--- what is looked up of what was reached is the sum of its board
-pub summed_is : (parts : List Part) (b : Position) (sum : List ℕ → ℕ) (cells : List ℕ) (count : ℕ) (before after : List Successor) → AreCellsOf b cells → SumsUp b.grid parts sum → ((i : ℕ) (d : Successor) → i < count → (rule : CostRule) × (m : Move) × IsReached rule b m (get_or before i d)) → IsSummed sum cells count before after → AreSummed parts b count before after
-summed_is parts b sum cells count before after of sums by is i d low =
-    let r = get_or before i d in
-    let at = (by i d low).2 in
-    let all = sums (blank_exchange b at.to) (cells_after cells r) at.board refl (at.cells cells of) in
-    ((is i d low).0 ∙ ap (with_sum r) (all ∙ ap (λ (k : ℕ). sum_of parts (blank_exchange b k)) (sym at.cell)), (is i d low).1)
-
--- and what the definition tells
+-- what the definition tells
 told_is : (rule : CostRule) (parts : List Part) (b : Position) (m : Move) (r : Successor) → IsReached rule b m r → option_map (told_of parts b) (successor rule b m) ≡ Some (with_sum r (sum_of parts (blank_exchange b r.cell)))
 told_is rule parts b m r is =
     let cell : r.cell ≡ blank_of (blank_exchange b is.to) = is.cell ∙ sym is.blank in
@@ -517,15 +412,15 @@ of_told P rule parts b exits reached summed told holds by is all = (one told.up 
         let value : n ≤ GREATEST_SUM = subst (λ (k : ℕ). k ≤ GREATEST_SUM) (ap (λ (x : Successor). x.sum) sums.0) sums.1 in
         subst P (sym sums.0 ∙ at.2 s) (holds m r (by i s e low) n value)
 
--- a key of a board, a tile, a cell and a cost of a move
-pub has_key : (rule : CostRule) (b : Position) (m : Move) (r : Successor) → IsReached rule b m r → (n : ℕ) → n ≤ GREATEST_SUM → (x : Position) × HasKey b.grid r.key x
-has_key rule b m r is n low = (blank_exchange b is.to, record { board = is.board; sides = refl; packed = sym is.key })
-
-pub has_tile : (rule : CostRule) (b : Position) (m : Move) (r : Successor) → IsReached rule b m r → (n : ℕ) → n ≤ GREATEST_SUM → (0 < r.tile) × (r.tile < cell_count b.grid)
-has_tile rule b m r is n low = (is.tile_some, is.tile_low)
-
-pub has_cell : (rule : CostRule) (b : Position) (m : Move) (r : Successor) → IsReached rule b m r → (n : ℕ) → n ≤ GREATEST_SUM → r.cell < cell_count b.grid
-has_cell rule b m r is n low = omega (arith, is.cell, is.below)
-
-pub has_cost : (rule : CostRule) (b : Position) (m : Move) (r : Successor) → IsReached rule b m r → (n : ℕ) → n ≤ GREATEST_SUM → (1 ≤ r.cost) × (r.cost ≤ 255)
-has_cost rule b m r is n low = (is.low, is.high)
+-- it fits the board's grid
+pub fits : (rule : CostRule) (b : Position) (m : Move) (r : Successor) → IsReached rule b m r → (n : ℕ) → n ≤ GREATEST_SUM → FitsGrid b.grid (with_sum r n)
+fits rule b m r is n low = record {
+  board = blank_exchange b is.to;
+  key = record { board = is.board; sides = refl; packed = sym is.key };
+  tile_some = is.tile_some;
+  tile_low = is.tile_low;
+  cell = omega (arith, is.cell, is.below);
+  cost_some = is.low;
+  cost_low = is.high;
+  sum = low;
+}

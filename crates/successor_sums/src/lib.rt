@@ -6,9 +6,7 @@
 
 mod by_moves;
 mod exits;
-pub mod laws;
 mod unpacked;
-mod whole;
 
 pub use by_moves::{ByMoves, MOVES};
 pub use unpacked::{Successor, UnpackedBoard, no_successors};

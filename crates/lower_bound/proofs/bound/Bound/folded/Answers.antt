@@ -1,9 +1,8 @@
-use Rattle.std.proofs.Common.{rules, ◌≡◌, map, refl, ap, ◌∙◌, subst, inr, List, Vec, Global}
+use Rattle.std.proofs.Common.{rules, ◌≡◌, map, refl, ap, ◌∙◌, subst, inr, Vec, Global}
 use Rattle.database_build.specs.Folds.{Fold}
 use Rattle.lower_bound.specs.Folded.{AreFoldsOf}
 use Rattle.lower_bound.specs.Tables.{IsTables}
 use Rattle.lower_bound.specs.Held.{tables_in}
-use Rattle.lower_bound.specs.ByTile.{AreTablesByTile}
 use Rattle.lower_bound.specs.declared.bound.Held.{Held}
 use Rattle.lower_bound.specs.declared.bound.Held.TheVariants.{Whole, Folded}
 use Rattle.lower_bound.proofs.PartLemmas.{folded_groups, whole_each, folded_each, folded_potentials}
@@ -11,7 +10,7 @@ use Rattle.lower_bound.proofs.bound.Bound.folded.Goals as goal
 use Rattle.lower_bound.proofs.bound.Bound.folded.Goals.{in-Whole+in_ok-folds-in-Whole, in-Folded}
 
 pub invariant_of-result : goal.invariant_of-result
-invariant_of-result c = (is_tables, subst (λ (folds : List Fold). AreTablesByTile folds c.find_tables_by_tile-by_tile.result) c.deref.ensures.value c.find_tables_by_tile-by_tile.ensures)
+invariant_of-result c = (is_tables, c.self.invariant.1)
   where
     there : (held : Held) → c.self.inside.held ≡ held → IsTables (tables_in c.self.inside.partition held)
     there held is = subst (λ (h : Held). IsTables (tables_in c.self.inside.partition h)) is c.self.invariant.0

@@ -65,7 +65,6 @@ returns c = λ m beside.
       board = led.board;
       blank = blank_after (board_in c.self.inside) c.self.invariant.board c.args.to led.below;
       cells = led.cells;
-      others = led.others;
       cell = refl;
       tile = sym led.tile_is;
       tile_some = led.tile_some;

@@ -1,0 +1,10 @@
+use Rattle.std.proofs.Common.{◌≡◌, ◌*◌, ◌≤◌, take, sum_by}
+use Rattle.database_build.specs.declared.table.TheConstants.{NO_VALUE}
+use Rattle.lower_bound.specs.Folded.{value_by}
+use Rattle.lower_bound.proofs.slides.sum_folded.Given as goal
+
+abbrev pub invariant-tables : goal.invariant-tables
+invariant-tables l = record {
+  is : l.sum ≡ sum_by (value_by l.cells) (take l.fold-index l.folds);
+  high : l.sum ≤ NO_VALUE * l.fold-index;
+}

@@ -1,0 +1,56 @@
+-- What tables say by the cell of each number, before a tile goes to the blank's cell and after it.
+use Rattle.std.specs.Prelude.{ℕ, ◌≡◌, ◌⊎◌, ◌≤◌, ◌<◌, List, length, set, slice_index}
+use Rattle.board.specs.CostRules.{CostRule}
+use Rattle.board.specs.Grids.{Grid, cell_count}
+use Rattle.board.specs.Moves.{Moves}
+use Rattle.board.specs.Positions.{Position, IsBoard, blank_of, cell_of}
+use Rattle.board.specs.declared.moves.Move.{Move}
+use Rattle.pattern_index.specs.Selections.{Selection}
+use Rattle.pattern_index.specs.Sparse.{sparse_size_of}
+use Rattle.pattern_index.specs.Views.{IsView, view_at}
+use Rattle.database_build.specs.Folds.{Fold}
+use Rattle.database_build.specs.FoldEntries.{most_places}
+use Rattle.database_build.specs.declared.table.TheConstants.{NO_VALUE}
+use Rattle.lower_bound.specs.Folded.{value_by}
+
+-- the list holds the cell of each number, and has a place for each that a board may have
+pub record AreCellsOf (b : Position) (cells : List ℕ) : Type 0 where
+  pub all : length cells ≡ 25
+  pub are : (number : ℕ) → number < cell_count b.grid → slice_index cells number ≡ cell_of b number
+
+-- this is a board of the grid, and these are its cells
+pub record HasCells (grid : Grid) (cells : List ℕ) (b : Position) : Type 0 where
+  pub board : IsBoard b
+  pub sides : b.grid ≡ grid
+  pub listed : AreCellsOf b cells
+
+-- a move leads from the board with these cells to another, and this is the tile that it moves
+pub record IsSlide (grid : Grid) (cells : List ℕ) (tile : ℕ) (b b' : Position) : Type 0 where
+  pub before : HasCells grid cells b
+  pub rule : CostRule
+  pub direction : Move
+  pub cost : ℕ
+  pub moves : Moves rule b direction b' cost
+  pub moved : tile ≡ slice_index b.tiles (blank_of b')
+
+-- the cells after the blank and a tile changed places
+abbrev pub exchanged : List ℕ → ℕ → List ℕ
+exchanged cells tile = set (set cells 0 (slice_index cells tile)) tile (slice_index cells 0)
+
+-- what a group sees is a view
+abbrev pub SeesView : List ℕ → Selection → Type 0
+SeesView cells group = IsView group.grid group.tiles (view_at group.tiles cells)
+
+-- what a group sees is a view before that and after it
+pub record SeesBoth (cells : List ℕ) (tile : ℕ) (group : Selection) : Type 0 where
+  pub low : tile < 25
+  pub before : SeesView cells group
+  pub after : SeesView (exchanged cells tile) group
+
+-- a folded table has no value before or after, or has too many sparse places to tell one by them
+abbrev pub IsUntold : List ℕ → List ℕ → Fold → Type 0
+IsUntold before after fold = (NO_VALUE ≤ value_by before fold) ⊎ (NO_VALUE ≤ value_by after fold) ⊎ (most_places fold.selection < sparse_size_of fold.selection)
+
+-- a folded table has a value before and after, and hasn't too many sparse places
+abbrev pub TellsBoth : List ℕ → List ℕ → Fold → Type 0
+TellsBoth before after fold = (value_by before fold < NO_VALUE) × (value_by after fold < NO_VALUE) × (sparse_size_of fold.selection ≤ most_places fold.selection)
