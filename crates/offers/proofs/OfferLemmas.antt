@@ -1,4 +1,4 @@
--- What is told of a successor, as an offer.
+-- A successor, as an offer.
 use Rattle.std.proofs.Common.{◌≡◌, ℕ, zero, suc, ◌+◌, ◌<◌, List, [], ◌∷◌, length, get_or, drop, Option, Some, None, refl, ap, ◌∙◌, arith, ⊎_elim, true, false, slice_index, subst, sym}
 use Rattle.std.specs.Prelude.{IfSome, sum_by, option_map}
 use Rattle.std.proofs.lemmas.Bool.{cases_Bool, cond-true, cond-false}
@@ -26,16 +26,16 @@ use Rattle.std.proofs.lemmas.List.{drop_more}
 use Rattle.std.proofs.lemmas.List.Sums.{sum_by-cons, sum_by-drop_more}
 use Rattle.offers.specs.Room.{go, goes}
 
--- by what is told of a successor a tile slides onto the blank's cell, and that leads to the key
-moved_of : (rule : CostRule) (parts : List Part) (b : Position) (m : Move) (blank from : ℕ) (told : Successor) → IsBoard b → blank ≡ blank_of b → neighbour b.grid m (blank_of b) ≡ Some from → told ≡ told_of parts b (successor_at rule b from) → IsMoved b (moved_by b told blank)
-moved_of rule parts b m blank from told board is found same =
+-- to a successor a tile slides onto the blank's cell, and that leads to the successor's key
+moved_of : (rule : CostRule) (parts : List Part) (b : Position) (m : Move) (blank from : ℕ) (next : Successor) → IsBoard b → blank ≡ blank_of b → neighbour b.grid m (blank_of b) ≡ Some from → next ≡ told_of parts b (successor_at rule b from) → IsMoved b (moved_by b next blank)
+moved_of rule parts b m blank from next board is found same =
     let lies : LiesTowards b.grid m (blank_of b) from = (neighbour_lies b.grid m (blank_of b) from (blank_stands b board).0).0 found in
     let within : from < cell_count b.grid = cell_below b.grid m (blank_of b) from lies in
     let at : blank_of (blank_exchange b from) ≡ from = blank_after b board from within in
-    let cell : told.cell ≡ from = ap (λ (s : Successor). s.cell) same ∙ at in
-    let tile : told.tile ≡ slice_index b.tiles from = ap (λ (s : Successor). s.tile) same ∙ ap (slice_index b.tiles) at in
+    let cell : next.cell ≡ from = ap (λ (s : Successor). s.cell) same ∙ at in
+    let tile : next.tile ≡ slice_index b.tiles from = ap (λ (s : Successor). s.tile) same ∙ ap (slice_index b.tiles) at in
     let above = tile_above b from board within (other_cell b.grid m (blank_of b) from lies) in
-    let slide : IsSlide b.grid b (moved_by b told blank).slide = record {
+    let slide : IsSlide b.grid b (moved_by b next blank).slide = record {
       board = board;
       sides = refl;
       within = subst (λ (k : ℕ). k < cell_count b.grid) (sym cell) within;
@@ -45,45 +45,45 @@ moved_of rule parts b m blank from told board is found same =
     } in
     record {
       slide = slide;
-      key = subst (λ (k : ℕ). HasKey b.grid told.key (blank_exchange b k)) (sym cell) (record {
+      key = subst (λ (k : ℕ). HasKey b.grid next.key (blank_exchange b k)) (sym cell) (record {
         board = exchange_board b (blank_of b) from board (blank_stands b board).0 within;
         sides = refl;
         packed = ap (λ (s : Successor). s.key) (sym same);
       });
     }
 
-moves_by : (rule : CostRule) (parts : List Part) (b : Position) (m : Move) (blank : ℕ) (to : Option ℕ) (told : Option Successor) → IsBoard b → blank ≡ blank_of b → neighbour b.grid m (blank_of b) ≡ to → told ≡ option_map (told_of parts b) (option_map (successor_at rule b) to) → IfSome told (λ s. IsMoved b (moved_by b s blank))
+moves_by : (rule : CostRule) (parts : List Part) (b : Position) (m : Move) (blank : ℕ) (to : Option ℕ) (next : Option Successor) → IsBoard b → blank ≡ blank_of b → neighbour b.grid m (blank_of b) ≡ to → next ≡ option_map (told_of parts b) (option_map (successor_at rule b) to) → IfSome next (λ s. IsMoved b (moved_by b s blank))
 moves_by rule parts b m blank to None board is found same = tt
-moves_by rule parts b m blank None (Some told) board is found same = absurd (none same)
+moves_by rule parts b m blank None (Some next) board is found same = absurd (none same)
   where
     none : {s : Successor} → ◌≡◌ {A = Option Successor} (Some s) None → ⊥
     none e = cc
-moves_by rule parts b m blank (Some from) (Some told) board is found same = moved_of rule parts b m blank from told board is found cc
+moves_by rule parts b m blank (Some from) (Some next) board is found same = moved_of rule parts b m blank from next board is found cc
 
--- so it is by each move of which something is told
-pub moves_at : (rule : CostRule) (parts : List Part) (left_out : Option Move) (told : FourOf Successor) (b : Position) (blank : ℕ) → IsBoard b → blank ≡ blank_of b → told ≡ successors_but left_out rule parts b → (i : ℕ) (e : Move × Successor) → i < length (entries_of told) → IsMoved b (moved_by b (get_or (entries_of told) i e).1 blank)
-moves_at rule parts left_out told b blank board at is i e low =
-    let m = (get_or (entries_of told) i e).0 in
-    let made = kept_by left_out (λ k. option_map (told_of parts b) (successor rule b k)) told is i e low in
-    moves_by rule parts b m blank (neighbour b.grid m (blank_of b)) (Some (get_or (entries_of told) i e).1) board at refl (sym made.1)
+-- so it is by each move that has a successor
+pub moves_at : (rule : CostRule) (parts : List Part) (left_out : Option Move) (successors : FourOf Successor) (b : Position) (blank : ℕ) → IsBoard b → blank ≡ blank_of b → successors ≡ successors_but left_out rule parts b → (i : ℕ) (e : Move × Successor) → i < length (entries_of successors) → IsMoved b (moved_by b (get_or (entries_of successors) i e).1 blank)
+moves_at rule parts left_out successors b blank board at is i e low =
+    let m = (get_or (entries_of successors) i e).0 in
+    let made = kept_by left_out (λ k. option_map (told_of parts b) (successor rule b k)) successors is i e low in
+    moves_by rule parts b m blank (neighbour b.grid m (blank_of b)) (Some (get_or (entries_of successors) i e).1) board at refl (sym made.1)
 
 module _ (rule : CostRule) (parts : List Part) (b : Position) (cost : ℕ) (m : Move) where
-  -- of a board that is there something is told
-  told_there : (from : ℕ) → neighbour b.grid m (blank_of b) ≡ Some from → None ≡ option_map (told_of parts b) (successor rule b m) → ⊥
-  told_there from found none =
+  -- where the blank stays on the board there is a successor
+  none_there : (from : ℕ) → neighbour b.grid m (blank_of b) ≡ Some from → None ≡ option_map (told_of parts b) (successor rule b m) → ⊥
+  none_there from found none =
       let e : None ≡ Some (told_of parts b (successor_at rule b from)) = none ∙ ap (λ (o : Option ℕ). option_map (told_of parts b) (option_map (successor_at rule b) o)) found in
       cc
 
-  -- of nothing that is told there is no item
+  -- of no successor there is no item
   pub none_offered : (owner : Position → ℕ) (to : Option ℕ) → neighbour b.grid m (blank_of b) ≡ to → None ≡ option_map (told_of parts b) (successor rule b m) → IsOffered (sum_of parts) owner (item_by rule b cost m) None
   none_offered owner None none is = rw none tt
-  none_offered owner (Some from) found is = absurd (told_there from found is)
+  none_offered owner (Some from) found is = absurd (none_there from found is)
 
-  -- what is told is offered
-  is_offered : (owner : Position → ℕ) (from : ℕ) (told : Successor) (offer : Offer) → neighbour b.grid m (blank_of b) ≡ Some from → Some told ≡ option_map (told_of parts b) (successor rule b m) → offer.key ≡ told.key → offer.cost ≡ cost + told.cost → offer.f ≡ cost + told.cost + told.sum → offer.owner ≡ owner (blank_exchange b from) → IsOffered (sum_of parts) owner (item_by rule b cost m) (Some offer)
-  is_offered owner from told offer found is key reached f owned =
-      let e : Some told ≡ Some (told_of parts b (successor_at rule b from)) = is ∙ ap (λ (o : Option ℕ). option_map (told_of parts b) (option_map (successor_at rule b) o)) found in
-      let same : told ≡ told_of parts b (successor_at rule b from) = cc in
+  -- a successor is offered
+  is_offered : (owner : Position → ℕ) (from : ℕ) (next : Successor) (offer : Offer) → neighbour b.grid m (blank_of b) ≡ Some from → Some next ≡ option_map (told_of parts b) (successor rule b m) → offer.key ≡ next.key → offer.cost ≡ cost + next.cost → offer.f ≡ cost + next.cost + next.sum → offer.owner ≡ owner (blank_exchange b from) → IsOffered (sum_of parts) owner (item_by rule b cost m) (Some offer)
+  is_offered owner from next offer found is key reached f owned =
+      let e : Some next ≡ Some (told_of parts b (successor_at rule b from)) = is ∙ ap (λ (o : Option ℕ). option_map (told_of parts b) (option_map (successor_at rule b) o)) found in
+      let same : next ≡ told_of parts b (successor_at rule b from) = cc in
       rw found (record {
         key = key ∙ ap (λ (s : Successor). s.key) same;
         cost = reached ∙ ap (λ (s : Successor). cost + s.cost) same;
@@ -91,27 +91,27 @@ module _ (rule : CostRule) (parts : List Part) (b : Position) (cost : ℕ) (m : 
         owned = owned;
       })
 
-  -- what is told is offered, to the owner of the board with the blank on the cell that is told
-  pub told_offered : (owner : Position → ℕ) (to : Option ℕ) (told : Successor) (offer : Offer) → IsBoard b → neighbour b.grid m (blank_of b) ≡ to → Some told ≡ option_map (told_of parts b) (successor rule b m) → offer.key ≡ told.key → offer.cost ≡ cost + told.cost → offer.f ≡ cost + told.cost + told.sum → offer.owner ≡ owner (blank_exchange b told.cell) → IsOffered (sum_of parts) owner (item_by rule b cost m) (Some offer)
-  told_offered owner None told offer board found is key reached f owned = absurd (none (is ∙ ap (λ (o : Option ℕ). option_map (told_of parts b) (option_map (successor_at rule b) o)) found))
+  -- a successor is offered, to the owner of the board with the blank on the cell that it names
+  pub next_offered : (owner : Position → ℕ) (to : Option ℕ) (next : Successor) (offer : Offer) → IsBoard b → neighbour b.grid m (blank_of b) ≡ to → Some next ≡ option_map (told_of parts b) (successor rule b m) → offer.key ≡ next.key → offer.cost ≡ cost + next.cost → offer.f ≡ cost + next.cost + next.sum → offer.owner ≡ owner (blank_exchange b next.cell) → IsOffered (sum_of parts) owner (item_by rule b cost m) (Some offer)
+  next_offered owner None next offer board found is key reached f owned = absurd (none (is ∙ ap (λ (o : Option ℕ). option_map (told_of parts b) (option_map (successor_at rule b) o)) found))
     where
       none : {s : Successor} → ◌≡◌ {A = Option Successor} (Some s) None → ⊥
       none e = cc
-  told_offered owner (Some from) told offer board found is key reached f owned =
-      let e : Some told ≡ Some (told_of parts b (successor_at rule b from)) = is ∙ ap (λ (o : Option ℕ). option_map (told_of parts b) (option_map (successor_at rule b) o)) found in
-      let same : told ≡ told_of parts b (successor_at rule b from) = cc in
+  next_offered owner (Some from) next offer board found is key reached f owned =
+      let e : Some next ≡ Some (told_of parts b (successor_at rule b from)) = is ∙ ap (λ (o : Option ℕ). option_map (told_of parts b) (option_map (successor_at rule b) o)) found in
+      let same : next ≡ told_of parts b (successor_at rule b from) = cc in
       let lies : LiesTowards b.grid m (blank_of b) from = (neighbour_lies b.grid m (blank_of b) from (blank_stands b board).0).0 found in
-      let cell : told.cell ≡ from = ap (λ (s : Successor). s.cell) same ∙ blank_after b board from (cell_below b.grid m (blank_of b) from lies) in
-      is_offered owner from told offer found is key reached f (owned ∙ ap (λ (k : ℕ). owner (blank_exchange b k)) cell)
+      let cell : next.cell ≡ from = ap (λ (s : Successor). s.cell) same ∙ blank_after b board from (cell_below b.grid m (blank_of b) from lies) in
+      is_offered owner from next offer found is key reached f (owned ∙ ap (λ (k : ℕ). owner (blank_exchange b k)) cell)
 
--- what the moves offer of which something is told, and no other does, is what they offer but for the move that is left out
-pub all_offered : (rule : CostRule) (parts : List Part) (left_out : Option Move) (b : Position) (cost : ℕ) (owner : Position → ℕ) (told : FourOf Successor) (offers : Offers) → told ≡ successors_but left_out rule parts b → length (entries_of offers) ≡ length (entries_of told) → ((j : ℕ) (d : Move × Offer) (e : Move × Successor) → j < length (entries_of told) → (get_or (entries_of offers) j d).0 ≡ (get_or (entries_of told) j e).0) → ((j : ℕ) (d : Move × Offer) → j < length (entries_of told) → IsOffered (sum_of parts) owner (item_by rule b cost (get_or (entries_of offers) j d).0) (Some (get_or (entries_of offers) j d).1)) → AreOffered (sum_of parts) owner (but left_out (item_by rule b cost)) offers
-all_offered rule parts left_out b cost owner told offers is all moves offered = record { up = one U; left = one L; right = one R; down = one D }
+-- what the moves offer that have a successor, and no other does, is what they offer but for the move that is left out
+pub all_offered : (rule : CostRule) (parts : List Part) (left_out : Option Move) (b : Position) (cost : ℕ) (owner : Position → ℕ) (successors : FourOf Successor) (offers : Offers) → successors ≡ successors_but left_out rule parts b → length (entries_of offers) ≡ length (entries_of successors) → ((j : ℕ) (d : Move × Offer) (e : Move × Successor) → j < length (entries_of successors) → (get_or (entries_of offers) j d).0 ≡ (get_or (entries_of successors) j e).0) → ((j : ℕ) (d : Move × Offer) → j < length (entries_of successors) → IsOffered (sum_of parts) owner (item_by rule b cost (get_or (entries_of offers) j d).0) (Some (get_or (entries_of offers) j d).1)) → AreOffered (sum_of parts) owner (but left_out (item_by rule b cost)) offers
+all_offered rule parts left_out b cost owner successors offers is all moves offered = record { up = one U; left = one L; right = one R; down = one D }
   where
     nothing : IsOffered (sum_of parts) owner None None
     nothing = tt
 
-    none : (m : Move) → of_move told m ≡ None → IsOffered (sum_of parts) owner (but left_out (item_by rule b cost) m) None
+    none : (m : Move) → of_move successors m ≡ None → IsOffered (sum_of parts) owner (but left_out (item_by rule b cost) m) None
     none m absent =
         let at : but left_out (λ k. option_map (told_of parts b) (successor rule b k)) m ≡ None = sym (of_four_by (but left_out (λ k. option_map (told_of parts b) (successor rule b k))) m) ∙ ap (λ (four : FourOf Successor). of_move four m) (sym is) ∙ absent in
         ⊎_elim
@@ -122,19 +122,19 @@ all_offered rule parts left_out b cost owner told offers is all moves offered = 
         (cases_Bool (is_left_out left_out m))
 
     by : (m : Move) (o : Option Offer) → of_move offers m ≡ o → IsOffered (sum_of parts) owner (but left_out (item_by rule b cost) m) o
-    by m None absent = none m (absent_too told offers all moves m absent)
+    by m None absent = none m (absent_too successors offers all moves m absent)
     by m (Some offer) at =
         let place = found offers m offer at in
         let there = place.2 (m, offer) in
         let low = place.1 in
-        let within : place.0 < length (entries_of told) = omega (arith, low, all) in
+        let within : place.0 < length (entries_of successors) = omega (arith, low, all) in
         let here : IsOffered (sum_of parts) owner (item_by rule b cost m) (Some offer) = subst (λ (e : Move × Offer). IsOffered (sum_of parts) owner (item_by rule b cost e.0) (Some e.1)) there (offered place.0 (m, offer) within) in
         subst (λ (item : Option Item). IsOffered (sum_of parts) owner item (Some offer)) (sym (cond-false _ _ _ (stays place.0 within (λ e. sym (moves place.0 (m, offer) e within) ∙ ap (λ (x : Move × Offer). x.0) there)))) here
       where
-        stays : (j : ℕ) → j < length (entries_of told) → ((e : Move × Successor) → (get_or (entries_of told) j e).0 ≡ m) → is_left_out left_out m ≡ false
+        stays : (j : ℕ) → j < length (entries_of successors) → ((e : Move × Successor) → (get_or (entries_of successors) j e).0 ≡ m) → is_left_out left_out m ≡ false
         stays j within same =
             let e : Move × Successor = (m, record { key = 0; tile = 0; cell = 0; cost = 0; sum = 0 }) in
-            subst (λ (k : Move). is_left_out left_out k ≡ false) (same e) (kept_by left_out (λ k. option_map (told_of parts b) (successor rule b k)) told is j e within).0
+            subst (λ (k : Move). is_left_out left_out k ≡ false) (same e) (kept_by left_out (λ k. option_map (told_of parts b) (successor rule b k)) successors is j e within).0
 
     one : (m : Move) → IsOffered (sum_of parts) owner (but left_out (item_by rule b cost) m) (of_move offers m)
     one m = by m (of_move offers m) refl

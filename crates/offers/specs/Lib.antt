@@ -1,3 +1,4 @@
 -- What the moves from a board offer.
 pub mod Offers
 pub mod Room
+pub mod Terms

@@ -22,9 +22,9 @@ Offers = FourOf Offer
 abbrev pub item_by : CostRule → Position → ℕ → Move → Option Item
 item_by rule b cost m = option_map (λ next. record { board = next.0; cost = cost + next.1; via = m }) (successor rule b m)
 
--- the slide of what is told of a successor of a board with the blank on this cell, and the key to which it leads
+-- the slide that leads from a board with the blank on this cell to a successor, and the successor's key
 abbrev pub moved_by : Position → Successor → ℕ → Moved
-moved_by b told blank = record { shape = b.grid; key = told.key; slide = record { tile = told.tile; from = told.cell; to = blank } }
+moved_by b next blank = record { shape = b.grid; key = next.key; slide = record { tile = next.tile; from = next.cell; to = blank } }
 
 -- the offer is of this item: it has the key of its board, its cost, its cost plus sum, and its owner
 pub record IsOfferOf (sum owner : Position → ℕ) (item : Item) (offer : Offer) : Type 0 where

@@ -3,6 +3,8 @@
 
 mod offer;
 mod room;
+mod terms;
 
 pub use offer::{Offer, no_offers, offers_of};
 pub use room::has_room;
+pub use terms::{Origin, Terms};

@@ -1,22 +1,21 @@
 //! Successors of a board, as they go to their owners.
 
-ghost use Rattle.std.specs.Prelude.{◌≡◌, ◌<◌, ◌≤◌, IfSome, List, Some, option_map};
-ghost use Rattle.board.specs.declared.costs.TheConstants.{GREATEST_EXPANDED_COST};
-ghost use Rattle.lower_bound.specs.declared.bound.TheConstants.{GREATEST_SUM};
+ghost use Rattle.std.specs.Prelude.{◌≡◌, ◌<◌, ◌≤◌, List, Some, option_map};
 ghost use Rattle.board.specs.CostRules.{CostRule};
 ghost use Rattle.board.specs.Keys.{HasKey};
-ghost use Rattle.board.specs.Moves.{successor};
+ghost use Rattle.board.specs.Moves.{successor as successor_by};
 ghost use Rattle.board.specs.Positions.{Position};
 ghost use Rattle.lower_bound.specs.Bounds.{Part, sum_of};
 ghost use Rattle.lower_bound.specs.Tables.{parts_of};
 ghost use Rattle.board.specs.declared.moves.Move.{Move};
-ghost use Rattle.successor_sums.specs.Unpacked.{told_of, but};
+ghost use Rattle.successor_sums.specs.Unpacked.{FitsGrid, told_of, but};
 ghost use Rattle.owners.specs.Slides.{IsMoved};
 ghost use Rattle.offers.specs.Offers.{item_by, moved_by, IsOffered, AreOffered, OfEach};
 ghost use Rattle.offers.specs.Offers.{IsWithin};
+ghost use Rattle.offers.specs.Terms.{Fits, IsShared, owners_by};
 
-use board::{Board, Move, Weights};
-use lower_bound::Bound;
+use crate::terms::{Origin, Terms};
+use board::Move;
 use owners::{Moved, Slide, Spread};
 use successor_sums::{ByMoves, Successor, UnpackedBoard, no_successors};
 
@@ -48,116 +47,114 @@ pub fn no_offers() -> ByMoves<Offer>
     ByMoves::nothing(NO_OFFER)
 }
 
-// Of a board whose moves are offered its hash, where owners are found by it, and the cell of the
-// blank; and the number of workers.
+// How the owners of a board's successors are found.
 #[derive(Clone, Copy)]
-struct Hashed {
-    hash: Option<u64>,
+enum OwnersBy {
+    // There is one worker, which owns all boards.
+    OneWorker,
+    // The spread is asked, which is given the board's hash where it has hashes.
+    Spread(Option<u64>),
+}
+
+// What the offers of a board have in common.
+#[derive(Clone, Copy)]
+struct Shared {
+    // What it costs to reach the board.
+    cost: u32,
+    // How the owners of its successors are found.
+    owners_by: OwnersBy,
+    // The cell of its blank.
     blank: usize,
     workers: usize,
 }
 
-/// What the moves from a board offer that costs this much and has this sum, to so many workers; but
-/// for one move that is left out, if any is.
+/// Writes what the moves from a board offer, except a move that is left out, if any is.
 pub fn offers_of<S: Spread>(
-    unpacked: &UnpackedBoard,
-    cost: u32,
-    sum: u32,
-    weights: &Weights,
-    bound: &Bound,
-    owners: &S,
-    workers: usize,
+    origin: &Origin<'_>,
+    terms: &Terms<'_, S>,
     left_out: Option<Move>,
     offers: &mut ByMoves<Offer>,
 )
-    requires rule { weights.now.grid ≡ unpacked.now.grid }
-    requires bound { bound.now.split.grid ≡ unpacked.now.grid }
-    requires low { cost ≤ GREATEST_EXPANDED_COST }
-    requires sum { sum ≡ sum_of (parts_of bound.now) unpacked.now }
-    requires sum_low { sum ≤ GREATEST_EXPANDED_COST }
-    requires some { 0 < workers }
-    ensures offered { AreOffered (sum_of (parts_of bound.now))
-        (S.owner_of owners.now workers)
-        (but left_out (item_by weights.now unpacked.now cost)) offers.new }
-    ensures within { OfEach (IsWithin unpacked.now.grid cost workers) offers.new }
+    requires { Fits terms.now origin.now }
+    ensures offered { AreOffered (sum_of (parts_of terms.now.tables))
+        (S.owner_of terms.now.owners terms.now.workers)
+        (but left_out (item_by terms.now.rule origin.now.board origin.now.cost)) offers.new }
+    ensures within { OfEach
+        (IsWithin origin.now.board.grid origin.now.cost terms.now.workers) offers.new }
 {
-    let mut told = no_successors();
-    unpacked.successors_but(left_out, Some(sum), weights, bound, &mut told);
-    let hashed = Hashed {
-        hash: hash_for(unpacked, owners, workers),
+    let unpacked = origin.unpacked;
+    let owners = terms.owners;
+    let mut successors = no_successors();
+    let sum = Some(origin.sum);
+    unpacked.successors_but(left_out, sum, terms.weights, terms.bound, &mut successors);
+    let shared = Shared {
+        cost: origin.cost,
+        owners_by: owners_by(unpacked, owners, terms.workers),
         blank: unpacked.blank(),
-        workers,
+        workers: terms.workers,
     };
     offers.clear();
-    'told: for place in 0..told.len() {
-        let (direction, successor) = told.entry(place);
-        let offer = offer_by(unpacked, cost, &successor, owners, hashed);
+    'successors: for place in 0..successors.len() {
+        let (direction, successor) = successors.entry(place);
+        let offer = offer_by(unpacked, owners, shared, &successor);
         offers.put_if(direction, offer, true);
     }
 }
 
-// The hash of a board, where owners are found by it. One worker owns all boards.
-fn hash_for<S: Spread>(unpacked: &UnpackedBoard, owners: &S, workers: usize) -> Option<u64>
-    ensures { IfSome result (λ hash. hash ≡ S.hash_of owners.now unpacked.now) }
+// How the owners of a board's successors are found.
+fn owners_by<S: Spread>(unpacked: &UnpackedBoard, owners: &S, workers: usize) -> OwnersBy
+    ensures { result ≡ owners_by (S.hash_of owners.now) workers unpacked.now }
 {
     if workers == 1 {
-        return None;
+        return OwnersBy::OneWorker;
     }
-    owners.hash(&unpacked.board())
+    OwnersBy::Spread(owners.hash(&unpacked.board()))
 }
 
-// What a move from a board offers, of which this is told.
+// What the move to a successor offers.
 fn offer_by<S: Spread>(
     unpacked: &UnpackedBoard,
-    cost: u32,
-    told: &Successor,
     owners: &S,
-    hashed: Hashed,
+    shared: Shared,
+    successor: &Successor,
 ) -> Offer
-    requires low { cost ≤ GREATEST_EXPANDED_COST }
-    requires moved { IsMoved unpacked.now (moved_by unpacked.now told.now hashed.blank) }
-    requires costs { told.now.cost ≤ 255 }
-    requires sums { told.now.sum ≤ GREATEST_SUM }
-    requires some { 0 < hashed.workers }
-    requires hash { IfSome hashed.hash (λ hash. hash ≡ S.hash_of owners.now unpacked.now) }
-    ensures within { IsWithin unpacked.now.grid cost hashed.workers result }
+    requires shared { IsShared (S.hash_of owners.now) unpacked.now shared }
+    requires moved { IsMoved unpacked.now (moved_by unpacked.now successor.now shared.blank) }
+    requires fits { FitsGrid unpacked.now.grid successor.now }
+    ensures within { IsWithin unpacked.now.grid shared.cost shared.workers result }
     ensures offered { (rule : CostRule) (parts : List Part) (m : Move)
-        → option_map (told_of parts unpacked.now) (successor rule unpacked.now m) ≡ Some told.now
-        → IsOffered (sum_of parts) (S.owner_of owners.now hashed.workers)
-        (item_by rule unpacked.now cost m) (Some result) }
+        → option_map (told_of parts unpacked.now) (successor_by rule unpacked.now m)
+        ≡ Some successor.now
+        → IsOffered (sum_of parts) (S.owner_of owners.now shared.workers)
+        (item_by rule unpacked.now shared.cost m) (Some result) }
 {
     let moved = Moved {
         shape: unpacked.shape(),
-        key: told.key,
+        key: successor.key,
         slide: Slide {
-            tile: told.tile as u8,
-            from: told.cell as usize,
-            to: hashed.blank,
+            tile: successor.tile as u8,
+            from: successor.cell as usize,
+            to: shared.blank,
         },
     };
-    let reached = cost + told.cost;
+    let reached = shared.cost + successor.cost;
     Offer {
-        key: told.key,
+        key: successor.key,
         cost: reached,
-        f: reached + told.sum,
-        owner: owner_after(owners, hashed, moved),
+        f: reached + successor.sum,
+        owner: owner_after(owners, shared, moved),
     }
 }
 
 // The owner of the board after a slide.
-fn owner_after<S: Spread>(owners: &S, hashed: Hashed, moved: Moved) -> usize
-    requires some { 0 < hashed.workers }
-    requires moved { (b : Position) × IsMoved b moved
-        × IfSome hashed.hash (λ hash. hash ≡ S.hash_of owners.now b) }
+fn owner_after<S: Spread>(owners: &S, shared: Shared, moved: Moved) -> usize
+    requires { (b : Position) × IsMoved b moved × IsShared (S.hash_of owners.now) b shared }
     ensures value { (b : Position) → HasKey moved.shape moved.key b
-        → result ≡ S.owner_of owners.now hashed.workers b }
-    ensures within { result < hashed.workers }
+        → result ≡ S.owner_of owners.now shared.workers b }
+    ensures within { result < shared.workers }
 {
-    if let Some(hash) = hashed.hash {
-        return owners.owner_after(hash, moved, hashed.workers);
+    match shared.owners_by {
+        OwnersBy::OneWorker => 0,
+        OwnersBy::Spread(hash) => owners.owner_after(hash, moved, shared.workers),
     }
-    if hashed.workers == 1 {
-        return 0;
-    }
-    owners.owner(&Board::of_key(moved.shape, moved.key), hashed.workers)
 }

@@ -2,7 +2,7 @@
 use Rattle.std.specs.Prelude.{ℕ, ◌≡◌, ◌<◌}
 use Rattle.board.specs.CostRules.{CostRule}
 use Rattle.board.specs.Positions.{Position}
-use Rattle.lower_bound.specs.Tables.{Tables}
+use Rattle.lower_bound.specs.Tables.{Tables, ArePotentials}
 use Rattle.outcomes.specs.Outcomes.{Task}
 use Rattle.world_model.specs.Workers.{Role}
 use Rattle.worker_core.specs.Expanding.{role_by}
@@ -22,11 +22,12 @@ abbrev pub context_of : {S : Type 0} → ℕ → ℕ → Position → CostRule �
 context_of me workers goal rule tables owners =
     record { me = me; workers = workers; goal = goal; rule = rule; tables = tables; owners = owners }
 
--- it is one of the workers, and costs and tables have the goal's sides
+-- it is one of the workers, costs and tables have the goal's sides, and the tables are potentials
 pub record IsContext {S : Type 0} (context : ContextModel S) : Type 0 where
   pub me : context.me < context.workers
   pub rule : context.rule.grid ≡ context.goal.grid
   pub tables : context.tables.split.grid ≡ context.goal.grid
+  pub potentials : ArePotentials context.rule context.goal context.tables
 
 -- what is asked, from a start
 abbrev pub task_from : {S : Type 0} → Position → ContextModel S → Task

@@ -1,5 +1,5 @@
 -- How a worker takes what the moves from a board offer, one after the other.
-use Rattle.std.specs.Prelude.{⊤, ℕ, ◌≡◌, ◌≢◌, ◌⊎◌, ◌+◌, ◌<◌, ◌≤◌, List, [], ◌∷◌, length, slice_index_or, Option, Some, None, IfSome}
+use Rattle.std.specs.Prelude.{⊤, ℕ, ◌≡◌, ◌≢◌, ◌⊎◌, ◌+◌, ◌<◌, ◌≤◌, List, [], ◌∷◌, length, slice_index_or, Option, Some, None, IfSome, OnErr, OnOk, Result}
 use Rattle.board.specs.declared.moves.Move.{Move}
 use Rattle.board.specs.declared.moves.Move.TheVariants.{U, L, R, D}
 use Rattle.board.specs.Grids.{Grid}
@@ -11,7 +11,7 @@ use Rattle.offers.specs.declared.offer.Offer.{Offer}
 use Rattle.offers.specs.Offers.{Offers, OfEach}
 use Rattle.offers.specs.Room.{goes}
 use Rattle.outcomes.specs.Outcomes.{Task}
-use Rattle.search_lists.specs.Lists.{Lists}
+use Rattle.search_lists.specs.Lists.{HasMoreRoom, Lists}
 use Rattle.search_lists.specs.Orders.{Guide}
 use Rattle.successor_sums.specs.ByMoves.{of_move}
 use Rattle.world_model.specs.declared.limits.TheConstants.{PACKET_LIMIT}
@@ -94,6 +94,14 @@ HasPlaces me lists offer = offer.owner ≡ me → 4 ≤ places_at lists.waiting 
 -- there are places for as many boards more as there are moves, and at each offer that worker `me` owns
 abbrev pub HasAllPlaces : ℕ → Lists → Offers → Type 0
 HasAllPlaces me lists offers = (4 ≤ lists.closed.room) × OfEach (HasPlaces me lists) offers
+
+-- Room is made: there is all that was wanted. It is refused only where some of it was wanting, where all was there nothing changes,
+-- and what is known and waits stays.
+pub record MakesRoom {A E : Type 0} (has : Lists → Type 0) (answer : Result A E) (old new : Lists) : Type 0 where
+  pub ok : OnOk answer (has new)
+  pub refused : OnErr answer (¬ has old)
+  pub enough : has old → new ≡ old
+  pub same : HasMoreRoom old new
 
 -- places for four boards more, and for four at each f, are all places, whatever is offered
 abbrev pub FourPlacesAreEnough : Type 0

@@ -28,3 +28,23 @@ module _ {S C D E K G : Type 0} where
     pub workers : length new.unsent.items ≡ length old.unsent.items
     pub granted : new.allowance.granted ≡ old.allowance.granted
     pub guided : StaysGuided context old.lists new.lists
+
+  -- what it knows stays in order, and what it has to send and its allowance are as they were
+  pub record KeepsInOrder (context : ContextModel S) (old new : Worker C D E K G) : Type 0 where
+    pub lists : StayInOrder context old.lists new.lists
+    pub unsent : new.unsent ≡ old.unsent
+    pub allowance : new.allowance ≡ old.allowance
+
+module _ {C D E K G : Type 0} where
+  -- what it knows, what it has to send and its allowance are as they were
+  pub record KeepsLists (old new : Worker C D E K G) : Type 0 where
+    pub lists : new.lists ≡ old.lists
+    pub unsent : new.unsent ≡ old.unsent
+    pub allowance : new.allowance ≡ old.allowance
+
+  -- it knows the same boards, what waits is in order by each guide by which it was, and what it has to send is as it was
+  pub record KeepsOrder (old new : Worker C D E K G) : Type 0 where
+    pub closed : new.lists.closed ≡ old.lists.closed
+    pub order : (guide : Guide) → IsInOrder guide old.lists → IsInOrder guide new.lists
+    pub guided : (task : Task) (guide : Guide) → IsGuided task guide old.lists → IsGuided task guide new.lists
+    pub unsent : new.unsent ≡ old.unsent

@@ -13,8 +13,9 @@ ghost use Rattle.world_model.specs.BookSteps.{HaltStep, refusal_of};
 ghost use Rattle.world_model.specs.Costs.{IsNotBelow};
 ghost use Rattle.world_model.specs.declared.parts.Known.{Known};
 ghost use Rattle.quiescence.specs.Answers.{rested};
-ghost use Rattle.search_lists.specs.Orders.{Guide, IsInOrder};
+ghost use Rattle.search_lists.specs.Orders.{Guide};
 ghost use Rattle.worker_core.specs.Roles.{IsRoleOf, IsGuided};
+ghost use Rattle.worker_core.specs.Serving.{KeepsLists, KeepsOrder};
 ghost use Rattle.worker_core.specs.Workers.{state_of, with_book};
 
 use crate::goal::Goal;
@@ -33,9 +34,7 @@ impl<C: Counting> Worker<C> {
         requires counted { C.counts book.old.credit self.old.purse }
         ensures step { DrawStep (turn (with_book (state_of self.old) book.old) (refusal_in result)
             (with_book (state_of self.new) book.new)) }
-        ensures lists { self.new.lists ≡ self.old.lists }
-        ensures unsent { self.new.unsent ≡ self.old.unsent }
-        ensures allowance { self.new.allowance ≡ self.old.allowance }
+        ensures keeps { KeepsLists self.old self.new }
     {
         if let Err(fault) = book.draw(&mut self.purse) {
             return Err(refusal_for(fault));
@@ -58,9 +57,7 @@ impl<C: Counting> Worker<C> {
             → role.owner goal.now ≡ S.owner_of owners.now (length self.old.unsent.items) goal.now
             → AnnounceStep role (turn (with_book (state_of self.old) book.old) (refusal_in result)
             (with_book (state_of self.new) book.new)) }
-        ensures lists { self.new.lists ≡ self.old.lists }
-        ensures unsent { self.new.unsent ≡ self.old.unsent }
-        ensures allowance { self.new.allowance ≡ self.old.allowance }
+        ensures keeps { KeepsLists self.old self.new }
     {
         if book.stop().is_some() {
             return Err(Refusal::Stopped);
@@ -86,12 +83,7 @@ impl<C: Counting> Worker<C> {
         ensures step { (role : Role) (guide : Guide) → IsGuided role.task guide self.old.lists
             → GrantStep role (turn (with_book (state_of self.old) book.old) (refusal_in result)
             (with_book (state_of self.new) book.new)) }
-        ensures closed { self.new.lists.closed ≡ self.old.lists.closed }
-        ensures order { (guide : Guide) → IsInOrder guide self.old.lists
-            → IsInOrder guide self.new.lists }
-        ensures guided { (task : Task) (guide : Guide)
-            → IsGuided task guide self.old.lists → IsGuided task guide self.new.lists }
-        ensures unsent { self.new.unsent ≡ self.old.unsent }
+        ensures keeps { KeepsOrder self.old self.new }
         ensures granted { self.new.allowance.granted + book.old.granted
             ≡ self.old.allowance.granted + book.new.granted }
     {
@@ -122,12 +114,7 @@ impl<C: Counting> Worker<C> {
             → RestStep role (turn (with_book (state_of self.old) book.old) (refusal_in result)
             (with_book (state_of self.new) book.new)) }
         ensures answer { IfOk result (λ answer. answer ≡ rested book.new) }
-        ensures closed { self.new.lists.closed ≡ self.old.lists.closed }
-        ensures order { (guide : Guide) → IsInOrder guide self.old.lists
-            → IsInOrder guide self.new.lists }
-        ensures guided { (task : Task) (guide : Guide)
-            → IsGuided task guide self.old.lists → IsGuided task guide self.new.lists }
-        ensures unsent { self.new.unsent ≡ self.old.unsent }
+        ensures keeps { KeepsOrder self.old self.new }
         ensures allowance { self.new.allowance ≡ self.old.allowance }
     {
         if book.stop().is_some() {
@@ -191,9 +178,7 @@ impl<C: Counting> Worker<C> {
         requires { (want : Want) → cause ≡ HaltCause.Memory want → C.allows_want want }
         ensures step { HaltStep cause (turn (with_book (state_of self.old) book.old)
             (refusal_in result) (with_book (state_of self.new) book.new)) }
-        ensures lists { self.new.lists ≡ self.old.lists }
-        ensures unsent { self.new.unsent ≡ self.old.unsent }
-        ensures allowance { self.new.allowance ≡ self.old.allowance }
+        ensures keeps { KeepsLists self.old self.new }
     {
         if book.stop().is_some() {
             return Err(Refusal::Stopped);

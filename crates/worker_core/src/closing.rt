@@ -1,6 +1,7 @@
 //! What is asked of a worker when its run is over.
 
 ghost use Rattle.std.specs.Prelude.{◌≡◌, ◌≤◌};
+ghost use Rattle.worker_core.specs.Serving.{KeepsLists};
 ghost use Rattle.worker_core.specs.Workers.{state_of};
 
 use crate::worker::Worker;
@@ -14,9 +15,7 @@ impl<C: Counting> Worker<C> {
         ensures bound { (state_of self.old).purse ≤ book.old.credit }
         ensures book { book.new ≡ book.old }
         ensures state { state_of self.new ≡ state_of self.old }
-        ensures lists { self.new.lists ≡ self.old.lists }
-        ensures unsent { self.new.unsent ≡ self.old.unsent }
-        ensures allowance { self.new.allowance ≡ self.old.allowance }
+        ensures keeps { KeepsLists self.old self.new }
     {
         book.audit(&mut self.purse);
     }

@@ -10,7 +10,6 @@ ghost use Rattle.open_buckets.specs.OpenLists.{places_at};
 ghost use Rattle.open_buckets.specs.declared.open.TheConstants.{GREATEST_F};
 ghost use Rattle.offers.specs.Offers.{item_by, AreOffered, OfEach};
 ghost use Rattle.outcomes.specs.Outcomes.{Task};
-ghost use Rattle.search_lists.specs.Lists.{HasMoreRoom};
 ghost use Rattle.successor_sums.specs.Unpacked.{but};
 ghost use Rattle.search_lists.specs.Orders.{Guide, IsInOrder, IsFirst};
 ghost use Rattle.world_model.specs.declared.parts.Item.{Item};
@@ -20,7 +19,7 @@ ghost use Rattle.world_model.specs.Turns.{turn, refusal_in};
 ghost use Rattle.world_model.specs.Workers.{Role, KnowsAs};
 ghost use Rattle.worker_core.specs.Contexts.{role_from};
 ghost use Rattle.worker_core.specs.Expanding.{IsReady, stock, AddsUpBy, all_taken, in_turn};
-ghost use Rattle.worker_core.specs.Expanding.{left_out_by, ExpandStepFor, HasPlaces, HasAllPlaces};
+ghost use Rattle.worker_core.specs.Expanding.{left_out_by, ExpandStepFor, HasPlaces, HasAllPlaces, MakesRoom};
 ghost use Rattle.worker_core.specs.Roles.{IsGuided};
 ghost use Rattle.worker_core.specs.Serving.{Serves, KeepsServing};
 ghost use Rattle.worker_core.specs.Workers.{state_of, packets_of};
@@ -30,7 +29,7 @@ use crate::worker::Worker;
 use board::Move;
 use memory::OutOfMemory;
 use message_ledger::{Allowance, Counting};
-use offers::{Offer, has_room, no_offers, offers_of};
+use offers::{Offer, Origin, Terms, has_room, no_offers, offers_of};
 use owners::Spread;
 use search_lists::{Next, SearchLists};
 use std::alloc::Global;
@@ -73,15 +72,21 @@ impl<C: Counting> Worker<C> {
             return Err(Refusal::NoAllowance);
         }
         let unpacked = UnpackedBoard::of_key(context.goal.shape(), next.key);
+        let origin = Origin {
+            unpacked: &unpacked,
+            cost: next.cost,
+            sum: next.f - next.cost,
+        };
+        let terms = Terms {
+            weights: context.weights,
+            bound: context.bound,
+            owners: context.owners,
+            workers: context.workers,
+        };
         let mut offers = no_offers();
         offers_of(
-            &unpacked,
-            next.cost,
-            next.f - next.cost,
-            context.weights,
-            context.bound,
-            context.owners,
-            context.workers,
+            &origin,
+            &terms,
             move_left_out(next, successors),
             &mut offers,
         );
@@ -188,14 +193,9 @@ fn make_places(
     offers: &ByMoves<Offer>,
 ) -> Result<(), OutOfMemory>
     requires { OfEach (λ offer. offer.f ≤ GREATEST_F) offers.now }
-    ensures boards { OnOk result (4 ≤ lists.new.closed.room) }
-    ensures places { OnOk result (OfEach
-        (λ offer. offer.owner ≡ me → 4 ≤ places_at lists.new.waiting offer.f) offers.now) }
-    ensures refused { OnErr result (¬ HasAllPlaces me lists.old offers.now) }
-    ensures enough { HasAllPlaces me lists.old offers.now → lists.new ≡ lists.old }
+    ensures makes { MakesRoom (λ made. HasAllPlaces me made offers.now) result lists.old lists.new }
     ensures others { (h : ℕ) → OfEach (λ offer. offer.owner ≡ me → offer.f ≢ h) offers.now
         → places_at lists.new.waiting h ≡ places_at lists.old.waiting h }
-    ensures same { HasMoreRoom lists.old lists.new }
 {
     lists.reserve_boards(alloc, MOVES)?;
     'offers: for place in 0..offers.len() {
@@ -214,15 +214,11 @@ fn make_places_at(
     offer: &Offer,
 ) -> Result<(), OutOfMemory>
     requires { offer.now.f ≤ GREATEST_F }
-    ensures places { OnOk result
-        (offer.now.owner ≡ me → 4 ≤ places_at lists.new.waiting offer.now.f) }
-    ensures refused { OnErr result (¬ HasPlaces me lists.old offer.now) }
-    ensures enough { HasPlaces me lists.old offer.now → lists.new ≡ lists.old }
+    ensures makes { MakesRoom (λ made. HasPlaces me made offer.now) result lists.old lists.new }
     ensures other { offer.now.owner ≢ me → lists.new ≡ lists.old }
     ensures others { (h : ℕ) → h ≢ offer.now.f
         → places_at lists.new.waiting h ≡ places_at lists.old.waiting h }
     ensures boards { lists.new.closed ≡ lists.old.closed }
-    ensures same { HasMoreRoom lists.old lists.new }
 {
     if offer.owner != me || lists.has_places(offer.f, MOVES) {
         return Ok(());

@@ -10,7 +10,7 @@ ghost use Rattle.search_lists.specs.Lists.{HasMoreRoom};
 ghost use Rattle.world_model.specs.Knowledge.{is_news, relaxation};
 ghost use Rattle.world_model.specs.Turns.{turn, refusal_in};
 ghost use Rattle.worker_core.specs.Contexts.{role_from};
-ghost use Rattle.worker_core.specs.Serving.{StayInOrder};
+ghost use Rattle.worker_core.specs.Serving.{StayInOrder, KeepsInOrder};
 ghost use Rattle.worker_core.specs.Settling.{IsForeign, IsOwn, SettleOrDrop};
 ghost use Rattle.worker_core.specs.Workers.{state_of};
 
@@ -36,9 +36,7 @@ impl<C: Counting> Worker<C> {
     ) -> Result<(), Refusal>
         ensures step { (start : Position) → SettleOrDrop (role_from S.owner_of start context.now)
             (turn (state_of self.old) (refusal_in result) (state_of self.new)) }
-        ensures lists { StayInOrder context.now self.old.lists self.new.lists }
-        ensures unsent { self.new.unsent ≡ self.old.unsent }
-        ensures allowance { self.new.allowance ≡ self.old.allowance }
+        ensures keeps { KeepsInOrder context.now self.old self.new }
     {
         let Some(item) = self.held.last() else {
             return Err(Refusal::NothingThere);
@@ -67,9 +65,7 @@ impl<C: Counting> Worker<C> {
           known = relaxation (state_of self.old).known item.now;
         }) }
         ensures err { OnErr result (state_of self.new ≡ state_of self.old) }
-        ensures lists { StayInOrder context.now self.old.lists self.new.lists }
-        ensures unsent { self.new.unsent ≡ self.old.unsent }
-        ensures allowance { self.new.allowance ≡ self.old.allowance }
+        ensures keeps { KeepsInOrder context.now self.old self.new }
     {
         relax_item(&mut self.lists, alloc, context, item)
     }

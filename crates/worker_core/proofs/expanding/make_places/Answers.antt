@@ -1,7 +1,7 @@
-use Rattle.std.proofs.Common.{◌≡◌, ◌≢◌, ◌≤◌, ◌∙◌, sym, subst, arith}
+use Rattle.std.proofs.Common.{rules, ◌≡◌, ◌≢◌, ◌≤◌, ◌∙◌, sym, subst, arith}
 use Rattle.open_buckets.specs.declared.open.TheConstants.{GREATEST_F}
 use Rattle.search_lists.specs.Lists.{Lists}
-use Rattle.worker_core.specs.Expanding.{HasPlaces}
+use Rattle.worker_core.specs.Expanding.{HasAllPlaces, HasPlaces}
 use Rattle.worker_core.proofs.ExpandLemmas.{entry_has, more_room, places_on, places_for_all, still_wanting, same_elsewhere}
 use Rattle.std.specs.Prelude.{OnErr, Result, Ok, Err}
 use Rattle.worker_core.proofs.expanding.make_places.Goals as goal
@@ -19,7 +19,7 @@ make_places_at-requires c =
 
 pub offers-preserved : goal.offers-preserved
 offers-preserved c =
-    let more = c.in_ok-make_places_at.ensures.same in
+    let more = c.in_ok-make_places_at.ensures.makes.same in
     let old = c.offers.lists in
     let new = c.make_places_at.new.lists in
     let boards = c.offers.invariant.boards in
@@ -27,13 +27,13 @@ offers-preserved c =
     record {
       same = more_room c.args.lists.now old new c.offers.invariant.same more;
       boards = omega (arith, boards, room);
-      places = places_on c.args.me c.args.offers.now c.offers.place c.entry.result c.entry.ensures old new more c.offers.invariant.places c.in_ok-make_places_at.ensures.places;
+      places = places_on c.args.me c.args.offers.now c.offers.place c.entry.result c.entry.ensures old new more c.offers.invariant.places c.in_ok-make_places_at.ensures.makes.ok;
       enough = λ all.
           let as_before : old ≡ c.args.lists.now = c.offers.invariant.enough all in
           let size = c.len-place-end.ensures.value in
           let within = c.offers-test.true in
           let here = entry_has (HasPlaces c.args.me c.args.lists.now) c.args.offers.now c.offers.place c.entry.result c.entry.ensures (omega (arith, size, within)) all.1 in
-          c.in_ok-make_places_at.ensures.enough (subst (λ (lists : Lists). HasPlaces c.args.me lists c.entry.result.1) (sym as_before) here) ∙ as_before;
+          c.in_ok-make_places_at.ensures.makes.enough (subst (λ (lists : Lists). HasPlaces c.args.me lists c.entry.result.1) (sym as_before) here) ∙ as_before;
       others = λ h apart.
           let size = c.len-place-end.ensures.value in
           let within = c.offers-test.true in
@@ -41,25 +41,29 @@ offers-preserved c =
           same_elsewhere c.args.me h old new c.entry.result.1 c.in_ok-make_places_at.ensures.other c.in_ok-make_places_at.ensures.others here ∙ c.offers.invariant.others h apart;
     }
 
-pub returns-clause-places : goal.returns-clause-places
-returns-clause-places c =
+pub returns-clause-makes : goal.returns-clause-makes
+returns-clause-makes c =
     let size = c.len-place-end.ensures.value in
     let past = c.offers-test.false in
-    places_for_all c.args.me c.offers.lists c.args.offers.now c.offers.place (omega (arith, size, past)) c.offers.invariant.places
+    record {
+      ok = (c.offers.invariant.boards, places_for_all c.args.me c.offers.lists c.args.offers.now c.offers.place (omega (arith, size, past)) c.offers.invariant.places);
+      refused = tt;
+      enough = c.offers.invariant.enough;
+      same = c.offers.invariant.same;
+    }
 
-pub returns-in_err-make_places_at-clause-refused : goal.returns-in_err-make_places_at-clause-refused
-returns-in_err-make_places_at-clause-refused c =
+pub returns-in_err-make_places_at-clause-makes : goal.returns-in_err-make_places_at-clause-makes
+returns-in_err-make_places_at-clause-makes c =
     let size = c.len-place-end.ensures.value in
     let within = c.offers-test.true in
-    let none : ¬ HasPlaces c.args.me c.args.lists.now c.entry.result.1 = still_wanting c.args.me c.args.lists.now c.offers.lists c.entry.result.1 c.offers.invariant.same c.in_err-make_places_at.ensures.refused in
-    after_err c.from_residual-in_err-make_places_at.result (λ all. none (entry_has (HasPlaces c.args.me c.args.lists.now) c.args.offers.now c.offers.place c.entry.result c.entry.ensures (omega (arith, size, within)) all.1))
-
-pub returns-in_err-make_places_at-clause-enough : goal.returns-in_err-make_places_at-clause-enough
-returns-in_err-make_places_at-clause-enough c = λ all.
-    let size = c.len-place-end.ensures.value in
-    let within = c.offers-test.true in
-    let none : ¬ HasPlaces c.args.me c.args.lists.now c.entry.result.1 = still_wanting c.args.me c.args.lists.now c.offers.lists c.entry.result.1 c.offers.invariant.same c.in_err-make_places_at.ensures.refused in
-    absurd (none (entry_has (HasPlaces c.args.me c.args.lists.now) c.args.offers.now c.offers.place c.entry.result c.entry.ensures (omega (arith, size, within)) all.1))
+    let none : ¬ HasPlaces c.args.me c.args.lists.now c.entry.result.1 = still_wanting c.args.me c.args.lists.now c.offers.lists c.entry.result.1 c.offers.invariant.same c.in_err-make_places_at.ensures.makes.refused in
+    let wanting : ¬ HasAllPlaces c.args.me c.args.lists.now c.args.offers.now = λ all. none (entry_has (HasPlaces c.args.me c.args.lists.now) c.args.offers.now c.offers.place c.entry.result c.entry.ensures (omega (arith, size, within)) all.1) in
+    record {
+      ok = search rules;
+      refused = after_err c.from_residual-in_err-make_places_at.result wanting;
+      enough = λ all. absurd (wanting all);
+      same = more_room c.args.lists.now c.offers.lists c.make_places_at.new.lists c.offers.invariant.same c.in_err-make_places_at.ensures.makes.same;
+    }
 
 pub returns-in_err-make_places_at-clause-others : goal.returns-in_err-make_places_at-clause-others
 returns-in_err-make_places_at-clause-others c = λ h apart.

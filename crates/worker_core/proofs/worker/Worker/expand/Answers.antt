@@ -78,6 +78,15 @@ returns-then-not-has_room-clause-keeps g c = record {
   guided = λ start guide is. guided_by_next (task_from start c.args.context.now) guide c.args.self.now.lists c.next.new.self is c.next.ensures.closed (c.next.ensures.order guide);
 }
 
+pub invariant_of-terms : goal.invariant_of-terms
+invariant_of-terms g c =
+    let is = c.context.invariant in
+    record {
+      rule = is.rule ∙ sym is.tables;
+      consistent = record { rule = c.context.inside.weights.now; goal = c.context.inside.goal.now; grid = sym is.tables; whole = is.potentials.whole };
+      some = omega (arith, is.me);
+    }
+
 pub make_places-requires : goal.make_places-requires
 make_places-requires g c =
     let guide = c.requires.guided.1 in
@@ -106,7 +115,7 @@ returns-in-Err-clause-step g c = λ start.
     let room = subst (λ (xs : List Items). HasRoom inside.me (packets_of xs) offers) c.deref.ensures.value (c.has_room.ensures.0 (search rules)) in
     let some : worker.allowance ≡ 0 → ⊥ = λ none. c.if-left-eq0.false (c.left.ensures.value ∙ none) in
     let fits = none_overfull role worker b known c.move_left_out.result task.sum offers it.offered read.goal.grid inside.workers it.within all room in
-    let same = c.make_places.ensures.same.known ∙ ap (λ (t : Table). t.known) c.next.ensures.closed in
+    let same = c.make_places.ensures.makes.same.known ∙ ap (λ (t : Table). t.known) c.next.ensures.closed in
     step_lent g.S.Spread.owner_of start c.args.successors read context c.context.view_is _
     (inr (it.waits, inr (some, (b, known, it.at, inr (subst (λ (o : Option Move). ¬ IsOverfull (expansion_by (moves_but o) role worker b known)) it.left_out_is fits, inr (c.in-Err.refused, (refl, ap (λ (m : Knowledge). record worker { known = m }) same)))))))
 
@@ -116,7 +125,7 @@ returns-in-Err-clause-keeps g c = record {
   granted = refl;
   guided = λ start guide is.
       let task = task_from start c.args.context.now in
-      guided_with_room task guide c.next.new.self c.make_places.new.lists (guided_by_next task guide c.args.self.now.lists c.next.new.self is c.next.ensures.closed (c.next.ensures.order guide)) c.make_places.ensures.same;
+      guided_with_room task guide c.next.new.self c.make_places.new.lists (guided_by_next task guide c.args.self.now.lists c.next.new.self is c.next.ensures.closed (c.next.ensures.order guide)) c.make_places.ensures.makes.same;
 }
 
 pub expand_next-requires-clause-ready : goal.expand_next-requires-clause-ready
@@ -142,7 +151,7 @@ expand_next-requires-clause-ready g c κs within =
     subst
     (λ (x : ContextModel g.row.S.Denot). IsReady x.me x.goal.grid (stock c.read_ahead.new.lists worker.unsent) (in_turn offers))
     c.context.view_is
-    (subst (λ (made : Lists). IsReady inside.me read.goal.grid (stock made worker.unsent) (in_turn offers)) (sym c.read_ahead.ensures) (ready_for inside.me read.goal.grid known.cost inside.workers c.make_places.new.lists worker.unsent offers room it.within all c.in_default-make_places.ensures.boards c.in_default-make_places.ensures.places))
+    (subst (λ (made : Lists). IsReady inside.me read.goal.grid (stock made worker.unsent) (in_turn offers)) (sym c.read_ahead.ensures) (ready_for inside.me read.goal.grid known.cost inside.workers c.make_places.new.lists worker.unsent offers room it.within all c.in_default-make_places.ensures.makes.ok.0 c.in_default-make_places.ensures.makes.ok.1))
 
 pub returns-clause-step : goal.returns-clause-step
 returns-clause-step g c = λ start.
@@ -165,7 +174,7 @@ returns-clause-step g c = λ start.
     let room = subst (λ (xs : List Items). HasRoom inside.me (packets_of xs) offers) c.deref.ensures.value (c.has_room.ensures.0 (search rules)) in
     let some : worker.allowance ≡ 0 → ⊥ = λ none. c.if-left-eq0.false (c.left.ensures.value ∙ none) in
     let fits = none_overfull role worker b known c.move_left_out.result task.sum offers it.offered read.goal.grid inside.workers it.within all room in
-    let same = ap (λ (made : Lists). made.closed.known) c.read_ahead.ensures ∙ c.make_places.ensures.same.known ∙ ap (λ (t : Table). t.known) c.next.ensures.closed in
+    let same = ap (λ (made : Lists). made.closed.known) c.read_ahead.ensures ∙ c.make_places.ensures.makes.same.known ∙ ap (λ (t : Table). t.known) c.next.ensures.closed in
     let knows = ap (λ (m : Knowledge). map.get m (key_of b)) same ∙ it.at.opens.knows in
     let me = ap (λ (x : ContextModel g.row.S.Denot). x.me) c.context.view_is in
     let sides = it.at.opens.board.1 ∙ ap (λ (x : ContextModel g.row.S.Denot). x.goal.grid) c.context.view_is in
@@ -198,6 +207,6 @@ returns-clause-keeps g c = record {
       let cost = first.opens.2 in
       let adds = chosen_adds role guide lists is worker b known c.args.successors c.move_left_out.result offers inside.workers it (omega (arith, cost, low)) in
       let lent = task_from start context in
-      let made = subst (IsGuided lent guide) (sym c.read_ahead.ensures) (guided_with_room lent guide c.next.new.self c.make_places.new.lists (guided_by_next lent guide lists c.next.new.self guided c.next.ensures.closed (c.next.ensures.order guide)) c.make_places.ensures.same) in
+      let made = subst (IsGuided lent guide) (sym c.read_ahead.ensures) (guided_with_room lent guide c.next.new.self c.make_places.new.lists (guided_by_next lent guide lists c.next.new.self guided c.next.ensures.closed (c.next.ensures.order guide)) c.make_places.ensures.makes.same) in
       c.expand_next.ensures.guided lent guide refl adds made;
 }
