@@ -283,17 +283,18 @@ no_halt step answer harmless (suc k) d within = omega (arith, within)
 none_halt : HaltsNowhere []
 none_halt k d within = absurd (omega (arith, within))
 
-pub stays : (w w' : WorldState) → w' ≡ w → Reaches w w'
-stays w w' e = record { made = []; run = e; goes_on = none_halt }
+pub stays : (w w' : WorldState) → w' ≡ w → IsLone w' → Reaches w w'
+stays w w' e lone = record { made = []; run = e; goes_on = none_halt; lone = lone }
 
-pub takes : (step : Step) (answer : Option Refusal) (w w' : WorldState) → ¬ IsHalt step → Next step (turn w answer w') → Reaches w w'
-takes step answer w w' harmless next = record { made = (step, answer) ∷ []; run = (w', next, refl); goes_on = no_halt step answer harmless }
+pub takes : (step : Step) (answer : Option Refusal) (w w' : WorldState) → ¬ IsHalt step → Next step (turn w answer w') → IsLone w' → Reaches w w'
+takes step answer w w' harmless next lone = record { made = (step, answer) ∷ []; run = (w', next, refl); goes_on = no_halt step answer harmless; lone = lone }
 
 pub reaches_on : (a b c : WorldState) → Reaches a b → Reaches b c → Reaches a c
 reaches_on a b c one two = record {
   made = one.made ++ two.made;
   run = (runs_joined a c one.made two.made).1 (b, one.run, two.run);
   goes_on = All-append (λ (made : Made). ¬ IsHalt made.0) one.made two.made one.goes_on two.goes_on;
+  lone = two.lone;
 }
 
 -- ---- a refused expansion

@@ -4,20 +4,27 @@ use Rattle.std.specs.Prelude.{Contains, Vec, map, option_map, slice_get}
 use Rattle.std.specs.declared.alloc.Global.{Global}
 use Rattle.std.proofs.lemmas.Bool.{cases_lt}
 use Rattle.std.proofs.lemmas.Option.{none-some, slice_get_within, slice_get_read, slice_get-map, get_or_from_slice_get}
+use Rattle.std.proofs.lemmas.List.{length-map}
 use Rattle.std.proofs.lemmas.List.Elements.{Contains-get_or}
 use Rattle.board.specs.CostRules.{CostRule}
 use Rattle.board.specs.Grids.{Grid}
 use Rattle.board.specs.Positions.{Position}
 use Rattle.lower_bound.specs.Tables.{Tables}
+use Rattle.outcomes.specs.Outcomes.{Task}
 use Rattle.world_model.specs.declared.parts.Item.{Item}
 use Rattle.world_model.specs.Shapes.{IsShaped}
 use Rattle.world_model.specs.Workers.{Packet, Lane}
 use Rattle.world_model.specs.Worlds.{WorldState, IsLane, LiesIn, HasInLaneTo}
 use Rattle.worker_core.specs.Roles.{task_of}
+use Rattle.worker_core.specs.Workers.{state_of}
 use Rattle.world_ends.specs.Lowest.{IsLeastBeside, IsLowestInLanes, AreItemsOn}
+use Rattle.world_ends.specs.Parts.{HasParts, states_of}
 use Rattle.world_ends.proofs.PartLemmas.{beside_none, beside_both, beside_same, beside_nothing, least_same}
 use Rattle.hda_run.specs.Lanes.{IsOfOne, IsInLanes}
 use Rattle.hda_run.specs.Problems.{Problem, task_in}
+use Rattle.hda_run.specs.Worlds.{world_of, IsLawful}
+use Rattle.hda_run.specs.declared.parts.Parts.{Parts}
+use Rattle.hda_run.proofs.PartsLemmas.{W}
 
 -- a number of one of the first k
 abbrev pub IsOfFirst : {A : Type 0} → ℕ → (A → ℕ → Type 0) → List A → ℕ → Type 0
@@ -97,3 +104,13 @@ lowest_is w rows sum lowest same sums least =
 -- one task of the same four
 pub same_task : (p : Problem) (start goal : Position) (rule : CostRule) (tables : Tables) → start ≡ p.start → goal ≡ p.goal → rule ≡ p.rule → tables ≡ p.tables → task_of start goal rule tables ≡ task_in p
 same_task p start goal rule tables e f g h = λ i. task_of (e i) (f i) (g i) (h i)
+
+-- so the world of the parts is one in which it is asked
+pub has_parts : {S : Type 0} (owner_of : S → ℕ → Position → ℕ) (parts : Parts S) (task : Task) (workers : List W) → task ≡ task_in parts.job → workers ≡ parts.workers.items → IsLawful owner_of parts → HasParts task (owner_of parts.owners.now) (states_of workers) (world_of owner_of parts)
+has_parts owner_of parts task workers same are lawful = record {
+  asks = sym same;
+  owns = λ b. ap (λ (n : ℕ). owner_of parts.owners.now n b) (ap (λ (ws : List W). length ws) (sym are) ∙ sym (length-map workers (λ (worker : W). state_of worker)));
+  works = ap (λ (ws : List W). states_of ws) (sym are);
+  shaped = lawful.shaped;
+  sound = lawful.sound;
+}

@@ -1,22 +1,20 @@
 -- The parts of a world: what they are in an opening, and what changes in a step.
 use Rattle.std.proofs.Common.{◌≡◌, ℕ, zero, suc, ⊎_elim, ◌+◌, ◌<◌, ◌≤◌, List, [], ◌∷◌, length, map, get_or, set, refl, sym, ap, ◌∙◌, subst, inr, arith, Option, Some, ◌≢◌, ◌⊎◌, inl, ◌++◌, replicate, false}
-use Rattle.std.specs.Prelude.{slice_get, All, Vec, slice_set, unwrap_or, if◌then◌else◌}
+use Rattle.std.specs.Prelude.{Bool, IsTrue, ◌↔◌, slice_get, All, Vec, slice_set, unwrap_or, if◌then◌else◌}
 use Rattle.std.specs.FinMap as fin
 use Rattle.std.specs.Vec.{with_item, vec_len}
 use Rattle.std.specs.declared.alloc.Global.{Global}
+use Rattle.std.proofs.lemmas.Bool.{cases_lt, true≢false}
 use Rattle.std.proofs.lemmas.List.{map-set, length-map, length-set, map-append, length-replicate, replicate-append-replicate}
 use Rattle.std.proofs.lemmas.List.Elements.{All-set, All-append}
 use Rattle.std.specs.Ordering.{nat_cmp}
-use Rattle.board.specs.CostRules.{CostRule}
 use Rattle.board.specs.Keys.{key_of}
-use Rattle.board.specs.Moves.{Moves}
 use Rattle.board.specs.Positions.{Position}
 use Rattle.board.specs.declared.moves.Move.{Move}
 use Rattle.owners.specs.Owners.{AreWorkers}
 use Rattle.outcomes.specs.Outcomes.{Task}
-use Rattle.lower_bound.specs.Tables.{Tables}
-use Rattle.world_model.specs.declared.limits.TheConstants.{PACKET_LIMIT}
 use Rattle.world_model.specs.declared.steps.Refusal.{Refusal}
+use Rattle.world_model.specs.declared.steps.Step.{Step}
 use Rattle.world_model.specs.Books.{BookState}
 use Rattle.world_model.specs.BookSteps.{AtBook}
 use Rattle.world_model.specs.Credit.{IsCredited}
@@ -24,7 +22,7 @@ use Rattle.world_model.specs.Shapes.{IsShaped, IsTask}
 use Rattle.world_model.specs.Soundness.{IsSound}
 use Rattle.world_model.specs.Steps.{ByWorker, OnBook, with_worker, OnLane, from_to, with_lane}
 use Rattle.world_model.specs.Turns.{Turn, turn}
-use Rattle.world_model.specs.Workers.{WorkerState, Packet, Lane}
+use Rattle.world_model.specs.Workers.{WorkerState, Lane}
 use Rattle.world_model.specs.Worlds.{IsWorker, Knows, role_of, IsLane}
 use Rattle.world_model.proofs.ChangeLemmas.{part_le}
 use Rattle.world_model.proofs.CreditLemmas.{funds}
@@ -35,7 +33,6 @@ use Rattle.world_model.specs.Knowledge.{Knowledge, is_news, relaxation}
 use Rattle.world_model.specs.Laws.{OpeningsAreSound}
 use Rattle.world_model.specs.Openings.{Job, IsJob, idle_worker, first_worker, opening}
 use Rattle.search_lists.specs.Lists.{Lists}
-use Rattle.search_lists.specs.Orders.{Guide}
 use Rattle.message_ledger.specs.declared.plain.Plain.{Plain}
 use Rattle.message_ledger.specs.Spending.{Spending, spent}
 use Rattle.worker_core.specs.declared.worker.Worker.{Worker}
@@ -45,8 +42,9 @@ use Rattle.worker_core.specs.Contexts.{ContextModel, role_from}
 use Rattle.worker_core.specs.Expanding.{ExpandStepFor, OnwardStepsAloneAreWhole, role_by}
 use Rattle.worker_core.specs.Roles.{IsGuided, WereReached, guide_of}
 use Rattle.worker_core.specs.Serving.{Serves, StaysGuided}
-use Rattle.worker_core.specs.Workers.{state_of, packets_of, with_book, at_lane}
+use Rattle.worker_core.specs.Workers.{state_of, with_book, at_lane}
 use Rattle.hda_run.specs.declared.parts.Parts.{Parts}
+use Rattle.hda_run.specs.Kinds.{Lacks}
 use Rattle.hda_run.specs.Problems.{context_in, task_in, Problem}
 use Rattle.hda_run.specs.Worlds.{world_of, AreGuided, job_of, IsLawful, IsWorkerCount}
 
@@ -60,8 +58,14 @@ W = Worker Plain ℕ ℕ ℕ ℕ
 pub inside : {X : Type 0} (v : Vec X Global) (n i : ℕ) → n ≡ vec_len v → i < n → i < length v.items
 inside v n i is lt = omega (arith, is, lt, v.ok.0)
 
-pub outside : {X : Type 0} (v : Vec X Global) (n i : ℕ) → n ≡ vec_len v → n ≤ i → length v.items ≤ i
-outside v n i is le = omega (arith, is, le, v.ok.0)
+-- what is not beyond the end is below it
+pub below : {X : Type 0} (v : Vec X Global) (n i : ℕ) → n ≡ vec_len v → ¬ (n ≤ i) → i < length v.items
+below v n i is inner = ⊎_elim (λ (lt : i < n). inside v n i is lt) (λ (le : n ≤ i). absurd (inner le)) (cases_lt i n)
+
+-- the workers of a step that was looked at are there
+pub none_lacks : (n : ℕ) (step step' : Step) (lacks : Bool) → (IsTrue lacks ↔ Lacks n step) → lacks ≡ false → step ≡ step' → ¬ Lacks n step'
+none_lacks n step step' lacks both out is lack =
+    let yes : IsTrue lacks = both.1 (subst (Lacks n) (sym is) lack) in absurd (true≢false (sym yes ∙ out))
 
 -- what was read at a place, seen otherwise
 pub seen_at : {X Y : Type 0} (f : X → Y) (xs : List X) (i : ℕ) (x : X) → i < length xs → x ≡ get_or xs i x → slice_get (map f xs) i ≡ Some (f x)
@@ -73,10 +77,6 @@ module _ {S : Type 0} (owner_of : S → ℕ → Position → ℕ) (parts : Parts
   -- as many states as workers
   pub state_count : length (world_of owner_of parts).workers ≡ length parts.workers.items
   state_count = length-map parts.workers.items (λ (w : W). state_of w)
-
-  -- there is no such worker
-  pub no_worker : (me : ℕ) → length parts.workers.items ≤ me → length (world_of owner_of parts).workers ≤ me
-  no_worker me past = subst (λ (k : ℕ). k ≤ me) (sym state_count) past
 
 module _ {S : Type 0} (owner_of : S → ℕ → Position → ℕ) (parts : Parts S) (me : ℕ) (worker : W) (within : me < length parts.workers.items) (at : worker ≡ get_or parts.workers.items me worker) where
   pub is_worker : IsWorker (world_of owner_of parts) me (state_of worker)
@@ -206,12 +206,6 @@ module _ {S : Type 0} (owner_of : S → ℕ → Position → ℕ) (parts : Parts
   -- as many rows of lanes as workers
   pub row_count : IsShaped (world_of owner_of parts) → length parts.lanes.items ≡ length parts.workers.items
   row_count shaped = sym (length-map parts.lanes.items (λ (row : Row). row.items)) ∙ shaped.senders ∙ state_count owner_of parts
-
-  -- they are not two workers
-  pub no_two : (from to n : ℕ) → n ≡ vec_len parts.workers → (from ≡ to) ⊎ (n ≤ from) ⊎ (n ≤ to) → (from ≡ to) ⊎ (length (world_of owner_of parts).workers ≤ from) ⊎ (length (world_of owner_of parts).workers ≤ to)
-  no_two from to n is (inl same) = inl same
-  no_two from to n is (inr (inl past)) = inr (inl (no_worker owner_of parts from (outside parts.workers n from is past)))
-  no_two from to n is (inr (inr past)) = inr (inr (no_worker owner_of parts to (outside parts.workers n to is past)))
 
   -- they are two
   pub are_two : (from to : ℕ) → from ≢ to → from < length parts.workers.items → to < length parts.workers.items → ¬ ((from ≡ to) ⊎ (length (world_of owner_of parts).workers ≤ from) ⊎ (length (world_of owner_of parts).workers ≤ to))

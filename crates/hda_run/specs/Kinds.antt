@@ -1,4 +1,5 @@
--- The nine kinds of steps.
+-- The nine kinds of steps, and the workers that they are by.
+use Rattle.std.specs.Prelude.{ℕ, ◌≡◌, ◌≤◌, ◌⊎◌}
 use Rattle.world_model.specs.declared.steps.Step.{Step}
 use Rattle.world_model.specs.declared.steps.Step.TheVariants as steps
 use Rattle.hda_run.specs.declared.gates.Kind.{Kind}
@@ -15,3 +16,15 @@ kind_of (steps.Announce i) = Announce
 kind_of (steps.Grant i) = Grant
 kind_of (steps.Rest i) = Rest
 kind_of (steps.Halt i cause) = Halt
+
+-- the step is by a worker that isn't one of n, or along a lane between two that aren't two of them
+abbrev pub Lacks : ℕ → Step → Type 0
+Lacks n (steps.Expand i) = n ≤ i
+Lacks n (steps.Settle i) = n ≤ i
+Lacks n (steps.Send i j) = (i ≡ j) ⊎ (n ≤ i) ⊎ (n ≤ j)
+Lacks n (steps.Deliver i j) = (j ≡ i) ⊎ (n ≤ j) ⊎ (n ≤ i)
+Lacks n (steps.Draw i) = n ≤ i
+Lacks n (steps.Announce i) = n ≤ i
+Lacks n (steps.Grant i) = n ≤ i
+Lacks n (steps.Rest i) = n ≤ i
+Lacks n (steps.Halt i cause) = n ≤ i

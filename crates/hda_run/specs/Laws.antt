@@ -1,5 +1,5 @@
 -- The laws of the definitions. Each is the contract of a function that does nothing.
-use Rattle.std.specs.Prelude.{ℕ, ◌≡◌, ◌≢◌, ◌≤◌, List, [], ◌∷◌, Contains, Vec, Option, Some, None}
+use Rattle.std.specs.Prelude.{ℕ, ◌≡◌, ◌≢◌, ◌≤◌, List, [], ◌∷◌, length, replicate, Contains, Vec, Option, Some, None}
 use Rattle.std.specs.declared.alloc.Global.{Global}
 use Rattle.memory.specs.declared.OutOfMemory.{OutOfMemory}
 use Rattle.board.specs.declared.moves.Move.{Move}
@@ -27,6 +27,8 @@ use Rattle.world_model.specs.Worlds.{WorldState}
 use Rattle.hda_run.specs.Alone.{IsRunAlone}
 use Rattle.hda_run.specs.Headline.{IsOfSteps, TellsTruth}
 use Rattle.hda_run.specs.Problems.{Problem, task_in}
+use Rattle.hda_run.specs.Worlds.{world_of, job_of}
+use Rattle.hda_run.specs.declared.parts.Parts.{Parts}
 
 -- ---- one worker alone
 
@@ -117,3 +119,21 @@ OutcomesAreOfTheirSteps =
     (job : Job) (step : Step) (outcome : Outcome)
     → IsOfSteps job (step ∷ []) outcome
     → (via : Move) × (answer : Option Refusal) × (w : WorldState) × Next step (turn (opening job via) answer w) × IsGiven w outcome
+
+-- ---- worlds as asked
+
+-- the opening world of n workers has the problem's task and limit, and lanes between n workers, among whom the spread says who owns a board
+abbrev pub OpeningsAreAsAsked : {S : Type 0} → (S → ℕ → Position → ℕ) → Type 0
+OpeningsAreAsAsked {S} owner_of =
+    (p : Problem) (spread : S) (n : ℕ) (via : Move)
+    → ((opening (job_of owner_of p spread n) via).task ≡ task_in p)
+    × ((opening (job_of owner_of p spread n) via).book.limit ≡ p.limit)
+    × ((opening (job_of owner_of p spread n) via).lanes ≡ replicate n (replicate n []))
+    × ((b : Position) → (opening (job_of owner_of p spread n) via).owner b ≡ owner_of spread n b)
+
+-- the world that parts make has their task, and boards are owned as their spread says among all their workers
+abbrev pub PartsAreAsOwned : {S : Type 0} → (S → ℕ → Position → ℕ) → Type 0
+PartsAreAsOwned {S} owner_of =
+    (parts : Parts S)
+    → ((world_of owner_of parts).task ≡ task_in parts.job)
+    × ((b : Position) → (world_of owner_of parts).owner b ≡ owner_of parts.owners.now (length parts.workers.items) b)

@@ -26,11 +26,12 @@ pub record IsLone (w : WorldState) : Type 0 where
   pub shaped : IsShaped w
   pub credited : IsCredited w
 
--- some steps, none of which is to halt the run, lead from one world to another
+-- some steps, none of which is to halt the run, lead from one world to another, where the worker is alone still
 pub record Reaches (w w' : WorldState) : Type 0 where
   pub made : List (Step × Option Refusal)
   pub run : IsRun w made w'
   pub goes_on : HaltsNowhere made
+  pub lone : IsLone w'
 
 -- what may still be granted, and what may still be expanded
 abbrev pub work_left : WorldState → ℕ

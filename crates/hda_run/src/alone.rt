@@ -136,7 +136,6 @@ fn run_alone<'a, S: Spread, G: Gate>(
 fn go_on<S: Spread, G: Gate>(alloc: Global, world: &mut World<'_, S>, gate: &G) -> End
     requires { IsLone (world_of S.owner_of world.old) }
     ensures run { Reaches (world_of S.owner_of world.old) (world_of S.owner_of world.new) }
-    ensures lone { IsLone (world_of S.owner_of world.new) }
     ensures stuck { IsStuck (world_of S.owner_of world.new) result }
     ensures job { world.new.job ≡ world.old.job }
 {
@@ -152,7 +151,6 @@ fn go_on<S: Spread, G: Gate>(alloc: Global, world: &mut World<'_, S>, gate: &G) 
 fn round<S: Spread, G: Gate>(alloc: Global, world: &mut World<'_, S>, gate: &G) -> Result<(), End>
     requires { IsLone (world_of S.owner_of world.old) }
     ensures run { Reaches (world_of S.owner_of world.old) (world_of S.owner_of world.new) }
-    ensures lone { IsLone (world_of S.owner_of world.new) }
     ensures less { IsOk result
         → work_left (world_of S.owner_of world.new) < work_left (world_of S.owner_of world.old) }
     ensures stuck { IfErr result (IsStuck (world_of S.owner_of world.new)) }
@@ -179,7 +177,6 @@ fn be_granted<S: Spread, G: Gate>(
     requires lone { IsLone (world_of S.owner_of world.old) }
     requires spent { Refuses (world_of S.owner_of world.old) (Step.Expand 0) Refusal.NoAllowance }
     ensures run { Reaches (world_of S.owner_of world.old) (world_of S.owner_of world.new) }
-    ensures lone { IsLone (world_of S.owner_of world.new) }
     ensures less { IsOk result
         → work_left (world_of S.owner_of world.new) < work_left (world_of S.owner_of world.old) }
     ensures stuck { IfErr result (IsStuck (world_of S.owner_of world.new)) }
@@ -195,7 +192,6 @@ fn be_granted<S: Spread, G: Gate>(
 fn announce_when_met<S: Spread, G: Gate>(alloc: Global, world: &mut World<'_, S>, gate: &G)
     requires { IsLone (world_of S.owner_of world.old) }
     ensures run { Reaches (world_of S.owner_of world.old) (world_of S.owner_of world.new) }
-    ensures lone { IsLone (world_of S.owner_of world.new) }
     ensures same { work_left (world_of S.owner_of world.new)
         ≡ work_left (world_of S.owner_of world.old) }
     ensures job { world.new.job ≡ world.old.job }

@@ -21,7 +21,7 @@ use outcomes::Outcome;
 use owners::Spread;
 use std::alloc::Global;
 use worker_core::Queue;
-use world_ends::{Asked, Reading, WithRows, lowest_of, read};
+use world_ends::{Asked, Reading, Snapshot, WithRows, lowest_of, read};
 use world_model::laws::quiet_is_true;
 
 impl<'a, S: Spread> World<'a, S> {
@@ -62,9 +62,12 @@ fn read_parts<A: Reading, S: Spread>(alloc: Global, parts: Parts<'_, S>) -> A::A
         lanes,
     } = parts;
     let mut workers = workers;
-    let lowest = lowest_in_lanes(job.bound(), &lanes, None);
+    let snapshot = Snapshot {
+        lanes: lowest_in_lanes(job.bound(), &lanes, None),
+        stop: book.stop(),
+    };
     let asked = asked_in(&job);
-    read::<A, Plain, S>(alloc, &asked, owners, &mut workers, lowest, book.stop())
+    read::<A, Plain, S>(alloc, &asked, owners, &mut workers, snapshot)
 }
 
 /// What a job asks.

@@ -6,6 +6,9 @@ ghost use Rattle.hda_run.specs.Laws.{OptimalTruthsAgree, BoundTruthsAreBelow};
 ghost use Rattle.hda_run.specs.Laws.{UnsolvableTruthsHaveNoPlan, TrueRowsProve};
 ghost use Rattle.hda_run.specs.Laws.{TrueRowsProveBounds, TrueBoundsHaveProofs};
 ghost use Rattle.hda_run.specs.Laws.{OutcomesAreOfTheirSteps};
+ghost use Rattle.hda_run.specs.Laws.{OpeningsAreAsAsked, PartsAreAsOwned};
+
+use owners::Spread;
 
 /// A run by one worker has stopped, and for a cause that it met.
 pub fn runs_alone_stop()
@@ -28,4 +31,10 @@ pub fn truths_agree()
 /// The outcome of one step is given by a world to which just that step leads.
 pub fn outcomes_are_of_their_steps()
     ensures { OutcomesAreOfTheirSteps }
+{}
+
+/// The opening world of a job is as asked, and boards are owned by the spread among all workers.
+pub fn worlds_are_as_asked<S: Spread>()
+    ensures openings { OpeningsAreAsAsked S.owner_of }
+    ensures parts { PartsAreAsOwned S.owner_of }
 {}

@@ -3,16 +3,13 @@
 #![tactic(auto)]
 
 mod alone;
-mod book_steps;
 mod faults;
 mod finish;
 mod gates;
 mod headline;
 mod job;
-mod lane_steps;
 pub mod laws;
 mod opening;
-mod own_steps;
 mod parts;
 mod runs;
 mod world;

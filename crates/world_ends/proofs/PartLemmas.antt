@@ -247,19 +247,21 @@ module _ (task : Task) (owner_among : ℕ → Position → ℕ) (states : List W
       ap (λ (o : Option WorkerState). known_by o (key_of b)) at ∙ knows.knows
 
   -- a board that isn't the start has its predecessor
-  pub before_is : (b : Position) (known : Known) → IsTaskBoard task b → known_in owner_among states b ≡ Some known → b ≢ task.start → IsBefore task owner_among states b known
+  pub before_is : (b : Position) (known : Known) → IsTaskBoard task b → known_in owner_among states b ≡ Some known → b ≢ task.start → (before : Position) × (c : ℕ) × (there : Known) × IsBefore task owner_among states b known before c there
   before_is b known is found other =
       ⊎_elim
       (λ (first : (b ≡ w.task.start) × (known.cost ≡ 0)). absurd (other (first.0 ∙ ap (λ (t : Task). t.start) parts.asks)))
-      (λ (has : (before : Position) × (c : ℕ) × (there : Known) × Moves w.task.rule before known.via b c × Knows w (w.owner before) before there × (there.cost + c ≤ known.cost)). record {
-        before = has.0;
-        cost = has.1;
-        there = has.2;
-        board = subst (λ (t : Task). IsTaskBoard t has.0) parts.asks has.4.board;
-        moves = subst (λ (t : Task). Moves t.rule has.0 known.via b has.1) parts.asks has.3;
-        known = known_from has.0 has.2 has.4;
-        cheaper = has.5;
-      })
+      (λ (has : (before : Position) × (c : ℕ) × (there : Known) × Moves w.task.rule before known.via b c × Knows w (w.owner before) before there × (there.cost + c ≤ known.cost)). (
+        has.0,
+        has.1,
+        has.2,
+        record {
+          board = subst (λ (t : Task). IsTaskBoard t has.0) parts.asks has.4.board;
+          moves = subst (λ (t : Task). Moves t.rule has.0 known.via b has.1) parts.asks has.3;
+          known = known_from has.0 has.2 has.4;
+          cheaper = has.5;
+        },
+      ))
       (parts.sound.reached (w.owner b) b known (knows_of b known is found))
 
   -- what is known of the goal

@@ -1,6 +1,6 @@
 -- The end of a run: what its parts give.
-pub mod Parts
 pub mod Lowest
+pub mod Parts
 pub mod Plans
 pub mod Rows
 pub mod Endings

@@ -14,6 +14,8 @@ use Rattle.worker_core.specs.declared.worker.Worker.{Worker}
 use Rattle.worker_core.specs.Workers.{state_of}
 use Rattle.worker_core.specs.Roles.{task_of, IsGuided}
 use Rattle.world_ends.specs.declared.asked.Asked.{Asked}
+use Rattle.world_ends.specs.declared.asked.Snapshot.{Snapshot}
+use Rattle.world_ends.specs.Lowest.{IsLowestInLanes}
 
 -- the task that was asked
 abbrev pub task_in : Asked → Task
@@ -34,6 +36,20 @@ pub record HasParts (task : Task) (owner_among : ℕ → Position → ℕ) (stat
   pub works : w.workers ≡ states
   pub shaped : IsShaped w
   pub sound : IsSound w
+
+-- the workers are those of a world in which this is asked, with their lists in order by one guide, and the tables have the goal's sides
+pub record AreOfWorld {C D S K G : Type 0} (asked : Asked) (owner_among : ℕ → Position → ℕ) (workers : List (Worker C D S K G)) : Type 0 where
+  pub sides : asked.bound.now.split.grid ≡ asked.goal.grid
+  pub guide : Guide
+  pub guided : AreGuided (task_in asked) guide workers
+  pub world : WorldState
+  pub parts : HasParts (task_in asked) owner_among (states_of workers) world
+
+-- the world has these workers, and beside them is as the snapshot says
+pub record IsSeen {C D S K G : Type 0} (asked : Asked) (owner_among : ℕ → Position → ℕ) (workers : List (Worker C D S K G)) (snapshot : Snapshot) (w : WorldState) : Type 0 where
+  pub parts : HasParts (task_in asked) owner_among (states_of workers) w
+  pub lanes : IsLowestInLanes w snapshot.lanes
+  pub stop : w.book.stop ≡ snapshot.stop
 
 -- what a worker, if there is one, knows of the board with this key
 abbrev pub known_by : Option WorkerState → ℕ → Option Known

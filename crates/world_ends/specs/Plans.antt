@@ -11,11 +11,8 @@ use Rattle.world_model.specs.Worlds.{WorldState}
 use Rattle.world_model.specs.Outcomes.{IsByLastMoves}
 use Rattle.world_ends.specs.Parts.{HasParts, known_in}
 
--- the board before this one by its last move, which its owner knows, cheaper by the move's cost at least
-pub record IsBefore (task : Task) (owner_among : ℕ → Position → ℕ) (states : List WorkerState) (b : Position) (here : Known) : Type 0 where
-  pub before : Position
-  pub cost : ℕ
-  pub there : Known
+-- this board is before another by its last move, at this cost, and its owner knows it so: cheaper by the move's cost at least
+pub record IsBefore (task : Task) (owner_among : ℕ → Position → ℕ) (states : List WorkerState) (b : Position) (here : Known) (before : Position) (cost : ℕ) (there : Known) : Type 0 where
   pub board : IsTaskBoard task before
   pub moves : Moves task.rule before here.via b cost
   pub known : known_in owner_among states before ≡ Some there

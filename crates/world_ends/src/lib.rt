@@ -9,7 +9,7 @@ mod plan;
 mod reading;
 mod rows;
 
-pub use asked::Asked;
+pub use asked::{Asked, Snapshot};
 pub use lowest::lowest_of;
 pub use reading::{Reading, WithRows, WithoutRows, read};
 pub use rows::rows_for;

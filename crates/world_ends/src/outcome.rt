@@ -4,14 +4,13 @@ ghost use Rattle.std.specs.Prelude.{◌≡◌, None, IfOk, IfErr, option_map};
 ghost use Rattle.outcomes.specs.declared.outcome.Cause.TheVariants.{Memory};
 ghost use Rattle.outcomes.specs.declared.outcome.Want.TheVariants.{Refused};
 ghost use Rattle.outcomes.specs.declared.outcome.Outcome.TheVariants.{Bounded};
-ghost use Rattle.search_lists.specs.Orders.{Guide};
 ghost use Rattle.world_model.specs.Outcomes.{IsGiven, cause_of};
 ghost use Rattle.world_model.specs.Worlds.{WorldState};
-ghost use Rattle.world_ends.specs.Parts.{task_in, states_of, AreGuided, HasParts};
+ghost use Rattle.world_ends.specs.Parts.{task_in, states_of, AreOfWorld, HasParts, IsSeen};
 ghost use Rattle.world_ends.specs.Lowest.{IsLowestInLanes};
 ghost use Rattle.world_ends.specs.Endings.{EndsIn, EndsWhole, HasPlanAbove};
 
-use crate::asked::Asked;
+use crate::asked::{Asked, Snapshot};
 use crate::lowest::{lesser, lowest_of_workers};
 use crate::plan::{known_of, plan_back};
 use crate::rows::rows_for;
@@ -23,26 +22,21 @@ use std::alloc::Global;
 use worker_core::Worker;
 use world_model::{Known, Stop};
 
-/// The outcome that the workers of a world give, at any moment. `lanes` is the least cost plus sum
-/// of the items in the lanes, and `stop` what stopped the run.
+/// The outcome that the workers of a world give, at any moment.
 pub(crate) fn outcome_of<C: Counting, S: Spread>(
     alloc: Global,
     asked: &Asked<'_>,
     owners: &S,
     workers: &mut [Worker<C>],
-    lanes: Option<u32>,
-    stop: Option<Stop>,
+    snapshot: Snapshot,
 ) -> Outcome
-    requires sides { asked.now.bound.now.split.grid ≡ asked.now.goal.grid }
-    requires guided { (guide : Guide) × AreGuided (task_in asked.now) guide workers.old }
-    requires world { (w : WorldState)
-        × HasParts (task_in asked.now) (S.owner_of owners.now) (states_of workers.old) w }
+    requires { AreOfWorld asked.now (S.owner_of owners.now) workers.old }
     ensures given { (w : WorldState)
-        → HasParts (task_in asked.now) (S.owner_of owners.now) (states_of workers.old) w
-        → IsLowestInLanes w lanes → w.book.stop ≡ stop → IsGiven w result }
+        → IsSeen asked.now (S.owner_of owners.now) workers.old snapshot w
+        → IsGiven w result }
     ensures same { states_of workers.new ≡ states_of workers.old }
 {
-    let ending = match whole_ending(alloc, asked, owners, workers, lanes, stop) {
+    let ending = match whole_ending(alloc, asked, owners, workers, snapshot) {
         Ok(ending) => ending,
         Err(lacking) => return bound_alone(lacking.bound, lacking.refused),
     };
@@ -82,19 +76,15 @@ pub(crate) fn ending_of<C: Counting, S: Spread>(
     asked: &Asked<'_>,
     owners: &S,
     workers: &mut [Worker<C>],
-    lanes: Option<u32>,
-    stop: Option<Stop>,
+    snapshot: Snapshot,
 ) -> Ending
-    requires sides { asked.now.bound.now.split.grid ≡ asked.now.goal.grid }
-    requires guided { (guide : Guide) × AreGuided (task_in asked.now) guide workers.old }
-    requires world { (w : WorldState)
-        × HasParts (task_in asked.now) (S.owner_of owners.now) (states_of workers.old) w }
+    requires { AreOfWorld asked.now (S.owner_of owners.now) workers.old }
     ensures given { (w : WorldState)
-        → HasParts (task_in asked.now) (S.owner_of owners.now) (states_of workers.old) w
-        → IsLowestInLanes w lanes → w.book.stop ≡ stop → EndsIn w result }
+        → IsSeen asked.now (S.owner_of owners.now) workers.old snapshot w
+        → EndsIn w result }
     ensures same { states_of workers.new ≡ states_of workers.old }
 {
-    match whole_ending(alloc, asked, owners, workers, lanes, stop) {
+    match whole_ending(alloc, asked, owners, workers, snapshot) {
         Ok(ending) => ending,
         Err(lacking) => Ending::Bounded {
             bound: lacking.bound,
@@ -117,22 +107,18 @@ fn whole_ending<C: Counting, S: Spread>(
     asked: &Asked<'_>,
     owners: &S,
     workers: &mut [Worker<C>],
-    lanes: Option<u32>,
-    stop: Option<Stop>,
+    snapshot: Snapshot,
 ) -> Result<Ending, PlanLacking>
-    requires sides { asked.now.bound.now.split.grid ≡ asked.now.goal.grid }
-    requires guided { (guide : Guide) × AreGuided (task_in asked.now) guide workers.old }
-    requires world { (w : WorldState)
-        × HasParts (task_in asked.now) (S.owner_of owners.now) (states_of workers.old) w }
+    requires { AreOfWorld asked.now (S.owner_of owners.now) workers.old }
     ensures given { IfOk result (λ ending. (w : WorldState)
-        → HasParts (task_in asked.now) (S.owner_of owners.now) (states_of workers.old) w
-        → IsLowestInLanes w lanes → w.book.stop ≡ stop → EndsWhole w ending) }
+        → IsSeen asked.now (S.owner_of owners.now) workers.old snapshot w
+        → EndsWhole w ending) }
     ensures lacking { IfErr result (λ lacking. (w : WorldState)
         → HasParts (task_in asked.now) (S.owner_of owners.now) (states_of workers.old) w
-        → IsLowestInLanes w lanes → HasPlanAbove w lacking.bound) }
+        → IsLowestInLanes w snapshot.lanes → HasPlanAbove w lacking.bound) }
     ensures same { states_of workers.new ≡ states_of workers.old }
 {
-    let lowest = lowest_of_workers(asked, workers, lanes);
+    let lowest = lowest_of_workers(asked, workers, snapshot.lanes);
     let reached = known_of(owners, workers, &asked.goal);
     let Some(floor) = lesser(lowest, cost_of(reached)) else {
         return Ok(Ending::Unsolvable {
@@ -140,7 +126,7 @@ fn whole_ending<C: Counting, S: Spread>(
         });
     };
     let bound = asked.bound.of(&asked.start).max(floor);
-    let cause = cause_of(stop);
+    let cause = cause_of(snapshot.stop);
     let Some(known) = reached else {
         return Ok(Ending::Bounded {
             bound,

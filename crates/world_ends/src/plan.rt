@@ -1,8 +1,8 @@
 //! The plan of a run, followed back by last moves.
 
-ghost use Rattle.std.specs.Prelude.{◌≡◌, ◌<◌, ◌≤◌, ◌+◌, Some, IfOk, length};
-ghost use Rattle.board.specs.Moves.{Moves};
-ghost use Rattle.world_model.specs.Workers.{IsTaskBoard};
+ghost use Rattle.std.specs.Prelude.{ℕ, ◌≡◌, ◌<◌, ◌≤◌, Some, IfOk, length};
+ghost use Rattle.board.specs.Positions.{Position};
+ghost use Rattle.world_model.specs.declared.parts.Known.{Known};
 ghost use Rattle.world_model.specs.Worlds.{WorldState};
 ghost use Rattle.world_ends.specs.Parts.{task_in, states_of, HasParts, known_in};
 ghost use Rattle.world_ends.specs.Plans.{IsBefore, IsTraced};
@@ -82,13 +82,11 @@ fn step_back<C: Counting, S: Spread>(
 ) -> (Board, u32, Known)
     requires some { 0 < length workers.now }
     requires costs { asked.now.weights.grid ≡ board.now.grid }
-    requires reached { IsBefore (task_in asked.now) (S.owner_of owners.now) (states_of workers.now)
-        board.now here }
-    ensures board { IsTaskBoard (task_in asked.now) result.0 }
-    ensures moved { Moves asked.now.weights result.0 here.via board.now result.1 }
-    ensures found { known_in (S.owner_of owners.now) (states_of workers.now) result.0
-        ≡ Some result.2 }
-    ensures cheaper { result.2.cost + result.1 ≤ here.cost }
+    requires reached { (before : Position) × (cost : ℕ) × (there : Known)
+        × IsBefore (task_in asked.now) (S.owner_of owners.now) (states_of workers.now)
+        board.now here before cost there }
+    ensures before { IsBefore (task_in asked.now) (S.owner_of owners.now) (states_of workers.now)
+        board.now here result.0 result.1 result.2 }
     ensures low { 1 ≤ result.1 }
 {
     let before = board.step(here.via.undo(), &asked.weights).unwrap();

@@ -3,22 +3,19 @@
 ghost use Rattle.std.specs.Prelude.{◌≡◌, Bool, true, false};
 ghost use Rattle.outcomes.specs.declared.outcome.Ending.TheVariants.{Unsolvable};
 ghost use Rattle.outcomes.specs.declared.outcome.Why.TheVariants.{Parity};
-ghost use Rattle.search_lists.specs.Orders.{Guide};
 ghost use Rattle.world_model.specs.Outcomes.{IsGiven};
 ghost use Rattle.world_model.specs.Worlds.{WorldState};
 ghost use Rattle.world_ends.specs.Endings.{EndsIn};
-ghost use Rattle.world_ends.specs.Lowest.{IsLowestInLanes};
-ghost use Rattle.world_ends.specs.Parts.{states_of, task_in, AreGuided, HasParts};
+ghost use Rattle.world_ends.specs.Parts.{states_of, AreOfWorld, IsSeen};
 ghost use Rattle.world_ends.specs.Readings.{WorldsAnswer, BoundsAreOfWorlds, IsForParity};
 
-use crate::asked::Asked;
+use crate::asked::{Asked, Snapshot};
 use crate::outcome::{ending_of, outcome_of};
 use message_ledger::Counting;
 use outcomes::{Ending, Outcome, Why};
 use owners::Spread;
 use std::alloc::Global;
 use worker_core::Worker;
-use world_model::Stop;
 use world_model::laws::outcomes_answer;
 
 /// A reading of workers: of the outcome that their world gives, with its rows or without.
@@ -154,27 +151,22 @@ impl Reading for WithoutRows {
     }
 }
 
-/// Reads the workers of a world, at any moment. `lanes` is the least cost plus sum of the items in the
-/// lanes, and `stop` what stopped the run.
+/// Reads the workers of a world, at any moment.
 pub fn read<A: Reading, C: Counting, S: Spread>(
     alloc: Global,
     asked: &Asked<'_>,
     owners: &S,
     workers: &mut [Worker<C>],
-    lanes: Option<u32>,
-    stop: Option<Stop>,
+    snapshot: Snapshot,
 ) -> A::Answer
-    requires sides { asked.now.bound.now.split.grid ≡ asked.now.goal.grid }
-    requires guided { (guide : Guide) × AreGuided (task_in asked.now) guide workers.old }
-    requires world { (w : WorldState)
-        × HasParts (task_in asked.now) (S.owner_of owners.now) (states_of workers.old) w }
+    requires { AreOfWorld asked.now (S.owner_of owners.now) workers.old }
     ensures given { (w : WorldState)
-        → HasParts (task_in asked.now) (S.owner_of owners.now) (states_of workers.old) w
-        → IsLowestInLanes w lanes → w.book.stop ≡ stop → A.gives w result }
+        → IsSeen asked.now (S.owner_of owners.now) workers.old snapshot w
+        → A.gives w result }
     ensures same { states_of workers.new ≡ states_of workers.old }
 {
     if A::takes_rows() {
-        return A::of_outcome(outcome_of(alloc, asked, owners, workers, lanes, stop));
+        return A::of_outcome(outcome_of(alloc, asked, owners, workers, snapshot));
     }
-    A::of_ending(ending_of(alloc, asked, owners, workers, lanes, stop))
+    A::of_ending(ending_of(alloc, asked, owners, workers, snapshot))
 }

@@ -6,10 +6,9 @@ use Rattle.hda_run.proofs.alone.be_granted.Goals as goal
 
 pub returns-in_default-clause-run : goal.returns-in_default-clause-run
 returns-in_default-clause-run g c =
-    takes (Grant 0) None (world_of g.S.Spread.owner_of c.args.world.now) (world_of g.S.Spread.owner_of c.take.new.world) (λ h. h) c.in_default.ensures.step
-
-pub returns-in_default-clause-lone : goal.returns-in_default-clause-lone
-returns-in_default-clause-lone g c = (grants (world_of g.S.Spread.owner_of c.args.world.now) c.requires.lone (world_of g.S.Spread.owner_of c.take.new.world) c.in_default.ensures.step).0
+    let old = world_of g.S.Spread.owner_of c.args.world.now in
+    let new = world_of g.S.Spread.owner_of c.take.new.world in
+    takes (Grant 0) None old new (λ h. h) c.in_default.ensures.step (grants old c.requires.lone new c.in_default.ensures.step).0
 
 pub returns-in_default-clause-less : goal.returns-in_default-clause-less
 returns-in_default-clause-less g c accepted = (grants (world_of g.S.Spread.owner_of c.args.world.now) c.requires.lone (world_of g.S.Spread.owner_of c.take.new.world) c.in_default.ensures.step).1
@@ -18,10 +17,8 @@ pub returns-clause-run : goal.returns-clause-run
 returns-clause-run g c =
     let old = world_of g.S.Spread.owner_of c.args.world.now in
     let new = world_of g.S.Spread.owner_of c.take.new.world in
-    stays old new (spent_alone old c.requires.lone c.requires.spent _ new c.in-Err.ensures.step).same
-
-pub returns-clause-lone : goal.returns-clause-lone
-returns-clause-lone g c = (spent_alone (world_of g.S.Spread.owner_of c.args.world.now) c.requires.lone c.requires.spent _ (world_of g.S.Spread.owner_of c.take.new.world) c.in-Err.ensures.step).lone
+    let left = spent_alone old c.requires.lone c.requires.spent _ new c.in-Err.ensures.step in
+    stays old new left.same left.lone
 
 pub returns-clause-stuck : goal.returns-clause-stuck
 returns-clause-stuck g c = (spent_alone (world_of g.S.Spread.owner_of c.args.world.now) c.requires.lone c.requires.spent _ (world_of g.S.Spread.owner_of c.take.new.world) c.in-Err.ensures.step).refuses

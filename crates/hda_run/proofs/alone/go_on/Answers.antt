@@ -12,6 +12,5 @@ pub rounds-preserved : goal.rounds-preserved
 rounds-preserved g c =
     let owner_of = g.S.Spread.owner_of in (
       reaches_on (world_of owner_of c.args.world.now) (world_of owner_of c.rounds.world) (world_of owner_of c.round.new.world) c.rounds.invariant.0 c.round.ensures.run,
-      c.round.ensures.lone,
-      c.round.ensures.job ∙ c.rounds.invariant.2,
+      c.round.ensures.job ∙ c.rounds.invariant.1,
     )

@@ -14,7 +14,7 @@ returns-in_default-clause-run g c =
     let old = world_of g.S.Spread.owner_of c.args.world.now in
     let middle = world_of g.S.Spread.owner_of c.take.new.world in
     let new = world_of g.S.Spread.owner_of c.announce_when_met.new.world in
-    reaches_on old middle new (takes (Expand 0) None old middle (λ h. h) c.in_default.ensures.step) c.announce_when_met.ensures.run
+    reaches_on old middle new (takes (Expand 0) None old middle (λ h. h) c.in_default.ensures.step (expands old c.requires middle c.in_default.ensures.step).0) c.announce_when_met.ensures.run
 
 pub returns-in_default-clause-less : goal.returns-in_default-clause-less
 returns-in_default-clause-less g c accepted =
@@ -30,8 +30,12 @@ be_granted-requires-clause-spent g c =
     let new = world_of g.S.Spread.owner_of c.take.new.world in
     subst (λ (r : Refusal). Refuses new (Expand 0) r) c.in-NoAllowance.is (refused_alone (world_of g.S.Spread.owner_of c.args.world.now) c.requires c.in-Err.refusal new c.in-Err.ensures.step).refuses
 
-pub returns-in-Memory-clause-lone : goal.returns-in-Memory-clause-lone
-returns-in-Memory-clause-lone g c = (refused_alone (world_of g.S.Spread.owner_of c.args.world.now) c.requires c.in-Err.refusal (world_of g.S.Spread.owner_of c.take.new.world) c.in-Err.ensures.step).lone
+pub returns-in-Memory-clause-run : goal.returns-in-Memory-clause-run
+returns-in-Memory-clause-run g c =
+    let old = world_of g.S.Spread.owner_of c.args.world.now in
+    let new = world_of g.S.Spread.owner_of c.take.new.world in
+    let left = refused_alone old c.requires c.in-Err.refusal new c.in-Err.ensures.step in
+    stays old new left.same left.lone
 
 pub returns-in-Memory-clause-stuck : goal.returns-in-Memory-clause-stuck
 returns-in-Memory-clause-stuck g c =
@@ -45,8 +49,7 @@ returns-in_default-refusal g c =
     let left = refused_alone old c.requires c.in-Err.refusal new c.in-Err.ensures.step in
     let quiet = quiet_only c.in-Err.refusal left.why c.in_default-refusal.not-NoAllowance c.in_default-refusal.not-Memory in
     record {
-      run = stays old new left.same;
-      lone = left.lone;
+      run = stays old new left.same left.lone;
       less = λ e. absurd (let e : false ≡ true = e in cc);
       stuck = subst (λ (r : Refusal). Refuses new (Expand 0) r) quiet left.refuses;
       job = c.take.ensures.job;

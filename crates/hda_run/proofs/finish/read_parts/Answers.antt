@@ -1,32 +1,32 @@
-use Rattle.std.proofs.Common.{◌≡◌, ℕ, List, length, sym, ap, ◌∙◌, subst}
-use Rattle.std.specs.Prelude.{All}
-use Rattle.std.proofs.lemmas.List.{length-map}
+use Rattle.std.proofs.Common.{List, sym, ap, ◌∙◌, subst}
 use Rattle.lower_bound.specs.Bounds.{sum_of}
 use Rattle.lower_bound.specs.Tables.{Tables, parts_of}
-use Rattle.message_ledger.specs.declared.plain.Plain.{Plain}
+use Rattle.board.specs.Positions.{Position}
 use Rattle.outcomes.specs.Outcomes.{Task}
-use Rattle.worker_core.specs.declared.worker.Worker.{Worker}
-use Rattle.worker_core.specs.Roles.{IsGuided, guide_of}
-use Rattle.worker_core.specs.Workers.{state_of}
-use Rattle.world_ends.specs.Parts.{states_of}
+use Rattle.worker_core.specs.Roles.{guide_of}
+use Rattle.world_ends.specs.Parts.{AreGuided}
 use Rattle.hda_run.specs.Problems.{task_in}
 use Rattle.hda_run.specs.Worlds.{world_of}
-use Rattle.hda_run.proofs.LowestLemmas.{items_in_lanes, lowest_is, lanes_in, same_task}
+use Rattle.hda_run.proofs.PartsLemmas.{W}
+use Rattle.hda_run.proofs.LowestLemmas.{items_in_lanes, lowest_is, lanes_in, same_task, has_parts}
 use Rattle.hda_run.proofs.finish.read_parts.Goals as goal
 
-pub lowest_in_lanes-lowest-requires : goal.lowest_in_lanes-lowest-requires
-lowest_in_lanes-lowest-requires g c =
+pub lowest_in_lanes-requires : goal.lowest_in_lanes-requires
+lowest_in_lanes-requires g c =
     items_in_lanes (world_of g.S.Spread.owner_of c.args.parts) c.deref.result.now c.bound.result.now.split.grid c.requires.shaped (ap lanes_in c.deref.ensures.value) c.bound.ensures.sides
 
-pub read-requires-clause-guided : goal.read-requires-clause-guided
-read-requires-clause-guided g c κs within =
+pub read-requires-after_bounds : goal.read-requires-after_bounds
+read-requires-after_bounds g c κs within =
     let p = c.args.parts.job in
     let asked = c.asked_in-asked in
-    let same = same_task p asked.result.start asked.result.goal asked.result.weights asked.result.bound.now asked.ensures.start asked.ensures.goal asked.ensures.weights asked.ensures.bound in (
-      guide_of (task_in p),
-      subst (λ (task : Task). All (λ worker. IsGuided task (guide_of (task_in p)) worker.lists) c.deref_mut.result.now) (sym same)
-          (subst (λ (workers : List (Worker Plain ℕ ℕ ℕ ℕ)). All (λ worker. IsGuided (task_in p) (guide_of (task_in p)) worker.lists) workers) (sym c.deref_mut.ensures.value) c.requires.guided),
-    )
+    let same = same_task p asked.result.start asked.result.goal asked.result.weights asked.result.bound.now asked.ensures.start asked.ensures.goal asked.ensures.weights asked.ensures.bound in
+    record {
+      sides = ap (λ (tables : Tables). tables.split.grid) (asked.ensures.bound ∙ sym c.bound.ensures.value) ∙ c.bound.ensures.sides ∙ ap (λ (b : Position). b.grid) (sym asked.ensures.goal);
+      guide = guide_of (task_in p);
+      guided = subst (λ (task : Task). AreGuided task (guide_of (task_in p)) c.deref_mut.result.now) (sym same) (subst (λ (workers : List W). AreGuided (task_in p) (guide_of (task_in p)) workers) (sym c.deref_mut.ensures.value) c.requires.guided);
+      world = world_of g.S.Spread.owner_of c.args.parts;
+      parts = has_parts g.S.Spread.owner_of c.args.parts _ c.deref_mut.result.now same c.deref_mut.ensures.value c.requires;
+    }
 
 pub returns : goal.returns
 returns g c =
@@ -34,9 +34,8 @@ returns g c =
     let w = world_of g.S.Spread.owner_of c.args.parts in
     let asked = c.asked_in-asked in
     let same = same_task p asked.result.start asked.result.goal asked.result.weights asked.result.bound.now asked.ensures.start asked.ensures.goal asked.ensures.weights asked.ensures.bound in
-    let count : length c.args.parts.workers.items ≡ length (states_of c.deref_mut.result.now) = ap (λ (workers : List (Worker Plain ℕ ℕ ℕ ℕ)). length workers) (sym c.deref_mut.ensures.value) ∙ sym (length-map c.deref_mut.result.now (λ (worker : Worker Plain ℕ ℕ ℕ ℕ). state_of worker)) in
-    let works = ap (λ (workers : List (Worker Plain ℕ ℕ ℕ ℕ)). states_of workers) (sym c.deref_mut.ensures.value) in
-    c.read.ensures.given w
-    (record { asks = sym same; owns = λ b. ap (λ (n : ℕ). g.S.Spread.owner_of c.args.parts.owners.now n b) count; works = works; shaped = c.requires.shaped; sound = c.requires.sound })
-    (lowest_is w c.deref.result.now (sum_of (parts_of c.bound.result.now)) c.lowest_in_lanes-lowest.result (ap lanes_in c.deref.ensures.value) (ap (λ (tables : Tables). sum_of (parts_of tables)) c.bound.ensures.value) c.lowest_in_lanes-lowest.ensures)
-    (sym c.stop.ensures.value)
+    c.read.ensures.given w (record {
+      parts = has_parts g.S.Spread.owner_of c.args.parts _ c.deref_mut.result.now same c.deref_mut.ensures.value c.requires;
+      lanes = lowest_is w c.deref.result.now (sum_of (parts_of c.bound.result.now)) c.lowest_in_lanes.result (ap lanes_in c.deref.ensures.value) (ap (λ (tables : Tables). sum_of (parts_of tables)) c.bound.ensures.value) c.lowest_in_lanes.ensures;
+      stop = sym c.stop.ensures.value;
+    })

@@ -24,4 +24,4 @@ returns-clause-guided g c =
     let start = c.args.start.now in
     let task = task_from start context in
     let board = subst IsBoard (ap (λ (x : ContextModel g.row.S.Denot). x.goal) c.context.view_is) c.shape.ensures.board in
-    stays_guided context c.in_ok-worker.worker.lists c.meet.new.self.lists c.meet.ensures.lists start (guide_of task) (c.in_ok-worker.ensures.guided task (guide_of task) (c.tasks_have_guides.ensures task board))
+    stays_guided context c.in_ok-worker.worker.lists c.meet.new.self.lists c.meet.ensures.keeps.lists start (guide_of task) (c.in_ok-worker.ensures.guided task (guide_of task) (c.tasks_have_guides.ensures task board))

@@ -10,30 +10,30 @@ use Rattle.world_ends.proofs.outcome.whole_ending.Goals as goal
 -- src/outcome.rt:96:9
 pub lowest_of_workers-lowest-requires-clause-items : goal.lowest_of_workers-lowest-requires-clause-items
 lowest_of_workers-lowest-requires-clause-items g c κs within = λ i worker at.
-    items_are (task_in c.args.asked.now) (g.S.Spread.owner_of c.args.owners.now) (states_of c.args.workers.now) c.requires.world.0 c.requires.world.1 c.args.asked.now.bound.now.split.grid c.requires.sides i worker at
+    items_are (task_in c.args.asked.now) (g.S.Spread.owner_of c.args.owners.now) (states_of c.args.workers.now) c.requires.world c.requires.parts c.args.asked.now.bound.now.split.grid c.requires.sides i worker at
 
 -- src/outcome.rt:99:9
 pub returns-in_default-clause-given : goal.returns-in_default-clause-given
-returns-in_default-clause-given g c = λ w parts laned stopped.
+returns-in_default-clause-given g c = λ w seen.
     let task = task_in c.args.asked.now in
     let owner_among = g.S.Spread.owner_of c.args.owners.now in
     let states = states_of c.args.workers.now in
-    let least = c.lowest_of_workers-lowest.ensures.least c.requires.guided.0 c.requires.guided.1 in
+    let least = c.lowest_of_workers-lowest.ensures.least c.requires.guide c.requires.guided in
     let found : known_in owner_among states task.goal ≡ c.known_of-reached.result = ap (λ (ws : List WorkerState). known_in owner_among ws task.goal) (sym c.lowest_of_workers-lowest.ensures.same) ∙ sym c.known_of-reached.ensures in
     let none : lesser c.lowest_of_workers-lowest.result (cost_in c.known_of-reached.result) ≡ None = ap (lesser c.lowest_of_workers-lowest.result) (sym c.cost_of.ensures) ∙ sym c.lesser.ensures ∙ c.in_default.is in
-    no_plan task owner_among states w parts c.args.lanes c.lowest_of_workers-lowest.result laned least c.known_of-reached.result found none
+    no_plan task owner_among states w seen.parts c.args.snapshot.lanes c.lowest_of_workers-lowest.result seen.lanes least c.known_of-reached.result found none
 
 -- src/outcome.rt:106:9
 pub returns-in_default-reached-clause-given : goal.returns-in_default-reached-clause-given
-returns-in_default-reached-clause-given g c = λ w parts laned stopped.
+returns-in_default-reached-clause-given g c = λ w seen.
     let task = task_in c.args.asked.now in
     let owner_among = g.S.Spread.owner_of c.args.owners.now in
     let states = states_of c.args.workers.now in
-    let least = c.lowest_of_workers-lowest.ensures.least c.requires.guided.0 c.requires.guided.1 in
+    let least = c.lowest_of_workers-lowest.ensures.least c.requires.guide c.requires.guided in
     let found : known_in owner_among states task.goal ≡ c.known_of-reached.result = ap (λ (ws : List WorkerState). known_in owner_among ws task.goal) (sym c.lowest_of_workers-lowest.ensures.same) ∙ sym c.known_of-reached.ensures in
     let some : lesser c.lowest_of_workers-lowest.result (cost_in c.known_of-reached.result) ≡ Some c.in-Some.floor = ap (lesser c.lowest_of_workers-lowest.result) (sym c.cost_of.ensures) ∙ sym c.lesser.ensures ∙ c.in-Some.is in
     let most : c.max-bound.result ≡ max (task.sum task.start) c.in-Some.floor = c.max-bound.ensures ∙ ap (λ (n : ℕ). max n c.in-Some.floor) c.of.ensures.value in
-    no_goal task owner_among states w parts c.args.lanes c.lowest_of_workers-lowest.result laned least c.known_of-reached.result found c.in-Some.floor c.max-bound.result c.args.stop c.cause_of-cause.result some most stopped c.cause_of-cause.ensures c.in_default-reached.is
+    no_goal task owner_among states w seen.parts c.args.snapshot.lanes c.lowest_of_workers-lowest.result seen.lanes least c.known_of-reached.result found c.in-Some.floor c.max-bound.result c.args.snapshot.stop c.cause_of-cause.result some most seen.stop c.cause_of-cause.ensures c.in_default-reached.is
 
 -- src/outcome.rt:115:13
 pub returns-in-Err-clause-lacking : goal.returns-in-Err-clause-lacking
@@ -41,34 +41,34 @@ returns-in-Err-clause-lacking g c = λ w parts laned.
     let task = task_in c.args.asked.now in
     let owner_among = g.S.Spread.owner_of c.args.owners.now in
     let states = states_of c.args.workers.now in
-    let least = c.lowest_of_workers-lowest.ensures.least c.requires.guided.0 c.requires.guided.1 in
+    let least = c.lowest_of_workers-lowest.ensures.least c.requires.guide c.requires.guided in
     let found : known_in owner_among states task.goal ≡ c.known_of-reached.result = ap (λ (ws : List WorkerState). known_in owner_among ws task.goal) (sym c.lowest_of_workers-lowest.ensures.same) ∙ sym c.known_of-reached.ensures in
     let some : lesser c.lowest_of_workers-lowest.result (cost_in c.known_of-reached.result) ≡ Some c.in-Some.floor = ap (lesser c.lowest_of_workers-lowest.result) (sym c.cost_of.ensures) ∙ sym c.lesser.ensures ∙ c.in-Some.is in
     let most : c.max-bound.result ≡ max (task.sum task.start) c.in-Some.floor = c.max-bound.ensures ∙ ap (λ (n : ℕ). max n c.in-Some.floor) c.of.ensures.value in
-    no_memory task owner_among states w parts c.args.lanes c.lowest_of_workers-lowest.result laned least c.known_of-reached.result found c.in-Some.floor c.max-bound.result c.in-Some-reached.known some most c.in-Some-reached.is
+    no_memory task owner_among states w parts c.args.snapshot.lanes c.lowest_of_workers-lowest.result laned least c.known_of-reached.result found c.in-Some.floor c.max-bound.result c.in-Some-reached.known some most c.in-Some-reached.is
 
 -- src/outcome.rt:123:9
 pub returns-then-found-bound-clause-given : goal.returns-then-found-bound-clause-given
-returns-then-found-bound-clause-given g c = λ w parts laned stopped.
+returns-then-found-bound-clause-given g c = λ w seen.
     let task = task_in c.args.asked.now in
     let owner_among = g.S.Spread.owner_of c.args.owners.now in
     let states = states_of c.args.workers.now in
-    let least = c.lowest_of_workers-lowest.ensures.least c.requires.guided.0 c.requires.guided.1 in
+    let least = c.lowest_of_workers-lowest.ensures.least c.requires.guide c.requires.guided in
     let found : known_in owner_among states task.goal ≡ c.known_of-reached.result = ap (λ (ws : List WorkerState). known_in owner_among ws task.goal) (sym c.lowest_of_workers-lowest.ensures.same) ∙ sym c.known_of-reached.ensures in
     let some : lesser c.lowest_of_workers-lowest.result (cost_in c.known_of-reached.result) ≡ Some c.in-Some.floor = ap (lesser c.lowest_of_workers-lowest.result) (sym c.cost_of.ensures) ∙ sym c.lesser.ensures ∙ c.in-Some.is in
     let most : c.max-bound.result ≡ max (task.sum task.start) c.in-Some.floor = c.max-bound.ensures ∙ ap (λ (n : ℕ). max n c.in-Some.floor) c.of.ensures.value in
     let traced = subst (λ (ws : List WorkerState). IsTraced task owner_among ws c.in-Some-reached.known.cost c.in-Ok.found.0 c.in-Ok.found.1.items) c.lowest_of_workers-lowest.ensures.same c.in-Ok.ensures in
-    plan_above task owner_among states w parts c.args.lanes c.lowest_of_workers-lowest.result laned least c.known_of-reached.result found c.in-Some.floor c.max-bound.result c.args.stop c.cause_of-cause.result c.in-Some-reached.known c.in-Ok.found some most stopped c.cause_of-cause.ensures c.in-Some-reached.is traced c.if-found-bound.true
+    plan_above task owner_among states w seen.parts c.args.snapshot.lanes c.lowest_of_workers-lowest.result seen.lanes least c.known_of-reached.result found c.in-Some.floor c.max-bound.result c.args.snapshot.stop c.cause_of-cause.result c.in-Some-reached.known c.in-Ok.found some most seen.stop c.cause_of-cause.ensures c.in-Some-reached.is traced c.if-found-bound.true
 
 -- src/outcome.rt:79:1
 pub returns-clause-given : goal.returns-clause-given
-returns-clause-given g c = λ w parts laned stopped.
+returns-clause-given g c = λ w seen.
     let task = task_in c.args.asked.now in
     let owner_among = g.S.Spread.owner_of c.args.owners.now in
     let states = states_of c.args.workers.now in
-    let least = c.lowest_of_workers-lowest.ensures.least c.requires.guided.0 c.requires.guided.1 in
+    let least = c.lowest_of_workers-lowest.ensures.least c.requires.guide c.requires.guided in
     let found : known_in owner_among states task.goal ≡ c.known_of-reached.result = ap (λ (ws : List WorkerState). known_in owner_among ws task.goal) (sym c.lowest_of_workers-lowest.ensures.same) ∙ sym c.known_of-reached.ensures in
     let some : lesser c.lowest_of_workers-lowest.result (cost_in c.known_of-reached.result) ≡ Some c.in-Some.floor = ap (lesser c.lowest_of_workers-lowest.result) (sym c.cost_of.ensures) ∙ sym c.lesser.ensures ∙ c.in-Some.is in
     let most : c.max-bound.result ≡ max (task.sum task.start) c.in-Some.floor = c.max-bound.ensures ∙ ap (λ (n : ℕ). max n c.in-Some.floor) c.of.ensures.value in
     let traced = subst (λ (ws : List WorkerState). IsTraced task owner_among ws c.in-Some-reached.known.cost c.in-Ok.found.0 c.in-Ok.found.1.items) c.lowest_of_workers-lowest.ensures.same c.in-Ok.ensures in
-    plan_least task owner_among states w parts c.args.lanes c.lowest_of_workers-lowest.result laned least c.known_of-reached.result found c.in-Some.floor c.max-bound.result c.in-Some-reached.known c.in-Ok.found some most c.in-Some-reached.is traced c.if-found-bound.false
+    plan_least task owner_among states w seen.parts c.args.snapshot.lanes c.lowest_of_workers-lowest.result seen.lanes least c.known_of-reached.result found c.in-Some.floor c.max-bound.result c.in-Some-reached.known c.in-Ok.found some most c.in-Some-reached.is traced c.if-found-bound.false

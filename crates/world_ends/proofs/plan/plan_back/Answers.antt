@@ -28,13 +28,13 @@ boards-preserved g c =
     let cost = c.step_back-before.result.1 in
     let plan : List Move = reverse c.boards.backwards.items in
     let more : reverse c.push.new.items.items ≡ c.boards.here.via ∷ plan = ap (λ (ms : List Move). reverse ms) c.in_ok-push.ensures.items ∙ reverse-append c.boards.backwards.items (c.boards.here.via ∷ []) in
-    let traced : (w : WorldState) → HasParts task owner_among states w → IsByLastMoves w before (c.boards.here.via ∷ plan) task.goal = traced_more task owner_among states before c.boards.board cost c.boards.here plan now.board now.found back.moved now.traced in
-    let leads : Leads c.args.asked.now.weights before (c.boards.here.via ∷ plan) c.args.asked.now.goal (c.boards.cost + cost) = (c.boards.board, cost, c.boards.cost, back.moved, now.leads, omega arith) in
+    let traced : (w : WorldState) → HasParts task owner_among states w → IsByLastMoves w before (c.boards.here.via ∷ plan) task.goal = traced_more task owner_among states before c.boards.board cost c.boards.here plan now.board now.found back.before.moves now.traced in
+    let leads : Leads c.args.asked.now.weights before (c.boards.here.via ∷ plan) c.args.asked.now.goal (c.boards.cost + cost) = (c.boards.board, cost, c.boards.cost, back.before.moves, now.leads, omega arith) in
     record {
-      board = back.board;
-      found = back.found;
+      board = back.before.board;
+      found = back.before.known;
       leads = subst (λ (ms : List Move). Leads c.args.asked.now.weights before ms c.args.asked.now.goal (c.boards.cost + cost)) (sym more) leads;
-      within = omega (arith, now.within, back.cheaper);
+      within = omega (arith, now.within, back.before.cheaper);
       traced = λ w parts. subst (λ (ms : List Move). IsByLastMoves w before ms c.args.asked.now.goal) (sym more) (traced w parts);
     }
 

@@ -1,4 +1,4 @@
-use Rattle.hda_run.proofs.lane_steps.send_on.Goals as goal
+use Rattle.hda_run.proofs.parts.send_on.Goals as goal
 
 pub returns-clause-step : goal.returns-clause-step
 returns-clause-step c = c.send.ensures.step c.args.lane.now c.send.new.lane (record { taken = λ packet is. is; full = λ is. is; kept = λ is. is })

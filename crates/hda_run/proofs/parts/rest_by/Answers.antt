@@ -3,7 +3,7 @@ use Rattle.world_model.specs.declared.steps.Refusal.{Refusal}
 use Rattle.world_model.specs.BookSteps.{RestStep}
 use Rattle.world_model.specs.Turns.{turn, refusal_in}
 use Rattle.worker_core.specs.Workers.{state_of, with_book}
-use Rattle.hda_run.proofs.book_steps.rest_by.Goals as goal
+use Rattle.hda_run.proofs.parts.rest_by.Goals as goal
 
 pub returns-in-Ok-clause-step : goal.returns-in-Ok-clause-step
 returns-in-Ok-clause-step c = λ role guide is guided.

@@ -1,4 +1,4 @@
-use Rattle.hda_run.proofs.lane_steps.deliver_from.Goals as goal
+use Rattle.hda_run.proofs.parts.deliver_from.Goals as goal
 
 pub returns-clause-step : goal.returns-clause-step
 returns-clause-step c = c.deliver.ensures.step c.args.lane.now c.deliver.new.lane (record { given = λ packet is. is; empty = λ is. is; kept = λ is. is })
