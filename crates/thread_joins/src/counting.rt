@@ -43,7 +43,6 @@ fn count_one<L: Ledger + Send + Sync, M: Capped + Send + Sync>(
     ensures bound { gathered.new.amount ≤ grants.old }
     ensures grants { grants.new ≡ grants.old }
     ensures sum { result ≡ spent allowance }
-    ensures within { result ≤ allowance.granted }
     ensures spent { allowance.granted ≤ result + GREATEST_GRANT }
 {
     let _ = allowance.left();

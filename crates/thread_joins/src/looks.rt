@@ -32,17 +32,17 @@ pub(crate) fn is_kept<C: Tokens, S: Spread>(
     book: &Book<C>,
     workers: &mut [Worker<C>],
 ) -> bool
-    requires limit { search.now.job.now.limit ≡ C.limit }
+    requires limit { search.now.job.limit ≡ C.limit }
     requires count { length workers.old ≡ search.now.workers }
-    requires guided { AreGuided (task_in search.now.job.now)
-        (guide_of (task_in search.now.job.now)) workers.old }
-    ensures kept { (w : WorldState) → HasParts (task_in search.now.job.now)
+    requires guided { AreGuided (task_in search.now.job)
+        (guide_of (task_in search.now.job)) workers.old }
+    ensures kept { (w : WorldState) → HasParts (task_in search.now.job)
         (S.owner_of search.now.owners.now) (states_of workers.old) w
         → w.book ≡ book.now → (book.now.stop ≡ Some Stop.Quiet → AreAtRest w)
         → IsTrue result ↔ IsKept w }
     ensures same { states_of workers.new ≡ states_of workers.old }
-    ensures guided { AreGuided (task_in search.now.job.now)
-        (guide_of (task_in search.now.job.now)) workers.new }
+    ensures guided { AreGuided (task_in search.now.job)
+        (guide_of (task_in search.now.job)) workers.new }
 {
     let Some(stop) = book.stop() else {
         return false;
@@ -63,16 +63,16 @@ fn is_quiet<C: Counting, S: Spread>(
     workers: &mut [Worker<C>],
 ) -> bool
     requires some { 0 < length workers.old }
-    requires guided { AreGuided (task_in search.now.job.now)
-        (guide_of (task_in search.now.job.now)) workers.old }
+    requires guided { AreGuided (task_in search.now.job)
+        (guide_of (task_in search.now.job)) workers.old }
     ensures quiet { IsTrue result ↔ ((option_map (λ known. known.cost)
         (known_in (S.owner_of search.now.owners.now) (states_of workers.old)
-        search.now.job.now.goal) ≡ best)
-        × All (λ worker. HasNothingBelow (task_in search.now.job.now) worker (limit_of best))
+        search.now.job.goal) ≡ best)
+        × All (λ worker. HasNothingBelow (task_in search.now.job) worker (limit_of best))
         (states_of workers.old)) }
     ensures same { states_of workers.new ≡ states_of workers.old }
-    ensures guided { AreGuided (task_in search.now.job.now)
-        (guide_of (task_in search.now.job.now)) workers.new }
+    ensures guided { AreGuided (task_in search.now.job)
+        (guide_of (task_in search.now.job)) workers.new }
 {
     if !is_reached(search, best, workers) {
         return false;
@@ -88,7 +88,7 @@ fn is_reached<C: Counting, S: Spread>(
 ) -> bool
     requires { 0 < length workers.now }
     ensures { IsTrue result ↔ (option_map (λ known. known.cost) (known_in
-        (S.owner_of search.now.owners.now) (states_of workers.now) search.now.job.now.goal)
+        (S.owner_of search.now.owners.now) (states_of workers.now) search.now.job.goal)
         ≡ best) }
 {
     let Some(known) = known_of(search.owners, workers, search.job.goal()) else {
@@ -103,9 +103,9 @@ fn is_reached<C: Counting, S: Spread>(
 // Whether the start is expanded, or the limit is no more than one grant for each worker.
 fn has_spent<C: Counting, S: Spread>(search: &Search<'_, S>, workers: &[Worker<C>]) -> bool
     requires { length workers.now ≡ search.now.workers }
-    ensures { IsTrue result ↔ (GREATEST_GRANT * length workers.now < search.now.job.now.limit
+    ensures { IsTrue result ↔ (GREATEST_GRANT * length workers.now < search.now.job.limit
         → (known : Known) × (known_in (S.owner_of search.now.owners.now) (states_of workers.now)
-        search.now.job.now.start ≡ Some known) × (known.expanded ≡ true)) }
+        search.now.job.start ≡ Some known) × (known.expanded ≡ true)) }
 {
     if search.job.limit() <= GREATEST_GRANT * workers.len() as u64 {
         return true;

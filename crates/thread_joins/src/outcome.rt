@@ -24,7 +24,7 @@ use std::alloc::Global;
 use std::sync::ledger::Ledger;
 use thread_parts::Search;
 use worker_core::Worker;
-use world_ends::{Reading, read};
+use world_ends::{Reading, Snapshot, read};
 use world_model::Stop;
 
 /// The outcome of a run whose threads were all joined. None exactly where the world that their parts
@@ -38,9 +38,9 @@ pub fn outcome_of_joined<A: Reading, S: Spread, L: Ledger + Send + Sync, M: Capp
     team: Team<'_, S, L, M>,
 ) -> Result<Option<A::Answer>, OutOfMemory>
     requires count { search.now.workers ≡ M.parts }
-    requires limit { search.now.job.now.limit ≡ M.limit }
-    requires joint { IsJoint search.now.job.now search.now.owners.now M.parts team.parts.items }
-    ensures { IfOk result (IsFoundByThreads A.gives S.owner_of search.now.job.now
+    requires limit { search.now.job.limit ≡ M.limit }
+    requires joint { IsJoint search.now.job search.now.owners.now M.parts team.parts.items }
+    ensures { IfOk result (IsFoundByThreads A.gives S.owner_of search.now.job
         search.now.owners.now M.parts) }
 {
     let Team {
@@ -69,10 +69,10 @@ fn outcome_if_kept<A: Reading, C: Tokens, S: Spread>(
     ins: Vec<Vec<Receiver<C>>>,
 ) -> Option<A::Answer>
     requires count { search.now.workers ≡ C.workers }
-    requires limit { search.now.job.now.limit ≡ C.limit }
-    requires world { (w : WorldState) × IsWorldOf S.owner_of search.now.job.now
+    requires limit { search.now.job.limit ≡ C.limit }
+    requires world { (w : WorldState) × IsWorldOf S.owner_of search.now.job
         search.now.owners.now C.workers book.now workers.old ins.items w }
-    ensures given { (w : WorldState) → IsWorldOf S.owner_of search.now.job.now
+    ensures given { (w : WorldState) → IsWorldOf S.owner_of search.now.job
         search.now.owners.now C.workers book.now workers.old ins.items w
         → GivesIfKept A.gives w result }
     ensures same { states_of workers.new ≡ states_of workers.old }
@@ -92,14 +92,20 @@ fn outcome_with<A: Reading, C: Tokens, S: Spread>(
     workers: &mut [Worker<C>],
     ins: Vec<Vec<Receiver<C>>>,
 ) -> A::Answer
-    requires { (book : BookState) × (w : WorldState) × IsWorldOf S.owner_of search.now.job.now
+    requires { (book : BookState) × (w : WorldState) × IsWorldOf S.owner_of search.now.job
         search.now.owners.now C.workers book workers.old ins.items w }
-    ensures given { (book : BookState) (w : WorldState) → IsWorldOf S.owner_of search.now.job.now
+    ensures given { (book : BookState) (w : WorldState) → IsWorldOf S.owner_of search.now.job
         search.now.owners.now C.workers book workers.old ins.items w
         → book.stop ≡ stop → A.gives w result }
     ensures same { states_of workers.new ≡ states_of workers.old }
 {
-    let lowest = lowest_in_rows(search.job.bound(), ins, None);
-    let asked = asked_in(search.job);
-    read::<A, C, S>(alloc, &asked, search.owners, workers, lowest, stop)
+    let lanes = lowest_in_rows(search.job.bound(), ins, None);
+    let asked = asked_in(&search.job);
+    read::<A, C, S>(
+        alloc,
+        &asked,
+        search.owners,
+        workers,
+        Snapshot { lanes, stop },
+    )
 }

@@ -35,7 +35,7 @@ pub struct Means<C: Counting> {
 /// start's owner knows the start, and has to have a purse that isn't empty.
 pub fn open_part<'a, S: Spread, C: Tokens>(
     alloc: Global,
-    search: &Search<'a, S>,
+    search: &'a Search<'a, S>,
     me: usize,
     ends: Ends<C>,
     means: Means<C>,
@@ -43,10 +43,10 @@ pub fn open_part<'a, S: Spread, C: Tokens>(
     requires count { search.now.workers ≡ C.workers }
     requires there { me < search.now.workers }
     requires purse { S.owner_of search.now.owners.now search.now.workers
-        search.now.job.now.start ≡ me → 0 < means.purse }
+        search.now.job.start ≡ me → 0 < means.purse }
     requires sent { sent_lanes ends.outs.items ≡ replicate search.now.workers [] }
     requires received { received_lanes ends.ins.items ≡ replicate search.now.workers [] }
-    ensures { IfOk result (λ part. part ≡ face search.now.job.now search.now.owners.now me
+    ensures { IfOk result (λ part. part ≡ face search.now.job search.now.owners.now me
         (out_rings ends.outs.items) (in_rings ends.ins.items)) }
 {
     openings_are_kept();
@@ -54,7 +54,7 @@ pub fn open_part<'a, S: Spread, C: Tokens>(
     let worker = open_worker(alloc, search, me, means)?;
     let Ends { outs, ins } = ends;
     Ok(Sealed::new(Part {
-        job: search.job,
+        job: &search.job,
         owners: search.owners,
         me,
         worker,
@@ -72,14 +72,14 @@ fn open_worker<S: Spread, C: Counting>(
 ) -> Result<Worker<C>, OutOfMemory>
     requires { me < search.now.workers }
     ensures first { S.owner_of search.now.owners.now search.now.workers
-        search.now.job.now.start ≡ me → IfOk result (λ worker. (via : Move) × (state_of worker
+        search.now.job.start ≡ me → IfOk result (λ worker. (via : Move) × (state_of worker
         ≡ with_means means.purse means.allowance
-        (first_worker search.now.workers (task_in search.now.job.now) via))) }
+        (first_worker search.now.workers (task_in search.now.job) via))) }
     ensures idle { S.owner_of search.now.owners.now search.now.workers
-        search.now.job.now.start ≢ me → IfOk result (λ worker. state_of worker
+        search.now.job.start ≢ me → IfOk result (λ worker. state_of worker
         ≡ with_means means.purse means.allowance (idle_worker search.now.workers)) }
-    ensures guided { IfOk result (λ worker. IsGuided (task_in search.now.job.now)
-        (guide_of (task_in search.now.job.now)) worker.lists) }
+    ensures guided { IfOk result (λ worker. IsGuided (task_in search.now.job)
+        (guide_of (task_in search.now.job)) worker.lists) }
 {
     tasks_have_guides();
     let workers = search.workers;

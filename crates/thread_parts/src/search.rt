@@ -8,7 +8,7 @@ use hda_run::Job;
 /// workers there are.
 #[derive(Drop)]
 pub struct Search<'a, S> {
-    pub job: &'a Job<'a>,
+    pub job: Job<'a>,
     pub owners: &'a S,
     pub workers: usize,
     pub ghost count: { IsWorkerCount workers },

@@ -34,7 +34,7 @@ pub fn run_by_threads<A: Reading, R: Threads + Wait + Sync, S: Spread + Sync, G:
     search: &Search<'_, S>,
     gate: &G,
 ) -> Result<Option<A::Answer>, NoMemory>
-    ensures { IfOk result (IsFoundByThreads A.gives S.owner_of search.now.job.now
+    ensures { IfOk result (IsFoundByThreads A.gives S.owner_of search.now.job
         search.now.owners.now search.now.workers) }
 {
     let blanks = Blanks {
@@ -62,8 +62,8 @@ fn run_over<
     requires blanks { AreBlanksOf L.name L.parts M.name M.parts blanks }
     requires credit { L.parts + 1 ≡ 2 ^ 64 }
     requires count { search.now.workers ≡ M.parts }
-    requires limit { search.now.job.now.limit ≡ M.limit }
-    ensures { IfOk result (IsFoundByThreads A.gives S.owner_of search.now.job.now
+    requires limit { search.now.job.limit ≡ M.limit }
+    ensures { IfOk result (IsFoundByThreads A.gives S.owner_of search.now.job
         search.now.owners.now M.parts) }
 {
     let team = run_team::<R, S, G, L, M>(rt, alloc, search, gate, blanks)?;

@@ -24,7 +24,7 @@ pub(crate) struct Funds<L: Ledger + Send + Sync, M: Capped + Send + Sync> {
 /// purse; that of the start's owner has the 1 of the seed.
 pub(crate) fn open_parts<'a, S: Spread, L: Ledger + Send + Sync, M: Capped + Send + Sync>(
     alloc: Global,
-    search: &Search<'a, S>,
+    search: &'a Search<'a, S>,
     rings: Rings<Shares<L, M>>,
     funds: &mut Funds<L, M>,
 ) -> Result<Vec<Sealed<'a, S, Shares<L, M>>>, OutOfMemory>
@@ -32,7 +32,7 @@ pub(crate) fn open_parts<'a, S: Spread, L: Ledger + Send + Sync, M: Capped + Sen
     requires tickets { funds.old.tickets ≡ search.now.workers }
     requires seed { 0 < funds.old.seed }
     requires rings { AreNew search.now.workers rings.outs.items rings.ins.items }
-    ensures joint { IfOk result (λ parts. IsJoint search.now.job.now search.now.owners.now
+    ensures joint { IfOk result (λ parts. IsJoint search.now.job search.now.owners.now
         search.now.workers parts.items) }
     ensures taken { IfOk result (λ parts. funds.new.tickets ≡ 0) }
 {

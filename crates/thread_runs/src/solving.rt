@@ -52,51 +52,44 @@ pub fn solve<'a, R: Threads + Wait + Sync, S: Spread + Sync, G: Gate + Sync>(
     if !is_worker_count(workers) {
         return Err(WorldFault::WorkerCount);
     }
-    match search_by_workers::<WithRows, R, S, G>(rt, alloc, job, workers, spread, gate) {
+    let search = Search {
+        job,
+        owners: spread,
+        workers,
+    };
+    match search_by_workers::<WithRows, R, S, G>(rt, alloc, search, gate) {
         Ok(outcome) => Ok(outcome),
         Err(refused) => Err(WorldFault::Memory(refused)),
     }
 }
 
-/// The same in each reading, without rows or with them, for a count of workers that is known to be
-/// one. The error: out of memory before the first step.
-pub fn search_by_workers<
-    'a,
-    A: Reading,
-    R: Threads + Wait + Sync,
-    S: Spread + Sync,
-    G: Gate + Sync,
->(
+/// The same in each reading, without rows or with them. The error: out of memory before the first
+/// step.
+pub fn search_by_workers<A: Reading, R: Threads + Wait + Sync, S: Spread + Sync, G: Gate + Sync>(
     rt: &R,
     alloc: Global,
-    job: Job<'a>,
-    workers: usize,
-    spread: &'a S,
+    search: Search<'_, S>,
     gate: &G,
 ) -> Result<A::Answer, OutOfMemory>
-    requires { IsWorkerCount workers }
-    ensures parity { (result ≡ Ok A.parity) ↔ (¬ SameClass job.entry.start job.entry.goal) }
-    ensures run { SameClass job.entry.start job.entry.goal
-        → IfOk result (IsFoundByWorkers A.gives S.owner_of job.entry spread.now workers) }
-    ensures answers { IfOk result (A.answers (task_in job.entry)) }
+    ensures parity { (result ≡ Ok A.parity)
+        ↔ (¬ SameClass search.entry.job.start search.entry.job.goal) }
+    ensures run { SameClass search.entry.job.start search.entry.job.goal
+        → IfOk result (IsFoundByWorkers A.gives S.owner_of search.entry.job
+        search.entry.owners.now search.entry.workers) }
+    ensures answers { IfOk result (A.answers (task_in search.entry.job)) }
     ensures kept { IfOk result (λ answer. EndsWholeRun (A.end answer)) }
 {
     A::keep_laws();
     // By this law no plan leads from a board to another class.
     plans_keep_the_class();
-    let _ = job.goal();
-    if are_apart(&job) {
+    let _ = search.job.goal();
+    if are_apart(&search.job) {
         return Ok(A::of_parity());
     }
-    let search = Search {
-        job: &job,
-        owners: spread,
-        workers,
-    };
     if let Some(answer) = found_by_threads::<A, R, S, G>(rt, alloc, &search, gate) {
         return Ok(answer);
     }
-    search_one::<A, S, G>(alloc, job, spread, gate)
+    search_one::<A, S, G>(alloc, search.job, search.owners, gate)
 }
 
 // What more than one worker find, where the world of their joined threads is kept.
@@ -107,11 +100,11 @@ fn found_by_threads<A: Reading, R: Threads + Wait + Sync, S: Spread + Sync, G: G
     gate: &G,
 ) -> Option<A::Answer>
     ensures run { IfSome result (λ answer. (2 ≤ search.now.workers)
-        × IsFoundByThreads A.gives S.owner_of search.now.job.now search.now.owners.now
+        × IsFoundByThreads A.gives S.owner_of search.now.job search.now.owners.now
         search.now.workers (Some answer)) }
-    ensures left { IfNone result (IsLeftToOne S.owner_of search.now.job.now search.now.owners.now
+    ensures left { IfNone result (IsLeftToOne S.owner_of search.now.job search.now.owners.now
         search.now.workers) }
-    ensures answers { IfSome result (A.answers (task_in search.now.job.now)) }
+    ensures answers { IfSome result (A.answers (task_in search.now.job)) }
     ensures kept { IfSome result (λ answer. EndsWholeRun (A.end answer)) }
 {
     A::keep_laws();

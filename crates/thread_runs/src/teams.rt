@@ -31,15 +31,15 @@ pub(crate) fn run_team<
 >(
     rt: &R,
     alloc: Global,
-    search: &Search<'a, S>,
+    search: &'a Search<'a, S>,
     gate: &G,
     blanks: Blanks,
 ) -> Result<Team<'a, S, L, M>, NoMemory>
     requires blanks { AreBlanksOf L.name L.parts M.name M.parts blanks }
     requires credit { L.parts + 1 ≡ 2 ^ 64 }
     requires count { search.now.workers ≡ M.parts }
-    requires limit { search.now.job.now.limit ≡ M.limit }
-    ensures { IfOk result (λ team. IsJoint search.now.job.now search.now.owners.now M.parts
+    requires limit { search.now.job.limit ≡ M.limit }
+    ensures { IfOk result (λ team. IsJoint search.now.job search.now.owners.now M.parts
         team.parts.items) }
 {
     let Blanks {

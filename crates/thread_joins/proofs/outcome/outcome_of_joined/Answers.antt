@@ -14,12 +14,12 @@ use Rattle.thread_joins.proofs.outcome.outcome_of_joined.Goals as goal
 
 pub outcome_if_kept-found-requires-clause-world : goal.outcome_if_kept-found-requires-clause-world
 outcome_if_kept-found-requires-clause-world g c κs within =
-    let has = c.in_ok-joined.ensures.world c.args.search.now.job.now c.args.search.now.owners.now c.requires.joint in
-    (has.0, world_at g.S.Spread.owner_of c.args.search.now.job.now c.args.search.now.owners.now g.M.Ledger.parts c.args.team.book c.join_world.new.book c.in_ok-joined.joined.workers.items c.deref_mut.result.now c.in_ok-joined.joined.ins.items has.0 (sym c.join_world.ensures.book) (sym c.deref_mut.ensures.value) has.1)
+    let has = c.in_ok-joined.ensures.world c.args.search.now.job c.args.search.now.owners.now c.requires.joint in
+    (has.0, world_at g.S.Spread.owner_of c.args.search.now.job c.args.search.now.owners.now g.M.Ledger.parts c.args.team.book c.join_world.new.book c.in_ok-joined.joined.workers.items c.deref_mut.result.now c.in_ok-joined.joined.ins.items has.0 (sym c.join_world.ensures.book) (sym c.deref_mut.ensures.value) has.1)
 
 pub count_expanded-requires-clause-whole : goal.count_expanded-requires-clause-whole
 count_expanded-requires-clause-whole g c κs within =
-    let has = c.in_ok-joined.ensures.world c.args.search.now.job.now c.args.search.now.owners.now c.requires.joint in
+    let has = c.in_ok-joined.ensures.world c.args.search.now.job c.args.search.now.owners.now c.requires.joint in
     let workers = c.in_ok-joined.joined.workers in
     let new = c.outcome_if_kept-found.new.workers in
     let value = c.deref_mut.ensures.value in
@@ -31,7 +31,7 @@ count_expanded-requires-clause-whole g c κs within =
 
 pub returns : goal.returns
 returns g c =
-    let p = c.args.search.now.job.now in
+    let p = c.args.search.now.job in
     let owner_of = g.S.Spread.owner_of in
     let owners = c.args.search.now.owners.now in
     let n = g.M.Ledger.parts in

@@ -26,7 +26,7 @@ pub workers-preserved : goal.workers-preserved
 workers-preserved g c =
     let inv = c.workers.invariant in
     let me = c.workers.me in
-    let p = c.args.search.now.job.now in
+    let p = c.args.search.now.job in
     let owners = c.args.search.now.owners.now in
     let rings = c.args.rings in
     let parts = c.workers.parts.items in
@@ -58,4 +58,4 @@ returns-clause-joint g c =
     let rings = c.args.rings in
     let n = c.args.search.now.workers in
     let len : length c.workers.parts.items ≡ n = omega arith in
-    joint_of c.args.search.now.job.now c.args.search.now.owners.now n c.workers.parts.items (rings_of_outs rings.outs.items) (rings_of_ins rings.ins.items) len c.requires.rings.paired inv.faces
+    joint_of c.args.search.now.job c.args.search.now.owners.now n c.workers.parts.items (rings_of_outs rings.outs.items) (rings_of_ins rings.ins.items) len c.requires.rings.paired inv.faces

@@ -17,5 +17,5 @@ invariant-workers g l =
       seed : l.me ≤ l.owner → 0 < l.funds.seed;
       later_outs : (k : ℕ) → l.me ≤ k → slice_get l.outs.items k ≡ slice_get l.fn.rings.outs.items k;
       later_ins : (k : ℕ) → l.me ≤ k → slice_get l.ins.items k ≡ slice_get l.fn.rings.ins.items k;
-      faces : (i : ℕ) (it : Face _) → slice_get l.parts.items i ≡ Some it → IsFace l.search.job.now l.search.owners.now (rings_of_outs l.fn.rings.outs.items) (rings_of_ins l.fn.rings.ins.items) i it;
+      faces : (i : ℕ) (it : Face _) → slice_get l.parts.items i ≡ Some it → IsFace l.search.job l.search.owners.now (rings_of_outs l.fn.rings.outs.items) (rings_of_ins l.fn.rings.ins.items) i it;
     }

@@ -26,4 +26,4 @@ returns-clause-holds g c =
     let step = c.announce.ensures.step role (record { me = refl; ends = sym c.keyed_goal-goal.ensures.value }) owner in
     holds_with owner_of n old c.requires c.announce.new.self
     (c.steps_are_kept.ensures.book n role (part_state old) c.args.book.now c.announce.new.book (refusal_in c.announce.result) (state_of c.announce.new.self) c.requires.role c.requires.keeps c.in_default.ensures.purse (inr (inl step)))
-    (same_guided owner_of n old c.requires c.announce.new.self c.announce.ensures.lists)
+    (same_guided owner_of n old c.requires c.announce.new.self c.announce.ensures.keeps.lists)

@@ -14,4 +14,4 @@ returns-clause-holds g c =
     let n = g.C.Tokens.workers in
     holds_with g.S.Spread.owner_of n old c.requires c.draw.new.self
     (c.steps_are_kept.ensures.book n (role_of g.S.Spread.owner_of n old) (part_state old) c.args.book.now c.draw.new.book (refusal_in c.draw.result) (state_of c.draw.new.self) c.requires.role c.requires.keeps c.in_default.ensures.purse (inl c.draw.ensures.step))
-    (same_guided g.S.Spread.owner_of n old c.requires c.draw.new.self c.draw.ensures.lists)
+    (same_guided g.S.Spread.owner_of n old c.requires c.draw.new.self c.draw.ensures.keeps.lists)

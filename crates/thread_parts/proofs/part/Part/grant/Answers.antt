@@ -24,4 +24,4 @@ returns-clause-holds g c =
     let step = c.grant.ensures.step role (guide_of task) c.requires.guided in
     holds_with g.S.Spread.owner_of n old c.requires c.grant.new.self
     (c.steps_are_kept.ensures.book n role (part_state old) c.args.book.now c.grant.new.book (refusal_in c.grant.result) (state_of c.grant.new.self) c.requires.role c.requires.keeps c.in_default.ensures.purse (inr (inr (inl step))))
-    (c.grant.ensures.guided task (guide_of task) c.requires.guided)
+    (c.grant.ensures.keeps.guided task (guide_of task) c.requires.guided)

@@ -11,4 +11,4 @@ returns-clause-holds g c =
     let n = g.C.Tokens.workers in
     holds_with g.S.Spread.owner_of n old c.requires.holds c.halt.new.self
     (c.steps_are_kept.ensures.book n (role_of g.S.Spread.owner_of n old) (part_state old) c.args.book.now c.halt.new.book (refusal_in c.halt.result) (state_of c.halt.new.self) c.requires.holds.role c.requires.holds.keeps c.in_default.ensures.purse (inr (inr (inr (inr (c.args.cause, c.halt.ensures.step))))))
-    (same_guided g.S.Spread.owner_of n old c.requires.holds c.halt.new.self c.halt.ensures.lists)
+    (same_guided g.S.Spread.owner_of n old c.requires.holds c.halt.new.self c.halt.ensures.keeps.lists)

@@ -27,4 +27,4 @@ returns-clause-holds g c =
     let step = c.rest.ensures.step role (guide_of task) (record { me = refl; ends = sym c.keyed_goal-goal.ensures.value }) c.requires.guided in
     holds_with g.S.Spread.owner_of n old c.requires c.rest.new.self
     (c.steps_are_kept.ensures.book n role (part_state old) c.args.book.now c.rest.new.book (refusal_in c.rest.result) (state_of c.rest.new.self) c.requires.role c.requires.keeps c.in_default.ensures.purse (inr (inr (inr (inl step)))))
-    (c.rest.ensures.guided task (guide_of task) c.requires.guided)
+    (c.rest.ensures.keeps.guided task (guide_of task) c.requires.guided)

@@ -21,7 +21,7 @@ returns-clause-holds g c =
     let role = role_of g.S.Spread.owner_of n old in
     let same = role_is g.S.Spread.owner_of n old c.requires c.workers-workers.result c.workers-workers.ensures c.context.result c.context.ensures.value in
     let step = subst (λ (r : Role). SettleOrDrop r (turn (state_of old.worker) (refusal_in c.settle.result) (state_of c.settle.new.self))) same (c.settle.ensures.step old.job.now.start) in
-    let stays = stays_guided c.context.result old.worker.lists c.settle.new.self.lists c.settle.ensures.lists in
+    let stays = stays_guided c.context.result old.worker.lists c.settle.new.self.lists c.settle.ensures.keeps.lists in
     holds_with g.S.Spread.owner_of n old c.requires c.settle.new.self
     (settled_kept c.steps_are_kept.ensures.settle c.steps_are_kept.ensures.drop n role (part_state old) (refusal_in c.settle.result) (state_of c.settle.new.self) c.requires.role c.requires.keeps step)
     (guided_after g.S.Spread.owner_of n old c.requires c.workers-workers.result c.workers-workers.ensures c.context.result c.context.ensures.value c.settle.new.self stays)
