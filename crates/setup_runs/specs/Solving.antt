@@ -1,5 +1,6 @@
 -- How the boards of a setup are answered.
-use Rattle.std.specs.Prelude.{◌≡◌, ◌≤◌, ◌⊎◌, Option, None, Some}
+use Rattle.std.specs.Prelude.{◌≡◌, ◌≤◌, ◌⊎◌, ◌↔◌, Option, None, Some, Result, Ok, IfOk}
+use Rattle.memory.specs.declared.OutOfMemory.{OutOfMemory}
 use Rattle.board.specs.Grids.{cell_count}
 use Rattle.board.specs.Positions.{Position}
 use Rattle.board.specs.Classes.{SameClass}
@@ -10,6 +11,7 @@ use Rattle.outcomes.specs.declared.outcome.Outcome.{Outcome}
 use Rattle.outcomes.specs.declared.outcome.Outcome.TheVariants as outcome
 use Rattle.outcomes.specs.Outcomes.{Task, Answers}
 use Rattle.outcomes.specs.Endings.{EndAnswers}
+use Rattle.world_model.specs.Worlds.{WorldState}
 use Rattle.world_ends.specs.Endings.{EndsIn}
 use Rattle.hda_run.specs.Alone.{IsFoundAlone}
 use Rattle.hda_run.specs.Problems.{Problem, problem}
@@ -22,6 +24,13 @@ use Rattle.certificate_runs.specs.Rules.{ProofRules}
 -- what is to be solved for a board: the setup says the rest
 abbrev pub problem_of : SetupState → Position → Problem
 problem_of setup start = problem start setup.goal setup.rule setup.tables setup.limit
+
+-- What a search by the setup's workers may answer for a board: its parity just where the board isn't in the goal's class, and else what a run finds. Memory may be refused before the first step.
+pub record IsSearched {X : Type 0} (gives : WorldState → X → Type 0) (answers : Task → X → Type 0) (end : X → Ending) (parity : X) (setup : SetupState) (start : Position) (found : Result X OutOfMemory) : Type 0 where
+  pub at_parity : (found ≡ Ok parity) ↔ (¬ SameClass start setup.goal)
+  pub run : SameClass start setup.goal → IfOk found (IsFoundByWorkers gives owner_by (problem_of setup start) setup.spread setup.workers)
+  pub answered : IfOk found (answers (task_of setup start))
+  pub kept : IfOk found (λ answer. EndsWholeRun (end answer))
 
 -- a board of at most 9 cells ended by one worker: small boards may be solved side by side
 abbrev pub IsSmallAlone : SetupState → Position → Ending → Type 0

@@ -11,7 +11,7 @@ ghost use Rattle.batch_runs.specs.Batches.{AreAllowed};
 ghost use Rattle.setup_runs.specs.Ahead.{Stands, IsAnswered};
 ghost use Rattle.setup_runs.specs.Solving.{MayAnswer, rules_of};
 
-use crate::solving::job_for;
+use crate::solving::{Question, job_for};
 use batch_lines::{LineKind, LineReader, read_entry};
 use batch_runs::Setup;
 use board::{Board, Shape};
@@ -45,20 +45,19 @@ pub(crate) struct Place {
 /// refused.
 pub(crate) fn places_ahead(
     alloc: Global,
-    setup: &Setup,
-    start: &Board,
+    question: &Question<'_>,
     held: &[u8],
 ) -> Option<Vec<Place>>
-    requires { start.now.grid ≡ setup.now.goal.grid }
-    ensures small { IfSome result (λ places. cell_count setup.now.goal.grid ≤ 9) }
+    ensures small { IfSome result (λ places. cell_count question.now.setup.now.goal.grid ≤ 9) }
     ensures boards { IfSome result
-        (λ places. All (λ place. Stands setup.now.goal.grid place) places.items) }
+        (λ places. All (λ place. Stands question.now.setup.now.goal.grid place) places.items) }
 {
+    let setup = question.setup;
     let shape = setup.shape();
     if setup.worker_count() == 1 || SMALL_CELLS < shape.cells() {
         return None;
     }
-    let places = places_among(alloc, start, whole_lines(held));
+    let places = places_among(alloc, question.start, whole_lines(held));
     if places.len() < FEWEST_BOARDS {
         return None;
     }
@@ -165,7 +164,11 @@ fn end_places<R: Threads + Sync, G: Gate + Sync>(
             requires small { cell_count setup.now.goal.grid ≤ 9 }
             ensures { IsAnswered setup.entry.now place.new }
         {
-            place.ending = end_alone(alloc, setup, &place.board, &ByBlank, gate);
+            let question = Question {
+                setup,
+                start: &place.board,
+            };
+            place.ending = end_alone(alloc, &question, &ByBlank, gate);
         },
     );
 }
@@ -174,16 +177,15 @@ fn end_places<R: Threads + Sync, G: Gate + Sync>(
 // are spread by.
 fn end_alone<S: Spread, G: Gate>(
     alloc: Global,
-    setup: &Setup,
-    start: &Board,
+    question: &Question<'_>,
     spread: &S,
     gate: &G,
 ) -> Option<Ending>
-    requires sides { start.now.grid ≡ setup.now.goal.grid }
-    requires small { cell_count setup.now.goal.grid ≤ 9 }
-    ensures { IfSome result (λ ending. MayAnswer setup.now start.now (Some ending)) }
+    requires { cell_count question.now.setup.now.goal.grid ≤ 9 }
+    ensures { IfSome result (λ ending.
+        MayAnswer question.now.setup.now question.now.start.now (Some ending)) }
 {
-    let job = job_for(setup, start);
+    let job = job_for(question);
     let Ok(ending) = read_one::<WithoutRows, S, G>(alloc, job, spread, gate) else {
         return None;
     };

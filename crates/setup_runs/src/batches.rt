@@ -7,7 +7,7 @@ ghost use Rattle.batch_runs.specs.Headline.{IsTrueRun};
 ghost use Rattle.setup_runs.specs.Solving.{rules_of};
 
 use crate::ahead::{end_ahead, places_ahead};
-use crate::solving::answer_board;
+use crate::solving::{Question, answer_board};
 use batch_runs::{LinesFault, Ruled, Setup, Solver, Summary, run_lines};
 use board::{Board, Shape};
 use byte_streams::{Sink, Source};
@@ -99,12 +99,12 @@ pub fn run_batch<R: Threads + Wait + Sync, S: Source, K: Sink, G: Gate + Sync>(
     let solve = |start: &Board| -> Result<Ending, OutOfMemory>
         requires { start.now.grid ≡ setup.now.goal.grid }
         ensures { MayGive (rules_of setup.entry.now) start.now result }
-    { answer_board::<WithoutRows, R, G>(rt, alloc, setup, start, gate) };
+    { answer_board::<WithoutRows, R, G>(rt, alloc, &Question { setup, start }, gate) };
     let ahead = |start: &Board, held: &[u8]| -> Vec<(Board, Ending)>
         requires { start.now.grid ≡ setup.now.goal.grid }
         ensures { AreAllowed (rules_of setup.entry.now) result.items }
     {
-        match places_ahead(alloc, setup, start, held) {
+        match places_ahead(alloc, &Question { setup, start }, held) {
             Some(places) => end_ahead(rt, alloc, setup, places, gate),
             None => Vec::new(alloc),
         }

@@ -8,7 +8,7 @@ ghost use Rattle.certificate_runs.specs.Certifying.{Replies};
 ghost use Rattle.certificate_runs.specs.Headline.{IsTrueAnswer};
 ghost use Rattle.setup_runs.specs.Solving.{certifying_rules_of};
 
-use crate::solving::answer_board;
+use crate::solving::{Question, answer_board};
 use batch_runs::Setup;
 use board::Board;
 use byte_streams::{Sink, Source};
@@ -89,7 +89,7 @@ pub fn run_cert<R: Threads + Wait + Sync, S: Source, K: Sink, G: Gate + Sync>(
     let prove = |start: &Board| -> Result<Outcome, OutOfMemory>
         requires { start.now.grid ≡ setup.now.goal.grid }
         ensures { MayProve (certifying_rules_of setup.entry.now) start.now result }
-    { answer_board::<WithRows, R, G>(rt, alloc, setup, start, gate) };
+    { answer_board::<WithRows, R, G>(rt, alloc, &Question { setup, start }, gate) };
     let proving = Proving { setup, prove };
     certify_first(alloc, source, sink, &proving)
 }

@@ -1,12 +1,9 @@
 //! The solver of a setup's boards.
 
-ghost use Rattle.std.specs.Prelude.{◌≡◌, ◌↔◌, Ok, IfOk};
-ghost use Rattle.board.specs.Classes.{SameClass};
+ghost use Rattle.std.specs.Prelude.{◌≡◌};
 ghost use Rattle.board.specs.Positions.{Position};
-ghost use Rattle.hda_run.specs.WholeRuns.{EndsWholeRun};
-ghost use Rattle.thread_runs.specs.Solved.{IsFoundByWorkers};
-ghost use Rattle.batch_runs.specs.Setups.{owner_by, task_of};
-ghost use Rattle.setup_runs.specs.Solving.{problem_of};
+ghost use Rattle.batch_runs.specs.Setups.{owner_by};
+ghost use Rattle.setup_runs.specs.Solving.{problem_of, IsSearched};
 
 use batch_runs::{Setup, SpreadKind};
 use board::Board;
@@ -16,38 +13,42 @@ use owners::{ByBlank, Spread, Zobrist};
 use std::alloc::Global;
 use std::sync::Wait;
 use std::thread::Threads;
+use thread_parts::Search;
 use thread_runs::laws::owners_are_workers;
 use thread_runs::search_by_workers;
 use world_ends::Reading;
+
+/// A setup, and a board of its shape that is to be answered.
+#[derive(Drop)]
+pub(crate) struct Question<'a> {
+    pub(crate) setup: &'a Setup,
+    pub(crate) start: &'a Board,
+    pub(crate) ghost sides: { start.now.grid ≡ setup.now.goal.grid },
+}
 
 /// The answer of a board by the setup's workers, in a reading: one alone in the calling thread, more
 /// in threads of their own. The error: out of memory before the first step.
 pub(crate) fn answer_board<A: Reading, R: Threads + Wait + Sync, G: Gate + Sync>(
     rt: &R,
     alloc: Global,
-    setup: &Setup,
-    start: &Board,
+    question: &Question<'_>,
     gate: &G,
 ) -> Result<A::Answer, OutOfMemory>
-    requires { start.now.grid ≡ setup.now.goal.grid }
-    ensures parity { (result ≡ Ok A.parity) ↔ (¬ SameClass start.now setup.now.goal) }
-    ensures run { SameClass start.now setup.now.goal
-        → IfOk result (IsFoundByWorkers A.gives owner_by (problem_of setup.now start.now)
-        setup.now.spread setup.now.workers) }
-    ensures answers { IfOk result (A.answers (task_of setup.now start.now)) }
-    ensures kept { IfOk result (λ answer. EndsWholeRun (A.end answer)) }
+    ensures { IsSearched A.gives A.answers A.end A.parity question.now.setup.now
+        question.now.start.now result }
 {
+    let setup = question.setup;
     // One worker owns all boards, whatever they are spread by.
     if setup.worker_count() == 1 {
-        return answer_spread::<A, R, ByBlank, G>(rt, alloc, setup, start, &ByBlank, gate);
+        return answer_spread::<A, R, ByBlank, G>(rt, alloc, question, &ByBlank, gate);
     }
     match setup.spread_kind() {
         SpreadKind::Zobrist => {
             let spread = Zobrist::new(setup.shape());
-            answer_spread::<A, R, Zobrist, G>(rt, alloc, setup, start, &spread, gate)
+            answer_spread::<A, R, Zobrist, G>(rt, alloc, question, &spread, gate)
         }
         SpreadKind::Blank => {
-            answer_spread::<A, R, ByBlank, G>(rt, alloc, setup, start, &ByBlank, gate)
+            answer_spread::<A, R, ByBlank, G>(rt, alloc, question, &ByBlank, gate)
         }
     }
 }
@@ -56,33 +57,31 @@ pub(crate) fn answer_board<A: Reading, R: Threads + Wait + Sync, G: Gate + Sync>
 fn answer_spread<A: Reading, R: Threads + Wait + Sync, S: Spread + Sync, G: Gate + Sync>(
     rt: &R,
     alloc: Global,
-    setup: &Setup,
-    start: &Board,
+    question: &Question<'_>,
     spread: &S,
     gate: &G,
 ) -> Result<A::Answer, OutOfMemory>
-    requires sides { start.now.grid ≡ setup.now.goal.grid }
-    requires owners { (b : Position)
-        → S.owner_of spread.now setup.now.workers b ≡ owner_by setup.now.spread setup.now.workers b }
-    ensures parity { (result ≡ Ok A.parity) ↔ (¬ SameClass start.now setup.now.goal) }
-    ensures run { SameClass start.now setup.now.goal
-        → IfOk result (IsFoundByWorkers A.gives owner_by (problem_of setup.now start.now)
-        setup.now.spread setup.now.workers) }
-    ensures answers { IfOk result (A.answers (task_of setup.now start.now)) }
-    ensures kept { IfOk result (λ answer. EndsWholeRun (A.end answer)) }
+    requires { (b : Position) → S.owner_of spread.now question.now.setup.now.workers b
+        ≡ owner_by question.now.setup.now.spread question.now.setup.now.workers b }
+    ensures { IsSearched A.gives A.answers A.end A.parity question.now.setup.now
+        question.now.start.now result }
 {
     owners_are_workers::<S>();
-    let workers = setup.worker_count();
-    search_by_workers::<A, R, S, G>(rt, alloc, job_for(setup, start), workers, spread, gate)
+    let search = Search {
+        job: job_for(question),
+        owners: spread,
+        workers: question.setup.worker_count(),
+    };
+    search_by_workers::<A, R, S, G>(rt, alloc, search, gate)
 }
 
 /// The job of a board: the setup says the rest.
-pub(crate) fn job_for<'a>(setup: &'a Setup, start: &Board) -> Job<'a>
-    requires { start.now.grid ≡ setup.now.goal.grid }
-    ensures { result ≡ problem_of setup.now start.now }
+pub(crate) fn job_for<'a>(question: &Question<'a>) -> Job<'a>
+    ensures { result ≡ problem_of question.now.setup.now question.now.start.now }
 {
+    let setup = question.setup;
     Job::new(
-        *start,
+        *question.start,
         setup.goal(),
         setup.weights(),
         setup.tables(),

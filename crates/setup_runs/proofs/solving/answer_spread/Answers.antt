@@ -4,11 +4,11 @@ use Rattle.setup_runs.proofs.solving.answer_spread.Goals as goal
 
 pub returns : goal.returns
 returns g c =
-    let run = rw (c.job_for.ensures, c.worker_count-workers.ensures.value) at c.search_by_workers.ensures in
-    let setup = c.args.setup.now in
+    let run = rw (c.job_for.ensures, c.worker_count.ensures.value) at c.search_by_workers.ensures in
+    let setup = c.args.question.now.setup.now in
     record {
-      parity = run.parity;
-      run = λ together. found_so g.A.Reading.gives setup c.args.start.now g.S.Spread.owner_of c.owners_are_workers.ensures c.args.spread.now owner_by setup_owners setup.spread c.requires.owners c.search_by_workers.result (run.run together);
-      answers = run.answers;
+      at_parity = run.parity;
+      run = λ together. found_so g.A.Reading.gives setup c.args.question.now.start.now g.S.Spread.owner_of c.owners_are_workers.ensures c.args.spread.now owner_by setup_owners setup.spread c.requires c.search_by_workers.result (run.run together);
+      answered = run.answers;
       kept = run.kept;
     }
