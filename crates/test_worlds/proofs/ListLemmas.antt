@@ -1,5 +1,5 @@
 -- Lists with no board, and the lists of a worker that met one.
-use Rattle.std.proofs.Common.{refl, ◌≡◌, ℕ, ◌<◌, Option, Some, None, sym, ◌∙◌, arith}
+use Rattle.std.proofs.Common.{◌≡◌, ℕ, ◌<◌, Option, Some, None, sym, ◌∙◌, arith}
 use Rattle.std.specs.Ordering.{nat_cmp}
 use Rattle.std.specs.FinMap as map
 use Rattle.outcomes.specs.Outcomes.{Task}

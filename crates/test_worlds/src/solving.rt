@@ -124,7 +124,12 @@ fn end_by<R: Threads + Wait + Sync, S: Spread + Sync, G: Gate + Sync>(
     let Some(job) = job_of(problem, bound) else {
         return Answer::Invalid;
     };
-    match search_by_workers::<WithoutRows, R, S, G>(rt, alloc, job, workers, spread, gate) {
+    let search = Search {
+        job,
+        owners: spread,
+        workers,
+    };
+    match search_by_workers::<WithoutRows, R, S, G>(rt, alloc, search, gate) {
         Ok(ending) => answer_of_ending(ending),
         Err(_refused) => Answer::NoMemory,
     }
@@ -146,7 +151,7 @@ fn find_by<R: Threads + Wait + Sync, S: Spread + Sync, G: Gate + Sync>(
         return Some(Answer::Invalid);
     };
     let search = Search {
-        job: &job,
+        job,
         owners: spread,
         workers,
     };

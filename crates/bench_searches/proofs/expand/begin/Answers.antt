@@ -15,6 +15,6 @@ returns-clause-serves c =
     let board = subst IsBoard (ap (λ (x : ContextModel ByBlank). x.goal) c.context.view_is) c.shape.ensures.board in
     let leads = c.tasks_have_guides.ensures task board in
     record {
-      workers = ap (λ u. length u.items) c.meet.ensures.unsent ∙ c.in-Ok.ensures.workers ∙ sym c.requires.one;
-      guided = (start, guide, stays_guided context c.in-Ok.worker.lists c.meet.new.self.lists c.meet.ensures.lists start guide (c.in-Ok.ensures.guided task guide leads));
+      workers = ap (λ u. length u.items) c.meet.ensures.keeps.unsent ∙ c.in-Ok.ensures.workers ∙ sym c.requires.one;
+      guided = (start, guide, stays_guided context c.in-Ok.worker.lists c.meet.new.self.lists c.meet.ensures.keeps.lists start guide (c.in-Ok.ensures.guided task guide leads));
     }

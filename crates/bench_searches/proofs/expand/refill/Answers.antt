@@ -14,7 +14,7 @@ grant-requires-clause-counted c κs =
     let inside = c.context.inside in
     let role = role_by (task_of inside.goal.now inside.goal.now inside.weights.now inside.bound.now) owner_by_blank (length c.args.worker.now.unsent.items) 0 in
     let same = announced role (with_book (state_of c.args.worker.now) c.args.book.now) (with_book (state_of c.announce.new.self) c.announce.new.book) _ (c.announce.ensures.step role (record { me = refl; ends = refl }) refl) in
-    let kept = ap (λ (it : Spending). it.granted) c.announce.ensures.allowance in
+    let kept = ap (λ (it : Spending). it.granted) c.announce.ensures.keeps.allowance in
     let counted = c.requires.counted in
     omega (arith, same, kept, counted)
 
@@ -23,7 +23,7 @@ returns-clause-counted c =
     let inside = c.context.inside in
     let role = role_by (task_of inside.goal.now inside.goal.now inside.weights.now inside.bound.now) owner_by_blank (length c.args.worker.now.unsent.items) 0 in
     let same = announced role (with_book (state_of c.args.worker.now) c.args.book.now) (with_book (state_of c.announce.new.self) c.announce.new.book) _ (c.announce.ensures.step role (record { me = refl; ends = refl }) refl) in
-    let kept = ap (λ (it : Spending). it.granted) c.announce.ensures.allowance in
+    let kept = ap (λ (it : Spending). it.granted) c.announce.ensures.keeps.allowance in
     let counted = c.requires.counted in
     let granted = c.grant.ensures.granted in
     omega (arith, same, kept, counted, granted)
@@ -33,8 +33,8 @@ returns-clause-serves c =
     let serves = c.requires.serves in
     let task = task_from serves.guided.0 c.args.context.now in
     let guide = serves.guided.1 in
-    let announced = subst (λ (lists : Lists). IsGuided task guide lists) (sym c.announce.ensures.lists) serves.guided.2 in
+    let announced = subst (λ (lists : Lists). IsGuided task guide lists) (sym c.announce.ensures.keeps.lists) serves.guided.2 in
     record {
-      workers = ap (λ u. length u.items) c.grant.ensures.unsent ∙ ap (λ u. length u.items) c.announce.ensures.unsent ∙ serves.workers;
-      guided = (serves.guided.0, guide, c.grant.ensures.guided task guide announced);
+      workers = ap (λ u. length u.items) c.grant.ensures.keeps.unsent ∙ ap (λ u. length u.items) c.announce.ensures.keeps.unsent ∙ serves.workers;
+      guided = (serves.guided.0, guide, c.grant.ensures.keeps.guided task guide announced);
     }

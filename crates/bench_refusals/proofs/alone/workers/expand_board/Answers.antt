@@ -11,7 +11,7 @@ expand_it-expanded-requires-clause-led c =
       led.1,
       record {
         guides = led.2.guides;
-        order = c.grant.ensures.order led.1 led.2.order;
-        boards = subst (AreTaskBoards task) (sym c.grant.ensures.closed) led.2.boards;
+        order = c.grant.ensures.keeps.order led.1 led.2.order;
+        boards = subst (AreTaskBoards task) (sym c.grant.ensures.keeps.closed) led.2.boards;
       },
     )

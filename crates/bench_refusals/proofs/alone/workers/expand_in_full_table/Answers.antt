@@ -6,4 +6,4 @@ expand_it-expanded-requires-clause-led c =
     let job = c.in-Some.job in
     let led = c.fill_table-met.ensures.led in
     let task = task_of led.0 job.goal job.weights job.bound in
-    (led.0, led.1, c.grant.ensures.guided task led.1 led.2)
+    (led.0, led.1, c.grant.ensures.keeps.guided task led.1 led.2)
