@@ -112,7 +112,7 @@ fn lacks(workers: usize, step: Step) -> bool
     }
 }
 
-// Whether these are two of so many workers.
+// Whether these are two different workers, both below a count.
 fn are_two(workers: usize, from: usize, to: usize) -> bool
     ensures yes { IsTrue result → (from ≢ to) × (from < workers) × (to < workers) }
     ensures no { IsFalse result → (from ≡ to) ⊎ (workers ≤ from) ⊎ (workers ≤ to) }
@@ -151,7 +151,7 @@ fn deliver_from(worker: &mut Worker<Plain>, lane: &mut Queue<Plain>) -> Result<(
     worker.deliver(lane)
 }
 
-// A worker rests. What it is told is seen in the book too.
+// A worker rests. The book has what it answers too.
 fn rest_by(
     worker: &mut Worker<Plain>,
     me: usize,

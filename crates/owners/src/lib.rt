@@ -1,6 +1,7 @@
 //! Which worker owns a board.
 #![tactic(auto)]
 
+pub mod laws;
 mod spread;
 pub mod worked;
 mod zobrist;

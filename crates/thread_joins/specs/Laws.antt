@@ -1,5 +1,5 @@
 -- The laws of joined worlds. Each is the contract of a function that does nothing.
-use Rattle.std.specs.Prelude.{ℕ, ◌≡◌, ◌≢◌, ◌+◌, ◌*◌, ◌≤◌, ◌<◌, length, Some}
+use Rattle.std.specs.Prelude.{ℕ, ◌≡◌, ◌≢◌, ◌+◌, ◌*◌, ◌≤◌, ◌<◌, length, None, Some}
 use Rattle.board.specs.Positions.{Position}
 use Rattle.board.specs.Rows.{IsLowerBound}
 use Rattle.outcomes.specs.declared.outcome.Want.TheVariants.{Stated}
@@ -11,7 +11,7 @@ use Rattle.world_model.specs.Credit.{expansion_count, packet_count, purse_total}
 use Rattle.world_model.specs.Openings.{Job}
 use Rattle.world_model.specs.Quiet.{IsKept}
 use Rattle.world_model.specs.Worlds.{WorldState, IsUnderWay}
-use Rattle.thread_joins.specs.Threads.{IsJoined}
+use Rattle.thread_joins.specs.Threads.{IsJoined, GivesIfKept}
 
 -- each board is owned in the joined world by whom the job says, one of its workers, of which there are as many as the job has
 abbrev pub BoardsHaveOwners : Type 0
@@ -47,6 +47,11 @@ module _ {X : Type 0} (gives : WorldState → X → Type 0) (answers : Task → 
       → IsLowerBound job.task.rule job.task.sum job.task.goal
       → gives w answer
       → answers job.task answer
+
+module _ {X : Type 0} (gives : WorldState → X → Type 0) where
+  -- an answer is found of a world that is kept, and gives it; and none of one that isn't
+  abbrev pub KeptWorldsAloneGive : Type 0
+  KeptWorldsAloneGive = (w : WorldState) → ((answer : X) → GivesIfKept gives w (Some answer) → IsKept w × gives w answer) × (GivesIfKept gives w None → ¬ IsKept w)
 
 -- no list of steps stopped it
 abbrev pub NoListStopsThreads : Type 0

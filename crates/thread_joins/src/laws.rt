@@ -2,7 +2,8 @@
 
 ghost use Rattle.thread_joins.specs.Laws.{BoardsHaveOwners, LimitsAreKept, LimitsAreSpent};
 ghost use Rattle.thread_joins.specs.Laws.{QuietHasNoCredit, QuietIsStill};
-ghost use Rattle.thread_joins.specs.Laws.{JoinedWorldsAnswer, NoListStopsThreads};
+ghost use Rattle.thread_joins.specs.Laws.{JoinedWorldsAnswer, KeptWorldsAloneGive};
+ghost use Rattle.thread_joins.specs.Laws.{NoListStopsThreads};
 
 use world_ends::Reading;
 
@@ -22,6 +23,11 @@ pub fn limits_are_kept()
 pub fn quiet_is_at_rest()
     ensures credit { QuietHasNoCredit }
     ensures still { QuietIsStill }
+{}
+
+/// An answer is found of worlds that are kept, and of no other.
+pub fn kept_worlds_alone_give<A: Reading>()
+    ensures { KeptWorldsAloneGive A.gives }
 {}
 
 /// What a joined world that is kept gives answers its job, in each reading. No list of steps stopped

@@ -1,10 +1,19 @@
 //! The laws of endings: each is the contract of a function that does nothing.
 
+ghost use Rattle.std.specs.Prelude.{◌≡◌, ◌↔◌};
+ghost use Rattle.outcomes.specs.declared.outcome.Ending.{Ending};
+ghost use Rattle.outcomes.specs.declared.outcome.Outcome.{Outcome};
+ghost use Rattle.outcomes.specs.Endings.{without_rows, EndAnswers};
+ghost use Rattle.outcomes.specs.Outcomes.{Task, Answers};
+ghost use Rattle.world_model.specs.Outcomes.{IsGiven};
+ghost use Rattle.world_model.specs.Worlds.{WorldState};
+ghost use Rattle.world_ends.specs.Endings.{EndsIn};
 ghost use Rattle.world_ends.specs.Laws.{EndingsLackRowsAlone, WantedRowsLeaveABound};
 ghost use Rattle.world_ends.specs.Laws.{BoundsLackRowsAlone, WantedRowsLeaveTheBound};
 ghost use Rattle.world_ends.specs.Laws.{EndsAreBounds, MemoryEndsAreWanted};
 ghost use Rattle.world_ends.specs.Laws.{RowsMakeAnAnswer, RowsMakeABoundAnswer, EndingsAnswer};
 
+use crate::reading::{Reading, WithRows, WithoutRows};
 use world_model::laws::outcomes_answer;
 
 /// An ending is an outcome but for its rows, and a bound where memory is refused for these.
@@ -29,3 +38,17 @@ pub fn endings_answer()
 {
     outcomes_answer();
 }
+
+/// Each reading is the one that its name says: `WithRows` of outcomes, `WithoutRows` of endings.
+pub fn readings_are_as_named()
+    ensures outcomes { (w : WorldState) (outcome : Outcome)
+        → ⟦<WithRows as Reading>⟧.gives w outcome ↔ IsGiven w outcome }
+    ensures answers { (task : Task) (outcome : Outcome)
+        → ⟦<WithRows as Reading>⟧.answers task outcome ↔ Answers task outcome }
+    ensures ends { (outcome : Outcome) → ⟦<WithRows as Reading>⟧.end outcome ≡ without_rows outcome }
+    ensures endings { (w : WorldState) (ending : Ending)
+        → ⟦<WithoutRows as Reading>⟧.gives w ending ↔ EndsIn w ending }
+    ensures ending_answers { (task : Task) (ending : Ending)
+        → ⟦<WithoutRows as Reading>⟧.answers task ending ↔ EndAnswers task ending }
+    ensures ending_ends { (ending : Ending) → ⟦<WithoutRows as Reading>⟧.end ending ≡ ending }
+{}
