@@ -37,7 +37,7 @@ limits_alone setup b bound best (w, run, given) =
 pub limits : LimitsAreTheSetups
 limits setup b bound best one (answers, inl (same, (inl (inl (several, by)), kept))) = absurd (omega (arith, one, several))
 limits setup b bound best one (answers, inl (same, (inl (inr (run, left)), kept))) = limits_alone setup b bound best run
-limits setup b bound best one (answers, inl (same, (inr (small, run), kept))) = limits_alone setup b bound best run
+limits setup b bound best one (answers, inl (same, (inr run, kept))) = limits_alone setup b bound best run
 limits setup b bound best one (answers, inr (other, is)) = absurd (cc)
 
 -- all of the limit is spent but for some of it
@@ -56,5 +56,5 @@ pub limits_nearly : LimitsAreNearlySpent
 limits_nearly setup b bound best (answers, inl (same, (inl (inl (several, (w, joined, (kept_world, given)))), kept))) =
     (w, given, joined.within_limit, (joined.at_limit ((causes_stop w bound best Limit (ends_bounded w bound best Limit given)).0 refl)).1)
 limits_nearly setup b bound best (answers, inl (same, (inl (inr (run, left)), kept))) = nearly_alone setup b bound best run
-limits_nearly setup b bound best (answers, inl (same, (inr (small, run), kept))) = nearly_alone setup b bound best run
+limits_nearly setup b bound best (answers, inl (same, (inr run, kept))) = nearly_alone setup b bound best run
 limits_nearly setup b bound best (answers, inr (other, is)) = absurd (cc)

@@ -1,2 +1,3 @@
+pub mod AheadLemmas
 pub mod SolvingLemmas
 pub mod LawLemmas

@@ -1,7 +1,5 @@
 -- What the setup's workers answer is what its rules allow.
 use Rattle.std.proofs.Common.{ℕ, ◌≡◌, ◌⊎◌, ◌↔◌, None, Some, Result, Ok, Err, IfOk, refl, ap, subst, inl, inr, sym, arith}
-use Rattle.std.specs.Prelude.{◌≤◌}
-use Rattle.board.specs.Grids.{cell_count}
 use Rattle.board.specs.Positions.{Position}
 use Rattle.board.specs.Classes.{SameClass}
 use Rattle.memory.specs.declared.OutOfMemory.{OutOfMemory}
@@ -141,10 +139,10 @@ module _ (setup : SetupState) (start : Position) where
       of_run (Ok ending) found kept = (inl found, kept)
       of_run (Err refused) found kept = found
 
-  -- so is what one of them ends of a small board
-  pub may_end : {S : Type 0} (owner_of : S → ℕ → Position → ℕ) → AreWorkers owner_of → (owners : S) (ending : Ending) → cell_count setup.goal.grid ≤ 9 → (◌≡◌ {A = Result Ending OutOfMemory} (Ok ending) (Ok (Unsolvable Parity))) ↔ (¬ SameClass start setup.goal) → (SameClass start setup.goal → IsFoundAlone EndsIn owner_of (problem_of setup start) owners ending) → EndAnswers (task_of setup start) ending → EndsWholeRun ending → MayAnswer setup start (Some ending)
-  may_end owner_of are owners ending small by_parity run answered kept =
-      gives_so EndAnswers (IsOfRun setup start) (Unsolvable Parity) setup start (Ok ending) by_parity (λ together. (inr (small, alone_any EndsIn setup start owner_of are owners owner_by setup_owners setup.spread ending (run together)), kept)) answered
+  -- so is what one of them ends
+  pub may_end : {S : Type 0} (owner_of : S → ℕ → Position → ℕ) → AreWorkers owner_of → (owners : S) (ending : Ending) → (◌≡◌ {A = Result Ending OutOfMemory} (Ok ending) (Ok (Unsolvable Parity))) ↔ (¬ SameClass start setup.goal) → (SameClass start setup.goal → IsFoundAlone EndsIn owner_of (problem_of setup start) owners ending) → EndAnswers (task_of setup start) ending → EndsWholeRun ending → MayAnswer setup start (Some ending)
+  may_end owner_of are owners ending by_parity run answered kept =
+      gives_so EndAnswers (IsOfRun setup start) (Unsolvable Parity) setup start (Ok ending) by_parity (λ together. (inr (alone_any EndsIn setup start owner_of are owners owner_by setup_owners setup.spread ending (run together)), kept)) answered
 
   -- what they find with rows is what its rules allow too
   pub may_prove : (result : Result Outcome OutOfMemory) → (result ≡ Ok (outcome.Unsolvable Parity)) ↔ (¬ SameClass start setup.goal) → (SameClass start setup.goal → IfOk result (Finds IsGiven setup start owner_by setup.spread)) → IfOk result (Answers (task_of setup start)) → IfOk result HasWholeRun → MayProve (certifying_rules_of setup) start result

@@ -1,14 +1,16 @@
--- What stands in the places of boards that are solved before their lines are taken.
-use Rattle.std.specs.Prelude.{◌≡◌, IfSome, Some}
+-- Boards that are solved before their lines are taken.
+use Rattle.std.specs.Prelude.{◌≡◌, All, Some, Vec}
+use Rattle.std.specs.declared.alloc.Global.{Global}
 use Rattle.board.specs.Grids.{Grid}
+use Rattle.board.specs.Positions.{Position}
 use Rattle.batch_runs.specs.Setups.{SetupState}
 use Rattle.setup_runs.specs.Solving.{MayAnswer}
-use Rattle.setup_runs.specs.declared.ahead.Place.{Place}
+use Rattle.setup_runs.specs.declared.ahead.Ended.{Ended}
 
--- a board of this grid
-abbrev pub Stands : Grid → Place → Type 0
-Stands grid place = place.board.grid ≡ grid
+-- the board has the sides of this grid
+abbrev pub HasSides : Grid → Position → Type 0
+HasSides grid b = b.grid ≡ grid
 
--- where there is an ending, the board may be answered by it
-abbrev pub IsAnswered : SetupState → Place → Type 0
-IsAnswered setup place = IfSome place.ending (λ ending. MayAnswer setup place.board (Some ending))
+-- each board of a lane may be answered by its ending
+pub record AreEnded (setup : SetupState) (lane : Vec Ended Global) : Type 0 where
+  pub each : All (λ it. MayAnswer setup it.board (Some it.ending)) lane.items

@@ -1,7 +1,6 @@
 -- How the boards of a setup are answered.
-use Rattle.std.specs.Prelude.{◌≡◌, ◌≤◌, ◌⊎◌, ◌↔◌, Option, None, Some, Result, Ok, IfOk}
+use Rattle.std.specs.Prelude.{◌≡◌, ◌⊎◌, ◌↔◌, Option, None, Some, Result, Ok, IfOk}
 use Rattle.memory.specs.declared.OutOfMemory.{OutOfMemory}
-use Rattle.board.specs.Grids.{cell_count}
 use Rattle.board.specs.Positions.{Position}
 use Rattle.board.specs.Classes.{SameClass}
 use Rattle.outcomes.specs.declared.outcome.Ending.{Ending}
@@ -32,13 +31,13 @@ pub record IsSearched {X : Type 0} (gives : WorldState → X → Type 0) (answer
   pub answered : IfOk found (answers (task_of setup start))
   pub kept : IfOk found (λ answer. EndsWholeRun (end answer))
 
--- a board of at most 9 cells ended by one worker: small boards may be solved side by side
-abbrev pub IsSmallAlone : SetupState → Position → Ending → Type 0
-IsSmallAlone setup start ending = (cell_count setup.goal.grid ≤ 9) × IsFoundAlone EndsIn owner_by (problem_of setup start) setup.spread ending
+-- the board is ended by one worker: several boards may be solved side by side
+abbrev pub IsOfOneWorker : SetupState → Position → Ending → Type 0
+IsOfOneWorker setup start ending = IsFoundAlone EndsIn owner_by (problem_of setup start) setup.spread ending
 
--- the ending is that of a run by the setup's workers, which are guided by its tables and keep to its limit; or, of a small board, by one of them
+-- the ending is that of a run by the setup's workers, which are guided by its tables and keep to its limit, or by one of them
 abbrev pub IsOfRun : SetupState → Position → Ending → Type 0
-IsOfRun setup start ending = (IsFoundByWorkers EndsIn owner_by (problem_of setup start) setup.spread setup.workers ending ⊎ IsSmallAlone setup start ending) × EndsWholeRun ending
+IsOfRun setup start ending = (IsFoundByWorkers EndsIn owner_by (problem_of setup start) setup.spread setup.workers ending ⊎ IsOfOneWorker setup start ending) × EndsWholeRun ending
 
 -- the outcome is that of a run by the setup's workers
 abbrev pub IsOfProvedRun : SetupState → Position → Outcome → Type 0

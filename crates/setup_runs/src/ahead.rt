@@ -1,14 +1,14 @@
-//! Small boards, which are solved side by side before their lines are taken.
+//! Boards of several lines, which are solved side by side before their lines are taken.
 
-ghost use Rattle.std.specs.Prelude.{◌≡◌, ◌≢◌, ◌≤◌, ℕ, All, IfSome, Option, Some, Vec, false};
+ghost use Rattle.std.specs.Prelude.{◌≡◌, ◌≢◌, ◌<◌, ℕ, All, IfSome, IfOk, Option, Some, Vec, false};
 ghost use Rattle.std.specs.declared.alloc.Global.{Global};
 ghost use Rattle.board.specs.declared.moves.Move.{Move};
-ghost use Rattle.board.specs.Grids.{cell_count};
 ghost use Rattle.outcomes.specs.declared.outcome.Cause.TheVariants.{Memory};
 ghost use Rattle.outcomes.specs.declared.outcome.Ending.TheVariants.{Bounded};
 ghost use Rattle.outcomes.specs.declared.outcome.Want.{Want};
 ghost use Rattle.batch_runs.specs.Batches.{AreAllowed};
-ghost use Rattle.setup_runs.specs.Ahead.{Stands, IsAnswered};
+ghost use Rattle.batch_runs.specs.Setups.{SetupState};
+ghost use Rattle.setup_runs.specs.Ahead.{HasSides, AreEnded};
 ghost use Rattle.setup_runs.specs.Solving.{MayAnswer, rules_of};
 
 use crate::solving::{Question, job_for};
@@ -17,69 +17,107 @@ use batch_runs::Setup;
 use board::{Board, Shape};
 use byte_streams::ByteSource;
 use hda_run::{Gate, read_one};
-use memory::push;
+use memory::{OutOfMemory, push};
 use outcomes::{Cause, Ending};
 use owners::{ByBlank, Spread};
 use std::alloc::Global;
+use std::sync::{Mutex, Wait};
 use std::thread::{Threads, for_each_mut};
 use world_ends::WithoutRows;
 
 // The most cells of a small board. One worker ends such a board sooner than several could begin it.
 const SMALL_CELLS: usize = 9;
 
-// The fewest boards that are worth threads of their own.
-const FEWEST_BOARDS: usize = 16;
+// The fewest small boards that are worth threads of their own, and the fewest others.
+const FEWEST_SMALL: usize = 16;
+
+const FEWEST_BOARDS: usize = 2;
+
+// The most boards that are solved before the first of their reports is written: small ones, and
+// others for each worker.
+const MOST_SMALL: usize = 4096;
+
+const MOST_FOR_EACH: usize = 4;
 
 // The most lines that are looked at ahead.
 const MOST_LINES: u32 = 4096;
 
-/// A board that a line names, and its ending where one was found.
+/// A board with its ending, and its place among those that are solved with it.
 #[derive(Drop)]
-pub(crate) struct Place {
+pub(crate) struct Ended {
+    pub(crate) place: usize,
     pub(crate) board: Board,
-    pub(crate) ending: Option<Ending>,
+    pub(crate) ending: Ending,
 }
 
 /// A board and those that the first whole lines among these bytes name, where they are worth solving
-/// ahead. They are not where the setup has one worker, the boards are not small or few, or memory is
-/// refused.
-pub(crate) fn places_ahead(
+/// side by side: where there are several workers and several boards. Of small boards more are needed,
+/// since each takes less time than a thread.
+pub(crate) fn boards_ahead(
     alloc: Global,
     question: &Question<'_>,
     held: &[u8],
-) -> Option<Vec<Place>>
-    ensures small { IfSome result (λ places. cell_count question.now.setup.now.goal.grid ≤ 9) }
-    ensures boards { IfSome result
-        (λ places. All (λ place. Stands question.now.setup.now.goal.grid place) places.items) }
+) -> Option<Vec<Board>>
+    ensures { IfSome result
+        (λ boards. All (HasSides question.now.setup.now.goal.grid) boards.items) }
 {
-    let setup = question.setup;
-    let shape = setup.shape();
-    if setup.worker_count() == 1 || SMALL_CELLS < shape.cells() {
+    let workers = question.setup.worker_count();
+    if workers == 1 {
         return None;
     }
-    let places = places_among(alloc, question.start, whole_lines(held));
-    if places.len() < FEWEST_BOARDS {
+    let (fewest, most) = if question.setup.shape().cells() <= SMALL_CELLS {
+        (FEWEST_SMALL, MOST_SMALL)
+    } else {
+        (FEWEST_BOARDS, workers.saturating_mul(MOST_FOR_EACH))
+    };
+    let boards = boards_among(alloc, question.start, whole_lines(held), most);
+    if boards.len() < fewest {
         return None;
     }
-    Some(places)
+    Some(boards)
 }
 
-/// The endings of the first of these boards, up to one that has none, the first one last: each by one
-/// worker, side by side in as many threads as the setup has workers.
-pub(crate) fn end_ahead<R: Threads + Sync, G: Gate + Sync>(
+/// The endings of the first of these boards, up to one that has none, the first one last. Each board
+/// is solved by one worker; as many are under way at once as the setup has workers.
+pub(crate) fn end_ahead<R: Threads + Wait + Sync, G: Gate + Sync>(
     rt: &R,
     alloc: Global,
     setup: &Setup,
-    places: Vec<Place>,
+    boards: &[Board],
     gate: &G,
 ) -> Vec<(Board, Ending)>
-    requires small { cell_count setup.now.goal.grid ≤ 9 }
-    requires boards { All (λ place. Stands setup.now.goal.grid place) places.items }
+    requires { All (HasSides setup.now.goal.grid) boards.now }
     ensures { AreAllowed (rules_of setup.now) result.items }
 {
-    let mut places = places;
-    end_places(rt, alloc, setup, places.as_mut_slice(), gate);
-    take_endings(alloc, setup, places)
+    let threads = setup.worker_count();
+    let Ok(made) = new_lanes(alloc, threads) else {
+        return Vec::new(alloc);
+    };
+    let mut made = made;
+    let lanes = made.as_mut_slice();
+    let shared = Shared {
+        rt,
+        alloc,
+        setup,
+        boards,
+        gate,
+        next: Mutex::new(0),
+    };
+    end_boards(rt, &shared, threads, lanes);
+    take_endings(alloc, setup, boards.len(), lanes)
+}
+
+// What threads share that solve boards side by side: the boards, and the place of the first that none
+// has taken.
+#[derive(Drop)]
+struct Shared<'a, R, G> {
+    rt: &'a R,
+    alloc: Global,
+    setup: &'a Setup,
+    boards: &'a [Board],
+    gate: &'a G,
+    next: Mutex<usize>,
+    ghost sides: { All (HasSides setup.now.goal.grid) boards.now },
 }
 
 // The bytes up to the last line feed.
@@ -94,42 +132,41 @@ fn whole_lines(held: &[u8]) -> &[u8] {
     &[]
 }
 
-// A board and those of its shape that lines name, in their order; not all of them where memory is
-// refused.
-fn places_among(alloc: Global, start: &Board, lines: &[u8]) -> Vec<Place>
-    ensures { All (λ place. Stands start.now.grid place) result.items }
+// A board and those of its shape that lines name, in their order and at most this many; not all of
+// them where memory is refused.
+fn boards_among(alloc: Global, start: &Board, lines: &[u8], most: usize) -> Vec<Board>
+    ensures { All (HasSides start.now.grid) result.items }
 {
     let shape = start.shape();
-    let mut places = Vec::new(alloc);
-    let first = Place {
-        board: *start,
-        ending: None,
-    };
-    if push(&mut places, first).is_err() {
-        return places;
+    let mut boards = Vec::new(alloc);
+    if push(&mut boards, *start).is_err() {
+        return boards;
     }
     let mut reader = LineReader::new();
     let mut source = ByteSource::new(lines);
     'lines: for _ in 0..MOST_LINES {
+        if most <= boards.len() {
+            return boards;
+        }
         let Ok(next) = reader.next_line(&mut source) else {
-            return places;
+            return boards;
         };
         let Some(line) = next else {
-            return places;
+            return boards;
         };
-        let Some(place) = place_of(shape, line.kind, reader.bytes()) else {
+        let Some(board) = board_in(shape, line.kind, reader.bytes()) else {
             continue;
         };
-        if push(&mut places, place).is_err() {
-            return places;
+        if push(&mut boards, board).is_err() {
+            return boards;
         }
     }
-    places
+    boards
 }
 
 // The board that a line names, if it names one.
-fn place_of(shape: Shape, kind: LineKind, bytes: &[u8]) -> Option<Place>
-    ensures { IfSome result (Stands shape) }
+fn board_in(shape: Shape, kind: LineKind, bytes: &[u8]) -> Option<Board>
+    ensures { IfSome result (HasSides shape) }
 {
     if kind != LineKind::Within {
         return None;
@@ -137,51 +174,89 @@ fn place_of(shape: Shape, kind: LineKind, bytes: &[u8]) -> Option<Place>
     let Ok(entry) = read_entry(shape, bytes) else {
         return None;
     };
-    Some(Place {
-        board: entry.board,
-        ending: None,
-    })
+    Some(entry.board)
 }
 
-// Solves each board, in as many threads as the setup has workers.
-fn end_places<R: Threads + Sync, G: Gate + Sync>(
+// For each thread a list of what it ends, empty yet.
+fn new_lanes(alloc: Global, threads: usize) -> Result<Vec<Vec<Ended>>, OutOfMemory>
+    ensures { (setup : SetupState) → IfOk result (λ lanes. All (AreEnded setup) lanes.items) }
+{
+    let mut lanes = Vec::new(alloc);
+    'threads: for _ in 0..threads {
+        push(&mut lanes, Vec::new(alloc))?;
+    }
+    Ok(lanes)
+}
+
+// Solves boards, in a thread for each lane.
+fn end_boards<R: Threads + Wait + Sync, G: Gate + Sync>(
     rt: &R,
-    alloc: Global,
-    setup: &Setup,
-    places: &mut [Place],
-    gate: &G,
+    shared: &Shared<'_, R, G>,
+    threads: usize,
+    lanes: &mut [Vec<Ended>],
 )
-    requires small { cell_count setup.now.goal.grid ≤ 9 }
-    requires boards { All (λ place. Stands setup.now.goal.grid place) places.old }
-    ensures { All (λ place. IsAnswered setup.now place) places.new }
+    requires threads { 0 < threads }
+    requires lanes { All (AreEnded shared.now.setup.now) lanes.old }
+    ensures { All (AreEnded shared.now.setup.now) lanes.new }
 {
     for_each_mut(
         rt,
-        places,
-        setup.worker_count(),
-        &|_: usize, place: &mut Place|
-            requires stands { Stands setup.now.goal.grid place.old }
-            requires small { cell_count setup.now.goal.grid ≤ 9 }
-            ensures { IsAnswered setup.entry.now place.new }
-        {
-            let question = Question {
-                setup,
-                start: &place.board,
-            };
-            place.ending = end_alone(alloc, &question, &ByBlank, gate);
-        },
+        lanes,
+        threads,
+        &|_: usize, lane: &mut Vec<Ended>|
+            requires { AreEnded shared.now.setup.now lane.old }
+            ensures { AreEnded shared.entry.now.setup.now lane.new }
+        { end_in_turn(shared, lane) },
     );
 }
 
-// The ending of a small board by one worker, if memory sufficed. It owns all boards, whatever they
-// are spread by.
+// Solves one board after the other, each the first that no thread has taken, and adds it to a lane.
+// Where memory is refused no thread takes another one.
+fn end_in_turn<R: Wait, G: Gate>(shared: &Shared<'_, R, G>, lane: &mut Vec<Ended>)
+    requires { AreEnded shared.now.setup.now lane.old }
+    ensures { AreEnded shared.now.setup.now lane.new }
+{
+    'boards: for _ in 0..shared.boards.len() {
+        let place = take_next(shared.rt, &shared.next);
+        if place >= shared.boards.len() {
+            return;
+        }
+        let board = shared.boards[place];
+        let question = Question {
+            setup: shared.setup,
+            start: &board,
+        };
+        let Some(ending) = end_alone(shared.alloc, &question, &ByBlank, shared.gate) else {
+            *shared.next.lock(shared.rt) = shared.boards.len();
+            return;
+        };
+        let ended = Ended {
+            place,
+            board,
+            ending,
+        };
+        if push(lane, ended).is_err() {
+            return;
+        }
+    }
+}
+
+// The place of the first board that no thread has taken, which is taken now.
+fn take_next<R: Wait>(rt: &R, next: &Mutex<usize>) -> usize {
+    let mut turn = next.lock(rt);
+    let place = *turn;
+    *turn = place.saturating_add(1);
+    place
+}
+
+// The ending of a board by one worker, if memory sufficed. It owns all boards, whatever they are
+// spread by.
 fn end_alone<S: Spread, G: Gate>(
     alloc: Global,
     question: &Question<'_>,
     spread: &S,
     gate: &G,
 ) -> Option<Ending>
-    requires { cell_count question.now.setup.now.goal.grid ≤ 9 }
     ensures { IfSome result (λ ending.
         MayAnswer question.now.setup.now question.now.start.now (Some ending)) }
 {
@@ -195,7 +270,7 @@ fn end_alone<S: Spread, G: Gate>(
     Some(ending)
 }
 
-// Whether a bound was answered since memory was wanting.
+// Whether a bound was answered as memory was refused.
 fn lacked_memory(ending: &Ending) -> bool
     ensures { result ≡ false → (bound : ℕ) (best : Option (ℕ × Vec Move Global)) (want : Want)
         → ending.now ≢ Bounded bound best (Memory want) }
@@ -206,23 +281,49 @@ fn lacked_memory(ending: &Ending) -> bool
     }
 }
 
-// The endings of the first boards, up to one that has none, the first one last.
-fn take_endings(alloc: Global, setup: &Setup, places: Vec<Place>) -> Vec<(Board, Ending)>
-    requires { All (λ place. IsAnswered setup.now place) places.items }
+// The endings of the first of these boards, up to one that has none, the first one last. In each lane
+// they stand in rising order of their places.
+fn take_endings(
+    alloc: Global,
+    setup: &Setup,
+    count: usize,
+    lanes: &mut [Vec<Ended>],
+) -> Vec<(Board, Ending)>
+    requires { All (AreEnded setup.now) lanes.old }
     ensures { AreAllowed (rules_of setup.now) result.items }
 {
-    let _ = setup;
-    let mut rest = places;
     let mut ready = Vec::new(alloc);
-    'places: while let Some(place) = rest.pop() {
-        let Place { board, ending } = place;
-        let Some(found) = ending else {
+    'places: for place in (0..count).rev() {
+        let Some(ended) = take_ended(setup, place, lanes) else {
             ready.clear();
             continue;
         };
-        if push(&mut ready, (board, found)).is_err() {
+        if push(&mut ready, (ended.board, ended.ending)).is_err() {
             return Vec::new(alloc);
         }
     }
     ready
+}
+
+// Takes the board with a place from the lane that ends with it, if one does.
+fn take_ended(setup: &Setup, place: usize, lanes: &mut [Vec<Ended>]) -> Option<Ended>
+    requires { All (AreEnded setup.now) lanes.old }
+    ensures lanes { All (AreEnded setup.now) lanes.new }
+    ensures ended { IfSome result (λ it. MayAnswer setup.now it.board (Some it.ending)) }
+{
+    let _ = setup;
+    'lanes: for lane in 0..lanes.len() {
+        if ends_with(&lanes[lane], place) {
+            return lanes[lane].pop();
+        }
+    }
+    None
+}
+
+// Whether the last board of a lane has this place.
+fn ends_with(lane: &[Ended], place: usize) -> bool {
+    match lane.last() {
+        Some(ended) => ended.place == place,
+        None => false,
+    }
 }

@@ -6,7 +6,7 @@ ghost use Rattle.batch_runs.specs.Batches.{ReportsLines, HasFailed, MayGive, Are
 ghost use Rattle.batch_runs.specs.Headline.{IsTrueRun};
 ghost use Rattle.setup_runs.specs.Solving.{rules_of};
 
-use crate::ahead::{end_ahead, places_ahead};
+use crate::ahead::{boards_ahead, end_ahead};
 use crate::solving::{Question, answer_board};
 use batch_runs::{LinesFault, Ruled, Setup, Solver, Summary, run_lines};
 use board::{Board, Shape};
@@ -69,9 +69,9 @@ impl<
 /// by one worker in the calling thread, or by more in threads of their own, which all end before the
 /// next line is read. The gate is passed after each of their steps.
 ///
-/// Where a setup has several workers and its boards at most nine cells, the boards of lines that the
-/// source holds already are solved side by side, each by one worker. Their lines are taken, and their
-/// reports written, one after the other as ever.
+/// Where a setup has several workers and the source holds several lines, their boards are solved side
+/// by side, each by one worker. Their lines are taken, and their reports written, one after the other
+/// as ever. A line that comes alone is solved by all workers.
 ///
 /// The sink is flushed after each report, so that whoever waits for one has it; nothing is flushed
 /// for a line that is passed over.
@@ -104,8 +104,8 @@ pub fn run_batch<R: Threads + Wait + Sync, S: Source, K: Sink, G: Gate + Sync>(
         requires { start.now.grid ≡ setup.now.goal.grid }
         ensures { AreAllowed (rules_of setup.entry.now) result.items }
     {
-        match places_ahead(alloc, &Question { setup, start }, held) {
-            Some(places) => end_ahead(rt, alloc, setup, places, gate),
+        match boards_ahead(alloc, &Question { setup, start }, held) {
+            Some(boards) => end_ahead(rt, alloc, setup, boards.as_slice(), gate),
             None => Vec::new(alloc),
         }
     };
