@@ -21,6 +21,7 @@ use checking::{check_fit_up_to_rows, check_up_to_rows, conclude};
 use lower_bound::Bound;
 use memory::OutOfMemory;
 use parallel::find_open_parallel;
+pub use plan::check_plan;
 pub use refusals::Refusal;
 use std::thread::Threads;
 use successors::find_open;

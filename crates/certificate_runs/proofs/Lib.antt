@@ -1,2 +1,3 @@
 pub mod CertifyLemmas
 pub mod HeadlineLemmas
+pub mod ShowLemmas

@@ -13,12 +13,15 @@ use Rattle.outcomes.specs.declared.outcome.Cause.TheVariants.{Memory}
 use Rattle.outcomes.specs.declared.outcome.Want.TheVariants.{Refused}
 use Rattle.outcomes.specs.declared.outcome.Outcome.TheVariants.{Bounded}
 use Rattle.reports.specs.Readings.{Reads, SaysText, SaysNumber, HasStatus}
+use Rattle.reports.specs.Reports.{refused_certificate_data, report_text}
 use Rattle.certificate.specs.Certificates.{Statement, upgraded}
 use Rattle.certificate.specs.Spellings.{spelling}
 use Rattle.certificate.specs.Readings.{certificate, IsFirstFault}
 use Rattle.certificate.specs.Faults.{format_code}
 use Rattle.certificate.specs.declared.faults.FormatFault.{FormatFault}
-use Rattle.certificate_check.specs.Refusals.{IsProved, IsFirstRefusal, refusal_code}
+use Rattle.certificate_check.specs.Refusals.{IsProved, ItsPlanLeads, IsFirstRefusal, refusal_code}
+use Rattle.drawings.specs.declared.drawing.Style.{Style}
+use Rattle.drawings.specs.Drawings.{IsDrawing}
 use Rattle.certificate_check.specs.declared.refusals.Refusal.{Refusal}
 use Rattle.batch_runs.specs.Batches.{AreFirst}
 use Rattle.batch_runs.specs.Meanings.{questions, Names, IsReply}
@@ -116,3 +119,20 @@ WritesUpgrade sink status input =
 -- a run that ends well did so, where the input is known
 abbrev pub IsTrueUpgrade : Change SourceState → Change SinkState → Result ℕ UpgradeFault → Type 0
 IsTrueUpgrade source sink result = IfOk result (λ status. IfSome source.before.left (WritesUpgrade sink status))
+
+-- ---- a certificate in, a drawing out
+
+-- the input is at fault with this code: its bytes are, or it is a certificate whose plan does not lead from its start to its goal at its cost, which is the first cause against it with any tables
+abbrev pub IsMistaken : List ℕ → List ℕ → Type 0
+IsMistaken input code =
+    ((fault : FormatFault) × IsFirstFault input fault × (code ≡ format_code fault)) ⊎ ((c : Statement) × (refusal : Refusal) × (certificate input ≡ Ok (c, [])) × ((tables : Tables) → IsFirstRefusal c tables refusal) × (code ≡ refusal_code refusal))
+
+-- the input is a certificate, whose plan leads if there is one, and its drawing was written, with the status 0; or it is at fault, and the report of that was written, with the status 5
+abbrev pub WritesShow : Style → Change SinkState → ℕ → List ℕ → Type 0
+WritesShow style sink status input =
+    ((c : Statement) × (drawing : List ℕ) × (certificate input ≡ Ok (c, [])) × ItsPlanLeads c × IsDrawing style c drawing × Puts sink drawing × (status ≡ 0))
+    ⊎ ((code : List ℕ) × IsMistaken input code × Puts sink (report_text (refused_certificate_data code)) × (status ≡ 5))
+
+-- a run that ends well did so, where the input is known
+abbrev pub IsTrueShow : Style → Change SourceState → Change SinkState → Result ℕ CheckFault → Type 0
+IsTrueShow style source sink result = IfOk result (λ status. IfSome source.before.left (WritesShow style sink status))

@@ -5,5 +5,6 @@ pub mod Faults
 pub mod Checking
 pub mod Certifying
 pub mod Upgrading
+pub mod Showing
 pub mod Headline
 pub mod Laws

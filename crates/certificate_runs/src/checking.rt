@@ -144,18 +144,26 @@ fn check_certificate<R: Threads + Sync>(
 }
 
 // The line that is written of a fault, and its status.
-fn refuse(alloc: Global, code: &str) -> Result<(String, u8), NoReport>
+pub(crate) fn refuse(alloc: Global, code: &str) -> Result<(String, u8), NoReport>
     ensures { IfOk result (λ verdict. IsRefused code.now (verdict_output verdict)) }
 {
     Ok((refused_certificate_report(alloc, code)?, 5))
 }
 
 // Writes the line of a verdict, and answers its status.
-fn put_verdict<K: Sink>(sink: &mut K, text: &str, status: u8) -> Result<u8, CheckFault>
+pub(crate) fn put_verdict<K: Sink>(sink: &mut K, text: &str, status: u8) -> Result<u8, CheckFault>
     ensures { PutsVerdict (change K.state sink.old sink.new)
         (record { text = text.now; status = status }) result }
 {
-    match sink.put(text.as_bytes()) {
+    put_output(sink, text.as_bytes(), status)
+}
+
+// Writes bytes, and answers the status.
+pub(crate) fn put_output<K: Sink>(sink: &mut K, text: &[u8], status: u8) -> Result<u8, CheckFault>
+    ensures { PutsVerdict (change K.state sink.old sink.new)
+        (record { text = text.now; status = status }) result }
+{
+    match sink.put(text) {
         Ok(()) => Ok(status),
         Err(_) => Err(CheckFault::Write),
     }

@@ -41,14 +41,14 @@ impl CertifyFault {
     }
 }
 
-/// Why a run that checks a certificate ended early.
+/// Why a run that checks or draws a certificate ended early.
 #[derive(Clone, Copy, Debug, PartialEq, Eq, Error)]
 pub enum CheckFault {
     /// F6
     #[error("the certificate cannot be read")]
     CertificateRead,
     /// F7
-    #[error("no memory for the certificate or its tables")]
+    #[error("no memory for the certificate, its tables or its drawing")]
     CertificateMemory(OutOfMemory),
     /// B2
     #[error("the output cannot be written")]

@@ -1,0 +1,2 @@
+pub mod StepLemmas
+pub mod TextLemmas

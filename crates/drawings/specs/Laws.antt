@@ -1,0 +1,10 @@
+-- The laws of drawings. Each is the contract of a function that does nothing.
+use Rattle.std.specs.Prelude.{ℕ, ◌≡◌, ◌<◌, List, length}
+use Rattle.std.specs.Int.{div_ceil}
+use Rattle.std.specs.List.{flat_map, range_with_len}
+use Rattle.drawings.specs.declared.pictures.Picture.{Picture}
+use Rattle.drawings.specs.Drawings.{band_of}
+
+-- the bands have each picture once, in order
+abbrev pub BandsAreWhole : Type 0
+BandsAreWhole = (pictures : List Picture) (n : ℕ) → 0 < n → flat_map (λ k. band_of n pictures k) (range_with_len 0 (div_ceil (length pictures) n)) ≡ pictures

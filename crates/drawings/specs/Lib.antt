@@ -1,0 +1,4 @@
+pub mod Pictures
+pub mod Drawings
+pub mod Laws
+pub mod Worked
