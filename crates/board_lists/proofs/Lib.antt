@@ -1,0 +1,5 @@
+pub mod DrawLemmas
+pub mod WalkLemmas
+pub mod ListLemmas
+pub mod ClassLemmas
+pub mod EntryLemmas

@@ -1,0 +1,27 @@
+use Rattle.std.proofs.Common.{◌≡◌, subst, arith, ℕ}
+use Rattle.byte_streams.specs.Streams.{change}
+use Rattle.board_lists.specs.Classes.{IsOfClass}
+use Rattle.board_lists.specs.Classes.{AreEach}
+use Rattle.board_lists.specs.Lists.{ListsBoards}
+use Rattle.board_lists.proofs.ListLemmas.{EachIsListed-none, EachIsListed-more, EachIsListed-failed, EachIsListed-flushed}
+use Rattle.board_lists.proofs.lists.list_drawn.Goals as goal
+
+pub boards-init : goal.boards-init
+boards-init g c = EachIsListed-none (IsOfClass c.args.goal.now) (g.K.Sink.state c.args.sink.now)
+
+pub returns-in_default-clause-lists : goal.returns-in_default-clause-lists
+returns-in_default-clause-lists g c =
+    let state = g.K.Sink.state in
+    EachIsListed-failed (IsOfClass c.args.goal.now) (state c.args.sink.now) (state c.boards.sink) (state c.put_line.new.sink) c.boards.place c.args.count c.draw_board-board.result c.boards.invariant c.boards-test.true c.draw_board-board.ensures (rw c.in_default.is at c.put_line.ensures)
+
+pub boards-preserved : goal.boards-preserved
+boards-preserved g c =
+    let state = g.K.Sink.state in
+    EachIsListed-more (IsOfClass c.args.goal.now) (state c.args.sink.now) (state c.boards.sink) (state c.put_line.new.sink) c.boards.place c.draw_board-board.result c.boards.invariant c.draw_board-board.ensures (rw c.in-Ok.is at c.put_line.ensures)
+
+pub returns-clause-lists : goal.returns-clause-lists
+returns-clause-lists g c =
+    let state = g.K.Sink.state in
+    let all : c.boards.place ≡ c.args.count = omega arith in
+    subst (λ (n : ℕ). ListsBoards (AreEach (IsOfClass c.args.goal.now) n) (change state c.args.sink.now c.flush.new.self) c.flush.result) all
+    (EachIsListed-flushed (IsOfClass c.args.goal.now) (state c.args.sink.now) (state c.boards.sink) (state c.flush.new.self) c.boards.place c.flush.result c.boards.invariant c.flush.ensures.flushes)

@@ -1,0 +1,30 @@
+-- Walks: moves of which none takes back the one before it.
+use Rattle.std.specs.Prelude.{ℕ, ◌≡◌, ◌≢◌, List, [], ◌∷◌, Option, None, Some, length, ⊤}
+use Rattle.board.specs.declared.moves.Move.{Move}
+use Rattle.board.specs.Neighbours.{opposite}
+use Rattle.board.specs.Positions.{Position}
+use Rattle.board.specs.CostRules.{unit_rule}
+use Rattle.board.specs.Plans.{Leads}
+use Rattle.board_lists.specs.Classes.{IsOfClass}
+
+-- a move doesn't take back the last one, if there is one
+abbrev pub GoesOn : Option Move → Move → Type 0
+GoesOn last m = last ≢ Some (opposite m)
+
+-- behind the last move, if there is one, no move takes back the one before it
+abbrev pub TakesNoneBack : Option Move → List Move → Type 0
+TakesNoneBack last [] = ⊤
+TakesNoneBack last (m ∷ plan) = GoesOn last m × TakesNoneBack (Some m) plan
+
+-- a walk of so many moves leads from the goal to the board, and takes no move back
+pub record IsWalkedTo (goal : Position) (moves : ℕ) (b : Position) : Type 0 where
+  pub plan : List Move
+  pub cost : ℕ
+  pub leads : Leads (unit_rule goal.grid) goal plan b cost
+  pub counted : length plan ≡ moves
+  pub onward : TakesNoneBack None plan
+
+-- so does a walk, and the board is one of the goal's class
+pub record IsWalked (goal : Position) (moves : ℕ) (b : Position) : Type 0 where
+  pub walked : IsWalkedTo goal moves b
+  pub class : IsOfClass goal b

@@ -1,0 +1,13 @@
+//! The laws of the definitions: each is the contract of a function that does nothing.
+
+ghost use Rattle.board_lists.specs.Laws.{LinesNameBoards, WalksKeepTheClass};
+
+/// The line of a board is read as its id and the board.
+pub fn lines_name_boards()
+    ensures { LinesNameBoards }
+{}
+
+/// A walk from a goal stays in its class.
+pub fn walks_keep_the_class()
+    ensures { WalksKeepTheClass }
+{}
