@@ -14,12 +14,14 @@ _tilesolve() {
     --cost) words='unit face' ;;
     --groups) words='none' ;;
     --spread) words='zobrist blank' ;;
-    --goal | --workers | --limit) ;;
-    tilesolve | */tilesolve) words='solve check upgrade replay --help --version' ;;
+    --goal | --workers | --limit | --width | --seconds | --count | --seed | --moves) ;;
+    tilesolve | */tilesolve) words='solve check show upgrade replay boards --help --version' ;;
     *)
         case ${COMP_WORDS[1]} in
         solve) words="$options --cert --progress --help" ;;
         replay) words="$options --help" ;;
+        show) words='--width --svg --seconds --help' ;;
+        boards) words='--rows --cols --goal --count --seed --moves --all --help' ;;
         check | upgrade) words='--help' ;;
         esac
         ;;

@@ -3,7 +3,7 @@ use Rattle.std.proofs.Common.{◌≡◌, ◌∙◌, Bool, false, List, [], ◌�
 use Rattle.std.specs.Io.KnownBytes.{Appends}
 use Rattle.batch_runs.proofs.BatchLemmas.{run_true, outputs_true}
 use Rattle.setup_runs.specs.Solving.{rules_of, certifying_rules_of}
-use Rattle.batch_cli.specs.Laws.{MessagesAreBegun, OutputsTellTheTruth}
+use Rattle.batch_cli.specs.Laws.{MessagesAreBegun, OutputsTellTheTruth, SolvedOutputsTellTheTruth, CertificatesAnswerTheFirst, AcceptedInputsAreTrue, DefaultSetupsAreKorfs}
 use Rattle.std.specs.Prelude.{IfSome, IsSome}
 use Rattle.std.proofs.KnownBytes.{Appends-kept, Keeps-trans}
 use Rattle.clap.specs.Words.{Text, Row, Kinds, first_of}
@@ -38,16 +38,21 @@ use Rattle.certificate_runs.specs.Rules.{ProofRules, ProvesTruly}
 use Rattle.certificate_runs.specs.Outputs.{Output}
 use Rattle.certificate_runs.specs.Certifying.{Replies}
 use Rattle.certificate_runs.specs.Checking.{Checks, IsVerdict}
-use Rattle.certificate_runs.specs.Headline.{WritesAnswer, WritesVerdict, IsRefusedBy, WritesUpgrade, IsTrueUpgrade}
+use Rattle.certificate_runs.specs.Headline.{WritesAnswer, WritesVerdict, IsRefusedBy, WritesUpgrade, IsTrueUpgrade, WritesShow, IsTrueShow}
+use Rattle.certificate_runs.proofs.ShowLemmas.{show_true}
+use Rattle.drawings.specs.declared.drawing.Style.{Style}
 use Rattle.certificate_runs.proofs.HeadlineLemmas.{answer_true, check_true, upgrade_true}
 use Rattle.replay_runs.specs.Replays.{Jobs, Replays}
 use Rattle.replay_runs.specs.Openings.{setup_jobs}
+use Rattle.board_lists.specs.Lines.{lines_text}
+use Rattle.board_lists.specs.Lists.{AreChosen, ListsBoards}
+use Rattle.command_line.specs.declared.requests.Listing.{Listing}
 use Rattle.command_line.specs.declared.requests.Options.{Options}
 use Rattle.command_line.specs.declared.requests.Request.{Request}
-use Rattle.command_line.specs.declared.requests.Request.TheVariants.{Solve, Certify, Check, Upgrade, Replay, Help, Version}
+use Rattle.command_line.specs.declared.requests.Request.TheVariants.{Solve, Certify, Check, Draw, Upgrade, Replay, Boards, Help, Version}
 use Rattle.command_line.specs.Requests.{AreCostsSaid, AreGroupsSaid, AreOptions, AsksRun, AsksText, AreDefaults, WordsAsk, WordsFail}
 use Rattle.command_line.specs.declared.faults.NoRequest.{NoRequest}
-use Rattle.command_line.specs.declared.faults.NoRequest.TheVariants.{Usage, Goal, Costs, Groups, Memory}
+use Rattle.command_line.specs.declared.faults.NoRequest.TheVariants.{Usage, Goal, Costs, Groups, NoListing, Memory}
 use Rattle.batch_cli.specs.Setups.{AreFit, IsFit, AreTablesFor, IsSetupOf, IsDefaultSetup}
 use Rattle.batch_cli.specs.declared.faults.BatchFault.{BatchFault}
 use Rattle.batch_cli.specs.declared.endings.Ending.{Ending}
@@ -55,10 +60,10 @@ use Rattle.batch_cli.specs.declared.endings.Ending.TheVariants.{NoTexts, Refused
 use Rattle.batch_cli.specs.declared.commands.Command.{Command}
 use Rattle.batch_cli.specs.declared.commands.Command.TheVariants as command
 use Rattle.batch_cli.specs.Endings.{status_of, HasNotBegun, Tells as ReportsEnding}
-use Rattle.batch_cli.specs.Programs.{ending_of, after_flush, FlushesBehind, IsUnused, Solves, Certifies, Judges, Rewrites, TakesSteps, Shows, EndsRun, EndsRequest, EndsBy, Runs}
+use Rattle.batch_cli.specs.Programs.{ending_of, after_flush, FlushesBehind, IsUnused, Solves, Certifies, Judges, Draws, Rewrites, TakesSteps, Lists, Shows, EndsRun, EndsRequest, EndsBy, Runs}
 use Rattle.batch_cli.specs.declared.faults.BatchFault.TheVariants.{Write}
 use Rattle.batch_cli.specs.Faults.{of_lines, of_certify, of_check, of_upgrade}
-use Rattle.batch_cli.specs.Headline.{IsTrue, IsTrueOf, IsTrueBy, RunsProgram, JudgesTruly, StatesTruth, UpgradesTruly, WritesReplay}
+use Rattle.batch_cli.specs.Headline.{IsTrue, IsTrueOf, IsTrueBy, RunsProgram, JudgesTruly, StatesTruth, DrawsTruly, UpgradesTruly, WritesReplay}
 use Rattle.option_texts.specs.declared.faults.GroupsFault.TheVariants as groups
 use Rattle.batch_runs.specs.declared.faults.LinesFault.TheVariants as lines
 use Rattle.certificate_runs.specs.declared.faults.CertifyFault.TheVariants as certify
@@ -70,6 +75,11 @@ outputs source sink status input known empty well (setup, is, begun, written) =
     let held = outputs_true (rules_of setup) source sink status input known empty (written well) in
     (setup, is, held.0, held.1, held.2, held.3)
 
+pub asked_outputs : SolvedOutputsTellTheTruth
+asked_outputs o source sink status input known empty well (setup, is, begun, written) =
+    let held = outputs_true (rules_of setup) source sink status input known empty (written well) in
+    (setup, is.goal, is.rule, is.limit, is.workers, held.0, held.1, held.2, held.3)
+
 appended : (after : Option (List ℕ)) (held sent : List ℕ) → Appends (Some held) after sent → after ≡ Some (held ++ sent)
 appended None held sent put = absurd put
 appended (Some contents) held sent put = λ i. Some (put i)
@@ -78,6 +88,23 @@ pub begun : MessagesAreBegun
 begun errors ending status held known tells =
     let put : Appends (Some held) errors.after.contents tells.begun.sent = rw known at tells.begun.put in
     (tells.begun.sent, tells.begun.unsent, tells.begun.parts, appended errors.after.contents held tells.begun.sent put)
+
+pub asked_certificates : CertificatesAnswerTheFirst
+asked_certificates o source sink status input known empty well (setup, is, written) =
+    let answer = written well in
+    let first : AreFirst (Some input) answer.lines = rw known at answer.first in
+    let put : Appends (Some []) sink.after.contents answer.output = rw empty at answer.put in
+    (setup, is.goal, is.rule, answer.lines, first.0, answer.output, first.1, appended sink.after.contents [] answer.output put, answer.answer)
+
+pub accepted_inputs : AcceptedInputsAreTrue
+accepted_inputs source sink input known truth =
+    let judged : JudgesTruly 0 sink input = subst (λ (left : Option (List ℕ)). IfSome left (JudgesTruly 0 sink)) known truth in
+    let states = judged.accepted refl in
+    let c = states.0 in
+    (c, states.1, states.2, λ plan is. (subst (λ (p : Option (List Move)). IfSome p (λ it. Leads c.costs c.start it c.goal c.cost × IsLeast c.costs c.start c.goal c.cost)) is states.3).0)
+
+pub default_setups : DefaultSetupsAreKorfs
+default_setups setup is = (ap (λ (b : Position). b.tiles) is.goal, is.rule, is.groups, is.limit, is.workers)
 
 -- ---- What words ask for, and that what the program writes is true.
 
@@ -105,8 +132,10 @@ fit_text : (faults : Kinds) (request : Request) → AsksText faults request → 
 fit_text faults (Solve o) never = absurd never
 fit_text faults (Certify o) never = absurd never
 fit_text faults Check never = tt
+fit_text faults (Draw style) never = tt
 fit_text faults Upgrade never = tt
 fit_text faults (Replay o) never = absurd never
+fit_text faults (Boards l) never = absurd never
 fit_text faults (Help text) asked = tt
 fit_text faults (Version text) asked = tt
 
@@ -115,8 +144,10 @@ fit_run None request never = absurd never
 fit_run (Some p) (Solve o) asked = fit_options p.1 o asked.1
 fit_run (Some p) (Certify o) asked = fit_options p.1 o asked.1
 fit_run (Some p) Check asked = tt
+fit_run (Some p) (Draw style) asked = tt
 fit_run (Some p) Upgrade asked = tt
 fit_run (Some p) (Replay o) asked = fit_options p.1 o asked.1
+fit_run (Some p) (Boards l) asked = asked.1.small
 fit_run (Some p) (Help text) asked = tt
 fit_run (Some p) (Version text) asked = tt
 
@@ -125,8 +156,10 @@ pub fit_asked : (words : List Text) (request : Request) → WordsAsk words reque
 fit_asked [] (Solve o) defaults = fit_defaults o defaults
 fit_asked [] (Certify o) never = absurd never
 fit_asked [] Check never = tt
+fit_asked [] (Draw style) never = tt
 fit_asked [] Upgrade never = tt
 fit_asked [] (Replay o) never = absurd never
+fit_asked [] (Boards l) never = absurd never
 fit_asked [] (Help text) never = tt
 fit_asked [] (Version text) never = tt
 fit_asked (word ∷ words) request (program, is, inl text) = fit_text _ request text
@@ -194,8 +227,10 @@ begun_command : (command : Command) (source : Change SourceState) (sink : Change
 begun_command (command.Solve setup progress) source sink ending (result, run, is) = λ idle. begun_run Ran of_lines result (λ counts never. never) (subst HasNotBegun is idle)
 begun_command (command.Certify setup progress) source sink ending (result, run, is) = λ idle. begun_run Answered of_certify result (λ status never. never) (subst HasNotBegun is idle)
 begun_command command.Check source sink ending (result, run, is) = λ idle. begun_run Answered of_check result (λ status never. never) (subst HasNotBegun is idle)
+begun_command (command.Draw style) source sink ending (result, run, is) = λ idle. begun_run Answered of_check result (λ status never. never) (subst HasNotBegun is idle)
 begun_command command.Upgrade source sink ending (result, run, is) = λ idle. begun_run Answered of_upgrade result (λ status never. never) (subst HasNotBegun is idle)
 begun_command (command.Replay setup) source sink ending (result, run, is) = λ idle. begun_run Answered of_lines result (λ status never. never) (subst HasNotBegun is idle)
+begun_command (command.List l) source sink ending (unread, (result, run, is)) = λ idle. begun_run (λ done. Shown) (λ failed. Write) result (λ done never. never) (subst HasNotBegun is idle)
 begun_command (command.Show text) source sink ending (unread, (result, run, is)) = λ idle. begun_run (λ done. Shown) (λ failed. Write) result (λ done never. never) (subst HasNotBegun is idle)
 
 pub begun_ended : (command : Command) (source : Change SourceState) (sink : Change SinkState) (ending : Ending) → EndsRun (Runs command source) sink ending → ¬ HasNotBegun ending
@@ -361,6 +396,36 @@ module _ (source : Change SourceState) (sink : Change SinkState) (ending : Endin
       (λ well. judged source (from_to sink.before ended.between) ended.run.0 status (status_ran ended.ran last ending status ended.flush told (other_than_3 status well) ∙ ap status_of ended.run.2) well ended.run.1)
       (behind_none ended.ran last ending ended.flush)
 
+-- ---- a drawing
+
+drawn_by : (style : Style) (source : Change SourceState) (sink : Change SinkState) (result : Result ℕ CheckFault) (status : ℕ) → status ≡ status_of (ending_of Answered of_check result) → (status ≡ 0) ⊎ (status ≡ 5) → IsTrueShow style source sink result → IfSome source.before.left (WritesShow style sink status)
+drawn_by style source sink (Ok n) status told well truth = subst (λ (k : ℕ). IfSome source.before.left (WritesShow style sink k)) (sym told) truth
+drawn_by style source sink (Err check.CertificateRead) status told (inl zero) truth = absurd (omega (arith, told, zero))
+drawn_by style source sink (Err check.CertificateRead) status told (inr five) truth = absurd (omega (arith, told, five))
+drawn_by style source sink (Err (check.CertificateMemory refused)) status told (inl zero) truth = absurd (omega (arith, told, zero))
+drawn_by style source sink (Err (check.CertificateMemory refused)) status told (inr five) truth = absurd (omega (arith, told, five))
+drawn_by style source sink (Err check.Write) status told (inl zero) truth = absurd (omega (arith, told, zero))
+drawn_by style source sink (Err check.Write) status told (inr five) truth = absurd (omega (arith, told, five))
+drawn_by style source sink (Err (check.Memory lacking)) status told (inl zero) truth = absurd (omega (arith, told, zero))
+drawn_by style source sink (Err (check.Memory lacking)) status told (inr five) truth = absurd (omega (arith, told, five))
+
+WritesShow-kept : (style : Style) (a b c : SinkState) (status : ℕ) (input : List ℕ) → WritesShow style (from_to a b) status input → PutsNone (from_to b c) → WritesShow style (from_to a c) status input
+WritesShow-kept style a b c status input (inl (cert, drawing, read, leads, draws, put, is)) kept = inl (cert, drawing, read, leads, draws, Appends-kept a.contents b.contents c.contents drawing put kept, is)
+WritesShow-kept style a b c status input (inr (code, mistaken, put, is)) kept = inr (code, mistaken, Appends-kept a.contents b.contents c.contents _ put kept, is)
+
+Drawn-kept : (style : Style) (input : Option (List ℕ)) (a b c : SinkState) (status : ℕ) → ((status ≡ 0) ⊎ (status ≡ 5) → IfSome input (WritesShow style (from_to a b) status)) → PutsNone (from_to b c) → IfSome input (DrawsTruly style status (from_to a c))
+Drawn-kept style None a b c status all kept = tt
+Drawn-kept style (Some input) a b c status all kept = λ well. WritesShow-kept style a b c status input (all well) kept
+
+module _ (source : Change SourceState) (sink : Change SinkState) (ending : Ending) (status : ℕ) (told : status ≡ status_of ending) where
+  drawn : (style : Style) → EndsRun (Draws source style) sink ending → IfSome source.before.left (DrawsTruly style status sink)
+  drawn style ended =
+      let last = from_to ended.between sink.after in
+      let first = from_to sink.before ended.between in
+      Drawn-kept style source.before.left sink.before ended.between sink.after status
+      (λ well. drawn_by style source first ended.run.0 status (status_ran ended.ran last ending status ended.flush told (other_than_3 status well) ∙ ap status_of ended.run.2) well (show_true style source first ended.run.0 ended.run.1))
+      (behind_none ended.ran last ending ended.flush)
+
 -- ---- an upgrade
 
 upgraded_by : (source : Change SourceState) (sink : Change SinkState) (result : Result ℕ UpgradeFault) (status : ℕ) → status ≡ status_of (ending_of Answered of_upgrade result) → (status ≡ 0) ⊎ (status ≡ 5) → IsTrueUpgrade source sink result → IfSome source.before.left (WritesUpgrade sink status)
@@ -397,6 +462,10 @@ put_text : (text : List ℕ) (sink : Change SinkState) (result : Result (Unit {0
 put_text text sink (Ok done) status told zero writes = writes.0
 put_text text sink (Err failed) status told zero writes = absurd (omega (arith, told, zero))
 
+put_list : (l : Listing) (sink : Change SinkState) (result : Result (Unit {0}) WriteFailed) (status : ℕ) → status ≡ status_of (ending_of (λ done. Shown) (λ failed. Write) result) → status ≡ 0 → ListsBoards (AreChosen l.goal l.choice) sink result → (boards : List Position) × AreChosen l.goal l.choice boards × Puts sink (lines_text 1 boards)
+put_list l sink (Ok done) status told zero lists = (lists.boards, lists.such, lists.written.0)
+put_list l sink (Err failed) status told zero lists = absurd (omega (arith, told, zero))
+
 module _ (source : Change SourceState) (sink : Change SinkState) (ending : Ending) (status : ℕ) (told : status ≡ status_of ending) where
   replayed : (setup : SetupState) → EndsRun (TakesSteps source setup) sink ending → status < 2 → WritesReplay (setup_jobs setup) source sink status
   replayed setup ended fine =
@@ -412,6 +481,13 @@ module _ (source : Change SourceState) (sink : Change SinkState) (ending : Endin
       let is = status_ran ended.ran last ending status ended.flush told (λ three. omega (arith, zero, three)) ∙ ap status_of ended.run.2 in
       Appends-kept sink.before.contents ended.between.contents sink.after.contents text (put_text text (from_to sink.before ended.between) ended.run.0 status is zero ended.run.1) (behind_none ended.ran last ending ended.flush)
 
+  listed : (l : Listing) → EndsRun (Lists l) sink ending → status ≡ 0 → (boards : List Position) × AreChosen l.goal l.choice boards × Puts sink (lines_text 1 boards)
+  listed l ended zero =
+      let last = from_to ended.between sink.after in
+      let is = status_ran ended.ran last ending status ended.flush told (λ three. omega (arith, zero, three)) ∙ ap status_of ended.run.2 in
+      let list = put_list l (from_to sink.before ended.between) ended.run.0 status is zero ended.run.1 in
+      (list.0, list.1, Appends-kept sink.before.contents ended.between.contents sink.after.contents (lines_text 1 list.0) list.2 (behind_none ended.ran last ending ended.flush))
+
   -- ---- what words ask for
 
   request_true : (request : Request) → EndsRequest request source sink ending → IsTrueOf request status source sink ⊎ (OutOfMemory × (status ≡ 4) × IsUnused source sink)
@@ -420,9 +496,11 @@ module _ (source : Change SourceState) (sink : Change SinkState) (ending : Endin
   request_true (Certify o) (inl (setup, is, run)) = inl (setup, is, certified source sink ending status told setup run)
   request_true (Certify o) (inr (lacking, unused, is)) = inr (lacking, told ∙ ap status_of is, unused)
   request_true Check run = inl (checked source sink ending status told run)
+  request_true (Draw style) run = inl (drawn source sink ending status told style run)
   request_true Upgrade run = inl (rewritten source sink ending status told run)
   request_true (Replay o) (inl (setup, is, run)) = inl (setup, is, replayed setup run)
   request_true (Replay o) (inr (lacking, unused, is)) = inr (lacking, told ∙ ap status_of is, unused)
+  request_true (Boards l) (unread, run) = inl (listed l run)
   request_true (Help text) (unread, run) = inl (shown (string_bytes text) run)
   request_true (Version text) (unread, run) = inl (shown (string_bytes text) run)
 
@@ -443,8 +521,10 @@ module _ (source : Change SourceState) (sink : Change SinkState) (ending : Endin
   default_true (Solve o) defaults (inr (lacking, unused, is)) = inr (subst HasNotBegun (sym is) tt, lacking, told ∙ ap status_of is)
   default_true (Certify o) never ends = absurd never
   default_true Check never ends = absurd never
+  default_true (Draw style) never ends = absurd never
   default_true Upgrade never ends = absurd never
   default_true (Replay o) never ends = absurd never
+  default_true (Boards l) never ends = absurd never
   default_true (Help text) never ends = absurd never
   default_true (Version text) never ends = absurd never
 
@@ -455,6 +535,7 @@ module _ (source : Change SourceState) (sink : Change SinkState) (ending : Endin
   default_refused (Groups (groups.NoGroup fault)) never is = absurd never
   default_refused (Groups (groups.NoPartition fault)) never is = absurd never
   default_refused (Groups (groups.Memory lacking)) refused is = inr (subst HasNotBegun (sym is) tt, lacking, told ∙ ap status_of is)
+  default_refused (NoListing fault) never is = absurd never
   default_refused Memory never is = absurd never
 
   none_true : EndsBy [] source sink ending → BatchOrNone

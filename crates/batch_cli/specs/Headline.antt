@@ -4,18 +4,22 @@ use Rattle.byte_streams.specs.Streams.{SourceState, SinkState, Change}
 use Rattle.byte_streams.specs.Sink.{Puts}
 use Rattle.memory.specs.declared.OutOfMemory.{OutOfMemory}
 use Rattle.clap.specs.Words.{Text}
+use Rattle.board.specs.Positions.{Position}
+use Rattle.board_lists.specs.Lines.{lines_text}
+use Rattle.board_lists.specs.Lists.{AreChosen}
 use Rattle.board.specs.Plans.{Leads, NothingBelow, IsLeast}
 use Rattle.certificate.specs.Certificates.{Statement}
 use Rattle.certificate.specs.Readings.{certificate}
 use Rattle.batch_runs.specs.Headline.{WritesTruth, BeginsTruth}
 use Rattle.batch_runs.specs.Setups.{SetupState}
-use Rattle.certificate_runs.specs.Headline.{WritesAnswer, WritesVerdict, IsRefusedBy, WritesUpgrade}
+use Rattle.certificate_runs.specs.Headline.{WritesAnswer, WritesVerdict, IsRefusedBy, WritesUpgrade, WritesShow}
+use Rattle.drawings.specs.declared.drawing.Style.{Style}
 use Rattle.replay_runs.specs.Replays.{Jobs, PassesAll, WritesRefusal, WritesPlay}
 use Rattle.replay_runs.specs.Openings.{setup_jobs}
 use Rattle.setup_runs.specs.Solving.{rules_of, certifying_rules_of}
 use Rattle.command_line.specs.declared.faults.NoRequest.{NoRequest}
 use Rattle.command_line.specs.declared.requests.Request.{Request}
-use Rattle.command_line.specs.declared.requests.Request.TheVariants.{Solve, Certify, Check, Upgrade, Replay, Help, Version}
+use Rattle.command_line.specs.declared.requests.Request.TheVariants.{Solve, Certify, Check, Draw, Upgrade, Replay, Boards, Help, Version}
 use Rattle.command_line.specs.Faults.{refusal_status}
 use Rattle.command_line.specs.Requests.{WordsAsk, WordsFail}
 use Rattle.batch_cli.specs.Setups.{IsSetupOf, IsDefaultSetup}
@@ -46,18 +50,24 @@ pub record JudgesTruly (status : ℕ) (sink : Change SinkState) (input : List �
 abbrev pub UpgradesTruly : ℕ → Change SinkState → List ℕ → Type 0
 UpgradesTruly status sink input = (status ≡ 0) ⊎ (status ≡ 5) → WritesUpgrade sink status input
 
+-- with the status 0 the input is a certificate whose plan leads, if there is one, and its drawing was written; with 5 its first fault was reported
+abbrev pub DrawsTruly : Style → ℕ → Change SinkState → List ℕ → Type 0
+DrawsTruly style status sink input = (status ≡ 0) ⊎ (status ≡ 5) → WritesShow style sink status input
+
 -- the answers to a board line and to the lines of steps behind it were written, as the status says
 abbrev pub WritesReplay : Jobs → Change SourceState → Change SinkState → ℕ → Type 0
 WritesReplay jobs source sink status = PassesAll source sink status ⊎ WritesRefusal jobs source sink status ⊎ WritesPlay jobs source sink status
 
--- What is written for what words ask for is true. Of boards it is so as of those without words, for a setup that the options say; of a certificate, a verdict, an upgrade, a replay and a text where the run ends well.
+-- What is written for what words ask for is true. Of boards it is so as of those without words, for a setup that the options say; of a certificate, a verdict, a drawing, an upgrade, a replay, a list of boards and a text where the run ends well.
 abbrev pub IsTrueOf : Request → ℕ → Change SourceState → Change SinkState → Type 0
 IsTrueOf (Solve o) status source sink =
     (setup : SetupState) × IsSetupOf o setup × BeginsTruth (rules_of setup) source sink × (status < 2 → WritesTruth (rules_of setup) source sink status)
 IsTrueOf (Certify o) status source sink = (setup : SetupState) × IsSetupOf o setup × (status < 2 → WritesAnswer setup.tables.split (certifying_rules_of setup) source sink)
 IsTrueOf Check status source sink = IfSome source.before.left (JudgesTruly status sink)
+IsTrueOf (Draw style) status source sink = IfSome source.before.left (DrawsTruly style status sink)
 IsTrueOf Upgrade status source sink = IfSome source.before.left (UpgradesTruly status sink)
 IsTrueOf (Replay o) status source sink = (setup : SetupState) × IsSetupOf o setup × (status < 2 → WritesReplay (setup_jobs setup) source sink status)
+IsTrueOf (Boards l) status source sink = status ≡ 0 → (boards : List Position) × AreChosen l.goal l.choice boards × Puts sink (lines_text 1 boards)
 IsTrueOf (Help text) status source sink = status ≡ 0 → Puts sink (string_bytes text)
 IsTrueOf (Version text) status source sink = status ≡ 0 → Puts sink (string_bytes text)
 

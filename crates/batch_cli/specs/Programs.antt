@@ -1,10 +1,12 @@
 -- What the program does for words, and how it ends.
-use Rattle.std.specs.Prelude.{ℕ, ◌≡◌, ◌⊎◌, List, Result, Ok, Err, string_bytes}
+use Rattle.std.specs.Prelude.{ℕ, ◌≡◌, ◌⊎◌, List, Result, Ok, Err, ⊤, string_bytes}
 use Rattle.byte_streams.specs.Streams.{SourceState, SinkState, Change, from_to}
 use Rattle.byte_streams.specs.Sink.{Writes, Flushes}
 use Rattle.byte_streams.specs.declared.sink.WriteFailed.{WriteFailed}
 use Rattle.memory.specs.declared.OutOfMemory.{OutOfMemory}
 use Rattle.clap.specs.Words.{Text}
+use Rattle.board_lists.specs.Lists.{AreChosen, MayBeListed, ListsBoards}
+use Rattle.command_line.specs.declared.requests.Listing.{Listing}
 use Rattle.batch_runs.specs.declared.batch.Summary.{Summary}
 use Rattle.batch_runs.specs.declared.faults.LinesFault.{LinesFault}
 use Rattle.batch_runs.specs.Batches.{ReportsLines}
@@ -14,14 +16,16 @@ use Rattle.certificate_runs.specs.declared.faults.CheckFault.{CheckFault}
 use Rattle.certificate_runs.specs.declared.faults.UpgradeFault.{UpgradeFault}
 use Rattle.certificate_runs.specs.Certifying.{Replies}
 use Rattle.certificate_runs.specs.Checking.{Checks}
+use Rattle.certificate_runs.specs.Showing.{Shows as ShowsCertificate}
 use Rattle.certificate_runs.specs.Upgrading.{Upgrades}
+use Rattle.drawings.specs.declared.drawing.Style.{Style}
 use Rattle.replay_runs.specs.Replays.{Replays}
 use Rattle.replay_runs.specs.Openings.{setup_jobs}
 use Rattle.setup_runs.specs.Solving.{rules_of, certifying_rules_of}
 use Rattle.command_line.specs.declared.faults.NoRequest.{NoRequest}
 use Rattle.command_line.specs.declared.requests.Options.{Options}
 use Rattle.command_line.specs.declared.requests.Request.{Request}
-use Rattle.command_line.specs.declared.requests.Request.TheVariants.{Solve, Certify, Check, Upgrade, Replay, Help, Version}
+use Rattle.command_line.specs.declared.requests.Request.TheVariants.{Solve, Certify, Check, Draw, Upgrade, Replay, Boards, Help, Version}
 use Rattle.command_line.specs.Requests.{WordsAsk, WordsFail}
 use Rattle.batch_cli.specs.declared.faults.BatchFault.{BatchFault}
 use Rattle.batch_cli.specs.declared.faults.BatchFault.TheVariants.{Write}
@@ -55,6 +59,10 @@ Certifies source setup sink ending = (result : Result ℕ CertifyFault) × Repli
 abbrev pub Judges : Change SourceState → Change SinkState → Ending → Type 0
 Judges source sink ending = (result : Result ℕ CheckFault) × Checks source sink result × (ending ≡ ending_of Answered of_check result)
 
+-- a certificate is drawn
+abbrev pub Draws : Change SourceState → Style → Change SinkState → Ending → Type 0
+Draws source style sink ending = (result : Result ℕ CheckFault) × ShowsCertificate style source sink result × (ending ≡ ending_of Answered of_check result)
+
 -- a certificate is written in version 2
 abbrev pub Rewrites : Change SourceState → Change SinkState → Ending → Type 0
 Rewrites source sink ending = (result : Result ℕ UpgradeFault) × Upgrades source sink result × (ending ≡ ending_of Answered of_upgrade result)
@@ -62,6 +70,10 @@ Rewrites source sink ending = (result : Result ℕ UpgradeFault) × Upgrades sou
 -- steps are taken one by one
 abbrev pub TakesSteps : Change SourceState → SetupState → Change SinkState → Ending → Type 0
 TakesSteps source setup sink ending = (result : Result ℕ LinesFault) × Replays (setup_jobs setup) source sink result × (ending ≡ ending_of Answered of_lines result)
+
+-- boards are listed
+abbrev pub Lists : Listing → Change SinkState → Ending → Type 0
+Lists l sink ending = (result : Result (Unit {0}) WriteFailed) × ListsBoards (AreChosen l.goal l.choice) sink result × (ending ≡ ending_of (λ done. Shown) (λ failed. Write) result)
 
 -- a text is written
 abbrev pub Shows : List ℕ → Change SinkState → Ending → Type 0
@@ -101,8 +113,10 @@ abbrev pub EndsRequest : Request → Change SourceState → Change SinkState →
 EndsRequest (Solve o) source sink ending = EndsSetup o (Solves source) source sink ending
 EndsRequest (Certify o) source sink ending = EndsSetup o (Certifies source) source sink ending
 EndsRequest Check source sink ending = EndsRun (Judges source) sink ending
+EndsRequest (Draw style) source sink ending = EndsRun (Draws source style) sink ending
 EndsRequest Upgrade source sink ending = EndsRun (Rewrites source) sink ending
 EndsRequest (Replay o) source sink ending = EndsSetup o (TakesSteps source) source sink ending
+EndsRequest (Boards l) source sink ending = (source.after ≡ source.before) × EndsRun (Lists l) sink ending
 EndsRequest (Help text) source sink ending = (source.after ≡ source.before) × EndsRun (Shows (string_bytes text)) sink ending
 EndsRequest (Version text) source sink ending = (source.after ≡ source.before) × EndsRun (Shows (string_bytes text)) sink ending
 
@@ -114,13 +128,20 @@ EndsBy words source sink ending =
 
 -- ---- commands, ready to run
 
+-- a whole class is listed only where it may be
+abbrev pub CanRun : Command → Type 0
+CanRun (command.List l) = MayBeListed l.goal.grid l.choice
+CanRun _ = ⊤
+
 -- a run of a command, without the flush that follows it
 abbrev pub Runs : Command → Change SourceState → Change SinkState → Ending → Type 0
 Runs (command.Solve setup progress) source sink ending = Solves source setup sink ending
 Runs (command.Certify setup progress) source sink ending = Certifies source setup sink ending
 Runs command.Check source sink ending = Judges source sink ending
+Runs (command.Draw style) source sink ending = Draws source style sink ending
 Runs command.Upgrade source sink ending = Rewrites source sink ending
 Runs (command.Replay setup) source sink ending = TakesSteps source setup sink ending
+Runs (command.List l) source sink ending = (source.after ≡ source.before) × Lists l sink ending
 Runs (command.Show text) source sink ending = (source.after ≡ source.before) × Shows (string_bytes text) sink ending
 
 -- a run of the command, and the flush that follows it, end what is requested

@@ -8,9 +8,10 @@ use Rattle.lower_bound.specs.Tables.{Tables, AreWhole}
 use Rattle.batch_runs.specs.Setups.{SetupState}
 use Rattle.batch_runs.specs.declared.setup.SpreadKind.TheVariants.{Zobrist}
 use Rattle.table_sets.specs.Built.{AreTrueTables, AreBuilt, AreBuiltFolded}
+use Rattle.board_lists.specs.Lists.{MayBeListed}
 use Rattle.command_line.specs.declared.requests.Options.{Options}
 use Rattle.command_line.specs.declared.requests.Request.{Request}
-use Rattle.command_line.specs.declared.requests.Request.TheVariants.{Solve, Certify, Check, Upgrade, Replay, Help, Version}
+use Rattle.command_line.specs.declared.requests.Request.TheVariants.{Solve, Certify, Check, Draw, Upgrade, Replay, Boards, Help, Version}
 
 -- the costs and the groups are of the goal's shape, and there are workers, not too many
 pub record AreFit (o : Options) : Type 0 where
@@ -19,13 +20,15 @@ pub record AreFit (o : Options) : Type 0 where
   pub some : 1 ≤ o.workers
   pub few : o.workers ≤ 16
 
--- so are those of a request that has options
+-- so are those of a request that has options, and a class that is listed whole is small
 abbrev pub IsFit : Request → Type 0
 IsFit (Solve o) = AreFit o
 IsFit (Certify o) = AreFit o
 IsFit Check = ⊤
+IsFit (Draw style) = ⊤
 IsFit Upgrade = ⊤
 IsFit (Replay o) = AreFit o
+IsFit (Boards l) = MayBeListed l.goal.grid l.choice
 IsFit (Help text) = ⊤
 IsFit (Version text) = ⊤
 

@@ -2,11 +2,12 @@
 
 ghost use Rattle.std.specs.Prelude.{IfOk, IfErr};
 ghost use Rattle.batch_cli.specs.Setups.{IsFit};
-ghost use Rattle.batch_cli.specs.Programs.{Serves, LacksMemory};
+ghost use Rattle.batch_cli.specs.Programs.{Serves, CanRun, LacksMemory};
 
 use crate::setups::setup_of;
 use batch_runs::Setup;
-use command_line::Request;
+use command_line::{Listing, Request};
+use drawings::Style;
 use memory::OutOfMemory;
 use std::alloc::Global;
 use std::thread::Threads;
@@ -20,10 +21,14 @@ pub(crate) enum Command {
     Certify { setup: Setup, progress: bool },
     /// Checks the certificate of the source.
     Check,
+    /// Draws the certificate of the source.
+    Draw(Style),
     /// Writes the certificate of the source in version 2.
     Upgrade,
     /// Replays the steps of the source.
     Replay(Setup),
+    /// Lists boards.
+    List(Listing),
     /// Writes a text of help.
     Show(String),
 }
@@ -36,6 +41,7 @@ pub(crate) fn command_for(
 ) -> Result<Command, OutOfMemory>
     requires { IsFit request }
     ensures command { IfOk result (Serves request) }
+    ensures fit { IfOk result CanRun }
     ensures lacking { IfErr result (LacksMemory request) }
 {
     match request {
@@ -50,11 +56,13 @@ pub(crate) fn command_for(
             Ok(Command::Certify { setup, progress })
         }
         Request::Check => Ok(Command::Check),
+        Request::Draw(style) => Ok(Command::Draw(style)),
         Request::Upgrade => Ok(Command::Upgrade),
         Request::Replay(options) => {
             let setup = setup_of(rt, alloc, options)?;
             Ok(Command::Replay(setup))
         }
+        Request::Boards(listing) => Ok(Command::List(listing)),
         Request::Help(text) => Ok(Command::Show(text)),
         Request::Version(text) => Ok(Command::Show(text)),
     }

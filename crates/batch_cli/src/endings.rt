@@ -20,9 +20,9 @@ pub enum Ending {
     NoMemory,
     /// All lines were answered or refused.
     Ran(Summary),
-    /// A certificate was written, judged or upgraded, or a replay answered, with this status.
+    /// A certificate was written, judged, drawn or upgraded, or a replay answered, with this status.
     Answered(u8),
-    /// A text of help was written.
+    /// A text of help was written, or boards were listed.
     Shown,
     /// The run ended early.
     Faulted(BatchFault),

@@ -1,6 +1,8 @@
 //! The laws of the definitions: each is the contract of a function that does nothing.
 
 ghost use Rattle.batch_cli.specs.Laws.{MessagesAreWhole, MessagesAreBegun, OutputsTellTheTruth};
+ghost use Rattle.batch_cli.specs.Laws.{SolvedOutputsTellTheTruth, CertificatesAnswerTheFirst};
+ghost use Rattle.batch_cli.specs.Laws.{AcceptedInputsAreTrue, DefaultSetupsAreKorfs};
 
 /// To a stream that has not failed since, the message is written whole.
 pub fn messages_are_whole()
@@ -16,4 +18,20 @@ pub fn messages_are_begun()
 /// 0 or 1 tells the truth of all of the input's lines.
 pub fn outputs_tell_the_truth()
     ensures { OutputsTellTheTruth }
+{}
+
+/// So it is where options are given: all lines are answered, or the first board with a certificate.
+pub fn asked_outputs_tell_the_truth()
+    ensures solved { SolvedOutputsTellTheTruth }
+    ensures certified { CertificatesAnswerTheFirst }
+{}
+
+/// A known input that is accepted states a cost that no plan undercuts.
+pub fn accepted_inputs_are_true()
+    ensures { AcceptedInputsAreTrue }
+{}
+
+/// Without arguments 3 by 3 boards are solved, for Korf's goal at unit cost.
+pub fn defaults_are_korfs()
+    ensures { DefaultSetupsAreKorfs }
 {}

@@ -1,5 +1,5 @@
 //! The library of the program `tilesolve`: boards in, reports or a certificate out, certificates
-//! checked and upgraded, and runs replayed step by step.
+//! checked, drawn and upgraded, and runs replayed step by step.
 #![tactic(auto)]
 
 mod commands;
@@ -16,10 +16,11 @@ pub use batch_lines::{
 };
 pub use batch_runs::{LinesFault, Ruled, Setup, Solver, SpreadKind, Summary, run_lines};
 pub use certificate_runs::{
-    CertifyFault, CheckFault, ProofRuled, Prover, UpgradeFault, certify_first, run_check,
+    CertifyFault, CheckFault, ProofRuled, Prover, UpgradeFault, certify_first, run_check, run_show,
     run_upgrade,
 };
 pub use command_line::NoRequest;
+pub use drawings::Style;
 pub use endings::Ending;
 pub use faults::BatchFault;
 pub use hda_run::{Free, Gate, Kind};

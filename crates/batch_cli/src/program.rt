@@ -16,8 +16,8 @@ use std::thread::Threads;
 /// program's name.
 ///
 /// What the words ask for is done, and the sink is flushed: boards are solved or steps replayed with
-/// tables that are built once, a certificate is written, checked or upgraded, or a text of help is
-/// written. No words at all mean `solve --rows 3 --cols 3`: 3 by 3 boards at unit cost with Korf's goal, and the
+/// tables that are built once, a certificate is written, checked, drawn or upgraded, boards are listed,
+/// or a text of help is written. No words at all mean `solve --rows 3 --cols 3`: 3 by 3 boards at unit cost with Korf's goal, and the
 /// tables of the groups `1,2,3,4/5,6,7,8`.
 ///
 /// What is written tells the truth: so say `IsTrueBy`, and `IsTrue` where there are no words. Where

@@ -4,18 +4,22 @@ ghost use Rattle.std.specs.Prelude.{◌≡◌, ◌⊎◌, Err, map, string_bytes
 ghost use Rattle.byte_streams.specs.Streams.{change};
 ghost use Rattle.byte_streams.specs.declared.sink.WriteFailed.{WriteFailed};
 ghost use Rattle.batch_runs.specs.Batches.{HasFailed};
+ghost use Rattle.board_lists.specs.Lists.{MayBeListed};
 ghost use Rattle.batch_cli.specs.Endings.{HasNotBegun};
-ghost use Rattle.batch_cli.specs.Programs.{Solves, Certifies, Judges, Rewrites, TakesSteps};
-ghost use Rattle.batch_cli.specs.Programs.{Shows, FlushesBehind, EndsBy, Runs, after_flush};
+ghost use Rattle.batch_cli.specs.Programs.{Solves, Certifies, Judges, Draws, Rewrites};
+ghost use Rattle.batch_cli.specs.Programs.{TakesSteps, Lists, Shows, FlushesBehind, EndsBy, CanRun, Runs};
+ghost use Rattle.batch_cli.specs.Programs.{after_flush};
 
 use crate::commands::{Command, command_for};
 use crate::endings::Ending;
 use crate::faults::BatchFault;
 use crate::progress::WhereAsked;
 use batch_runs::Setup;
+use board_lists::list_boards;
 use byte_streams::{Sink, Source};
-use certificate_runs::{run_check, run_upgrade};
-use command_line::read_words;
+use certificate_runs::{run_check, run_show, run_upgrade};
+use command_line::{Listing, read_words};
+use drawings::Style;
 use hda_run::Gate;
 use replay_runs::run_replay;
 use setup_runs::{run_batch, run_cert};
@@ -59,6 +63,7 @@ impl<'a, R: Threads + Wait + Sync, G: Gate + Sync> Runner<'a, R, G> {
 
     // Runs a command; no flush follows.
     fn run<S: Source, K: Sink>(&self, command: &Command, source: &mut S, sink: &mut K) -> Ending
+        requires { CanRun command.now }
         ensures { Runs command.now (change S.state source.old source.new)
             (change K.state sink.old sink.new) result }
     {
@@ -66,8 +71,10 @@ impl<'a, R: Threads + Wait + Sync, G: Gate + Sync> Runner<'a, R, G> {
             Command::Solve { setup, progress } => self.solve(setup, *progress, source, sink),
             Command::Certify { setup, progress } => self.certify(setup, *progress, source, sink),
             Command::Check => self.check(source, sink),
+            Command::Draw(style) => self.draw(*style, source, sink),
             Command::Upgrade => self.upgrade(source, sink),
             Command::Replay(setup) => self.replay(setup, source, sink),
+            Command::List(listing) => list(sink, *listing),
             Command::Show(text) => show(sink, text.as_str()),
         }
     }
@@ -122,6 +129,16 @@ impl<'a, R: Threads + Wait + Sync, G: Gate + Sync> Runner<'a, R, G> {
         }
     }
 
+    fn draw<S: Source, K: Sink>(&self, style: Style, source: &mut S, sink: &mut K) -> Ending
+        ensures { Draws (change S.state source.old source.new) style
+            (change K.state sink.old sink.new) result }
+    {
+        match run_show(self.alloc, style, source, sink) {
+            Ok(status) => Ending::Answered(status),
+            Err(fault) => Ending::Faulted(BatchFault::from(fault)),
+        }
+    }
+
     fn upgrade<S: Source, K: Sink>(&self, source: &mut S, sink: &mut K) -> Ending
         ensures { Rewrites (change S.state source.old source.new) (change K.state sink.old sink.new)
             result }
@@ -140,6 +157,17 @@ impl<'a, R: Threads + Wait + Sync, G: Gate + Sync> Runner<'a, R, G> {
             Ok(status) => Ending::Answered(status),
             Err(fault) => Ending::Faulted(BatchFault::from(fault)),
         }
+    }
+}
+
+// Lists boards.
+fn list<K: Sink>(sink: &mut K, listing: Listing) -> Ending
+    requires { MayBeListed listing.goal.grid listing.choice }
+    ensures { Lists listing (change K.state sink.old sink.new) result }
+{
+    match list_boards(sink, &listing.goal, listing.choice) {
+        Ok(()) => Ending::Shown,
+        Err(_) => Ending::Faulted(BatchFault::Write),
     }
 }
 

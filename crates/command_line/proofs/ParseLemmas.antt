@@ -1,6 +1,6 @@
 -- What a parse of the words says of a command, its matches, and what they ask for.
 use Rattle.std.proofs.Common.{◌≡◌, ℕ, List, Option, None, Some, sym, ap, subst, ◌∙◌, codes, true, refl, Bool, false, ap₂, [], Result, Ok, Err, IfOk, IfErr, inl, option_map, ◌≢◌, ◌==◌, ◌⊎◌, ◌∷◌, inr, map, length}
-use Rattle.std.specs.Prelude.{◌||◌, IfSome, IsTrue, ◌↔◌, is_some, unwrap_or, Box}
+use Rattle.std.specs.Prelude.{◌||◌, IfSome, IsTrue, ◌↔◌, is_some, not, unwrap_or, Box}
 use Rattle.std.specs.Result.{IsErrAnd}
 use Rattle.std.proofs.lemmas.Bool.{true≢false}
 use Rattle.std.specs.Str.{bytes_eq}
@@ -24,7 +24,7 @@ use Rattle.clap.specs.declared.parser.matches.ArgMatches.TheViews.{out-ArgMatche
 use Rattle.clap.specs.declared.parser.matches.SubCommand.{SubCommand}
 use Rattle.command_line.specs.Commands.{Choices, program_app, AreChoices, IsProgram}
 use Rattle.command_line.specs.Requests.{HasNumber, HasShape, IsGoalSaid, IsGoalFault, AreCostsSaid, IsCostsFault, AreGroupsSaid, IsGroupsFault, AreOptions, OptionsFail, RunFails, AsksRun, AsksText, TextFails, WordsAsk, WordsFail}
-use Rattle.command_line.specs.declared.faults.NoRequest.TheVariants.{Usage, Goal, Costs, Groups, Memory}
+use Rattle.command_line.specs.declared.faults.NoRequest.TheVariants.{Usage, Goal, Costs, Groups, NoListing, Memory}
 use Rattle.command_line.specs.declared.requests.Request.{Request}
 use Rattle.command_line.specs.declared.faults.NoRequest.{NoRequest}
 use Rattle.board.specs.Grids.{Grid}
@@ -42,6 +42,12 @@ use Rattle.option_texts.proofs.CostLemmas.{one_rule, no_costs_fault}
 use Rattle.option_texts.proofs.LawLemmas.{no_groups_fault}
 use Rattle.command_line.specs.declared.requests.Options.{Options}
 use Rattle.command_line.specs.Laws.{IsWant}
+use Rattle.command_line.specs.Requests.{IsChoice, IsListing, IsListFault, ListingFails}
+use Rattle.command_line.specs.declared.requests.Listing.{Listing}
+use Rattle.command_line.specs.declared.faults.ListFault.TheVariants.{NotAlone, TooManyCells}
+use Rattle.board_lists.specs.Lists.{MayBeListed}
+use Rattle.board_lists.specs.declared.choices.Choice.{Choice}
+use Rattle.board_lists.specs.declared.choices.Choice.TheVariants.{Drawn, Walked, Whole}
 
 -- ---- the command is one of those whose parse clap's contracts give as a function of the words
 
@@ -121,6 +127,16 @@ word_told f id text word same given test = (
 pub none_told : (f : Found) (id word : Text) → ◌≡◌ {A = Option Text} None (first_value f id) → IsTrue false ↔ (first_of id (rows_of f) ≡ Some word)
 none_told f id word given = (λ never. absurd (true≢false (sym never)), λ is. absurd (true≢false (ap (λ (o : Option Text). is_some o) (sym is ∙ sym (first_value-rows f id) ∙ sym given))))
 
+-- a getter gives no text exactly where the option is left out
+pub left_out : (f : Found) (id : Text) (read : Option (Bor Text)) (none : Bool) → option_map (λ t. t.now) read ≡ first_value f id → is_some read ≡ not none → IsTrue none ↔ (first_of id (rows_of f) ≡ None)
+left_out f id None true value is = (λ yes. sym (first_value-rows f id) ∙ sym value, λ out. refl)
+left_out f id None false value is = absurd (true≢false (sym is))
+left_out f id (Some text) true value is = absurd (true≢false is)
+left_out f id (Some text) false value is = (
+  λ yes. absurd (true≢false (sym yes)),
+  λ out. absurd (true≢false (ap (λ (o : Option Text). is_some o) (value ∙ first_value-rows f id ∙ out))),
+)
+
 -- ---- why a subcommand asks for no run, by what the matches say of its name
 
 -- the name of a subcommand is that beside its rows
@@ -134,7 +150,7 @@ names_agree m = name_beside (out-ArgMatches m).subcommand
 -- where it is neither `check` nor `upgrade` memory may be refused
 pub memory_fails : (subcommand : Option (Text × List Row)) → (option_map (λ p. p.0) subcommand ≢ Some (codes "check")) → (option_map (λ p. p.0) subcommand ≢ Some (codes "upgrade")) → RunFails subcommand Memory
 memory_fails None other another = refl
-memory_fails (Some p) other another = (λ is. other (ap Some is), λ is. another (ap Some is), tt)
+memory_fails (Some p) other another = (λ is. other (ap Some is), λ is. another (ap Some is), λ is. refl, λ is. tt, λ is. tt)
 
 -- ---- what words ask for, or why they ask for nothing, by what a parse of them says
 
@@ -215,7 +231,34 @@ options_no_fault rows o (Costs fault) sound said (grid, shape, goal, goal_said, 
 options_no_fault rows o (Groups fault) sound said (grid, shape, goal, goal_said, rule, costs_said, first) =
     let same = one_shape rows grid o.goal.grid shape said.shape in
     groups_no_fault o.goal.grid (first_of (codes "groups") rows) o.groups fault sound said.groups (subst (λ (g : Grid). IsGroupsFault g (first_of (codes "groups") rows) fault) (sym same) first)
+options_no_fault rows o (NoListing fault) sound said never = never
 options_no_fault rows o Memory sound said fails = tt
+
+-- ---- Boards that are said have no fault.
+
+alone : (rows : List Row) (choice : Choice) → IsChoice rows choice → IsListFault rows NotAlone → ⊥
+alone rows (Drawn count seed) said (all, others) = said.0 all
+alone rows (Walked moves count seed) said (all, others) = said.0 all
+alone rows Whole said (all, inl count) = count said.1
+alone rows Whole said (all, inr moves) = moves said.2
+
+few_cells : (rows : List Row) (l : Listing) (choice : Choice) → choice ≡ l.choice → IsListing rows l → IsListFault rows TooManyCells → ⊥
+few_cells rows l (Drawn count seed) is said (whole, grid, shape, many) = (subst (IsChoice rows) (sym is) said.choice).0 whole.0
+few_cells rows l (Walked moves count seed) is said (whole, grid, shape, many) = (subst (IsChoice rows) (sym is) said.choice).0 whole.0
+few_cells rows l Whole is said (whole, grid, shape, many) =
+    let same = one_shape rows grid l.goal.grid shape said.shape in
+    many (subst (λ (g : Grid). MayBeListed g Whole) same (subst (MayBeListed l.goal.grid) (sym is) said.small))
+
+pub listing_no_fault : (rows : List Row) (l : Listing) (refusal : NoRequest) → IsListing rows l → ListingFails rows refusal → IsWant refusal
+listing_no_fault rows l (Usage text) said never = never
+listing_no_fault rows l (Goal fault) said (grid, choice, shape, chosen, small, first) =
+    let same = one_shape rows grid l.goal.grid shape said.shape in
+    goal_no_fault l.goal.grid (first_of (codes "goal") rows) l.goal fault said.goal (subst (λ (g : Grid). IsGoalFault g (first_of (codes "goal") rows) fault) (sym same) first)
+listing_no_fault rows l (Costs fault) said never = never
+listing_no_fault rows l (Groups fault) said never = absurd never
+listing_no_fault rows l (NoListing NotAlone) said fails = alone rows l.choice said.choice fails
+listing_no_fault rows l (NoListing TooManyCells) said fails = few_cells rows l l.choice refl said fails
+listing_no_fault rows l Memory said fails = tt
 
 -- ---- one after the other
 

@@ -34,6 +34,10 @@ number_rule name least most given = parsed_rule (option_rule name) (value.Unsign
 abbrev pub choice_rule : Text → Choices → Text → Rule
 choice_rule name choices given = parsed_rule (option_rule name) (value.Names choices) given
 
+-- an option of a number up to 2^64 - 1, which may be left out
+abbrev pub count_rule : Text → Rule
+count_rule name = record (option_rule name) { parser = Some (value.Unsigned 0 18446744073709551615) }
+
 -- an option without a value
 abbrev pub flag_rule : Text → Rule
 flag_rule name = record (new_rule name) { long = Some name; action = Some SetTrue }
@@ -46,6 +50,17 @@ puzzle_app spreads name =
     let workers = with_rule (with_rule texts (flag_rule (codes "fold"))) (number_rule (codes "workers") 1 16 (codes "1")) in
     with_rule (with_rule workers (choice_rule (codes "spread") spreads (codes "zobrist"))) (number_rule (codes "limit") 0 18446744073709551615 (codes "18446744073709551615"))
 
+-- the subcommand `show`: columns of the text, whether an SVG file is written, and the seconds of a move there
+abbrev pub show_app : App
+show_app = with_rule (with_rule (with_rule (new_app (codes "show")) (number_rule (codes "width") 20 1000 (codes "80"))) (flag_rule (codes "svg"))) (number_rule (codes "seconds") 1 60 (codes "1"))
+
+-- the subcommand `boards`: the sides and the goal, and which boards are listed
+abbrev pub boards_app : App
+boards_app =
+    let sides = with_rule (with_rule (new_app (codes "boards")) (side_rule (codes "rows"))) (side_rule (codes "cols")) in
+    let counts = with_rule (with_rule sides (option_rule (codes "goal"))) (count_rule (codes "count")) in
+    with_rule (with_rule (with_rule counts (number_rule (codes "seed") 0 18446744073709551615 (codes "0"))) (count_rule (codes "moves"))) (flag_rule (codes "all"))
+
 -- the program without its subcommands: it has a version, one subcommand must be there, and `help` is none
 abbrev pub top_app : App
 top_app =
@@ -56,8 +71,9 @@ top_app =
 abbrev pub program_app : Choices → App
 program_app spreads =
     let solve = with_rule (with_rule (puzzle_app spreads (codes "solve")) (flag_rule (codes "cert"))) (flag_rule (codes "progress")) in
-    let checks = with_subcommand (with_subcommand (with_subcommand top_app solve.top) (new_app (codes "check")).top) (new_app (codes "upgrade")).top in
-    with_subcommand checks (puzzle_app spreads (codes "replay")).top
+    let checks = with_subcommand (with_subcommand top_app solve.top) (new_app (codes "check")).top in
+    let shows = with_subcommand (with_subcommand checks show_app.top) (new_app (codes "upgrade")).top in
+    with_subcommand (with_subcommand shows (puzzle_app spreads (codes "replay")).top) boards_app.top
 
 -- the words that `--spread` may have
 abbrev pub AreChoices : Choices → Type 0

@@ -4,7 +4,9 @@ use Rattle.board.specs.Faults.{tiles_code, weights_code}
 use Rattle.option_texts.specs.Faults.{groups_code}
 use Rattle.option_texts.specs.declared.faults.GroupsFault.TheVariants as groups
 use Rattle.command_line.specs.declared.faults.NoRequest.{NoRequest}
-use Rattle.command_line.specs.declared.faults.NoRequest.TheVariants.{Usage, Goal, Costs, Groups, Memory}
+use Rattle.command_line.specs.declared.faults.NoRequest.TheVariants.{Usage, Goal, Costs, Groups, NoListing, Memory}
+use Rattle.command_line.specs.declared.faults.ListFault.{ListFault}
+use Rattle.command_line.specs.declared.faults.ListFault.TheVariants.{NotAlone, TooManyCells}
 
 -- 2 for the words, with the texts of the goal, of the costs and of the groups among them; 4 for want of memory
 abbrev pub refusal_status : NoRequest → ℕ
@@ -14,11 +16,17 @@ refusal_status (Costs fault) = 2
 refusal_status (Groups (groups.NoGroup fault)) = 2
 refusal_status (Groups (groups.NoPartition fault)) = 2
 refusal_status (Groups (groups.Memory refused)) = 4
+refusal_status (NoListing fault) = 2
 refusal_status Memory = 4
 
 -- a code as a line for standard error
 abbrev pub coded_line : List ℕ → List ℕ
 coded_line code = codes "tilesolve: " ++ code ++ 10 ∷ []
+
+-- what is written of boards that can't be listed
+abbrev pub list_line : ListFault → List ℕ
+list_line NotAlone = codes "error: --all cannot be used with --count or --moves" ++ 10 ∷ []
+list_line TooManyCells = codes "error: --all needs a shape of at most 9 cells" ++ 10 ∷ []
 
 -- what is written of it to standard error: the text of usage, or a line with a code
 abbrev pub refusal_message : NoRequest → List ℕ
@@ -26,4 +34,5 @@ refusal_message (Usage text) = string_bytes text
 refusal_message (Goal fault) = coded_line (tiles_code fault)
 refusal_message (Costs fault) = coded_line (weights_code fault)
 refusal_message (Groups fault) = coded_line (groups_code fault)
+refusal_message (NoListing fault) = list_line fault
 refusal_message Memory = coded_line (codes "memory")

@@ -10,9 +10,10 @@ use Rattle.pattern_index.specs.Splits.{IsSplit}
 use Rattle.option_texts.specs.Laws.{IsRefusal}
 use Rattle.option_texts.specs.declared.faults.GroupsFault.{GroupsFault}
 use Rattle.command_line.specs.declared.requests.Options.{Options}
+use Rattle.command_line.specs.declared.requests.Listing.{Listing}
 use Rattle.command_line.specs.declared.faults.NoRequest.{NoRequest}
-use Rattle.command_line.specs.declared.faults.NoRequest.TheVariants.{Usage, Goal, Costs, Groups, Memory}
-use Rattle.command_line.specs.Requests.{HasShape, IsGoalSaid, IsGoalFault, AreCostsSaid, IsCostsFault, AreOptions, OptionsFail}
+use Rattle.command_line.specs.declared.faults.NoRequest.TheVariants.{Usage, Goal, Costs, Groups, NoListing, Memory}
+use Rattle.command_line.specs.Requests.{HasShape, IsGoalSaid, IsGoalFault, AreCostsSaid, IsCostsFault, AreOptions, OptionsFail, IsListing, ListingFails}
 
 -- the rows and columns say one shape
 abbrev pub ShapesAreDetermined : Type 0
@@ -38,11 +39,16 @@ IsWant (Usage text) = ⊥
 IsWant (Goal fault) = ⊥
 IsWant (Costs fault) = ⊥
 IsWant (Groups fault) = IsRefusal fault
+IsWant (NoListing fault) = ⊥
 IsWant Memory = ⊤
 
 -- options that are said have no fault
 abbrev pub OptionsHaveNoFault : Type 0
 OptionsHaveNoFault = (rows : List Row) (o : Options) (refusal : NoRequest) → IsSplit o.groups → AreOptions rows o → OptionsFail rows refusal → IsWant refusal
+
+-- so have boards that are said
+abbrev pub ListingsHaveNoFault : Type 0
+ListingsHaveNoFault = (rows : List Row) (l : Listing) (refusal : NoRequest) → IsListing rows l → ListingFails rows refusal → IsWant refusal
 
 -- the goal is judged before the costs, and these before the groups
 abbrev pub GoalsAreJudgedBeforeCosts : Type 0

@@ -20,10 +20,18 @@ use Rattle.board.specs.declared.faults.TilesFault.{TilesFault}
 use Rattle.board.specs.declared.faults.WeightsFault.{WeightsFault}
 use Rattle.command_line.specs.declared.requests.Options.{Options}
 use Rattle.command_line.specs.declared.requests.Request.{Request}
-use Rattle.command_line.specs.declared.requests.Request.TheVariants.{Solve, Certify, Check, Upgrade, Replay, Help, Version}
+use Rattle.command_line.specs.declared.requests.Request.TheVariants.{Solve, Certify, Check, Draw, Upgrade, Replay, Boards, Help, Version}
+use Rattle.drawings.specs.declared.drawing.Style.{Style}
+use Rattle.drawings.specs.declared.drawing.Style.TheVariants as style
+use Rattle.board_lists.specs.Lists.{MayBeListed}
+use Rattle.board_lists.specs.declared.choices.Choice.{Choice}
+use Rattle.board_lists.specs.declared.choices.Choice.TheVariants.{Drawn, Walked, Whole}
+use Rattle.command_line.specs.declared.requests.Listing.{Listing}
+use Rattle.command_line.specs.declared.faults.ListFault.{ListFault}
+use Rattle.command_line.specs.declared.faults.ListFault.TheVariants.{NotAlone, TooManyCells}
 use Rattle.command_line.specs.declared.values.Values.{Values}
 use Rattle.command_line.specs.declared.faults.NoRequest.{NoRequest}
-use Rattle.command_line.specs.declared.faults.NoRequest.TheVariants.{Usage, Goal, Costs, Groups, Memory}
+use Rattle.command_line.specs.declared.faults.NoRequest.TheVariants.{Usage, Goal, Costs, Groups, NoListing, Memory}
 use Rattle.command_line.specs.Commands.{IsProgram}
 
 -- ---- values of options
@@ -116,7 +124,48 @@ OptionsFail rows (Costs fault) =
 OptionsFail rows (Groups fault) =
     (grid : Grid) × HasShape rows grid × (goal : Position) × IsGoalSaid grid (first_of (codes "goal") rows) goal × (rule : CostRule)
     × AreCostsSaid grid (first_of (codes "cost") rows) rule × IsGroupsFault grid (first_of (codes "groups") rows) fault
+OptionsFail rows (NoListing fault) = ⊥
 OptionsFail rows Memory = ⊤
+
+-- how the values of the options of `show` say that a certificate is drawn
+abbrev pub IsStyle : List Row → Style → Type 0
+IsStyle rows (style.Text width) = HasNumber rows (codes "width") width × (first_of (codes "svg") rows ≢ Some (codes "true"))
+IsStyle rows (style.Svg seconds) = HasNumber rows (codes "seconds") seconds × IsSet rows (codes "svg")
+
+-- the option is left out
+abbrev pub IsLeftOut : List Row → Text → Type 0
+IsLeftOut rows id = first_of id rows ≡ None
+
+-- how many boards are said, and 10 where nothing is said of that
+abbrev pub HasCount : List Row → ℕ → Type 0
+HasCount rows n = (IsLeftOut rows (codes "count") × (n ≡ 10)) ⊎ HasNumber rows (codes "count") n
+
+-- which boards the values of the options of `boards` say
+abbrev pub IsChoice : List Row → Choice → Type 0
+IsChoice rows (Drawn count seed) = (¬ IsSet rows (codes "all")) × IsLeftOut rows (codes "moves") × HasCount rows count × HasNumber rows (codes "seed") seed
+IsChoice rows (Walked moves count seed) = (¬ IsSet rows (codes "all")) × HasNumber rows (codes "moves") moves × HasCount rows count × HasNumber rows (codes "seed") seed
+IsChoice rows Whole = IsSet rows (codes "all") × IsLeftOut rows (codes "count") × IsLeftOut rows (codes "moves")
+
+-- what the values of the options of `boards` say; a whole class has a small shape
+pub record IsListing (rows : List Row) (l : Listing) : Type 0 where
+  pub shape : HasShape rows l.goal.grid
+  pub goal : IsGoalSaid l.goal.grid (first_of (codes "goal") rows) l.goal
+  pub choice : IsChoice rows l.choice
+  pub small : MayBeListed l.goal.grid l.choice
+
+-- why they say no boards: `--all` isn't alone, or where it is the shape has too many cells
+abbrev pub IsListFault : List Row → ListFault → Type 0
+IsListFault rows NotAlone = IsSet rows (codes "all") × ((¬ IsLeftOut rows (codes "count")) ⊎ (¬ IsLeftOut rows (codes "moves")))
+IsListFault rows TooManyCells = IsChoice rows Whole × (grid : Grid) × HasShape rows grid × (¬ MayBeListed grid Whole)
+
+-- why they say nothing: that, or where they say boards the fault of the goal's text; and memory may be refused
+abbrev pub ListingFails : List Row → NoRequest → Type 0
+ListingFails rows (Usage text) = ⊥
+ListingFails rows (Goal fault) = (grid : Grid) × (choice : Choice) × HasShape rows grid × IsChoice rows choice × MayBeListed grid choice × IsGoalFault grid (first_of (codes "goal") rows) fault
+ListingFails rows (Costs fault) = ⊥
+ListingFails rows (Groups fault) = ⊥
+ListingFails rows (NoListing fault) = IsListFault rows fault
+ListingFails rows Memory = ⊤
 
 -- ---- what words ask for
 
@@ -126,15 +175,17 @@ AsksRun None request = ⊥
 AsksRun (Some p) (Solve o) = (p.0 ≡ codes "solve") × AreOptions p.1 o × (first_of (codes "cert") p.1 ≢ Some (codes "true"))
 AsksRun (Some p) (Certify o) = (p.0 ≡ codes "solve") × AreOptions p.1 o × (first_of (codes "cert") p.1 ≡ Some (codes "true"))
 AsksRun (Some p) Check = p.0 ≡ codes "check"
+AsksRun (Some p) (Draw look) = (p.0 ≡ codes "show") × IsStyle p.1 look
 AsksRun (Some p) Upgrade = p.0 ≡ codes "upgrade"
 AsksRun (Some p) (Replay o) = (p.0 ≡ codes "replay") × AreOptions p.1 o
+AsksRun (Some p) (Boards l) = (p.0 ≡ codes "boards") × IsListing p.1 l
 AsksRun (Some p) (Help text) = ⊥
 AsksRun (Some p) (Version text) = ⊥
 
--- why the values of a subcommand's options ask for no run; `check` and `upgrade`, which have no options, always ask for their own
+-- why the values of a subcommand's options ask for no run; `check` and `upgrade`, which have no options, always ask for their own, and so does `show` unless memory is refused; `boards` has options of its own
 abbrev pub RunFails : Option (Text × List Row) → NoRequest → Type 0
 RunFails None refusal = refusal ≡ Memory
-RunFails (Some p) refusal = (p.0 ≢ codes "check") × (p.0 ≢ codes "upgrade") × OptionsFail p.1 refusal
+RunFails (Some p) refusal = (p.0 ≢ codes "check") × (p.0 ≢ codes "upgrade") × (p.0 ≡ codes "show" → refusal ≡ Memory) × (p.0 ≡ codes "boards" → ListingFails p.1 refusal) × (p.0 ≢ codes "boards" → OptionsFail p.1 refusal)
 
 -- a text that a parse with these faults asks for
 abbrev pub AsksText : Kinds → Request → Type 0
@@ -148,6 +199,7 @@ TextFails faults (Usage text) = (kind : ErrorKind) × IsAmong kind faults × (ki
 TextFails faults (Goal fault) = ⊥
 TextFails faults (Costs fault) = ⊥
 TextFails faults (Groups fault) = ⊥
+TextFails faults (NoListing fault) = ⊥
 TextFails faults Memory = ⊤
 
 -- without words: boards of 3 by 3 at unit cost with Korf's goal and the default groups, whose tables are not folded, by one worker without a limit, and nothing told of progress

@@ -5,15 +5,15 @@ ghost use Rattle.clap.specs.Words.{app_of, rule_of, kind_of};
 ghost use Rattle.clap.specs.declared.builder.command.Command.TheViews.{out-Command};
 ghost use Rattle.clap.specs.declared.error.kind.ErrorKind.TheVariants.{OutOfMemory};
 ghost use Rattle.command_line.specs.Commands.{option_rule, side_rule, text_rule, parsed_rule};
-ghost use Rattle.command_line.specs.Commands.{flag_rule, puzzle_app, program_app};
+ghost use Rattle.command_line.specs.Commands.{flag_rule, count_rule, puzzle_app, show_app, boards_app, program_app};
 
 use crate::help;
 use clap::builder::ValueParser;
 use clap::{Arg, ArgAction, Command, Error};
 use std::alloc::Global;
 
-/// `tilesolve` with its subcommands `solve`, `check`, `upgrade` and `replay`. The error is that memory
-/// was refused.
+/// `tilesolve` with its subcommands `solve`, `check`, `show`, `upgrade`, `replay` and `boards`.
+/// The error is that memory was refused.
 pub(crate) fn program<'a>(alloc: Global, spreads: &'a [&'a str]) -> Result<Command<'a>, Error>
     ensures app { IfOk result (λ c. app_of c ≡ program_app spreads.entry) }
     ensures refused { IfErr result (λ e. kind_of e ≡ OutOfMemory) }
@@ -28,6 +28,10 @@ pub(crate) fn program<'a>(alloc: Global, spreads: &'a [&'a str]) -> Result<Comma
         .about(help::CHECK)
         .long_about(help::CHECK_LONG)
         .after_help(help::CHECK_AFTER);
+    let show = showing(alloc)?
+        .about(help::SHOW)
+        .long_about(help::SHOW_LONG)
+        .after_help(help::SHOW_AFTER);
     let upgrade = Command::new(alloc, "upgrade")
         .about(help::UPGRADE)
         .long_about(help::UPGRADE_LONG)
@@ -36,6 +40,10 @@ pub(crate) fn program<'a>(alloc: Global, spreads: &'a [&'a str]) -> Result<Comma
         .about(help::REPLAY)
         .long_about(help::REPLAY_LONG)
         .after_help(help::REPLAY_AFTER);
+    let boards = listing(alloc)?
+        .about(help::BOARDS)
+        .long_about(help::BOARDS_LONG)
+        .after_help(help::BOARDS_AFTER);
     let command = Command::new(alloc, "tilesolve")
         .bin_name("tilesolve")?
         .version(help::VERSION)
@@ -47,8 +55,10 @@ pub(crate) fn program<'a>(alloc: Global, spreads: &'a [&'a str]) -> Result<Comma
         .disable_help_subcommand(true)
         .subcommand(solve)?
         .subcommand(check)?
+        .subcommand(show)?
         .subcommand(upgrade)?
-        .subcommand(replay)?;
+        .subcommand(replay)?
+        .subcommand(boards)?;
     Ok(command)
 }
 
@@ -84,6 +94,48 @@ fn puzzle<'a>(alloc: Global, name: &'a str, spreads: &'a [&'a str]) -> Result<Co
     Ok(command)
 }
 
+// The subcommand `show` with its options.
+fn showing<'a>(alloc: Global) -> Result<Command<'a>, Error>
+    ensures app { IfOk result (λ c. app_of c ≡ show_app) }
+    ensures local { IfOk result (λ c. (out-Command c).has_globals ≡ false) }
+    ensures refused { IfErr result (λ e. kind_of e ≡ OutOfMemory) }
+{
+    let command = Command::new(alloc, "show")
+        .arg(parsed(
+            option(alloc, "width", "N", help::WIDTH),
+            ValueParser::Unsigned(20, 1000),
+            "80",
+        ))?
+        .arg(flag(alloc, "svg", help::SVG))?
+        .arg(parsed(
+            option(alloc, "seconds", "N", help::SECONDS),
+            ValueParser::Unsigned(1, 60),
+            "1",
+        ))?;
+    Ok(command)
+}
+
+// The subcommand `boards` with its options.
+fn listing<'a>(alloc: Global) -> Result<Command<'a>, Error>
+    ensures app { IfOk result (λ c. app_of c ≡ boards_app) }
+    ensures local { IfOk result (λ c. (out-Command c).has_globals ≡ false) }
+    ensures refused { IfErr result (λ e. kind_of e ≡ OutOfMemory) }
+{
+    let command = Command::new(alloc, "boards")
+        .arg(side(alloc, "rows", help::ROWS))?
+        .arg(side(alloc, "cols", help::COLS))?
+        .arg(option(alloc, "goal", "TILES", help::GOAL))?
+        .arg(count(alloc, "count", help::COUNT))?
+        .arg(parsed(
+            option(alloc, "seed", "N", help::SEED),
+            ValueParser::Unsigned(0, u64::MAX),
+            "0",
+        ))?
+        .arg(count(alloc, "moves", help::MOVES))?
+        .arg(flag(alloc, "all", help::ALL))?;
+    Ok(command)
+}
+
 // An option of one value, any text, which help shows by a name.
 fn option<'a>(alloc: Global, name: &'a str, value: &'a str, help: &'a str) -> Arg<'a>
     ensures rule { rule_of result ≡ option_rule name.entry.now }
@@ -104,6 +156,14 @@ fn side<'a>(alloc: Global, name: &'a str, help: &'a str) -> Arg<'a>
     option(alloc, name, "N", help)
         .required(true)
         .value_parser(ValueParser::unsigned(2, 5))
+}
+
+// An option of a number of 64 bits, which may be left out.
+fn count<'a>(alloc: Global, name: &'a str, help: &'a str) -> Arg<'a>
+    ensures rule { rule_of result ≡ count_rule name.entry.now }
+    ensures local { result.global ≡ false }
+{
+    option(alloc, name, "N", help).value_parser(ValueParser::unsigned(0, u64::MAX))
 }
 
 // An option of any text, with the one that it has where it is left out.

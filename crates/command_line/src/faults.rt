@@ -4,11 +4,20 @@ ghost use Rattle.std.specs.Prelude.{◌≡◌};
 ghost use Rattle.board.specs.Faults.{tiles_code, weights_code};
 ghost use Rattle.option_texts.specs.Faults.{groups_code};
 ghost use Rattle.pattern_index.specs.Faults.{group_code, partition_code};
-ghost use Rattle.command_line.specs.Faults.{refusal_status, refusal_message, coded_line};
+ghost use Rattle.command_line.specs.Faults.{refusal_status, refusal_message, coded_line, list_line};
 
 use board::{TilesFault, WeightsFault};
 use option_texts::GroupsFault;
 use pattern_index::{GroupFault, PartitionFault};
+
+/// Why no boards can be listed.
+#[derive(Clone, Copy, Debug, PartialEq, Eq)]
+pub enum ListFault {
+    /// `--all` is given with `--count` or `--moves`.
+    NotAlone,
+    /// `--all` is given for a shape of more than 9 cells.
+    TooManyCells,
+}
 
 /// Why words ask for nothing.
 #[derive(Debug, Drop)]
@@ -21,6 +30,8 @@ pub enum NoRequest {
     Costs(WeightsFault),
     /// The text of the groups is at fault: E5 to E10; or there is no memory for them.
     Groups(GroupsFault),
+    /// The boards to be listed are at fault.
+    NoListing(ListFault),
     /// There is no memory for the parser of the words.
     Memory,
 }
@@ -34,7 +45,7 @@ impl NoRequest {
         match self {
             NoRequest::Usage(_) | NoRequest::Goal(_) | NoRequest::Costs(_) => 2,
             NoRequest::Groups(GroupsFault::Memory(_)) => 4,
-            NoRequest::Groups(_) => 2,
+            NoRequest::Groups(_) | NoRequest::NoListing(_) => 2,
             NoRequest::Memory => 4,
         }
     }
@@ -48,8 +59,19 @@ impl NoRequest {
             NoRequest::Goal(fault) => goal_line(*fault),
             NoRequest::Costs(fault) => costs_line(*fault),
             NoRequest::Groups(fault) => groups_line(*fault),
+            NoRequest::NoListing(fault) => boards_line(*fault),
             NoRequest::Memory => "tilesolve: memory\n",
         }
+    }
+}
+
+// The line of boards that can't be listed.
+fn boards_line(fault: ListFault) -> &'static str
+    ensures { result.now ≡ list_line fault }
+{
+    match fault {
+        ListFault::NotAlone => "error: --all cannot be used with --count or --moves\n",
+        ListFault::TooManyCells => "error: --all needs a shape of at most 9 cells\n",
     }
 }
 

@@ -19,11 +19,13 @@ Examples:
   echo 'easy 1 2 0 3 4 5 6 7 8' | tilesolve
   echo 'b 1 0 2 3' | tilesolve solve --rows 2 --cols 2
   echo 'b 1 0 2 3' | tilesolve solve --rows 2 --cols 2 --cert | tilesolve check
+  echo 'b 1 0 2 3' | tilesolve solve --rows 2 --cols 2 --cert | tilesolve show
+  tilesolve boards --rows 3 --cols 3 | tilesolve
 
 Without arguments: tilesolve solve --rows 3 --cols 3
 
 Exit status:
-  0  every line is optimal or unsolvable, or the certificate is accepted or upgraded
+  0  every line is optimal or unsolvable, or the certificate is accepted, shown or upgraded
   1  some line is bounded or refused, or a replay line is not a step (B4)
   2  invalid arguments, including the values of --goal, --cost and --groups
   3  standard input can't be read (B1, F6) or standard output can't be written (B2, F8)
@@ -102,6 +104,30 @@ Exit status:
 
 Format and codes: docs/CERTIFICATE.md";
 
+/// What `show` does.
+pub(crate) const SHOW: &str = "Draw the boards of a certificate";
+
+/// The same in detail.
+pub(crate) const SHOW_LONG: &str = "\
+Draw the certificate on standard input: its start, the board after each move of its plan, and its
+goal. Its plan is followed, but rows and groups are not checked.";
+
+/// Examples of `show`, its statuses, and where its formats are described.
+pub(crate) const SHOW_AFTER: &str = "\
+Examples:
+  echo 'a 1 2 0 3 4 5 6 7 8' | tilesolve solve --rows 3 --cols 3 --cert > a.cert
+  tilesolve show --width 40 < a.cert
+  tilesolve show --svg < a.cert > a.svg
+
+Exit status:
+  0  the certificate is drawn
+  2  invalid arguments
+  3  standard input can't be read (F6) or standard output can't be written (B2)
+  4  out of memory for the certificate or its drawing (F7) or for the report (B3)
+  5  the certificate is refused: malformed (F1 to F5) or its plan is wrong (C1 to C3)
+
+Format and codes: docs/CERTIFICATE.md";
+
 /// What `upgrade` does.
 pub(crate) const UPGRADE: &str = "Rewrite a certificate in version 2";
 
@@ -151,6 +177,28 @@ Exit status:
 
 Steps, answers and codes: docs/CLI.md";
 
+/// What `boards` does.
+pub(crate) const BOARDS: &str = "List boards to solve";
+
+/// The same in detail.
+pub(crate) const BOARDS_LONG: &str = "\
+List boards with a plan to the goal, as the lines that solve reads: drawn uniformly, reached by walks
+from the goal (--moves), or all of them (--all). Nothing is read.";
+
+/// Examples of `boards`, its statuses, and where its formats are described.
+pub(crate) const BOARDS_AFTER: &str = "\
+Examples:
+  tilesolve boards --rows 3 --cols 3 | tilesolve
+  tilesolve boards --rows 4 --cols 4 --moves 40 --count 3 --seed 7
+  tilesolve boards --rows 2 --cols 3 --all --goal 1,2,3,4,5,0
+
+Exit status:
+  0  the boards are listed
+  2  invalid arguments, including the value of --goal (E2 to E4) and --all with --count or --moves
+  3  standard output can't be written (B2)
+
+Format: docs/CLI.md";
+
 /// The option `--rows`.
 pub(crate) const ROWS: &str = "Rows of each board, 2 to 5";
 
@@ -177,7 +225,8 @@ over the blank's cells. This takes less memory, but more boards are expanded. Th
 plans stay the same";
 
 /// The option `--workers`.
-pub(crate) const WORKERS: &str = "Number of workers that share the search, 1 to 16";
+pub(crate) const WORKERS: &str =
+    "Number of workers, 1 to 16: they solve lines side by side, or share one";
 
 /// The option `--spread`.
 pub(crate) const SPREAD: &str =
@@ -188,6 +237,29 @@ pub(crate) const LIMIT: &str = "Maximum number of boards to expand for each line
 
 /// The option `--cert`.
 pub(crate) const CERT: &str = "Write the certificate of the first board instead of reports";
+
+/// The option `--width`.
+pub(crate) const WIDTH: &str = "Columns of the text, from 20 to 1000";
+
+/// The option `--svg`.
+pub(crate) const SVG: &str = "Write an SVG file, in which the tiles slide move by move";
+
+/// The option `--seconds`.
+pub(crate) const SECONDS: &str = "Seconds of each move in an SVG file, from 1 to 60";
+
+/// The option `--count`.
+pub(crate) const COUNT: &str = "Number of boards [default: 10]";
+
+/// The option `--seed`.
+pub(crate) const SEED: &str = "Seed of the draws: the same seed gives the same boards";
+
+/// The option `--moves`.
+pub(crate) const MOVES: &str = "\
+Walk this many moves from the goal to each board; no move takes back the one before it";
+
+/// The option `--all`.
+pub(crate) const ALL: &str = "\
+List all boards with a plan to the goal, in rising order of their tiles (at most 9 cells)";
 
 /// The option `--progress`.
 pub(crate) const PROGRESS: &str =

@@ -2,7 +2,7 @@
 
 ghost use Rattle.command_line.specs.Laws.{ShapesAreDetermined, GoalsAreDetermined};
 ghost use Rattle.command_line.specs.Laws.{GoalsHaveNoFault, CostsAreDetermined, CostsHaveNoFault};
-ghost use Rattle.command_line.specs.Laws.{OptionsHaveNoFault, GoalsAreJudgedBeforeCosts};
+ghost use Rattle.command_line.specs.Laws.{OptionsHaveNoFault, ListingsHaveNoFault, GoalsAreJudgedBeforeCosts};
 ghost use Rattle.command_line.specs.Laws.{GoalsAreJudgedBeforeGroups, CostsAreJudgedBeforeGroups};
 
 /// One shape is said, one goal and one rule of costs; and where these are said, their texts have no
@@ -15,9 +15,11 @@ pub fn options_say_one_thing()
     ensures no_costs_fault { CostsHaveNoFault }
 {}
 
-/// Options that are said have no fault, but that memory is refused.
+/// Options that are said have no fault, but that memory is refused; and neither have boards that are
+/// said.
 pub fn options_have_no_fault()
-    ensures { OptionsHaveNoFault }
+    ensures options { OptionsHaveNoFault }
+    ensures listings { ListingsHaveNoFault }
 {}
 
 /// The goal is judged before the costs, and these before the groups: no options have faults of two

@@ -2,13 +2,15 @@
 
 ghost use Rattle.std.specs.Prelude.{◌≡◌, ◌↔◌, IsTrue, IfOk, IfErr, IfSome, Some, codes, option_map};
 ghost use Rattle.clap.specs.Words.{first_of, found_of, rows_of, subcommand_rows_of};
-ghost use Rattle.command_line.specs.Requests.{AsksRun, RunFails, AreOptions, OptionsFail};
+ghost use Rattle.command_line.specs.Requests.{AsksRun, RunFails, AreOptions, OptionsFail, ListingFails};
 ghost use Rattle.command_line.specs.Requests.{IsGoalSaid, IsGoalFault, AreCostsSaid, IsCostsFault};
 ghost use Rattle.command_line.specs.Requests.{AreGroupsSaid, IsGroupsFault};
+ghost use Rattle.command_line.specs.declared.faults.NoRequest.TheVariants.{Memory};
 
 use crate::faults::NoRequest;
+use crate::listings::listing_in;
 use crate::requests::{Options, Request};
-use crate::values::{Values, is_set, values_in};
+use crate::values::{Values, is_set, style_in, values_in};
 use board::{Board, Shape, TilesFault, Weights, WeightsFault};
 use clap::ArgMatches;
 use option_texts::{GroupsFault, default_groups, read_costs, read_goal, read_groups};
@@ -29,6 +31,12 @@ pub(crate) fn run_in(alloc: Global, matches: &ArgMatches<'_>) -> Result<Request,
             Err(refusal) => Err(refusal),
         };
     }
+    if let Some(below) = matches.subcommand_matches("show") {
+        return drawing_in(below);
+    }
+    if let Some(below) = matches.subcommand_matches("boards") {
+        return boards_in(below);
+    }
     if matches.subcommand_matches("check").is_some() {
         return Ok(Request::Check);
     }
@@ -36,6 +44,30 @@ pub(crate) fn run_in(alloc: Global, matches: &ArgMatches<'_>) -> Result<Request,
         return Ok(Request::Upgrade);
     }
     Err(NoRequest::Memory)
+}
+
+// What the options of `show` ask for.
+fn drawing_in(matches: &ArgMatches<'_>) -> Result<Request, NoRequest>
+    ensures request { IfOk result
+        (λ r. AsksRun (Some (codes "show", rows_of (found_of matches.now))) r) }
+    ensures refusal { IfErr result (λ refusal. refusal ≡ Memory) }
+{
+    match style_in(matches) {
+        Some(style) => Ok(Request::Draw(style)),
+        None => Err(NoRequest::Memory),
+    }
+}
+
+// What the options of `boards` ask for.
+fn boards_in(matches: &ArgMatches<'_>) -> Result<Request, NoRequest>
+    ensures request { IfOk result
+        (λ r. AsksRun (Some (codes "boards", rows_of (found_of matches.now))) r) }
+    ensures refusal { IfErr result (ListingFails (rows_of (found_of matches.now))) }
+{
+    match listing_in(matches) {
+        Ok(listing) => Ok(Request::Boards(listing)),
+        Err(refusal) => Err(refusal),
+    }
 }
 
 // What the options of `solve` ask for.
@@ -88,7 +120,7 @@ fn options_in(alloc: Global, matches: &ArgMatches<'_>) -> Result<Options, NoRequ
 }
 
 // The goal that a text says, and where there is no text Korf's.
-fn goal_said(shape: Shape, text: Option<&str>) -> Result<Board, TilesFault>
+pub(crate) fn goal_said(shape: Shape, text: Option<&str>) -> Result<Board, TilesFault>
     ensures goal { IfOk result (IsGoalSaid shape (option_map (λ t. t.now) text.entry)) }
     ensures sides { IfOk result (λ goal. goal.grid ≡ shape) }
     ensures fault { IfErr result (IsGoalFault shape (option_map (λ t. t.now) text.entry)) }

@@ -12,8 +12,10 @@ use crate::faults::NoRequest;
 use crate::matches::run_in;
 use batch_runs::SpreadKind;
 use board::{Board, Shape, Weights};
+use board_lists::Choice;
 use clap::error::ErrorKind;
 use clap::{ArgMatches, Error};
+use drawings::Style;
 use memory::OutOfMemory;
 use option_texts::{GroupsFault, default_groups};
 use pattern_index::Partition;
@@ -42,6 +44,13 @@ pub struct Options {
     pub progress: bool,
 }
 
+/// Which boards of which goal's class are listed.
+#[derive(Clone, Copy, Debug)]
+pub struct Listing {
+    pub goal: Board,
+    pub choice: Choice,
+}
+
 /// What words ask for.
 #[derive(Debug, Drop)]
 pub enum Request {
@@ -51,10 +60,14 @@ pub enum Request {
     Certify(Options),
     /// That a certificate is checked.
     Check,
+    /// That a certificate is drawn.
+    Draw(Style),
     /// That a certificate is written in version 2.
     Upgrade,
     /// That steps are taken one by one.
     Replay(Options),
+    /// That boards are listed.
+    Boards(Listing),
     /// This text of help.
     Help(String),
     /// This text of the version.

@@ -2,12 +2,13 @@
 
 ghost use Rattle.std.specs.Prelude.{◌≡◌, ◌↔◌, IsTrue, IfSome, Some, codes};
 ghost use Rattle.clap.specs.Words.{first_of, found_of, rows_of};
-ghost use Rattle.command_line.specs.Requests.{HasNumber, HasShape, HasWorkers, AreValues};
+ghost use Rattle.command_line.specs.Requests.{HasNumber, HasShape, HasWorkers, AreValues, IsStyle};
 ghost use Rattle.command_line.specs.Requests.{spread_text};
 
 use batch_runs::SpreadKind;
 use board::Shape;
 use clap::ArgMatches;
+use drawings::Style;
 
 /// The values of a subcommand's options. The texts of the goal, of the costs and of the groups are
 /// not yet read.
@@ -46,6 +47,18 @@ pub(crate) fn values_in<'a>(matches: &ArgMatches<'a>) -> Option<Values<'a>>
     })
 }
 
+// How the values of the options of `show` say that a certificate is drawn.
+pub(crate) fn style_in(matches: &ArgMatches<'_>) -> Option<Style>
+    ensures { IfSome result (IsStyle (rows_of (found_of matches.now))) }
+{
+    if is_set(matches, "svg") {
+        let seconds = byte_in(matches, "seconds")?;
+        return Some(Style::Svg { seconds });
+    }
+    let width = short_in(matches, "width")?;
+    Some(Style::Text { width })
+}
+
 // Whether the option without a value is there.
 pub(crate) fn is_set(matches: &ArgMatches<'_>, id: &str) -> bool
     ensures { IsTrue result
@@ -58,7 +71,7 @@ pub(crate) fn is_set(matches: &ArgMatches<'_>, id: &str) -> bool
 }
 
 // The shape that the rows and columns say.
-fn shape_in(matches: &ArgMatches<'_>) -> Option<Shape>
+pub(crate) fn shape_in(matches: &ArgMatches<'_>) -> Option<Shape>
     ensures { IfSome result (HasShape (rows_of (found_of matches.now))) }
 {
     let rows = byte_in(matches, "rows")?;
@@ -88,7 +101,14 @@ fn byte_in(matches: &ArgMatches<'_>, id: &str) -> Option<u8>
 }
 
 // The number that the option's value says.
-fn number_in(matches: &ArgMatches<'_>, id: &str) -> Option<u64>
+fn short_in(matches: &ArgMatches<'_>, id: &str) -> Option<u16>
+    ensures { IfSome result (HasNumber (rows_of (found_of matches.now)) id.now) }
+{
+    matches.get_one::<u16>(id)
+}
+
+// The number that the option's value says.
+pub(crate) fn number_in(matches: &ArgMatches<'_>, id: &str) -> Option<u64>
     ensures { IfSome result (HasNumber (rows_of (found_of matches.now)) id.now) }
 {
     matches.get_one::<u64>(id)

@@ -2,7 +2,7 @@
 
 ghost use Rattle.command_line.specs.Worked.{NumbersAreWithin, OptionsStandOnce, TextsAreAskedFor};
 
-/// A side of 6 and 17 workers are no values of these options.
+/// A side of 6, 17 workers, 19 columns and x boards are no values of these options.
 pub fn numbers_are_within()
     ensures { NumbersAreWithin }
 {}
@@ -12,7 +12,8 @@ pub fn options_stand_once()
     ensures { OptionsStandOnce }
 {}
 
-/// Help and the version are asked for; `check` alone is at no fault, and neither is `upgrade`.
+/// Help and the version are asked for; `check` alone is at no fault, and neither are `upgrade` and
+/// `show`.
 pub fn texts_are_asked_for()
     ensures { TextsAreAskedFor }
 {}

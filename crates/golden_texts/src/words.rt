@@ -7,7 +7,7 @@
 
 use batch_runs::SpreadKind;
 use board::{Board, Weights};
-use command_line::{NoRequest, Options, Request, read_words};
+use command_line::{Listing, NoRequest, Options, Request, read_words};
 use pattern_index::Partition;
 use std::alloc::Global;
 use std::io::{self, Print};
@@ -55,8 +55,10 @@ fn print_request(rt: &impl Print, request: &Request) -> io::Result<()> {
         Request::Solve(options) => print_options(rt, "solve", options),
         Request::Certify(options) => print_options(rt, "certify", options),
         Request::Check => rt.println("check"),
+        Request::Draw(style) => println!(rt; "draw {style:?}"),
         Request::Upgrade => rt.println("upgrade"),
         Request::Replay(options) => print_options(rt, "replay", options),
+        Request::Boards(listing) => print_listing(rt, listing),
         Request::Help(text) => print_lines(rt, "> ", text.as_str()),
         Request::Version(text) => print_lines(rt, "> ", text.as_str()),
     }
@@ -98,6 +100,14 @@ fn print_options(rt: &impl Print, name: &str, options: &Options) -> io::Result<(
         "{folded}, workers {}, spread {spread}, limit {}{progress}",
         options.workers, options.limit
     )
+}
+
+// Prints which boards are listed.
+fn print_listing(rt: &impl Print, listing: &Listing) -> io::Result<()> {
+    let shape = listing.goal.shape();
+    print!(rt; "boards, {} by {}, goal", shape.rows(), shape.cols())?;
+    print_goal(rt, &listing.goal)?;
+    println!(rt; ", {:?}", listing.choice)
 }
 
 // Prints the tiles of a goal.

@@ -1,4 +1,4 @@
-//! The seven runs, with each call of each stream failing in turn.
+//! The eight runs, with each call of each stream failing in turn.
 
 ghost use Rattle.std.specs.Prelude.{◌≡◌, false};
 ghost use Rattle.byte_streams.specs.ByteSink.{sink_has_failed};
@@ -6,8 +6,8 @@ ghost use Rattle.board.specs.CostRules.{unit_rule};
 
 use crate::certificates::{BOUND, ONE_MOVE, ONE_MOVE_ONE, SOLVED, THREE_MOVES};
 use batch_cli::{
-    BatchFault, Cause, Free, LinesFault, Ruled, Setup, Solver, Summary, Why, run_batch, run_cert,
-    run_check, run_lines, run_program, run_replay, run_upgrade,
+    BatchFault, Cause, Free, LinesFault, Ruled, Setup, Solver, Style, Summary, Why, run_batch,
+    run_cert, run_check, run_lines, run_program, run_replay, run_show, run_upgrade,
 };
 use board::{Board, Move, Shape, Weights};
 use byte_streams::{BufferedSource, ByteSink, ByteSource, Sink, Source};
@@ -86,6 +86,8 @@ enum Run {
     Certify,
     // `run_check`.
     Check,
+    // `run_show`, as text within 24 columns.
+    Show,
     // `run_upgrade`.
     Upgrade,
     // `run_replay` over a board of 2 by 2, with one worker, Korf's goal and unit costs.
@@ -109,7 +111,7 @@ struct Case {
     unwritten: &'static str,
 }
 
-fn cases() -> [Case; 18] {
+fn cases() -> [Case; 21] {
     [
         Case {
             run: Run::Lines,
@@ -223,6 +225,32 @@ fn cases() -> [Case; 18] {
             unwritten: "tilesolve: B2\n",
         },
         Case {
+            run: Run::Show,
+            input: &ONE_MOVE_ONE,
+            reads: 46,
+            output: b"    start      1 L\n     1  .     .  1\n     2  3     2  3\n\n     \
+                goal\n     .  1\n     2  3\n\nmoves: 1, cost: 1 (claimed to be least)\n",
+            status: 0,
+            unwritten: "tilesolve: B2\n",
+        },
+        Case {
+            run: Run::Show,
+            input: &BOUND,
+            reads: 42,
+            output: b"    start     goal\n     1  .     .  1\n     2  3     2  3\n\n\
+                bound: 1 (claimed: no plan costs less)\n",
+            status: 0,
+            unwritten: "tilesolve: B2\n",
+        },
+        Case {
+            run: Run::Show,
+            input: b"TILECRT3",
+            reads: 8,
+            output: b"{\"fault\":\"F1\",\"status\":\"refused\"}\n",
+            status: 5,
+            unwritten: "tilesolve: B2\n",
+        },
+        Case {
             run: Run::Upgrade,
             input: &ONE_MOVE_ONE,
             reads: 46,
@@ -270,7 +298,7 @@ fn cases() -> [Case; 18] {
 impl Case {
     // What is told where the input cannot be read.
     fn unread(&self) -> &'static str {
-        if matches!(self.run, Run::Check | Run::Upgrade) {
+        if matches!(self.run, Run::Check | Run::Show | Run::Upgrade) {
             "tilesolve: F6\n"
         } else {
             "tilesolve: B1\n"
@@ -282,7 +310,7 @@ impl Case {
     fn due_before(&self, read: usize) -> &'static [u8] {
         let lines = lines_of(beginning(self.input, read));
         match self.run {
-            Run::Certify | Run::Check | Run::Upgrade => b"",
+            Run::Certify | Run::Check | Run::Show | Run::Upgrade => b"",
             Run::Replay => first_lines(self.output, lines.saturating_sub(1)),
             _ => first_lines(self.output, lines),
         }
@@ -436,6 +464,10 @@ fn start<R: Threads + Wait + AllocGlobal + Sync>(
             tell_status(run_cert(rt, alloc, source, sink, &setup, &Free), errors)
         }
         Run::Check => tell_status(run_check(rt, alloc, source, sink), errors),
+        Run::Show => {
+            let style = Style::Text { width: 24 };
+            tell_status(run_show(alloc, style, source, sink), errors)
+        }
         Run::Upgrade => tell_status(run_upgrade(alloc, source, sink), errors),
         Run::Replay => {
             let setup = setup_of_square(alloc);
@@ -563,16 +595,54 @@ fn answers_are_counted(rt: HostRuntime) {
     assert_eq!(rt; counts_of_lines(rt.alloc()), Ok(counts));
 }
 
-// Lines of boards of 2 by 2, so many that several workers solve them side by side where they are
-// held.
+// Lines of boards of 2 by 2, as many as several workers solve side by side.
 const MANY_LINES: &[u8] = b"a 1 0 2 3\nb 1 3 2 0\nc 1 3 0 2\n# d 1 0 2 3\ne 2 1 0 3\nf 1 0 2\n\
     g 0 1 2 3\nh 2 1 0 3\ni 1 0 2 3\nj 1 3 2 0\nk 1 3 0 2\nl 0 1 2 3\nm 1 0 2 3\nn 1 3 2 0\n\
     o 1 3 0 2\np 0 1 2 3\nq 1 0 2 3\nr 1 3 2 0\ns 1 3 0 2\nt 0 1 2 3\nu 1 0 2 3";
 
-// What so many workers report of `MANY_LINES`.
-fn reports_by<R: Threads + Wait + Sync>(rt: &R, alloc: Global, workers: usize) -> Option<Vec<u8>> {
-    let setup = setup_of_square(alloc).workers(workers).ok()?;
-    let mut source = BufferedSource::new(alloc, MANY_LINES).ok()?;
+// Lines of boards of 2 by 5, more than three workers take at once.
+const LARGER_LINES: &[u8] = b"a 1 0 2 3 4 5 6 7 8 9\nb 1 6 2 3 4 5 0 7 8 9\n\
+    c 1 6 2 3 4 0 5 7 8 9\nd 0 2 1 3 4 5 6 7 8 9\ne 0 6 2 3 4 1 5 7 8 9\nf 1 0\n# g\n\
+    h 0 1 2 3 4 5 6 7 8 9\ni 1 2 0 3 4 5 6 7 8 9\nj 1 2 3 0 4 5 6 7 8 9\n\
+    k 1 2 3 4 0 5 6 7 8 9\nl 1 2 3 4 9 5 6 7 8 0\nm 1 2 3 4 9 5 6 7 0 8\n\
+    n 1 2 3 4 9 5 6 0 7 8\no 5 1 2 3 4 0 6 7 8 9\np 5 1 2 3 4 6 0 7 8 9\n";
+
+// Lines that are held together, and how many boards may be expanded for each.
+struct Held {
+    cols: u8,
+    lines: &'static [u8],
+    limit: u64,
+}
+
+const HELD: [Held; 3] = [
+    Held {
+        cols: 2,
+        lines: MANY_LINES,
+        limit: u64::MAX,
+    },
+    Held {
+        cols: 5,
+        lines: LARGER_LINES,
+        limit: u64::MAX,
+    },
+    Held {
+        cols: 5,
+        lines: LARGER_LINES,
+        limit: 2,
+    },
+];
+
+// What is reported of lines by `workers` workers, of which each solves a board alone.
+fn reports_by<R: Threads + Wait + Sync>(
+    rt: &R,
+    alloc: Global,
+    held: &Held,
+    workers: usize,
+) -> Option<Vec<u8>> {
+    let shape = Shape::new(2, held.cols).ok()?;
+    let plain = Setup::new(alloc, Board::goal(shape), Weights::unit(shape));
+    let setup = plain.limit(held.limit).workers(workers).ok()?;
+    let mut source = BufferedSource::new(alloc, held.lines).ok()?;
     let mut sink = ByteSink::new(Vec::new(alloc));
     run_batch(rt, alloc, &mut source, &mut sink, &setup, &Free).ok()?;
     Some(sink.into_inner())
@@ -580,7 +650,9 @@ fn reports_by<R: Threads + Wait + Sync>(rt: &R, alloc: Global, workers: usize) -
 
 #[test]
 fn held_lines_are_reported_alike(rt: HostRuntime) {
-    let one = reports_by(&rt, rt.alloc(), 1);
-    assert!(&rt; one.is_some());
-    assert_eq!(rt; one, reports_by(&rt, rt.alloc(), 3));
+    for held in &HELD {
+        let one = reports_by(&rt, rt.alloc(), held, 1);
+        assert!(&rt; one.is_some());
+        assert_eq!(rt; one, reports_by(&rt, rt.alloc(), held, 3));
+    }
 }

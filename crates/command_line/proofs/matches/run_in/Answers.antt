@@ -6,4 +6,4 @@ use Rattle.command_line.proofs.matches.run_in.Goals as goal
 
 pub returns-clause-refusal : goal.returns-clause-refusal
 returns-clause-refusal c =
-    memory_fails (subcommand_rows_of c.args.matches.now) (λ is. true≢false (sym (c.subcommand_matches-3.ensures.found.1 (sym (names_agree c.args.matches.now) ∙ is)) ∙ sym c.if-is_some.ensures)) (λ is. true≢false (sym (c.subcommand_matches-4.ensures.found.1 (sym (names_agree c.args.matches.now) ∙ is)) ∙ sym c.if-is_some-2.ensures))
+    memory_fails (subcommand_rows_of c.args.matches.now) (λ is. true≢false (sym (c.subcommand_matches-5.ensures.found.1 (sym (names_agree c.args.matches.now) ∙ is)) ∙ sym c.if-is_some.ensures)) (λ is. true≢false (sym (c.subcommand_matches-6.ensures.found.1 (sym (names_agree c.args.matches.now) ∙ is)) ∙ sym c.if-is_some-2.ensures))

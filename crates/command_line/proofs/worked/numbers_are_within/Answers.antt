@@ -4,4 +4,4 @@ use Rattle.command_line.proofs.worked.numbers_are_within.Goals as goal
 
 pub returns : goal.returns
 unfolding clap_on_literals
-returns c = λ spreads. (refl, refl)
+returns c = λ spreads. (refl, refl, refl, refl)

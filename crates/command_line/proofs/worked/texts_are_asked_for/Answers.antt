@@ -4,4 +4,4 @@ use Rattle.command_line.proofs.worked.texts_are_asked_for.Goals as goal
 
 pub returns : goal.returns
 unfolding clap_on_literals
-returns c = λ spreads. (refl, refl, refl, refl)
+returns c = λ spreads. (refl, refl, refl, refl, refl, refl, refl)
