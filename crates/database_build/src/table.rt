@@ -1,7 +1,7 @@
 //! Tables: a number for each view of a group.
 
 ghost use Rattle.std.specs.Prelude.{ℕ, ◌≡◌, ◌≢◌, ◌↔◌, ◌<◌, ◌≤◌, length, slice_index, IsOk, IsErrOf, IfOk};
-ghost use Rattle.pattern_index.specs.Views.{IsView, view_at};
+ghost use Rattle.pattern_index.specs.Views.{IsView, view_at, exchanged};
 ghost use Rattle.pattern_index.specs.Selections.{IsSelection, size_of};
 ghost use Rattle.database_build.specs.Entries.{HasEntries, values_in, widened};
 ghost use Rattle.database_build.specs.Tables.{value_in};
@@ -9,7 +9,7 @@ ghost use Rattle.database_build.specs.declared.faults.TableFault.{TableFault};
 
 use crate::entries::Entries;
 use crate::faults::TableFault;
-use pattern_index::{Group, View};
+use pattern_index::{Group, View, exchange};
 use std::marker::Model;
 
 /// The value of a view from which the goal's isn't reached below this cost: the greatest of 16
@@ -97,6 +97,39 @@ impl Table {
             Entries::Ranked(values) => values[self.group.rank_at(cells)],
             Entries::Bytes(bytes) => widened(bytes[self.group.slot_at(cells)]),
             Entries::Words(words) => words[self.group.slot_at(cells)],
+        }
+    }
+
+    /// The values of what its group sees of a board before and after the blank and a tile change
+    /// places, by the cell of each of the board's numbers (`cells_of`).
+    pub fn values_at(&self, cells: &[u8; 25], tile: u8) -> (u16, u16)
+        requires tile { tile < 25 }
+        requires before { IsView self.now.selection.grid self.now.selection.tiles
+            (view_at self.now.selection.tiles cells.now) }
+        requires after { IsView self.now.selection.grid self.now.selection.tiles
+            (view_at self.now.selection.tiles (exchanged cells.now tile)) }
+        ensures before { result.0
+            ≡ value_in self.now (view_at self.now.selection.tiles cells.now) }
+        ensures after { result.1
+            ≡ value_in self.now (view_at self.now.selection.tiles (exchanged cells.now tile)) }
+    {
+        match &self.entries {
+            Entries::Ranked(values) => {
+                let mut after = *cells;
+                exchange(&mut after, tile);
+                (
+                    values[self.group.rank_at(cells)],
+                    values[self.group.rank_at(&after)],
+                )
+            }
+            Entries::Bytes(bytes) => {
+                let (before, after) = self.group.slots_at(cells, tile);
+                (widened(bytes[before]), widened(bytes[after]))
+            }
+            Entries::Words(words) => {
+                let (before, after) = self.group.slots_at(cells, tile);
+                (words[before], words[after])
+            }
         }
     }
 

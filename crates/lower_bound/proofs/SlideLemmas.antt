@@ -27,7 +27,7 @@ use Rattle.pattern_index.proofs.RankLemmas.{below_in, differ_from_pairs}
 use Rattle.pattern_index.proofs.PlaceLemmas.{place_listing}
 use Rattle.pattern_index.proofs.SparseLemmas.{moved, sparse_small, stride_low, pow_low}
 use Rattle.pattern_index.specs.Splits.{ShareNoTile, AreApart}
-use Rattle.pattern_index.specs.Views.{Abstraction, IsView, Sight, ViewMoves, view_at, view_of}
+use Rattle.pattern_index.specs.Views.{Abstraction, IsView, Sight, ViewMoves, view_at, view_of, exchanged}
 use Rattle.pattern_index.proofs.ViewMoveLemmas.{board_view, seen_move, moved_back, moved_view}
 use Rattle.database_build.specs.Folds.{Fold}
 use Rattle.database_build.specs.Tables.{Lookup, value_in}
@@ -36,7 +36,7 @@ use Rattle.lower_bound.specs.Bounds.{Part, sum_of}
 use Rattle.lower_bound.specs.ByTile.{AreGroupsByTile, IsGroupWith}
 use Rattle.lower_bound.specs.Folded.{AreFoldsOf, part_folded, value_by}
 use Rattle.lower_bound.specs.Laws.{ATileHasOneGroup, MovesChangeOneValue}
-use Rattle.lower_bound.specs.Slides.{AreCellsOf, HasCells, IsSlide, SeesBoth, SeesView, exchanged}
+use Rattle.lower_bound.specs.Slides.{AreCellsOf, HasCells, IsSlide, SeesBoth, SeesView}
 use Rattle.lower_bound.specs.Tables.{AreConsistent, AreTablesOf, AreWhole, IsTables, Tables, part_of, parts_of}
 use Rattle.lower_bound.proofs.PartLemmas.{all_folded_parts, each_fold, each_lookup, folded_each, moves_one, value_stays, whole_each, whole_parts}
 

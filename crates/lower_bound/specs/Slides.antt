@@ -1,5 +1,5 @@
 -- What tables say by the cell of each number, before a tile goes to the blank's cell and after it.
-use Rattle.std.specs.Prelude.{ℕ, ◌≡◌, ◌⊎◌, ◌≤◌, ◌<◌, List, length, set, slice_index}
+use Rattle.std.specs.Prelude.{ℕ, ◌≡◌, ◌⊎◌, ◌≤◌, ◌<◌, List, length, slice_index}
 use Rattle.board.specs.CostRules.{CostRule}
 use Rattle.board.specs.Grids.{Grid, cell_count}
 use Rattle.board.specs.Moves.{Moves}
@@ -7,7 +7,7 @@ use Rattle.board.specs.Positions.{Position, IsBoard, blank_of, cell_of}
 use Rattle.board.specs.declared.moves.Move.{Move}
 use Rattle.pattern_index.specs.Selections.{Selection}
 use Rattle.pattern_index.specs.Sparse.{sparse_size_of}
-use Rattle.pattern_index.specs.Views.{IsView, view_at}
+use Rattle.pattern_index.specs.Views.{IsView, view_at, exchanged}
 use Rattle.database_build.specs.Folds.{Fold}
 use Rattle.database_build.specs.FoldEntries.{most_places}
 use Rattle.database_build.specs.declared.table.TheConstants.{NO_VALUE}
@@ -32,10 +32,6 @@ pub record IsSlide (grid : Grid) (cells : List ℕ) (tile : ℕ) (b b' : Positio
   pub cost : ℕ
   pub moves : Moves rule b direction b' cost
   pub moved : tile ≡ slice_index b.tiles (blank_of b')
-
--- the cells after the blank and a tile changed places
-abbrev pub exchanged : List ℕ → ℕ → List ℕ
-exchanged cells tile = set (set cells 0 (slice_index cells tile)) tile (slice_index cells 0)
 
 -- what a group sees is a view
 abbrev pub SeesView : List ℕ → Selection → Type 0

@@ -13,4 +13,3 @@ pub use bound::{Bound, GREATEST_SUM, TableList};
 pub use database_build::{TableFault, is_potential};
 pub use faults::PatternFault;
 pub use parts::Parts;
-pub use slides::exchange;

@@ -1,23 +1,14 @@
 //! What tables say before a tile goes to the blank's cell, and after it.
 
 ghost use Rattle.std.specs.Prelude.{◌≡◌, ◌-◌, ◌+◌, ◌*◌, ◌<◌, ◌≤◌, length, sum_by, All, IfSome, IfNone};
-ghost use Rattle.pattern_index.specs.Views.{view_at};
+ghost use Rattle.pattern_index.specs.Views.{view_at, exchanged};
 ghost use Rattle.database_build.specs.Tables.{value_in};
 ghost use Rattle.lower_bound.specs.Folded.{value_by};
-ghost use Rattle.lower_bound.specs.Slides.{exchanged, IsUntold, SeesBoth, SeesView};
+ghost use Rattle.lower_bound.specs.Slides.{IsUntold, SeesBoth, SeesView};
 
 use crate::bound::GREATEST_SUM;
 use database_build::{Folded, NO_VALUE, Table};
-
-/// The blank and a tile change places, by the cell of each number.
-pub fn exchange(cells: &mut [u8; 25], tile: u8)
-    requires { tile < 25 }
-    ensures { cells.new ≡ exchanged cells.old tile }
-{
-    let blank = cells[0];
-    cells[0] = cells[tile as usize];
-    cells[tile as usize] = blank;
-}
+use pattern_index::exchange;
 
 // Adds what tables say of a board, by the cell of each number.
 pub(crate) fn sum_whole(tables: &[Table], cells: &[u8; 25]) -> u32
@@ -58,10 +49,7 @@ pub(crate) fn whole_after(table: &Table, sum: u32, cells: &[u8; 25], tile: u8) -
         + value_in table.now (view_at table.now.selection.tiles (exchanged cells.now tile)) }
     ensures high { result ≤ sum + NO_VALUE }
 {
-    let was = table.value_at(cells);
-    let mut after = *cells;
-    exchange(&mut after, tile);
-    let is = table.value_at(&after);
+    let (was, is) = table.values_at(cells, tile);
     sum - u32::from(was) + u32::from(is)
 }
 

@@ -10,3 +10,4 @@ pub mod FaultLemmas
 pub mod StorageLemmas
 pub mod SplitLemmas
 pub mod SparseLemmas
+mod SlotLemmas

@@ -1,5 +1,5 @@
 -- Views: what a group of tiles sees of a board, which is where its tiles and the blank are (Korf, Felner 2002).
-use Rattle.std.specs.Prelude.{ℕ, ◌≡◌, ◌≢◌, ◌+◌, ◌<◌, ◌==◌, List, [], ◌∷◌, length, map, slice_index, All, AllPairs, if◌then◌else◌}
+use Rattle.std.specs.Prelude.{ℕ, ◌≡◌, ◌≢◌, ◌+◌, ◌<◌, ◌==◌, List, [], ◌∷◌, length, map, set, slice_index, All, AllPairs, if◌then◌else◌}
 use Rattle.board.specs.Grids.{Grid, cell_count}
 use Rattle.board.specs.declared.moves.Move.{Move}
 use Rattle.board.specs.Neighbours.{LiesTowards}
@@ -18,6 +18,10 @@ view_of tiles b = record { blank = blank_of b; cells = map (cell_of b) tiles }
 -- what the tiles see of a board, by a list of the cell of each number
 abbrev pub view_at : List ℕ → List ℕ → Sight
 view_at tiles cells = record { blank = slice_index cells 0; cells = map (slice_index cells) tiles }
+
+-- the cells after the blank and a tile changed places
+abbrev pub exchanged : List ℕ → ℕ → List ℕ
+exchanged cells tile = set (set cells 0 (slice_index cells tile)) tile (slice_index cells 0)
 
 -- there is a cell for the blank and for each tile, and no two are the same
 pub record IsView (grid : Grid) (tiles : List ℕ) (v : Sight) : Type 0 where

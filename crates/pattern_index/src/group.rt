@@ -5,7 +5,7 @@ ghost use Rattle.std.specs.Prelude.{IsTrue, IsOk, IsErrOf, IfOk, IfErr, IfSome, 
 ghost use Rattle.std.specs.Prelude.{MatchOption, IsPermutation, length, All, AllPairs};
 ghost use Rattle.std.specs.List.Sorted.{IsNonDecreasing};
 ghost use Rattle.board.specs.Grids.{cell_count};
-ghost use Rattle.pattern_index.specs.Views.{Sight, IsView, ViewMoves, view_of, view_at};
+ghost use Rattle.pattern_index.specs.Views.{Sight, IsView, ViewMoves, view_of, view_at, exchanged};
 ghost use Rattle.pattern_index.specs.Views.{weight_on};
 ghost use Rattle.pattern_index.specs.Ranks.{ways, rank_of};
 ghost use Rattle.pattern_index.specs.Selections.{Selection, IsTile, IsGroup, IsSelection};
@@ -21,7 +21,8 @@ ghost use Rattle.pattern_index.specs.declared.faults.GroupFault.{GroupFault};
 use crate::cells::{rank_cells, rank_numbers, rank_tiles};
 use crate::faults::GroupFault;
 use crate::sparse::{
-    are_different, count_numbers, digit_base, sparse_place, sparse_tiles, stride_of, write_digits,
+    are_different, count_numbers, digit_base, sparse_both, sparse_place, sparse_tiles, stride_of,
+    write_digits,
 };
 use crate::view::View;
 use board::{Board, Move, Shape, Weights};
@@ -264,6 +265,27 @@ impl Group {
     {
         let base = digit_base(self.shape());
         sparse_tiles(base, self.tiles(), cells) * base + cells[0] as usize
+    }
+
+    /// The slots of what it sees of a board before and after the blank and a tile change places, by
+    /// the cell of each of the board's numbers (`cells_of`).
+    pub fn slots_at(&self, cells: &[u8; 25], tile: u8) -> (usize, usize)
+        requires tile { tile < 25 }
+        requires before { IsView self.now.grid self.now.tiles (view_at self.now.tiles cells.now) }
+        requires after { IsView self.now.grid self.now.tiles
+            (view_at self.now.tiles (exchanged cells.now tile)) }
+        ensures before { result.0 ≡ slot_in self.now.grid (view_at self.now.tiles cells.now) }
+        ensures after { result.1
+            ≡ slot_in self.now.grid (view_at self.now.tiles (exchanged cells.now tile)) }
+        ensures before_below { result.0 < slot_count_of self.now }
+        ensures after_below { result.1 < slot_count_of self.now }
+    {
+        let base = digit_base(self.shape());
+        let (before, after) = sparse_both(base, self.tiles(), cells, tile);
+        (
+            before * base + cells[0] as usize,
+            after * base + cells[tile as usize] as usize,
+        )
     }
 
     /// The place of the views that have a sparse place: the rank of its digits. None where two of

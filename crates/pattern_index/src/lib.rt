@@ -19,4 +19,4 @@ pub use faults::{GroupFault, PartitionFault};
 pub use group::{Group, MAX_SIZE};
 pub use partition::{Partition, is_apart};
 pub use sparse::{digit_base, sparse_place};
-pub use view::{View, cells_of};
+pub use view::{View, cells_of, exchange};

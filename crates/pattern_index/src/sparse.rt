@@ -2,6 +2,7 @@
 
 ghost use Rattle.std.specs.Prelude.{ℕ, ◌≡◌, ◌≢◌, ◌↔◌, ◌*◌, ◌^◌, ◌<◌, ◌≤◌, length, map, slice_index, All, AllPairs, IsTrue};
 ghost use Rattle.pattern_index.specs.Sparse.{sparse_of, digits_in, stride_of, digit_base};
+ghost use Rattle.pattern_index.specs.Views.{exchanged};
 
 use board::Shape;
 
@@ -63,6 +64,46 @@ fn sparse_of_all(all: usize, count: usize, tiles: &[u8], cells: &[u8; 25]) -> us
         sparse = sparse * count + cells[tiles[place] as usize] as usize;
     }
     sparse
+}
+
+// The numbers that have the cells of some tiles as their digits, before and after the blank and a
+// tile change places. It takes less time than to make one after the other.
+pub(crate) fn sparse_both(base: usize, tiles: &[u8], cells: &[u8; 25], tile: u8) -> (usize, usize)
+    requires few { base ≤ 25 }
+    requires short { length tiles.now ≤ 9 }
+    requires tiles { All (λ number. (0 < number) × (number < 25)) tiles.now }
+    requires tile { tile < 25 }
+    requires before { All (λ cell. cell < base) (map (slice_index cells.now) tiles.now) }
+    requires after { All (λ cell. cell < base)
+        (map (slice_index (exchanged cells.now tile)) tiles.now) }
+    ensures before { result.0 ≡ sparse_of base (map (slice_index cells.now) tiles.now) }
+    ensures after { result.1
+        ≡ sparse_of base (map (slice_index (exchanged cells.now tile)) tiles.now) }
+{
+    let mut before = 0;
+    let mut after = 0;
+    let mut place = tiles.len();
+    'tiles: while place > 0 {
+        place -= 1;
+        let number = tiles[place];
+        before = before * base + cells[number as usize] as usize;
+        after = after * base + cell_after(cells, tile, number) as usize;
+    }
+    (before, after)
+}
+
+// The cell of a tile, after the blank and a tile change places.
+fn cell_after(cells: &[u8; 25], tile: u8, number: u8) -> u8
+    requires some { 0 < number }
+    requires number { number < 25 }
+    requires tile { tile < 25 }
+    ensures { result ≡ slice_index (exchanged cells.now tile) number }
+{
+    if number == tile {
+        cells[0]
+    } else {
+        cells[number as usize]
+    }
 }
 
 // Writes the digits of a number, of which each is below a count, the lowest first.

@@ -5,7 +5,7 @@ ghost use Rattle.std.specs.Prelude.{length, slice_index, map, All, IsTrue};
 ghost use Rattle.board.specs.Grids.{cell_count};
 ghost use Rattle.board.specs.Positions.{IsBoard, cell_of};
 ghost use Rattle.pattern_index.specs.Ranks.{ways, list_at};
-ghost use Rattle.pattern_index.specs.Views.{Sight, view_of};
+ghost use Rattle.pattern_index.specs.Views.{Sight, view_of, exchanged};
 
 use crate::cells::list_cells;
 use board::Board;
@@ -169,4 +169,14 @@ fn number_for(number: u8, from: u8, to: u8) -> u8
     ensures { result ≡ (if number == from then to else number) }
 {
     if number == from { to } else { number }
+}
+
+/// The blank and a tile change places, by the cell of each number.
+pub fn exchange(cells: &mut [u8; 25], tile: u8)
+    requires { tile < 25 }
+    ensures { cells.new ≡ exchanged cells.old tile }
+{
+    let blank = cells[0];
+    cells[0] = cells[tile as usize];
+    cells[tile as usize] = blank;
 }

@@ -20,7 +20,8 @@ use Rattle.board.specs.Neighbours.{LiesTowards, neighbour}
 use Rattle.board.proofs.TileLemmas.{cell_is, has_cell}
 use Rattle.board.proofs.NeighbourLemmas.{cells_above, neighbour_lies}
 use Rattle.board.proofs.MoveLemmas.{exchange_board, other_cell, cell_below}
-use Rattle.lower_bound.specs.Slides.{AreCellsOf, exchanged}
+use Rattle.pattern_index.specs.Views.{exchanged}
+use Rattle.lower_bound.specs.Slides.{AreCellsOf}
 use Rattle.lower_bound.proofs.SlideLemmas.{cells_exchanged}
 use Rattle.successor_sums.specs.Unpacked.{board_in, IsUnpacked}
 use Rattle.successor_sums.specs.declared.unpacked.UnpackedBoard.TheInside.{Inside}

@@ -19,7 +19,8 @@ use Rattle.successor_sums.specs.ByMoves.{FourOf, IsBehind, OfFour, before, entri
 use Rattle.successor_sums.specs.declared.by_moves.ByMoves.TheInside.{Inside}
 use Rattle.successor_sums.specs.Exits.{IsToldOf}
 use Rattle.lower_bound.specs.Bounds.{Part, sum_of}
-use Rattle.lower_bound.specs.Slides.{AreCellsOf, HasCells, IsSlide, exchanged}
+use Rattle.pattern_index.specs.Views.{exchanged}
+use Rattle.lower_bound.specs.Slides.{AreCellsOf, HasCells, IsSlide}
 use Rattle.lower_bound.specs.Tables.{Tables, parts_of}
 use Rattle.lower_bound.specs.declared.bound.TheConstants.{GREATEST_SUM}
 use Rattle.successor_sums.specs.Unpacked.{AreSummed, FitsGrid, IsReached, IsUnpacked, board_in, but, is_left_out, told_of, with_sum}

@@ -12,7 +12,8 @@ use Rattle.board.specs.Neighbours.{neighbour}
 use Rattle.board.specs.Moves.{all_moves, blank_exchange, successor}
 use Rattle.lower_bound.specs.declared.bound.TheConstants.{GREATEST_SUM}
 use Rattle.lower_bound.specs.Bounds.{Part, sum_of}
-use Rattle.lower_bound.specs.Slides.{AreCellsOf, exchanged}
+use Rattle.pattern_index.specs.Views.{exchanged}
+use Rattle.lower_bound.specs.Slides.{AreCellsOf}
 use Rattle.lower_bound.specs.Tables.{AreConsistent, Tables, parts_of}
 use Rattle.successor_sums.specs.declared.unpacked.Successor.{Successor}
 use Rattle.successor_sums.specs.ByMoves.{FourOf, four_by}

@@ -20,8 +20,8 @@ ghost use Rattle.successor_sums.specs.ByMoves.{OfFour, entries_of, nothing};
 use crate::by_moves::{ByMoves, MOVES};
 use crate::exits::{find_exits, tell};
 use board::{Board, Move, Shape, Weights};
-use lower_bound::{Bound, GREATEST_SUM, exchange};
-use pattern_index::cells_of;
+use lower_bound::{Bound, GREATEST_SUM};
+use pattern_index::{cells_of, exchange};
 use std::marker::Model;
 
 /// What is told of a successor, the board that a move leads to. Cell and tile have 32 bits, so that

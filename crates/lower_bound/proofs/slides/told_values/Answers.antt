@@ -2,8 +2,7 @@ use Rattle.std.proofs.Common.{◌*◌, sym, ap, ◌∙◌, ⊎_elim, inl, inr, a
 use Rattle.std.specs.Prelude.{slice_index}
 use Rattle.pattern_index.specs.Selections.{Selection}
 use Rattle.pattern_index.specs.Sparse.{sparse_in}
-use Rattle.pattern_index.specs.Views.{view_at}
-use Rattle.lower_bound.specs.Slides.{exchanged}
+use Rattle.pattern_index.specs.Views.{view_at, exchanged}
 use Rattle.lower_bound.proofs.SlideLemmas.{next_place, place_low, times_low}
 use Rattle.lower_bound.proofs.slides.told_values.Goals as goal
 

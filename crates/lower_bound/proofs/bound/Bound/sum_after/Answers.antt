@@ -3,7 +3,7 @@ use Rattle.std.specs.Prelude.{slice_index}
 use Rattle.database_build.specs.Tables.{Lookup}
 use Rattle.database_build.specs.Folds.{Fold}
 use Rattle.lower_bound.specs.ByTile.{AreGroupsByTile}
-use Rattle.lower_bound.specs.Slides.{exchanged}
+use Rattle.pattern_index.specs.Views.{exchanged}
 use Rattle.lower_bound.specs.Tables.{Tables, IsTables}
 use Rattle.lower_bound.specs.Held.{tables_in}
 use Rattle.lower_bound.specs.declared.bound.Held.{Held}

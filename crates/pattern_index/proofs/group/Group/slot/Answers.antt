@@ -1,4 +1,4 @@
-use Rattle.std.proofs.Common.{◌≡◌, ◌≤◌, ◌<◌, ◌+◌, suc, ◌∷◌, length, sym, ap, ◌∙◌, subst, arith}
+use Rattle.std.proofs.Common.{◌≡◌, ◌<◌, suc, length, sym, ap, ◌∙◌, subst, arith}
 use Rattle.pattern_index.specs.Sparse.{digit_base, slot_count_of, sparse_of}
 use Rattle.pattern_index.proofs.GroupLemmas.{groups_small}
 use Rattle.pattern_index.proofs.SparseLemmas.{slot_below}
