@@ -1,6 +1,6 @@
 -- Moves that lead on, and the walks that they make.
 use Rattle.std.proofs.Common.{◌≡◌, ℕ, zero, suc, ◌+◌, ◌<◌, ◌≤◌, cond, Bool, true, false, not, List, [], ◌∷◌, ◌++◌, length, refl, sym, ap, subst, ◌∙◌, arith, eqb, ◌-◌}
-use Rattle.std.specs.Prelude.{IsPermutation, All, Option, None, Some, ◌&&◌, is_some, slice_index_or}
+use Rattle.std.specs.Prelude.{◌≢◌, IsPermutation, All, Option, None, Some, ◌&&◌, is_some, slice_index_or}
 use Rattle.std.proofs.lemmas.Bool.{false≢true, ne_eqb}
 use Rattle.std.proofs.lemmas.List.{length_push}
 use Rattle.std.proofs.lemmas.List.Elements.{All-from_get_or}
@@ -9,12 +9,13 @@ use Rattle.board.specs.declared.moves.Move.{Move}
 use Rattle.board.specs.declared.moves.Move.TheVariants.{U, L, R, D}
 use Rattle.board.specs.Grids.{Grid, IsShape, row_of, column_of}
 use Rattle.board.specs.Equality.{moves_Decide}
-use Rattle.board.specs.Neighbours.{neighbour, opposite}
+use Rattle.board.specs.Neighbours.{LiesTowards, neighbour, opposite}
 use Rattle.board.specs.Positions.{Position, IsBoard, blank_of}
 use Rattle.board.specs.Classes.{SameClass, taxicab}
 use Rattle.board.specs.CostRules.{CostRule, unit_rule}
 use Rattle.board.specs.Moves.{Moves, all_moves}
 use Rattle.board.specs.Plans.{Leads}
+use Rattle.board.proofs.MoveLemmas.{cell_below, blank_after, moved_board, taken_back}
 use Rattle.board.proofs.PlanLemmas.{one_more, led_board}
 use Rattle.board.proofs.ClassLemmas.{same_class_led}
 use Rattle.board_lists.specs.Classes.{IsOfClass}
@@ -153,3 +154,45 @@ walk_keeps_class goal moves b board walked =
     led_grid : (rule : CostRule) (p : Position) (plan : List Move) (q : Position) (k : ℕ) → Leads rule p plan q k → q.grid ≡ p.grid
     led_grid rule p [] q k leads = ap (λ (x : Position). x.grid) leads.0
     led_grid rule p (m ∷ plan) q k leads = led_grid rule leads.0 plan q leads.2 leads.4 ∙ ap (λ (x : Position). x.grid) leads.3.after
+
+-- ---- two moves
+
+-- a cell lies in one direction from another, up to the names of opposites: what leads there and back is a move and its opposite
+ways_back : (grid : Grid) (m n : Move) (from to : ℕ) → LiesTowards grid n from to → LiesTowards grid (opposite m) from to → m ≡ opposite n
+ways_back grid U U from to there back = absurd (omega (arith, there.1, there.2, back.1, back.2))
+ways_back grid U L from to there back = absurd (omega (arith, there.1, there.2, back.1, back.2))
+ways_back grid U R from to there back = absurd (omega (arith, there.1, there.2, back.1, back.2))
+ways_back grid U D from to there back = refl
+ways_back grid L U from to there back = absurd (omega (arith, there.1, there.2, back.1, back.2))
+ways_back grid L L from to there back = absurd (omega (arith, there.1, there.2, back.1, back.2))
+ways_back grid L R from to there back = refl
+ways_back grid L D from to there back = absurd (omega (arith, there.1, there.2, back.1, back.2))
+ways_back grid R U from to there back = absurd (omega (arith, there.1, there.2, back.1, back.2))
+ways_back grid R L from to there back = refl
+ways_back grid R R from to there back = absurd (omega (arith, there.1, there.2, back.1, back.2))
+ways_back grid R D from to there back = absurd (omega (arith, there.1, there.2, back.1, back.2))
+ways_back grid D U from to there back = refl
+ways_back grid D L from to there back = absurd (omega (arith, there.1, there.2, back.1, back.2))
+ways_back grid D R from to there back = absurd (omega (arith, there.1, there.2, back.1, back.2))
+ways_back grid D D from to there back = absurd (omega (arith, there.1, there.2, back.1, back.2))
+
+-- a second move that leads back takes the first one back
+back_by_two : (rule : CostRule) (b : Position) (m : Move) (p : Position) (c : ℕ) (n : Move) (d : ℕ) → IsBoard b → Moves rule b m p c → Moves rule p n b d → m ≡ opposite n
+back_by_two rule b m p c n d board made back =
+    let there = moved_board rule b board m p c made in
+    let undone = taken_back rule b m p c board made in
+    let at : blank_of b ≡ back.cell = ap blank_of back.after ∙ blank_after p there back.cell (cell_below p.grid n (blank_of p) back.cell back.towards) in
+    let also : blank_of b ≡ undone.cell = ap blank_of undone.after ∙ blank_after p there undone.cell (cell_below p.grid (opposite m) (blank_of p) undone.cell undone.towards) in
+    let same : undone.cell ≡ back.cell = sym also ∙ at in
+    ways_back p.grid m n (blank_of p) back.cell back.towards (subst (λ (x : ℕ). LiesTowards p.grid (opposite m) (blank_of p) x) same undone.towards)
+
+pub two_lead_away : (goal b : Position) → IsBoard goal → IsWalkedTo goal 2 b → b ≢ goal
+two_lead_away goal b board walked same = by_plan walked.plan walked.cost walked.leads walked.counted walked.onward
+  where
+    by_plan : (plan : List Move) (k : ℕ) → Leads (unit_rule goal.grid) goal plan b k → length plan ≡ 2 → TakesNoneBack None plan → ⊥
+    by_plan [] k leads two none = omega (arith, two)
+    by_plan (m ∷ []) k leads two none = omega (arith, two)
+    by_plan (m ∷ n ∷ o ∷ plan) k leads two none = omega (arith, two)
+    by_plan (m ∷ n ∷ []) k (p, c, rest, made, (q, d, more, then, (is, zero_left), sum), total) two none =
+        let to : q ≡ goal = sym is ∙ same in
+        none.1.0 (ap Some (back_by_two (unit_rule goal.grid) goal m p c n d board made (subst (λ (x : Position). Moves (unit_rule goal.grid) p n x d) to then)))

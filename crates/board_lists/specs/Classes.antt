@@ -10,7 +10,7 @@ pub record IsOfClass (goal b : Position) : Type 0 where
   pub sides : b.grid ≡ goal.grid
   pub class : SameClass b goal
 
--- these are so many boards, and each has the property
+-- these are `count` boards, and each has the property
 pub record AreEach (HasIt : Position → Type 0) (count : ℕ) (boards : List Position) : Type 0 where
   pub counted : length boards ≡ count
   pub each : All HasIt boards

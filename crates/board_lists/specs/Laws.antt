@@ -1,5 +1,5 @@
 -- The laws of the definitions. Each is the contract of a function that does nothing.
-use Rattle.std.specs.Prelude.{ℕ, ◌<◌, ◌^◌}
+use Rattle.std.specs.Prelude.{ℕ, ◌≢◌, ◌<◌, ◌^◌}
 use Rattle.board.specs.Positions.{Position, IsBoard}
 use Rattle.batch_lines.specs.Words.{IsEntry}
 use Rattle.board_lists.specs.Classes.{IsOfClass}
@@ -13,3 +13,7 @@ LinesNameBoards = (n : ℕ) (b : Position) → n < 2 ^ 64 → IsBoard b → IsEn
 -- a walk from a goal stays in its class
 abbrev pub WalksKeepTheClass : Type 0
 WalksKeepTheClass = (goal : Position) (moves : ℕ) (b : Position) → IsBoard goal → IsWalkedTo goal moves b → IsOfClass goal b
+
+-- a walk of two moves is not back at the goal, since no move takes back the one before it
+abbrev pub TwoMovesLeadAway : Type 0
+TwoMovesLeadAway = (goal b : Position) → IsBoard goal → IsWalkedTo goal 2 b → b ≢ goal

@@ -6,3 +6,4 @@ pub mod Lines
 pub mod Lists
 pub mod Orders
 pub mod Laws
+pub mod Worked

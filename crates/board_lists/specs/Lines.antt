@@ -19,7 +19,7 @@ entry_text n b = id_text n ++ flat_map tile_text b.tiles
 abbrev pub line_text : ℕ → Position → List ℕ
 line_text n b = entry_text n b ++ 10 ∷ []
 
--- the lines of boards of which the first has the number n
+-- the lines of boards, with numbers from n on
 abbrev pub lines_text : ℕ → List Position → List ℕ
 lines_text n [] = []
 lines_text n (b ∷ boards) = line_text n b ++ lines_text (n + 1) boards

@@ -11,7 +11,7 @@ use Rattle.board_lists.specs.Lines.{lines_text}
 use Rattle.board_lists.specs.declared.choices.Choice.{Choice}
 use Rattle.board_lists.specs.declared.choices.Choice.TheVariants.{Drawn, Walked, Whole}
 
--- the boards that are chosen: so many of the goal's class; so many that walks from the goal reach; or the whole class. No word is said of chance.
+-- the boards that are chosen: `count` of the goal's class; `count` that walks from the goal reach; or the whole class. No word is said of chance.
 abbrev pub AreChosen : Position → Choice → List Position → Type 0
 AreChosen goal (Drawn count seed) boards = AreEach (IsOfClass goal) count boards
 AreChosen goal (Walked moves count seed) boards = AreEach (IsWalked goal moves) count boards

@@ -1,4 +1,4 @@
--- Walks: moves of which none takes back the one before it.
+-- Walks: no move takes back the one before it.
 use Rattle.std.specs.Prelude.{ℕ, ◌≡◌, ◌≢◌, List, [], ◌∷◌, Option, None, Some, length, ⊤}
 use Rattle.board.specs.declared.moves.Move.{Move}
 use Rattle.board.specs.Neighbours.{opposite}
@@ -16,7 +16,7 @@ abbrev pub TakesNoneBack : Option Move → List Move → Type 0
 TakesNoneBack last [] = ⊤
 TakesNoneBack last (m ∷ plan) = GoesOn last m × TakesNoneBack (Some m) plan
 
--- a walk of so many moves leads from the goal to the board, and takes no move back
+-- a walk of `moves` moves leads from the goal to the board, and takes no move back
 pub record IsWalkedTo (goal : Position) (moves : ℕ) (b : Position) : Type 0 where
   pub plan : List Move
   pub cost : ℕ

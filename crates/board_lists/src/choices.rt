@@ -11,9 +11,9 @@ use byte_streams::{Sink, WriteFailed};
 /// Which boards of a goal's class are listed. The seed decides all draws.
 #[derive(Clone, Copy, Debug)]
 pub enum Choice {
-    /// So many, drawn uniformly.
+    /// `count` boards, drawn uniformly.
     Drawn { count: u64, seed: u64 },
-    /// So many, each reached from the goal by so many moves of which none takes back the one before.
+    /// `count` boards, each reached from the goal by `moves` moves. None takes back the one before.
     Walked { moves: u64, count: u64, seed: u64 },
     /// All, in rising order of key.
     Whole,

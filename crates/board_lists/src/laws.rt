@@ -1,6 +1,7 @@
 //! The laws of the definitions: each is the contract of a function that does nothing.
 
-ghost use Rattle.board_lists.specs.Laws.{LinesNameBoards, WalksKeepTheClass};
+ghost use Rattle.board_lists.specs.Laws.{LinesNameBoards, WalksKeepTheClass, TwoMovesLeadAway};
+ghost use Rattle.board_lists.specs.Worked.{TwoAreListed};
 
 /// The line of a board is read as its id and the board.
 pub fn lines_name_boards()
@@ -10,4 +11,14 @@ pub fn lines_name_boards()
 /// A walk from a goal stays in its class.
 pub fn walks_keep_the_class()
     ensures { WalksKeepTheClass }
+{}
+
+/// A walk of two moves is not back at the goal.
+pub fn two_moves_lead_away()
+    ensures { TwoMovesLeadAway }
+{}
+
+/// The lines of two boards.
+pub fn two_are_listed()
+    ensures { TwoAreListed }
 {}

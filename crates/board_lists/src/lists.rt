@@ -21,7 +21,7 @@ use rand_xoshiro::Xoshiro256PlusPlus;
 /// The most cells of a shape whose classes are listed whole: 9, or 181,440 boards.
 pub const MOST_CELLS: usize = 9;
 
-/// Writes the lines of so many boards, drawn uniformly from the goal's class, and flushes the sink.
+/// Writes the lines of `count` boards, drawn uniformly from the goal's class, and flushes the sink.
 pub(crate) fn list_drawn<K: Sink>(
     sink: &mut K,
     goal: &Board,
@@ -42,7 +42,7 @@ pub(crate) fn list_drawn<K: Sink>(
     sink.flush()
 }
 
-/// Writes the lines of so many boards, each reached from the goal by a walk of so many moves, and
+/// Writes the lines of `count` boards, each reached from the goal by a walk of `moves` moves, and
 /// flushes the sink.
 pub(crate) fn list_walked<K: Sink>(
     sink: &mut K,
@@ -98,7 +98,7 @@ fn board_at(shape: Shape, place: usize) -> Board
 }
 
 #[tactic(auto, unfolding(pattern_index::specs::Ranks::ways))]
-// In how many orders so many numbers can be listed.
+// In how many orders `cells` numbers can be listed.
 fn count_orders(cells: usize) -> usize
     requires { cells ≤ MOST_CELLS }
     ensures orders { result ≡ ways cells cells }

@@ -10,8 +10,8 @@ use board::{Board, Move, Weights};
 use rand::seq::SliceRandom;
 use rand_xoshiro::Xoshiro256PlusPlus;
 
-/// The board that a walk of so many moves from the goal reaches. Each move is drawn among those that
-/// don't take back the one before.
+/// The board that a walk of `moves` moves from the goal reaches. Each move is drawn among those
+/// that don't take back the one before.
 pub(crate) fn walk(generator: &mut Xoshiro256PlusPlus, goal: &Board, moves: u64) -> Board
     ensures walked { IsWalkedTo goal.now moves result }
     ensures goal { IsBoard goal.now }

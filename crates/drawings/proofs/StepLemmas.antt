@@ -1,4 +1,5 @@
 -- The pictures of a plan, move by move.
+use Rattle.std.specs.Prelude.{Option, None, Some}
 use Rattle.std.proofs.Common.{ℕ, ◌≡◌, ◌+◌, ◌<◌, ◌≤◌, List, [], ◌∷◌, ◌++◌, length, drop, get_or, refl, sym, ap, subst, ◌∙◌, append_assoc, append-nil}
 use Rattle.std.proofs.lemmas.List.{drop_more, drop_all}
 use Rattle.board.specs.declared.moves.Move.{Move}
@@ -7,9 +8,11 @@ use Rattle.board.specs.Positions.{Position}
 use Rattle.board.specs.CostRules.{CostRule}
 use Rattle.board.specs.Moves.{Moves}
 use Rattle.board.specs.Plans.{Leads}
-use Rattle.drawings.specs.declared.pictures.Caption.TheVariants.{Step}
+use Rattle.board.proofs.MoveLemmas.{one_move}
+use Rattle.certificate.specs.Certificates.{Statement}
+use Rattle.drawings.specs.declared.pictures.Caption.TheVariants.{Start, Step, Goal}
 use Rattle.drawings.specs.declared.pictures.Picture.{Picture}
-use Rattle.drawings.specs.Pictures.{picture, AreSteps}
+use Rattle.drawings.specs.Pictures.{picture, AreSteps, AreStepsOf, ArePictures}
 
 -- the pictures, and behind them those of the moves from place i on, are those before the plan and then those of the plan
 abbrev pub AreBehind : CostRule → Position → List Move → List Picture → ℕ → Position → List Picture → Type 0
@@ -54,3 +57,23 @@ all_pushed rule start plan before i number here pictures l pushed =
     let none = subst (λ (ms : List Move). AreSteps rule (i + 1) here ms []) (sym (drop_all i plan l)) refl in
     let all = pushed.behind [] none in
     (all.0, all.1, sym (append-nil pictures) ∙ all.2)
+
+-- ---- one list of pictures
+
+one_list : (rule : CostRule) (n : ℕ) (b : Position) (plan : List Move) (xs ys : List Picture) → AreSteps rule n b plan xs → AreSteps rule n b plan ys → ys ≡ xs
+one_list rule n b [] xs ys first second = second ∙ sym first
+one_list rule n b (m ∷ plan) xs ys (p, c, later, made, steps, is) (q, d, after, done, more, also) =
+    let same : q ≡ p = (one_move rule b m p q c d made done).0 in
+    let more' : AreSteps rule (n + 1) p plan after = subst (λ (x : Position). AreSteps rule (n + 1) x plan after) same more in
+    let rest : after ≡ later = one_list rule (n + 1) p plan later after steps more' in
+    also ∙ (λ i. picture (Step n m) (same i) ∷ rest i) ∙ sym is
+
+one_list_of : (rule : CostRule) (b : Position) (plan : Option (List Move)) (xs ys : List Picture) → AreStepsOf rule b plan xs → AreStepsOf rule b plan ys → ys ≡ xs
+one_list_of rule b None xs ys first second = second ∙ sym first
+one_list_of rule b (Some plan) xs ys first second = one_list rule 1 b plan xs ys first second
+
+-- a certificate has one list of pictures
+pub same_pictures : (c : Statement) (xs ys : List Picture) → ArePictures c xs → ArePictures c ys → ys ≡ xs
+same_pictures c xs ys first second =
+    let steps = one_list_of c.costs c.start c.plan first.0 second.0 first.1 second.1 in
+    second.2 ∙ ap (λ (s : List Picture). picture Start c.start ∷ (s ++ picture Goal c.goal ∷ [])) steps ∙ sym first.2

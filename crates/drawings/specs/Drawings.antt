@@ -81,7 +81,7 @@ band_text grid pictures = line_text heading_text pictures ++ (flat_map (λ row. 
 abbrev pub boards_within : ℕ → Grid → ℕ
 boards_within width grid = max 1 (width / columns_of grid)
 
--- the band with this number, from 0, of so many pictures each
+-- the band with the number k, from 0, where each has n pictures
 abbrev pub band_of : ℕ → List Picture → ℕ → List Picture
 band_of n pictures k = take n (drop (k * n) pictures)
 
@@ -98,7 +98,7 @@ claim_text None bound = codes "bound: " ++ (decimal bound ++ codes " (claimed: n
 abbrev pub drawing_text : ℕ → Statement → List Picture → List ℕ
 drawing_text width c pictures = bands_text c.grid (boards_within width c.grid) pictures ++ claim_text c.plan c.cost
 
--- These bytes draw the certificate: as text within so many columns. What an SVG file looks like is not said here.
+-- These bytes draw the certificate: as text within `width` columns. What an SVG file looks like is not said here.
 abbrev pub IsDrawing : Style → Statement → List ℕ → Type 0
 IsDrawing (Text width) c bytes = (pictures : List Picture) × ArePictures c pictures × (bytes ≡ drawing_text width c pictures)
 IsDrawing (Svg seconds) c bytes = ⊤

@@ -3,8 +3,14 @@ use Rattle.std.specs.Prelude.{ℕ, ◌≡◌, ◌<◌, List, length}
 use Rattle.std.specs.Int.{div_ceil}
 use Rattle.std.specs.List.{flat_map, range_with_len}
 use Rattle.drawings.specs.declared.pictures.Picture.{Picture}
-use Rattle.drawings.specs.Drawings.{band_of}
+use Rattle.certificate.specs.Certificates.{Statement}
+use Rattle.drawings.specs.declared.drawing.Style.TheVariants.{Text}
+use Rattle.drawings.specs.Drawings.{band_of, IsDrawing}
 
 -- the bands have each picture once, in order
 abbrev pub BandsAreWhole : Type 0
 BandsAreWhole = (pictures : List Picture) (n : ℕ) → 0 < n → flat_map (λ k. band_of n pictures k) (range_with_len 0 (div_ceil (length pictures) n)) ≡ pictures
+
+-- a certificate has one drawing in this many columns
+abbrev pub DrawingsAreDetermined : Type 0
+DrawingsAreDetermined = (width : ℕ) (c : Statement) (a b : List ℕ) → IsDrawing (Text width) c a → IsDrawing (Text width) c b → b ≡ a

@@ -12,7 +12,7 @@ use board::{Board, Move, Shape};
 use itoa::Buffer;
 use memory::{OutOfMemory, push};
 
-/// Puts all pictures at the end of the text, so many side by side.
+/// Puts all pictures at the end of the text, `count` side by side.
 pub(crate) fn push_bands(
     text: &mut Vec<u8>,
     shape: Shape,
@@ -61,7 +61,7 @@ fn push_heading(text: &mut Vec<u8>, picture: &Picture) -> Result<(), OutOfMemory
     }
 }
 
-// The number of a move and its letter at the right of so many columns.
+// The number of a move and its letter at the right of `columns` columns.
 fn push_step(
     text: &mut Vec<u8>,
     columns: usize,

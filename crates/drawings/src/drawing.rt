@@ -17,9 +17,9 @@ use std::alloc::Global;
 /// What a certificate is drawn as.
 #[derive(Clone, Copy, Debug)]
 pub enum Style {
-    /// Plain text, in which boards are side by side within so many columns.
+    /// Plain text, in which boards are side by side within `width` columns.
     Text { width: u16 },
-    /// An SVG 1.1 file, in which each move takes so many seconds.
+    /// An SVG 1.1 file, in which each move takes `seconds` seconds.
     Svg { seconds: u8 },
 }
 
@@ -37,7 +37,7 @@ pub fn draw(alloc: Global, certificate: &Certificate, style: Style) -> Result<Ve
     }
 }
 
-// The pictures as text within so many columns, and the claim.
+// The pictures as text within `width` columns, and the claim.
 fn draw_text(
     alloc: Global,
     certificate: &Certificate,

@@ -1,7 +1,8 @@
 //! The laws of drawings, and worked rows: each is the contract of a function that does nothing.
 
-ghost use Rattle.drawings.specs.Laws.{BandsAreWhole};
+ghost use Rattle.drawings.specs.Laws.{BandsAreWhole, DrawingsAreDetermined};
 ghost use Rattle.drawings.specs.Worked.{PlansAreDrawn, BoundsAreDrawn};
+ghost use Rattle.drawings.specs.Worked.{OblongPlansAreDrawn, NumbersFit};
 
 /// The bands have each picture once, in order.
 pub fn bands_are_whole()
@@ -12,4 +13,15 @@ pub fn bands_are_whole()
 pub fn texts_are_these()
     ensures plan { PlansAreDrawn }
     ensures bound { BoundsAreDrawn }
+{}
+
+/// A certificate has one drawing as text.
+pub fn drawings_are_determined()
+    ensures { DrawingsAreDetermined }
+{}
+
+/// The text of a plan of one move on a board of 3 by 4, and numbers of several digits.
+pub fn oblong_texts_are_these()
+    ensures plan { OblongPlansAreDrawn }
+    ensures numbers { NumbersFit }
 {}

@@ -23,7 +23,7 @@ pub(crate) fn push_number(text: &mut Vec<u8>, number: u64) -> Result<(), OutOfMe
     push_all(text, Buffer::new().format(number).as_bytes())
 }
 
-/// Puts bytes at the end of the text, at the right of so many columns.
+/// Puts bytes at the end of the text, at the right of `columns` columns.
 pub(crate) fn push_at_right(
     text: &mut Vec<u8>,
     columns: usize,
@@ -45,7 +45,7 @@ pub(crate) fn push_spaces(text: &mut Vec<u8>, count: usize) -> Result<(), OutOfM
     Ok(())
 }
 
-/// So many of the items from this place on, or as many as there are.
+/// `count` items from the place `from` on, or as many as there are.
 pub(crate) fn part<T>(items: &[T], from: usize, count: usize) -> &[T]
     ensures { result.now ≡ take count (drop from items.now) }
 {

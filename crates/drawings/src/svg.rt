@@ -39,7 +39,7 @@ enum Piece<'a> {
     Place(Place),
 }
 
-/// The file, in which each move takes so many seconds. The error: out of memory.
+/// The file, in which each move takes `seconds` seconds. The error: out of memory.
 pub(crate) fn draw_svg(
     alloc: Global,
     certificate: &Certificate,
@@ -182,8 +182,8 @@ fn push_steps(
     Ok(())
 }
 
-// The caption of a move, which takes the place of the one before it after so many seconds of a
-// second.
+// The caption of a move. It takes the place of the one before it when the move begins, after
+// `begin` seconds.
 fn push_caption(
     text: &mut Vec<u8>,
     board: &Board,
