@@ -18,7 +18,7 @@ _tilesolve() {
     tilesolve | */tilesolve) words='solve check show upgrade replay boards --help --version' ;;
     *)
         case ${COMP_WORDS[1]} in
-        solve) words="$options --cert --progress --help" ;;
+        solve) words="$options --cert --progress --stats --help" ;;
         replay) words="$options --help" ;;
         show) words='--width --svg --seconds --help' ;;
         boards) words='--rows --cols --goal --count --seed --moves --all --help' ;;

@@ -25,7 +25,8 @@ complete -c tilesolve -n $search -x -l limit -d 'Maximum number of boards to exp
 
 set -l solve '__fish_seen_subcommand_from solve'
 complete -c tilesolve -n $solve -l cert -d 'Write the certificate of the first board'
-complete -c tilesolve -n $solve -l progress -d 'Print the number of expanded boards'
+complete -c tilesolve -n $solve -l progress -d 'Print how far the search is'
+complete -c tilesolve -n $solve -l stats -d 'Print figures of each search'
 
 set -l show '__fish_seen_subcommand_from show'
 complete -c tilesolve -n $show -x -l width -d 'Columns of the text'

@@ -224,7 +224,7 @@ begun_run well early (Ok a) begun = begun a
 begun_run well early (Err fault) begun = λ idle. idle
 
 begun_command : (command : Command) (source : Change SourceState) (sink : Change SinkState) (ending : Ending) → Runs command source sink ending → ¬ HasNotBegun ending
-begun_command (command.Solve setup progress) source sink ending (result, run, is) = λ idle. begun_run Ran of_lines result (λ counts never. never) (subst HasNotBegun is idle)
+begun_command (command.Solve setup progress stats) source sink ending (result, run, is) = λ idle. begun_run Ran of_lines result (λ counts never. never) (subst HasNotBegun is idle)
 begun_command (command.Certify setup progress) source sink ending (result, run, is) = λ idle. begun_run Answered of_certify result (λ status never. never) (subst HasNotBegun is idle)
 begun_command command.Check source sink ending (result, run, is) = λ idle. begun_run Answered of_check result (λ status never. never) (subst HasNotBegun is idle)
 begun_command (command.Draw style) source sink ending (result, run, is) = λ idle. begun_run Answered of_check result (λ status never. never) (subst HasNotBegun is idle)
@@ -517,7 +517,7 @@ module _ (source : Change SourceState) (sink : Change SinkState) (ending : Endin
   default_true : (request : Request) → WordsAsk [] request → EndsRequest request source sink ending → BatchOrNone
   default_true (Solve o) defaults (inl (setup, is, run)) =
       let all = solved source sink ending status told setup run in
-      inl (begun_ended (command.Solve setup false) source sink ending run, (setup, default_setup o setup defaults is, all.0, all.1))
+      inl (begun_ended (command.Solve setup false false) source sink ending run, (setup, default_setup o setup defaults is, all.0, all.1))
   default_true (Solve o) defaults (inr (lacking, unused, is)) = inr (subst HasNotBegun (sym is) tt, lacking, told ∙ ap status_of is)
   default_true (Certify o) never ends = absurd never
   default_true Check never ends = absurd never

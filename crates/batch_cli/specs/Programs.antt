@@ -135,7 +135,7 @@ CanRun _ = ⊤
 
 -- a run of a command, without the flush that follows it
 abbrev pub Runs : Command → Change SourceState → Change SinkState → Ending → Type 0
-Runs (command.Solve setup progress) source sink ending = Solves source setup sink ending
+Runs (command.Solve setup progress stats) source sink ending = Solves source setup sink ending
 Runs (command.Certify setup progress) source sink ending = Certifies source setup sink ending
 Runs command.Check source sink ending = Judges source sink ending
 Runs (command.Draw style) source sink ending = Draws source style sink ending

@@ -15,10 +15,17 @@ use std::thread::Threads;
 /// What a request asks for, ready to run: its tables are built.
 #[derive(Drop)]
 pub(crate) enum Command {
-    /// Solves the boards of the source, and reports progress where that is asked for.
-    Solve { setup: Setup, progress: bool },
+    /// Solves the boards of the source, and prints progress and figures where these are asked for.
+    Solve {
+        setup: Setup,
+        progress: bool,
+        stats: bool,
+    },
     /// Solves the first board of the source, and writes its certificate.
-    Certify { setup: Setup, progress: bool },
+    Certify {
+        setup: Setup,
+        progress: bool,
+    },
     /// Checks the certificate of the source.
     Check,
     /// Draws the certificate of the source.
@@ -47,8 +54,13 @@ pub(crate) fn command_for(
     match request {
         Request::Solve(options) => {
             let progress = options.progress;
+            let stats = options.stats;
             let setup = setup_of(rt, alloc, options)?;
-            Ok(Command::Solve { setup, progress })
+            Ok(Command::Solve {
+                setup,
+                progress,
+                stats,
+            })
         }
         Request::Certify(options) => {
             let progress = options.progress;

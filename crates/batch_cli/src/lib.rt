@@ -14,7 +14,9 @@ mod setups;
 pub use batch_lines::{
     Entry, EntryFault, INPUT_LIMIT, LINE_LIMIT, Line, LineKind, LineReader, read_entry,
 };
-pub use batch_runs::{LinesFault, Ruled, Setup, Solver, SpreadKind, Summary, run_lines};
+pub use batch_runs::{
+    LinesFault, Ruled, Setup, Solved, Solver, SpreadKind, Stats, Summary, run_lines, stats_text,
+};
 pub use certificate_runs::{
     CertifyFault, CheckFault, ProofRuled, Prover, UpgradeFault, certify_first, run_check, run_show,
     run_upgrade,
@@ -31,4 +33,4 @@ pub use reports::{
     NoReport, accepted_bound_report, accepted_report, outcome_report, refused_certificate_report,
     refused_report,
 };
-pub use setup_runs::{run_batch, run_cert};
+pub use setup_runs::{Watch, run_batch, run_cert};

@@ -5,9 +5,10 @@ ghost use Rattle.byte_streams.specs.Streams.{change};
 ghost use Rattle.batch_runs.specs.Batches.{HasFailed};
 ghost use Rattle.batch_cli.specs.Headline.{RunsProgram};
 
+use crate::progress::Unkept;
 use crate::runner::Runner;
 use byte_streams::{Sink, Source};
-use hda_run::{Free, Gate};
+use setup_runs::Watch;
 use std::alloc::Global;
 use std::sync::Wait;
 use std::thread::Threads;
@@ -15,10 +16,10 @@ use std::thread::Threads;
 /// Runs the program over any streams, and answers its exit status. The words are those after the
 /// program's name.
 ///
-/// What the words ask for is done, and the sink is flushed: boards are solved or steps replayed with
-/// tables that are built once, a certificate is written, checked, drawn or upgraded, boards are listed,
-/// or a text of help is written. No words at all mean `solve --rows 3 --cols 3`: 3 by 3 boards at unit cost with Korf's goal, and the
-/// tables of the groups `1,2,3,4/5,6,7,8`.
+/// What the words ask for is done, and the sink is flushed. Boards are solved or steps replayed
+/// with tables that are built once, a certificate is written, checked, drawn or upgraded, boards
+/// are listed, or a text of help is written. No words at all mean `solve --rows 3 --cols 3`: 3 by 3
+/// boards at unit cost with Korf's goal, and the tables of the groups `1,2,3,4/5,6,7,8`.
 ///
 /// What is written tells the truth: so say `IsTrueBy`, and `IsTrue` where there are no words. Where
 /// the words ask for nothing, or there is no memory for the tables, nothing is read or written.
@@ -35,26 +36,26 @@ pub fn run_program<R: Threads + Wait + Sync, S: Source, K: Sink, E: Sink>(
         (K.is_flushed sink.new ⊎ HasFailed (K.state sink.new))
         ((source.new ≡ source.old) × (sink.new ≡ sink.old)) }
 {
-    run_with_progress(rt, alloc, words, source, sink, errors, &Free)
+    run_with_progress(rt, alloc, words, source, sink, errors, &Unkept)
 }
 
-/// Runs the program as `run_program` does, and passes the gate after each step of the search where
-/// the words ask for progress; else it passes none.
-pub fn run_with_progress<R: Threads + Wait + Sync, S: Source, K: Sink, E: Sink, G: Gate + Sync>(
+/// Runs the program as `run_program` does, under a watch: it is passed after each step of the search
+/// where the words ask for progress, and takes the figures of lines where they ask for these.
+pub fn run_with_progress<R: Threads + Wait + Sync, S: Source, K: Sink, E: Sink, W: Watch + Sync>(
     rt: &R,
     alloc: Global,
     words: &[String],
     source: &mut S,
     sink: &mut K,
     errors: &mut E,
-    gate: &G,
+    watch: &W,
 ) -> u8
     ensures { RunsProgram (map string_bytes words.now) (change S.state source.old source.new)
         (change K.state sink.old sink.new) (change E.state errors.old errors.new) result
         (K.is_flushed sink.new ⊎ HasFailed (K.state sink.new))
         ((source.new ≡ source.old) × (sink.new ≡ sink.old)) }
 {
-    let runner = Runner { rt, alloc, gate };
+    let runner = Runner { rt, alloc, watch };
     let ending = runner.end_program(words, source, sink);
     ending.tell(errors)
 }

@@ -1,18 +1,73 @@
-//! Progress, where the words ask for it.
+//! Progress and figures, where the words ask for them.
 
+use batch_runs::Stats;
 use hda_run::{Gate, Kind};
+use setup_runs::Watch;
 
-/// A gate that is passed where it was asked for.
+/// A watch that is passed where progress was asked for, and takes figures where these were.
 #[derive(Clone, Copy)]
-pub(crate) struct WhereAsked<'a, G> {
-    pub gate: &'a G,
-    pub is_asked: bool,
+pub(crate) struct WhereAsked<'a, W> {
+    pub watch: &'a W,
+    /// Whether one worker searches alone. With several no bound is shown: boards are on their way
+    /// between them.
+    pub is_alone: bool,
+    pub progress: bool,
+    pub stats: bool,
 }
 
-impl<G: Gate> Gate for WhereAsked<'_, G> {
+impl<W: Watch> Gate for WhereAsked<'_, W> {
     fn pass(&self, worker: usize, kind: Kind) {
-        if self.is_asked {
-            self.gate.pass(worker, kind);
+        if self.progress {
+            self.watch.pass(worker, kind);
         }
     }
+
+    fn meet(&self, boards: usize) {
+        if !self.progress {
+            return;
+        }
+        self.watch.meet(boards);
+        if !self.is_alone && self.watch.wants_bound() {
+            self.watch.show_bound(None);
+        }
+    }
+
+    fn wants_bound(&self) -> bool {
+        self.progress && self.is_alone && self.watch.wants_bound()
+    }
+
+    fn show_bound(&self, bound: Option<u32>) {
+        self.watch.show_bound(bound);
+    }
+}
+
+impl<W: Watch> Watch for WhereAsked<'_, W> {
+    fn microseconds(&self) -> u64 {
+        if self.stats {
+            return self.watch.microseconds();
+        }
+        0
+    }
+
+    fn observe(&self, id: &str, stats: &Stats) {
+        if self.stats {
+            self.watch.observe(id, stats);
+        }
+    }
+}
+
+/// A watch that nobody keeps.
+#[derive(Clone, Copy)]
+pub(crate) struct Unkept;
+
+impl Gate for Unkept {
+    fn pass(&self, _worker: usize, _kind: Kind) {}
+}
+
+impl Watch for Unkept {
+    fn microseconds(&self) -> u64 {
+        0
+    }
+
+    fn observe(&self, _id: &str, _stats: &Stats) {}
 }

@@ -20,22 +20,21 @@ use byte_streams::{Sink, Source};
 use certificate_runs::{run_check, run_show, run_upgrade};
 use command_line::{Listing, read_words};
 use drawings::Style;
-use hda_run::Gate;
 use replay_runs::run_replay;
-use setup_runs::{run_batch, run_cert};
+use setup_runs::{Watch, run_cert, run_watched};
 use std::alloc::Global;
 use std::sync::Wait;
 use std::thread::Threads;
 
-/// What commands run with: threads, memory, and the gate that searches pass.
+/// What commands run with: threads, memory, and who watches searches.
 #[derive(Clone, Copy)]
-pub(crate) struct Runner<'a, R, G> {
+pub(crate) struct Runner<'a, R, W> {
     pub rt: &'a R,
     pub alloc: Global,
-    pub gate: &'a G,
+    pub watch: &'a W,
 }
 
-impl<'a, R: Threads + Wait + Sync, G: Gate + Sync> Runner<'a, R, G> {
+impl<'a, R: Threads + Wait + Sync, W: Watch + Sync> Runner<'a, R, W> {
     /// Does what the words ask for, and returns how the program ends. Each command is followed by a
     /// flush; without one, nothing is read or written.
     pub(crate) fn end_program<S: Source, K: Sink>(
@@ -68,7 +67,11 @@ impl<'a, R: Threads + Wait + Sync, G: Gate + Sync> Runner<'a, R, G> {
             (change K.state sink.old sink.new) result }
     {
         match command {
-            Command::Solve { setup, progress } => self.solve(setup, *progress, source, sink),
+            Command::Solve {
+                setup,
+                progress,
+                stats,
+            } => self.solve(setup, &self.asked(setup, *progress, *stats), source, sink),
             Command::Certify { setup, progress } => self.certify(setup, *progress, source, sink),
             Command::Check => self.check(source, sink),
             Command::Draw(style) => self.draw(*style, source, sink),
@@ -79,21 +82,27 @@ impl<'a, R: Threads + Wait + Sync, G: Gate + Sync> Runner<'a, R, G> {
         }
     }
 
+    // The watch of a setup's runs, where progress or figures are asked for.
+    fn asked(&self, setup: &Setup, progress: bool, stats: bool) -> WhereAsked<'a, W> {
+        WhereAsked {
+            watch: self.watch,
+            is_alone: setup.worker_count() == 1,
+            progress,
+            stats,
+        }
+    }
+
     fn solve<S: Source, K: Sink>(
         &self,
         setup: &Setup,
-        progress: bool,
+        watch: &WhereAsked<'_, W>,
         source: &mut S,
         sink: &mut K,
     ) -> Ending
         ensures { Solves (change S.state source.old source.new) setup.now
             (change K.state sink.old sink.new) result }
     {
-        let gate = WhereAsked {
-            gate: self.gate,
-            is_asked: progress,
-        };
-        match run_batch(self.rt, self.alloc, source, sink, setup, &gate) {
+        match run_watched(self.rt, self.alloc, source, sink, setup, watch) {
             Ok(counts) => Ending::Ran(counts),
             Err(fault) => Ending::Faulted(BatchFault::from(fault)),
         }
@@ -109,10 +118,7 @@ impl<'a, R: Threads + Wait + Sync, G: Gate + Sync> Runner<'a, R, G> {
         ensures { Certifies (change S.state source.old source.new) setup.now
             (change K.state sink.old sink.new) result }
     {
-        let gate = WhereAsked {
-            gate: self.gate,
-            is_asked: progress,
-        };
+        let gate = self.asked(setup, progress, false);
         match run_cert(self.rt, self.alloc, source, sink, setup, &gate) {
             Ok(status) => Ending::Answered(status),
             Err(fault) => Ending::Faulted(BatchFault::from(fault)),

@@ -32,6 +32,7 @@ pub(crate) fn setup_of(
         spread,
         limit,
         progress: _,
+        stats: _,
     } = options;
     let setup = Setup::new(alloc, goal, costs)
         .limit(limit)

@@ -20,6 +20,7 @@ use Rattle.outcomes.specs.Outcomes.{Task}
 use Rattle.outcomes.specs.Endings.{EndAnswers}
 use Rattle.outcomes.specs.declared.outcome.Ending.TheVariants.{Optimal, Unsolvable, Bounded}
 use Rattle.batch_runs.specs.declared.batch.Summary.{Summary}
+use Rattle.batch_runs.specs.declared.stats.Solved.{Solved}
 use Rattle.batch_runs.specs.declared.faults.LinesFault.{LinesFault}
 use Rattle.batch_runs.specs.declared.faults.LinesFault.TheVariants.{Read, Write, Memory}
 
@@ -34,13 +35,13 @@ abbrev pub IsTruthful : Rules → Type 0
 IsTruthful rules = (b : Position) (outcome : Ending) → rules.allows b (Some outcome) → EndAnswers (rules.task b) outcome
 
 -- who solves a board gives an ending that it may be answered by, or tells a want of memory where that may be answered
-abbrev pub MayGive : Rules → Position → Result Ending OutOfMemory → Type 0
-MayGive rules b (Ok ending) = rules.allows b (Some ending)
+abbrev pub MayGive : Rules → Position → Result Solved OutOfMemory → Type 0
+MayGive rules b (Ok solved) = rules.allows b (Some solved.ending)
 MayGive rules b (Err refused) = rules.allows b None
 
 -- each of these boards may be answered by the ending beside it
-abbrev pub AreAllowed : Rules → List (Position × Ending) → Type 0
-AreAllowed rules ready = All (λ it. rules.allows it.0 (Some it.1)) ready
+abbrev pub AreAllowed : Rules → List (Position × Solved) → Type 0
+AreAllowed rules ready = All (λ it. rules.allows it.0 (Some it.1.ending)) ready
 
 -- ---- the answer to a line
 

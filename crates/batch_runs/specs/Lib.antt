@@ -5,3 +5,4 @@ pub mod Setups
 pub mod Meanings
 pub mod Headline
 pub mod Laws
+pub mod Stats

@@ -7,10 +7,11 @@ ghost use Rattle.batch_runs.specs.Batches.{HasRoom, MayGive, AreAllowed};
 ghost use Rattle.batch_runs.specs.Batches.{answer_text, with_answer};
 
 use crate::batch::Summary;
+use crate::stats::{Solved, Stats};
 use batch_lines::{EntryFault, Line, LineKind, read_entry};
 use board::{Board, Shape};
 use memory::OutOfMemory;
-use outcomes::{Ending, SolveFault};
+use outcomes::SolveFault;
 use reports::{NoReport, outcome_report, refused_report};
 use std::alloc::Global;
 use std::marker::Model;
@@ -30,18 +31,22 @@ pub trait Solver: Ruled {
     fn shape(&self) -> Shape
         ensures { result ≡ (Self.rules self.now).grid };
 
-    /// The ending of a board. The error: out of memory before the first step.
-    fn solve(&self, start: &Board) -> Result<Ending, OutOfMemory>
+    /// The ending of a board, with figures. The error: out of memory before the first step.
+    fn solve(&self, start: &Board) -> Result<Solved, OutOfMemory>
         requires callable { is_callable self.now }
         requires grid { start.now.grid ≡ (Self.rules self.now).grid }
         ensures { MayGive (Self.rules self.now) start.now result };
 
     /// Boards with their endings, the first one last: this board, and boards of the lines among the
     /// bytes that the source holds behind its line. There may be none.
-    fn solve_ahead(&self, start: &Board, held: &[u8]) -> Vec<(Board, Ending)>
+    fn solve_ahead(&self, start: &Board, held: &[u8]) -> Vec<(Board, Solved)>
         requires callable { is_callable self.now }
         requires grid { start.now.grid ≡ (Self.rules self.now).grid }
         ensures { AreAllowed (Self.rules self.now) result.items };
+
+    /// Takes the figures of the line with this id, whose board is answered. No contract says what
+    /// becomes of them.
+    fn observe(&self, id: &str, stats: &Stats);
 }
 
 /// A solver, and the endings that are ready: of boards whose lines are not taken yet, the first one
@@ -50,7 +55,7 @@ pub trait Solver: Ruled {
 pub(crate) struct Answerer<'a, A: Solver> {
     alloc: Global,
     solver: &'a A,
-    ready: Vec<(Board, Ending)>,
+    ready: Vec<(Board, Solved)>,
 }
 
 // A clause sees the solver: it may be called, and allows what is ready.
@@ -122,41 +127,42 @@ impl<'a, A: Solver> Answerer<'a, A> {
                 return Ok((text, summary.with_refused()));
             }
         };
-        let ending = match self.end_board(&entry.board, held) {
-            Ok(ending) => ending,
+        let solved = match self.end_board(&entry.board, held) {
+            Ok(solved) => solved,
             Err(refused) => {
                 let code = SolveFault::Memory(refused).code();
                 let text = refused_report(self.alloc, code, number)?;
                 return Ok((text, summary.with_refused()));
             }
         };
-        let text = outcome_report(self.alloc, entry.id, &ending)?;
-        Ok((text, summary.with_outcome(&ending)))
+        let text = outcome_report(self.alloc, entry.id, &solved.ending)?;
+        self.solver.observe(entry.id, &solved.stats);
+        Ok((text, summary.with_outcome(&solved.ending)))
     }
 
     // What is answered of a board: what is ready, or what the solver says. Where nothing is ready, it
     // and boards behind it may be solved now.
-    fn end_board(&mut self, start: &Board, held: &[u8]) -> Result<Ending, OutOfMemory>
+    fn end_board(&mut self, start: &Board, held: &[u8]) -> Result<Solved, OutOfMemory>
         requires { start.now.grid ≡ (A.rules self.old).grid }
         ensures same { self.new ≡ self.old }
-        ensures answered { IfOk result (λ ending. (A.rules self.old).allows start.now (Some ending)) }
+        ensures answered { IfOk result (λ solved. (A.rules self.old).allows start.now (Some solved.ending)) }
         ensures lacking { OnErr result ((A.rules self.old).allows start.now None) }
     {
         if self.ready.is_empty() {
             self.ready = self.solver.solve_ahead(start, held);
         }
-        if let Some(ending) = self.take_ready(start) {
-            return Ok(ending);
+        if let Some(solved) = self.take_ready(start) {
+            return Ok(solved);
         }
         self.solver.solve(start)
     }
 
     // The ending that is ready next, if it is this board's. Else it is given up: the board that it is
     // of is solved again.
-    fn take_ready(&mut self, start: &Board) -> Option<Ending>
+    fn take_ready(&mut self, start: &Board) -> Option<Solved>
         ensures same { self.new ≡ self.old }
         ensures answered { IfSome result
-            (λ ending. (A.rules self.old).allows start.now (Some ending)) }
+            (λ solved. (A.rules self.old).allows start.now (Some solved.ending)) }
     {
         let Some(next) = self.ready.pop() else {
             return None;

@@ -70,7 +70,7 @@ top_app =
 -- the program with its subcommands
 abbrev pub program_app : Choices → App
 program_app spreads =
-    let solve = with_rule (with_rule (puzzle_app spreads (codes "solve")) (flag_rule (codes "cert"))) (flag_rule (codes "progress")) in
+    let solve = with_rule (with_rule (with_rule (puzzle_app spreads (codes "solve")) (flag_rule (codes "cert"))) (flag_rule (codes "progress"))) (flag_rule (codes "stats")) in
     let checks = with_subcommand (with_subcommand top_app solve.top) (new_app (codes "check")).top in
     let shows = with_subcommand (with_subcommand checks show_app.top) (new_app (codes "upgrade")).top in
     with_subcommand (with_subcommand shows (puzzle_app spreads (codes "replay")).top) boards_app.top

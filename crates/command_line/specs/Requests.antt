@@ -72,6 +72,7 @@ pub record AreValues (rows : List Row) (v : Values) : Type 0 where
   pub spread : first_of (codes "spread") rows ≡ Some (spread_text v.spread)
   pub limit : HasNumber rows (codes "limit") v.limit
   pub progress : IsTrue v.progress ↔ IsSet rows (codes "progress")
+  pub stats : IsTrue v.stats ↔ IsSet rows (codes "stats")
 
 -- the goal that a text says, and where there is no text Korf's
 abbrev pub IsGoalSaid : Grid → Option Text → Position → Type 0
@@ -114,6 +115,7 @@ pub record AreOptions (rows : List Row) (o : Options) : Type 0 where
   pub spread : first_of (codes "spread") rows ≡ Some (spread_text o.spread)
   pub limit : HasNumber rows (codes "limit") o.limit
   pub progress : IsTrue o.progress ↔ IsSet rows (codes "progress")
+  pub stats : IsTrue o.stats ↔ IsSet rows (codes "stats")
 
 -- why they say nothing: the fault of the goal's text; or where that has none, the fault of the costs' text; or where that has none either, the fault of the groups' text; and memory may be refused
 abbrev pub OptionsFail : List Row → NoRequest → Type 0
@@ -202,7 +204,7 @@ TextFails faults (Groups fault) = ⊥
 TextFails faults (NoListing fault) = ⊥
 TextFails faults Memory = ⊤
 
--- without words: boards of 3 by 3 at unit cost with Korf's goal and the default groups, whose tables are not folded, by one worker without a limit, and nothing told of progress
+-- without words: boards of 3 by 3 at unit cost with Korf's goal and the default groups, whose tables are not folded, by one worker without a limit, and neither progress nor figures are printed
 pub record AreDefaults (o : Options) : Type 0 where
   pub goal : o.goal ≡ goal_of (record { rows = 3; cols = 3 })
   pub costs : o.costs ≡ unit_rule (record { rows = 3; cols = 3 })
@@ -212,6 +214,7 @@ pub record AreDefaults (o : Options) : Type 0 where
   pub spread : o.spread ≡ Zobrist
   pub limit : o.limit ≡ 2 ^ 64 - 1
   pub progress : o.progress ≡ false
+  pub stats : o.stats ≡ false
 
 abbrev pub AsksDefaults : Request → Type 0
 AsksDefaults (Solve o) = AreDefaults o

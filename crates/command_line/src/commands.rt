@@ -23,7 +23,8 @@ pub(crate) fn program<'a>(alloc: Global, spreads: &'a [&'a str]) -> Result<Comma
         .long_about(help::SOLVE_LONG)
         .after_help(help::SOLVE_AFTER)
         .arg(flag(alloc, "cert", help::CERT))?
-        .arg(flag(alloc, "progress", help::PROGRESS))?;
+        .arg(flag(alloc, "progress", help::PROGRESS))?
+        .arg(flag(alloc, "stats", help::STATS))?;
     let check = Command::new(alloc, "check")
         .about(help::CHECK)
         .long_about(help::CHECK_LONG)

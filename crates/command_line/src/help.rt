@@ -262,5 +262,8 @@ pub(crate) const ALL: &str = "\
 List all boards with a plan to the goal, in rising order of their tiles (at most 9 cells)";
 
 /// The option `--progress`.
-pub(crate) const PROGRESS: &str =
-    "Print the number of expanded boards on standard error, at each million";
+pub(crate) const PROGRESS: &str = "Print how far the search is on standard error, once a second";
+
+/// The option `--stats`.
+pub(crate) const STATS: &str =
+    "Print figures of the search for each answered board on standard error, as one line of JSON";

@@ -116,6 +116,7 @@ fn options_in(alloc: Global, matches: &ArgMatches<'_>) -> Result<Options, NoRequ
         spread: values.spread,
         limit: values.limit,
         progress: values.progress,
+        stats: values.stats,
     })
 }
 

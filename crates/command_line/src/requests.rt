@@ -42,6 +42,8 @@ pub struct Options {
     pub limit: u64,
     /// Whether it is told, while boards are solved, how many were expanded.
     pub progress: bool,
+    /// Whether the figures of the search for each line are printed.
+    pub stats: bool,
 }
 
 /// Which boards of which goal's class are listed.
@@ -109,6 +111,7 @@ fn default_options(alloc: Global) -> Result<Options, OutOfMemory>
         spread: SpreadKind::Zobrist,
         limit: u64::MAX,
         progress: false,
+        stats: false,
     })
 }
 

@@ -23,6 +23,7 @@ pub(crate) struct Values<'a> {
     pub spread: SpreadKind,
     pub limit: u64,
     pub progress: bool,
+    pub stats: bool,
 }
 
 // What the values of the options say. Nothing is said only where a value isn't what the parser
@@ -44,6 +45,7 @@ pub(crate) fn values_in<'a>(matches: &ArgMatches<'a>) -> Option<Values<'a>>
         spread,
         limit,
         progress: is_set(matches, "progress"),
+        stats: is_set(matches, "stats"),
     })
 }
 

@@ -96,8 +96,9 @@ fn print_options(rt: &impl Print, name: &str, options: &Options) -> io::Result<(
     } else {
         ""
     };
+    let figures = if options.stats { ", with figures" } else { "" };
     println!(rt;
-        "{folded}, workers {}, spread {spread}, limit {}{progress}",
+        "{folded}, workers {}, spread {spread}, limit {}{progress}{figures}",
         options.workers, options.limit
     )
 }

@@ -1,6 +1,6 @@
 //! Jobs that one worker does alone.
 
-ghost use Rattle.std.specs.Prelude.{ℕ, ◌≡◌, ◌≢◌, ◌↔◌, ◌<◌, Ok, IfOk, IfErr, IsOk, IsTrue, Option, Vec};
+ghost use Rattle.std.specs.Prelude.{ℕ, ◌≡◌, ◌≢◌, ◌↔◌, ◌<◌, length, Ok, IfOk, IfErr, IsOk, IsTrue, Option, Vec};
 ghost use Rattle.std.specs.declared.alloc.Global.{Global};
 ghost use Rattle.board.specs.Positions.{Position};
 ghost use Rattle.board.specs.Classes.{SameClass};
@@ -156,7 +156,9 @@ fn round<S: Spread, G: Gate>(alloc: Global, world: &mut World<'_, S>, gate: &G) 
     ensures stuck { IfErr result (IsStuck (world_of S.owner_of world.new)) }
     ensures job { world.new.job ≡ world.old.job }
 {
+    let known = world.worker(0).lists().len();
     let Err(refusal) = take(alloc, world, gate, Step::Expand(0)) else {
+        show_lists(world, gate, known);
         announce_when_met(alloc, world, gate);
         return Ok(());
     };
@@ -166,6 +168,22 @@ fn round<S: Spread, G: Gate>(alloc: Global, world: &mut World<'_, S>, gate: &G) 
         // S1: no packet is ever filled, since the worker owns all boards.
         _ => Err(End::Quiet),
     }
+}
+
+// Shows the gate what the worker knows after an expansion, before which it knew this many boards.
+fn show_lists<S: Spread, G: Gate>(world: &World<'_, S>, gate: &G, known: usize)
+    requires { 0 < length world.now.workers.items }
+{
+    let lists = world.worker(0).lists();
+    gate.meet(lists.len().saturating_sub(known));
+    if !gate.wants_bound() {
+        return;
+    }
+    // Once the goal was met, a plan may cost less than the least f of what is open.
+    if lists.has_met_goal() {
+        return gate.show_bound(None);
+    }
+    gate.show_bound(lists.least());
 }
 
 // The worker is granted expansions.

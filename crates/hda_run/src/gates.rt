@@ -46,10 +46,22 @@ pub fn kind_of(step: Step) -> Kind
 }
 
 /// What a worker passes after each step that is accepted, while it holds no lock: a test may hold
-/// it there, to try an order of steps.
+/// it there, to try an order of steps. It is also shown how far the search is.
 pub trait Gate {
     /// Returns when the worker that took the step may go on.
     fn pass(&self, worker: usize, kind: Kind);
+
+    /// Is shown, after an expansion and after an item is settled, how many boards became known by it.
+    fn meet(&self, _boards: usize) {}
+
+    /// Whether a lower bound is wanted. A worker that searches alone asks after each expansion.
+    fn wants_bound(&self) -> bool {
+        false
+    }
+
+    /// Is shown a lower bound, where one is wanted: no plan costs less. None where the goal was met,
+    /// or no board is open.
+    fn show_bound(&self, _bound: Option<u32>) {}
 }
 
 /// A gate that stands open.

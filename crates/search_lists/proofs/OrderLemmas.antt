@@ -1,6 +1,6 @@
 -- Lists stay in order when entries are put and taken, and boards are relaxed and closed.
 use Rattle.std.proofs.Common.{◌≡◌, ◌≢◌, ◌⊎◌, ℕ, zero, suc, ◌+◌, ◌<◌, ◌≤◌, Bool, true, false, List, [], ◌∷◌, ◌++◌, length, Option, None, Some, refl, sym, ap, ◌∙◌, subst, inl, inr, ⊎_elim, arith}
-use Rattle.std.specs.Prelude.{Contains, slice_get, nat_lt, if◌then◌else◌}
+use Rattle.std.specs.Prelude.{Contains, IfSome, slice_get, nat_lt, if◌then◌else◌}
 use Rattle.std.specs.FinMap as map
 use Rattle.std.proofs.lemmas.Bool.{cases_eq, cases_lt, cases_Bool, cond-true, cond-false}
 use Rattle.std.proofs.lemmas.List.{length-append, nil_from_length}
@@ -111,6 +111,11 @@ none_below guide lists n order nothing key known opens =
   where
     no_entry : (x : Entry) → Contains [] x → ⊥
     no_entry x has = omega (arith, has.1)
+
+-- the least f of all entries is no more than that of an open board
+pub least_below : (lists : Lists) (least : Option ℕ) → IsLowest lists.waiting least → IfSome least (λ f. (guide : Guide) → IsInOrder guide lists → NoneBelow guide lists.closed f)
+least_below lists None lowest = tt
+least_below lists (Some f) lowest = λ guide order. none_below guide lists f order lowest.1
 
 -- ---- entries in another order
 

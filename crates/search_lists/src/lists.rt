@@ -205,6 +205,16 @@ impl SearchLists {
         Some(next.f)
     }
 
+    /// The least f of all entries, also of those out of date: no open board has a lower cost plus sum.
+    /// None where nothing waits.
+    pub fn least(&self) -> Option<u32>
+        ensures least { IsLowest self.now.waiting result }
+        ensures bound { IfSome result (λ f. (guide : Guide) → IsInOrder guide self.now
+            → NoneBelow guide self.now.closed f) }
+    {
+        self.open.lowest()
+    }
+
     /// Closes the board that was answered last by `next`, and takes it out of what waits.
     pub fn close(&mut self, next: Next)
         requires { IsFirst self.old next }

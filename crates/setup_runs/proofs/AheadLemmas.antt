@@ -9,7 +9,7 @@ use Rattle.setup_runs.specs.declared.ahead.Ended.{Ended}
 
 module _ (setup : SetupState) where
   abbrev pub IsEnded : Ended → Type 0
-  IsEnded it = MayAnswer setup it.board (Some it.ending)
+  IsEnded it = MayAnswer setup it.board (Some it.solved.ending)
 
   -- an empty lane has none
   pub no_ended : (lane : Vec Ended Global) → lane.items ≡ [] → AreEnded setup lane

@@ -15,12 +15,16 @@ use Rattle.world_model.specs.Openings.{Job}
 use Rattle.world_model.specs.Quiet.{IsKept}
 use Rattle.world_model.specs.Worlds.{WorldState}
 use Rattle.world_ends.specs.Endings.{EndsIn}
+use Rattle.world_ends.specs.Readings.{EndsWithFigures}
+use Rattle.world_ends.specs.declared.figures.Figures.{Figures}
+use Rattle.world_ends.specs.declared.reading.EndingWithFigures.{EndingWithFigures}
 use Rattle.owners.specs.Owners.{AreWorkers, owner_by_hash-lt, owner_by_blank-lt}
 use Rattle.batch_runs.specs.declared.setup.SpreadKind.TheVariants.{Zobrist, Blank}
 use Rattle.batch_runs.specs.Setups.{SetupState, owner_by, task_of}
-use Rattle.batch_runs.specs.Batches.{IsTruthful, MayGive}
+use Rattle.batch_runs.specs.Batches.{IsTruthful}
 use Rattle.thread_joins.specs.Threads.{IsJoined}
 use Rattle.thread_runs.specs.Solved.{IsFoundByWorkers, IsSolved, IsLeftToOne}
+use Rattle.setup_runs.specs.Ahead.{LacksMemory}
 use Rattle.setup_runs.specs.Solving.{AnswersBoard, IsOfRun, IsOfProvedRun, MayAnswer, MayCertify, certifying_rules_of, problem_of, rules_of}
 use Rattle.outcomes.specs.declared.outcome.Outcome.{Outcome}
 use Rattle.outcomes.specs.Outcomes.{Task, Answers}
@@ -110,44 +114,68 @@ module _ {X : Type 0} (answers : Task → X → Type 0) (is_of_run : X → Type 
   Gives (Ok answer) = AnswersBoard answers is_of_run parity setup start (Some answer)
   Gives (Err refused) = AnswersBoard answers is_of_run parity setup start None
 
-  gives_so : (result : Result X OutOfMemory) → (result ≡ Ok parity) ↔ (¬ SameClass start setup.goal) → (SameClass start setup.goal → IfOk result is_of_run) → IfOk result (answers (task_of setup start)) → Gives result
+  gives_so : (result : Result X OutOfMemory) → (¬ SameClass start setup.goal → result ≡ Ok parity) → (SameClass start setup.goal → IfOk result is_of_run) → IfOk result (answers (task_of setup start)) → Gives result
   gives_so (Err refused) by_parity run answered = of_class (one_class start setup.goal)
     where
       of_class : SameClass start setup.goal ⊎ (¬ SameClass start setup.goal) → SameClass start setup.goal
       of_class (inl together) = together
-      of_class (inr other) = absurd (is_no_error refused parity (by_parity.1 other))
+      of_class (inr other) = absurd (is_no_error refused parity (by_parity other))
   gives_so (Ok answer) by_parity run answered = (answered, of_class (one_class start setup.goal))
     where
       of_class : SameClass start setup.goal ⊎ (¬ SameClass start setup.goal) → (SameClass start setup.goal × is_of_run answer) ⊎ ((¬ SameClass start setup.goal) × (answer ≡ parity))
       of_class (inl together) = inl (together, run together)
-      of_class (inr other) = inr (other, ap (value_or answer) (by_parity.1 other))
+      of_class (inr other) = inr (other, ap (value_or answer) (by_parity other))
 
 both : {X : Type 0} (P Q : X → Type 0) (result : Result X OutOfMemory) → IfOk result P → IfOk result Q → IfOk result (λ answer. P answer × Q answer)
 both P Q (Ok answer) p q = (p, q)
 both P Q (Err refused) p q = p
 
 module _ (setup : SetupState) (start : Position) where
-  -- what the setup's workers find of a board, without rows, is what its rules allow
-  pub may_give : (result : Result Ending OutOfMemory) → (result ≡ Ok (Unsolvable Parity)) ↔ (¬ SameClass start setup.goal) → (SameClass start setup.goal → IfOk result (Finds EndsIn setup start owner_by setup.spread)) → IfOk result (EndAnswers (task_of setup start)) → IfOk result EndsWholeRun → MayGive (rules_of setup) start result
-  may_give result by_parity run answered kept = as_rules result (gives_so EndAnswers (IsOfRun setup start) (Unsolvable Parity) setup start result by_parity (λ together. of_run result (run together) kept) answered)
-    where
-      as_rules : (result : Result Ending OutOfMemory) → Gives EndAnswers (IsOfRun setup start) (Unsolvable Parity) setup start result → MayGive (rules_of setup) start result
-      as_rules (Ok ending) given = given
-      as_rules (Err refused) given = given
+  -- what they find with figures, without these
+  abbrev pub ending_of : Result EndingWithFigures OutOfMemory → Result Ending OutOfMemory
+  ending_of (Ok found) = Ok found.ending
+  ending_of (Err refused) = Err refused
 
-      of_run : (result : Result Ending OutOfMemory) → IfOk result (Finds EndsIn setup start owner_by setup.spread) → IfOk result EndsWholeRun → IfOk result (IsOfRun setup start)
-      of_run (Ok ending) found kept = (inl found, kept)
-      of_run (Err refused) found kept = found
+  -- an ending is found where it is found with figures
+  found_ending : (found : EndingWithFigures) → Finds EndsWithFigures setup start owner_by setup.spread found → Finds EndsIn setup start owner_by setup.spread found.ending
+  found_ending found (inl (several, (w, joined, (kept, gives)))) = inl (several, (w, joined, (kept, gives.0)))
+  found_ending found (inr ((w, run, gives), left)) = inr ((w, run, gives.0), left)
+
+  -- what the setup's workers find of a board, with figures, is what its rules allow
+  pub may_solve : (figures : Figures) (found : Result EndingWithFigures OutOfMemory) → (¬ SameClass start setup.goal → found ≡ Ok (record { ending = Unsolvable Parity; figures = figures })) → (SameClass start setup.goal → IfOk found (Finds EndsWithFigures setup start owner_by setup.spread)) → IfOk found (λ it. EndAnswers (task_of setup start) it.ending) → IfOk found (λ it. EndsWholeRun it.ending) → Gives EndAnswers (IsOfRun setup start) (Unsolvable Parity) setup start (ending_of found)
+  may_solve figures (Ok found) by_parity run answered kept =
+      gives_so EndAnswers (IsOfRun setup start) (Unsolvable Parity) setup start (Ok found.ending) (λ other. ap ending_of (by_parity other)) (λ together. (inl (found_ending found (run together)), kept)) answered
+  may_solve figures (Err refused) by_parity run answered kept =
+      gives_so EndAnswers (IsOfRun setup start) (Unsolvable Parity) setup start (Err refused) (λ other. ap ending_of (by_parity other)) (λ together. run together) answered
 
   -- so is what one of them ends
-  pub may_end : {S : Type 0} (owner_of : S → ℕ → Position → ℕ) → AreWorkers owner_of → (owners : S) (ending : Ending) → (◌≡◌ {A = Result Ending OutOfMemory} (Ok ending) (Ok (Unsolvable Parity))) ↔ (¬ SameClass start setup.goal) → (SameClass start setup.goal → IsFoundAlone EndsIn owner_of (problem_of setup start) owners ending) → EndAnswers (task_of setup start) ending → EndsWholeRun ending → MayAnswer setup start (Some ending)
-  may_end owner_of are owners ending by_parity run answered kept =
-      gives_so EndAnswers (IsOfRun setup start) (Unsolvable Parity) setup start (Ok ending) by_parity (λ together. (inr (alone_any EndsIn setup start owner_of are owners owner_by setup_owners setup.spread ending (run together)), kept)) answered
+  pub may_end : {S : Type 0} (owner_of : S → ℕ → Position → ℕ) → AreWorkers owner_of → (owners : S) (figures : Figures) (found : EndingWithFigures) → (¬ SameClass start setup.goal → ◌≡◌ {A = Result EndingWithFigures OutOfMemory} (Ok found) (Ok (record { ending = Unsolvable Parity; figures = figures }))) → (SameClass start setup.goal → IsFoundAlone EndsWithFigures owner_of (problem_of setup start) owners found) → EndAnswers (task_of setup start) found.ending → EndsWholeRun found.ending → MayAnswer setup start (Some found.ending)
+  may_end owner_of are owners figures found by_parity run answered kept =
+      gives_so EndAnswers (IsOfRun setup start) (Unsolvable Parity) setup start (Ok found.ending) (λ other. ap ending_of (by_parity other)) (λ together. (inr (alone_any EndsIn setup start owner_of are owners owner_by setup_owners setup.spread found.ending (alone (run together))), kept)) answered
+    where
+      alone : IsFoundAlone EndsWithFigures owner_of (problem_of setup start) owners found → IsFoundAlone EndsIn owner_of (problem_of setup start) owners found.ending
+      alone (w, run, gives) = (w, run, gives.0)
+
+  -- for a board of the other class memory is never refused
+  pub may_refuse : {X : Type 0} (refused : OutOfMemory) (parity : X) → (¬ SameClass start setup.goal → error_of refused ≡ Ok parity) → MayAnswer setup start None
+  may_refuse refused parity by_parity = of_class (one_class start setup.goal)
+    where
+      of_class : SameClass start setup.goal ⊎ (¬ SameClass start setup.goal) → SameClass start setup.goal
+      of_class (inl together) = together
+      of_class (inr other) = absurd (is_no_error refused parity (by_parity other))
+
+  -- nor is such a board ended by a bound
+  pub may_lack : (figures : Figures) (found : EndingWithFigures) → (¬ SameClass start setup.goal → ◌≡◌ {A = Result EndingWithFigures OutOfMemory} (Ok found) (Ok (record { ending = Unsolvable Parity; figures = figures }))) → LacksMemory found.ending → MayAnswer setup start None
+  may_lack figures found by_parity (bound, best, want, is) = of_class (one_class start setup.goal)
+    where
+      of_class : SameClass start setup.goal ⊎ (¬ SameClass start setup.goal) → SameClass start setup.goal
+      of_class (inl together) = together
+      of_class (inr other) = let parity : found.ending ≡ Unsolvable Parity = ap (λ (it : EndingWithFigures). it.ending) (ap (value_or found) (by_parity other)) in absurd (cc)
 
   -- what they find with rows is what its rules allow too
   pub may_prove : (result : Result Outcome OutOfMemory) → (result ≡ Ok (outcome.Unsolvable Parity)) ↔ (¬ SameClass start setup.goal) → (SameClass start setup.goal → IfOk result (Finds IsGiven setup start owner_by setup.spread)) → IfOk result (Answers (task_of setup start)) → IfOk result HasWholeRun → MayProve (certifying_rules_of setup) start result
   may_prove result by_parity run answered kept =
-      as_rules result (gives_so Answers (IsOfProvedRun setup start) (outcome.Unsolvable Parity) setup start result by_parity (λ together. both (Finds IsGiven setup start owner_by setup.spread) HasWholeRun result (run together) kept) answered)
+      as_rules result (gives_so Answers (IsOfProvedRun setup start) (outcome.Unsolvable Parity) setup start result by_parity.1 (λ together. both (Finds IsGiven setup start owner_by setup.spread) HasWholeRun result (run together) kept) answered)
     where
       as_rules : (result : Result Outcome OutOfMemory) → Gives Answers (IsOfProvedRun setup start) (outcome.Unsolvable Parity) setup start result → MayProve (certifying_rules_of setup) start result
       as_rules (Ok given) allowed = allowed

@@ -1,8 +1,13 @@
 -- Boards that are solved before their lines are taken.
-use Rattle.std.specs.Prelude.{◌≡◌, All, Some, Vec}
+use Rattle.std.specs.Prelude.{ℕ, ◌≡◌, All, Option, Some, Vec}
 use Rattle.std.specs.declared.alloc.Global.{Global}
+use Rattle.board.specs.declared.moves.Move.{Move}
 use Rattle.board.specs.Grids.{Grid}
 use Rattle.board.specs.Positions.{Position}
+use Rattle.outcomes.specs.declared.outcome.Cause.TheVariants.{Memory}
+use Rattle.outcomes.specs.declared.outcome.Ending.{Ending}
+use Rattle.outcomes.specs.declared.outcome.Ending.TheVariants.{Bounded}
+use Rattle.outcomes.specs.declared.outcome.Want.{Want}
 use Rattle.batch_runs.specs.Setups.{SetupState}
 use Rattle.setup_runs.specs.Solving.{MayAnswer}
 use Rattle.setup_runs.specs.declared.ahead.Ended.{Ended}
@@ -11,6 +16,10 @@ use Rattle.setup_runs.specs.declared.ahead.Ended.{Ended}
 abbrev pub HasSides : Grid → Position → Type 0
 HasSides grid b = b.grid ≡ grid
 
+-- the ending is a bound for which memory was refused
+abbrev pub LacksMemory : Ending → Type 0
+LacksMemory ending = (bound : ℕ) × (best : Option (ℕ × Vec Move Global)) × (want : Want) × (ending ≡ Bounded bound best (Memory want))
+
 -- each board of a lane may be answered by its ending
 pub record AreEnded (setup : SetupState) (lane : Vec Ended Global) : Type 0 where
-  pub each : All (λ it. MayAnswer setup it.board (Some it.ending)) lane.items
+  pub each : All (λ it. MayAnswer setup it.board (Some it.solved.ending)) lane.items

@@ -1,29 +1,25 @@
 //! Boards of several lines, which are solved side by side before their lines are taken.
 
-ghost use Rattle.std.specs.Prelude.{◌≡◌, ◌≢◌, ◌<◌, ℕ, All, IfSome, IfOk, Option, Some, Vec, false};
-ghost use Rattle.std.specs.declared.alloc.Global.{Global};
-ghost use Rattle.board.specs.declared.moves.Move.{Move};
-ghost use Rattle.outcomes.specs.declared.outcome.Cause.TheVariants.{Memory};
-ghost use Rattle.outcomes.specs.declared.outcome.Ending.TheVariants.{Bounded};
-ghost use Rattle.outcomes.specs.declared.outcome.Want.{Want};
+ghost use Rattle.std.specs.Prelude.{◌≡◌, ◌↔◌, ◌<◌, All, IfSome, IfNone, IfOk, IsTrue, Some, None};
 ghost use Rattle.batch_runs.specs.Batches.{AreAllowed};
 ghost use Rattle.batch_runs.specs.Setups.{SetupState};
-ghost use Rattle.setup_runs.specs.Ahead.{HasSides, AreEnded};
+ghost use Rattle.setup_runs.specs.Ahead.{HasSides, LacksMemory, AreEnded};
 ghost use Rattle.setup_runs.specs.Solving.{MayAnswer, rules_of};
 
-use crate::solving::{Question, job_for};
+use crate::solving::{Question, job_for, solved_since};
+use crate::watching::Watch;
 use batch_lines::{LineKind, LineReader, read_entry};
-use batch_runs::Setup;
+use batch_runs::{Setup, Solved};
 use board::{Board, Shape};
 use byte_streams::ByteSource;
-use hda_run::{Gate, read_one};
+use hda_run::read_one;
 use memory::{OutOfMemory, push};
 use outcomes::{Cause, Ending};
 use owners::{ByBlank, Spread};
 use std::alloc::Global;
 use std::sync::{Mutex, Wait};
 use std::thread::{Threads, for_each_mut};
-use world_ends::WithoutRows;
+use world_ends::WithFigures;
 
 // The most cells of a small board. One worker ends such a board sooner than several could begin it.
 const SMALL_CELLS: usize = 9;
@@ -42,12 +38,12 @@ const MOST_FOR_EACH: usize = 4;
 // The most lines that are looked at ahead.
 const MOST_LINES: u32 = 4096;
 
-/// A board with its ending, and its place among those that are solved with it.
+/// A board with its ending and figures, and its place among those that are solved with it.
 #[derive(Drop)]
 pub(crate) struct Ended {
     pub(crate) place: usize,
     pub(crate) board: Board,
-    pub(crate) ending: Ending,
+    pub(crate) solved: Solved,
 }
 
 /// A board and those that the first whole lines among these bytes name, where they are worth solving
@@ -79,13 +75,13 @@ pub(crate) fn boards_ahead(
 
 /// The endings of the first of these boards, up to one that has none, the first one last. Each board
 /// is solved by one worker; as many are under way at once as the setup has workers.
-pub(crate) fn end_ahead<R: Threads + Wait + Sync, G: Gate + Sync>(
+pub(crate) fn end_ahead<R: Threads + Wait + Sync, W: Watch + Sync>(
     rt: &R,
     alloc: Global,
     setup: &Setup,
     boards: &[Board],
-    gate: &G,
-) -> Vec<(Board, Ending)>
+    watch: &W,
+) -> Vec<(Board, Solved)>
     requires { All (HasSides setup.now.goal.grid) boards.now }
     ensures { AreAllowed (rules_of setup.now) result.items }
 {
@@ -100,7 +96,7 @@ pub(crate) fn end_ahead<R: Threads + Wait + Sync, G: Gate + Sync>(
         alloc,
         setup,
         boards,
-        gate,
+        watch,
         next: Mutex::new(0),
     };
     end_boards(rt, &shared, threads, lanes);
@@ -110,12 +106,12 @@ pub(crate) fn end_ahead<R: Threads + Wait + Sync, G: Gate + Sync>(
 // What threads share that solve boards side by side: the boards, and the place of the first that none
 // has taken.
 #[derive(Drop)]
-struct Shared<'a, R, G> {
+struct Shared<'a, R, W> {
     rt: &'a R,
     alloc: Global,
     setup: &'a Setup,
     boards: &'a [Board],
-    gate: &'a G,
+    watch: &'a W,
     next: Mutex<usize>,
     ghost sides: { All (HasSides setup.now.goal.grid) boards.now },
 }
@@ -189,9 +185,9 @@ fn new_lanes(alloc: Global, threads: usize) -> Result<Vec<Vec<Ended>>, OutOfMemo
 }
 
 // Solves boards, in a thread for each lane.
-fn end_boards<R: Threads + Wait + Sync, G: Gate + Sync>(
+fn end_boards<R: Threads + Wait + Sync, W: Watch + Sync>(
     rt: &R,
-    shared: &Shared<'_, R, G>,
+    shared: &Shared<'_, R, W>,
     threads: usize,
     lanes: &mut [Vec<Ended>],
 )
@@ -212,7 +208,7 @@ fn end_boards<R: Threads + Wait + Sync, G: Gate + Sync>(
 
 // Solves one board after the other, each the first that no thread has taken, and adds it to a lane.
 // Where memory is refused no thread takes another one.
-fn end_in_turn<R: Wait, G: Gate>(shared: &Shared<'_, R, G>, lane: &mut Vec<Ended>)
+fn end_in_turn<R: Wait, W: Watch>(shared: &Shared<'_, R, W>, lane: &mut Vec<Ended>)
     requires { AreEnded shared.now.setup.now lane.old }
     ensures { AreEnded shared.now.setup.now lane.new }
 {
@@ -226,14 +222,14 @@ fn end_in_turn<R: Wait, G: Gate>(shared: &Shared<'_, R, G>, lane: &mut Vec<Ended
             setup: shared.setup,
             start: &board,
         };
-        let Some(ending) = end_alone(shared.alloc, &question, &ByBlank, shared.gate) else {
+        let Some(solved) = end_alone(shared.alloc, &question, &ByBlank, shared.watch) else {
             *shared.next.lock(shared.rt) = shared.boards.len();
             return;
         };
         let ended = Ended {
             place,
             board,
-            ending,
+            solved,
         };
         if push(lane, ended).is_err() {
             return;
@@ -249,31 +245,33 @@ fn take_next<R: Wait>(rt: &R, next: &Mutex<usize>) -> usize {
     place
 }
 
-// The ending of a board by one worker, if memory sufficed. It owns all boards, whatever they are
-// spread by.
-fn end_alone<S: Spread, G: Gate>(
+// The ending of a board by one worker, if memory sufficed: for a board that isn't in the goal's class
+// it always does. The worker owns all boards, whatever they are spread by.
+fn end_alone<S: Spread, W: Watch>(
     alloc: Global,
     question: &Question<'_>,
     spread: &S,
-    gate: &G,
-) -> Option<Ending>
-    ensures { IfSome result (λ ending.
-        MayAnswer question.now.setup.now question.now.start.now (Some ending)) }
+    watch: &W,
+) -> Option<Solved>
+    ensures some { IfSome result (λ solved.
+        MayAnswer question.now.setup.now question.now.start.now (Some solved.ending)) }
+    ensures whole { IfSome result (λ solved. ¬ LacksMemory solved.ending) }
+    ensures none { IfNone result (MayAnswer question.now.setup.now question.now.start.now None) }
 {
+    let begun = watch.microseconds();
     let job = job_for(question);
-    let Ok(ending) = read_one::<WithoutRows, S, G>(alloc, job, spread, gate) else {
+    let Ok(found) = read_one::<WithFigures, S, W>(alloc, job, spread, watch) else {
         return None;
     };
-    if lacked_memory(&ending) {
+    if lacked_memory(&found.ending) {
         return None;
     }
-    Some(ending)
+    Some(solved_since(begun, question, found, watch))
 }
 
 // Whether a bound was answered as memory was refused.
 fn lacked_memory(ending: &Ending) -> bool
-    ensures { result ≡ false → (bound : ℕ) (best : Option (ℕ × Vec Move Global)) (want : Want)
-        → ending.now ≢ Bounded bound best (Memory want) }
+    ensures { IsTrue result ↔ LacksMemory ending.now }
 {
     match ending {
         Ending::Bounded { cause, .. } => matches!(cause, Cause::Memory(_)),
@@ -282,13 +280,13 @@ fn lacked_memory(ending: &Ending) -> bool
 }
 
 // The endings of the first of these boards, up to one that has none, the first one last. In each lane
-// they stand in rising order of their places.
+// they are in rising order of their places.
 fn take_endings(
     alloc: Global,
     setup: &Setup,
     count: usize,
     lanes: &mut [Vec<Ended>],
-) -> Vec<(Board, Ending)>
+) -> Vec<(Board, Solved)>
     requires { All (AreEnded setup.now) lanes.old }
     ensures { AreAllowed (rules_of setup.now) result.items }
 {
@@ -298,7 +296,7 @@ fn take_endings(
             ready.clear();
             continue;
         };
-        if push(&mut ready, (ended.board, ended.ending)).is_err() {
+        if push(&mut ready, (ended.board, ended.solved)).is_err() {
             return Vec::new(alloc);
         }
     }
@@ -309,7 +307,7 @@ fn take_endings(
 fn take_ended(setup: &Setup, place: usize, lanes: &mut [Vec<Ended>]) -> Option<Ended>
     requires { All (AreEnded setup.now) lanes.old }
     ensures lanes { All (AreEnded setup.now) lanes.new }
-    ensures ended { IfSome result (λ it. MayAnswer setup.now it.board (Some it.ending)) }
+    ensures ended { IfSome result (λ it. MayAnswer setup.now it.board (Some it.solved.ending)) }
 {
     let _ = setup;
     'lanes: for lane in 0..lanes.len() {

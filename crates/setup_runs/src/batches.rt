@@ -7,28 +7,28 @@ ghost use Rattle.batch_runs.specs.Headline.{IsTrueRun};
 ghost use Rattle.setup_runs.specs.Solving.{rules_of};
 
 use crate::ahead::{boards_ahead, end_ahead};
-use crate::solving::{Question, answer_board};
-use batch_runs::{LinesFault, Ruled, Setup, Solver, Summary, run_lines};
+use crate::solving::{Question, solve_board};
+use crate::watching::{Unwatched, Watch};
+use batch_runs::{LinesFault, Ruled, Setup, Solved, Solver, Stats, Summary, run_lines};
 use board::{Board, Shape};
 use byte_streams::{Sink, Source};
 use hda_run::Gate;
 use memory::OutOfMemory;
-use outcomes::Ending;
 use std::alloc::Global;
 use std::sync::Wait;
 use std::thread::Threads;
-use world_ends::WithoutRows;
 
-// A setup, and the closures by which its workers answer boards: threads start under the bounds of the
-// function that makes these, which no trait's method has.
+// A setup, the closures by which its workers answer boards, and who watches them: threads start under
+// the bounds of the function that makes the closures, which no trait's method has.
 #[derive(Drop)]
-struct Guided<'a, F, P> {
+struct Guided<'a, F, P, W> {
     setup: &'a Setup,
     solve: F,
     ahead: P,
+    watch: &'a W,
 }
 
-impl<'a, F, P> Ruled for Guided<'a, F, P> {
+impl<'a, F, P, W> Ruled for Guided<'a, F, P, W> {
     ghost use Rattle.setup_runs.specs.Solving.{rules_of};
 
     ghost rules = { λ guided. rules_of guided.setup.now };
@@ -36,9 +36,10 @@ impl<'a, F, P> Ruled for Guided<'a, F, P> {
 
 impl<
     'a,
-    F: Fn(&Board) -> Result<Ending, OutOfMemory>,
-    P: Fn(&Board, &[u8]) -> Vec<(Board, Ending)>,
-> Solver for Guided<'a, F, P> {
+    F: Fn(&Board) -> Result<Solved, OutOfMemory>,
+    P: Fn(&Board, &[u8]) -> Vec<(Board, Solved)>,
+    W: Watch,
+> Solver for Guided<'a, F, P, W> {
     ghost is_callable = { λ guided.
         ((start : _) → start.now.grid ≡ guided.setup.now.goal.grid → F.pre guided.solve start)
         × ((start result : _) → start.now.grid ≡ guided.setup.now.goal.grid
@@ -54,12 +55,16 @@ impl<
         self.setup.shape()
     }
 
-    fn solve(&self, start: &Board) -> Result<Ending, OutOfMemory> {
+    fn solve(&self, start: &Board) -> Result<Solved, OutOfMemory> {
         (self.solve)(start)
     }
 
-    fn solve_ahead(&self, start: &Board, held: &[u8]) -> Vec<(Board, Ending)> {
+    fn solve_ahead(&self, start: &Board, held: &[u8]) -> Vec<(Board, Solved)> {
         (self.ahead)(start, held)
+    }
+
+    fn observe(&self, id: &str, stats: &Stats) {
+        self.watch.observe(id, stats);
     }
 }
 
@@ -96,16 +101,36 @@ pub fn run_batch<R: Threads + Wait + Sync, S: Source, K: Sink, G: Gate + Sync>(
     ensures flushed { K.is_flushed sink.new ⊎ (sink.new ≡ sink.old)
         ⊎ HasFailed (K.state sink.new) }
 {
-    let solve = |start: &Board| -> Result<Ending, OutOfMemory>
+    run_watched(rt, alloc, source, sink, setup, &Unwatched { gate })
+}
+
+/// Runs a batch as `run_batch` does, under a watch. It is handed the figures of each line whose board
+/// is answered, in the order of the lines, before its report is written.
+pub fn run_watched<R: Threads + Wait + Sync, S: Source, K: Sink, W: Watch + Sync>(
+    rt: &R,
+    alloc: Global,
+    source: &mut S,
+    sink: &mut K,
+    setup: &Setup,
+    watch: &W,
+) -> Result<Summary, LinesFault>
+    ensures reports { ReportsLines (rules_of setup.now) (change S.state source.old source.new)
+        (change K.state sink.old sink.new) result }
+    ensures truth { IsTrueRun (rules_of setup.now) (change S.state source.old source.new)
+        (change K.state sink.old sink.new) result }
+    ensures flushed { K.is_flushed sink.new ⊎ (sink.new ≡ sink.old)
+        ⊎ HasFailed (K.state sink.new) }
+{
+    let solve = |start: &Board| -> Result<Solved, OutOfMemory>
         requires { start.now.grid ≡ setup.now.goal.grid }
         ensures { MayGive (rules_of setup.entry.now) start.now result }
-    { answer_board::<WithoutRows, R, G>(rt, alloc, &Question { setup, start }, gate) };
-    let ahead = |start: &Board, held: &[u8]| -> Vec<(Board, Ending)>
+    { solve_board(rt, alloc, &Question { setup, start }, watch) };
+    let ahead = |start: &Board, held: &[u8]| -> Vec<(Board, Solved)>
         requires { start.now.grid ≡ setup.now.goal.grid }
         ensures { AreAllowed (rules_of setup.entry.now) result.items }
     {
         match boards_ahead(alloc, &Question { setup, start }, held) {
-            Some(boards) => end_ahead(rt, alloc, setup, boards.as_slice(), gate),
+            Some(boards) => end_ahead(rt, alloc, setup, boards.as_slice(), watch),
             None => Vec::new(alloc),
         }
     };
@@ -113,6 +138,7 @@ pub fn run_batch<R: Threads + Wait + Sync, S: Source, K: Sink, G: Gate + Sync>(
         setup,
         solve,
         ahead,
+        watch,
     };
     run_lines(alloc, source, sink, &guided)
 }

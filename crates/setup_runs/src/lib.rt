@@ -7,6 +7,8 @@ mod batches;
 mod certifying;
 pub mod laws;
 mod solving;
+mod watching;
 
-pub use batches::run_batch;
+pub use batches::{run_batch, run_watched};
 pub use certifying::run_cert;
+pub use watching::Watch;

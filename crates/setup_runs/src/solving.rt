@@ -3,9 +3,11 @@
 ghost use Rattle.std.specs.Prelude.{◌≡◌};
 ghost use Rattle.board.specs.Positions.{Position};
 ghost use Rattle.batch_runs.specs.Setups.{owner_by};
-ghost use Rattle.setup_runs.specs.Solving.{problem_of, IsSearched};
+ghost use Rattle.batch_runs.specs.Batches.{MayGive};
+ghost use Rattle.setup_runs.specs.Solving.{problem_of, rules_of, IsSearched};
 
-use batch_runs::{Setup, SpreadKind};
+use crate::watching::Watch;
+use batch_runs::{Setup, Solved, SpreadKind, Stats};
 use board::Board;
 use hda_run::{Gate, Job};
 use memory::OutOfMemory;
@@ -16,7 +18,7 @@ use std::thread::Threads;
 use thread_parts::Search;
 use thread_runs::laws::owners_are_workers;
 use thread_runs::search_by_workers;
-use world_ends::Reading;
+use world_ends::{EndingWithFigures, Reading, WithFigures};
 
 /// A setup, and a board of its shape that is to be answered.
 #[derive(Drop)]
@@ -24,6 +26,49 @@ pub(crate) struct Question<'a> {
     pub(crate) setup: &'a Setup,
     pub(crate) start: &'a Board,
     pub(crate) ghost sides: { start.now.grid ≡ setup.now.goal.grid },
+}
+
+/// The ending of a board by the setup's workers, with the figures of their search. The error: out of
+/// memory before the first step.
+pub(crate) fn solve_board<R: Threads + Wait + Sync, W: Watch + Sync>(
+    rt: &R,
+    alloc: Global,
+    question: &Question<'_>,
+    watch: &W,
+) -> Result<Solved, OutOfMemory>
+    ensures { MayGive (rules_of question.now.setup.now) question.now.start.now result }
+{
+    let begun = watch.microseconds();
+    match answer_board::<WithFigures, R, W>(rt, alloc, question, watch) {
+        Ok(found) => Ok(solved_since(begun, question, found, watch)),
+        Err(refused) => Err(refused),
+    }
+}
+
+/// What was found of a board by a search that began at this moment and ends now.
+pub(crate) fn solved_since<W: Watch>(
+    begun: u64,
+    question: &Question<'_>,
+    found: EndingWithFigures,
+    watch: &W,
+) -> Solved
+    ensures { result.ending ≡ found.ending }
+{
+    let stats = Stats {
+        expanded: narrowed(found.figures.expanded),
+        known: narrowed(found.figures.known),
+        microseconds: watch.microseconds().saturating_sub(begun),
+        start_sum: question.setup.tables().of(question.start),
+    };
+    Solved {
+        ending: found.ending,
+        stats,
+    }
+}
+
+// A count, or the greatest number of 64 bits where that is less.
+fn narrowed(count: u128) -> u64 {
+    u64::try_from(count).unwrap_or(u64::MAX)
 }
 
 /// The answer of a board by the setup's workers, in a reading: one alone in the calling thread, more

@@ -1,4 +1,4 @@
-//! The eight runs, with each call of each stream failing in turn.
+//! The nine runs, with each call of each stream failing in turn.
 
 ghost use Rattle.std.specs.Prelude.{◌≡◌, false};
 ghost use Rattle.byte_streams.specs.ByteSink.{sink_has_failed};
@@ -6,10 +6,11 @@ ghost use Rattle.board.specs.CostRules.{unit_rule};
 
 use crate::certificates::{BOUND, ONE_MOVE, ONE_MOVE_ONE, SOLVED, THREE_MOVES};
 use batch_cli::{
-    BatchFault, Cause, Free, LinesFault, Ruled, Setup, Solver, Style, Summary, Why, run_batch,
-    run_cert, run_check, run_lines, run_program, run_replay, run_show, run_upgrade,
+    BatchFault, Cause, Free, LinesFault, Ruled, Setup, Solved, Solver, Stats, Style, Summary, Why,
+    run_batch, run_cert, run_check, run_lines, run_program, run_replay, run_show, run_upgrade,
 };
 use board::{Board, Move, Shape, Weights};
+use board_lists::{Choice, list_boards};
 use byte_streams::{BufferedSource, ByteSink, ByteSource, Sink, Source};
 use memory::{OutOfMemory, copy_of, with_capacity};
 use outcomes::Ending;
@@ -44,13 +45,22 @@ impl Solver for ByBlank {
         self.shape
     }
 
-    fn solve(&self, start: &Board) -> Result<Ending, OutOfMemory> {
-        answer_by_blank(self.alloc, start)
+    fn solve(&self, start: &Board) -> Result<Solved, OutOfMemory> {
+        let ending = answer_by_blank(self.alloc, start)?;
+        let stats = Stats {
+            expanded: 0,
+            known: 0,
+            microseconds: 0,
+            start_sum: 0,
+        };
+        Ok(Solved { ending, stats })
     }
 
-    fn solve_ahead(&self, _start: &Board, _held: &[u8]) -> Vec<(Board, Ending)> {
+    fn solve_ahead(&self, _start: &Board, _held: &[u8]) -> Vec<(Board, Solved)> {
         Vec::new(self.alloc)
     }
+
+    fn observe(&self, _id: &str, _stats: &Stats) {}
 }
 
 fn answer_by_blank(alloc: Global, start: &Board) -> Result<Ending, OutOfMemory> {
@@ -92,6 +102,8 @@ enum Run {
     Upgrade,
     // `run_replay` over a board of 2 by 2, with one worker, Korf's goal and unit costs.
     Replay,
+    // `list_boards` of walks of 12 moves over 2 by 2, which come round to the goal. It reads nothing.
+    Boards,
 }
 
 // A line for each answer of `ByBlank`, one that is refused before it is asked, and one that is
@@ -111,7 +123,7 @@ struct Case {
     unwritten: &'static str,
 }
 
-fn cases() -> [Case; 21] {
+fn cases() -> [Case; 22] {
     [
         Case {
             run: Run::Lines,
@@ -292,6 +304,15 @@ fn cases() -> [Case; 21] {
             status: 1,
             unwritten: "tilesolve: B2\n",
         },
+        Case {
+            run: Run::Boards,
+            input: b"",
+            reads: 0,
+            output: b"b1 0 1 2 3\nb2 0 1 2 3\nb3 0 1 2 3\nb4 0 1 2 3\nb5 0 1 2 3\nb6 0 1 2 3\n\
+                b7 0 1 2 3\nb8 0 1 2 3\nb9 0 1 2 3\nb10 0 1 2 3\n",
+            status: 0,
+            unwritten: "tilesolve: B2\n",
+        },
     ]
 }
 
@@ -336,11 +357,11 @@ impl Case {
     }
 
     // How many it makes in all: a certificate, or the report in its place, is flushed behind its
-    // last byte, and the program flushes once more.
+    // last byte, and so is a list of boards; the program flushes once more.
     fn calls(&self) -> usize {
         let flushes_last = match self.run {
             Run::Program => true,
-            Run::Certify | Run::Upgrade => !self.output.is_empty(),
+            Run::Certify | Run::Upgrade | Run::Boards => !self.output.is_empty(),
             _ => false,
         };
         self.calls_for(self.output)
@@ -472,6 +493,17 @@ fn start<R: Threads + Wait + AllocGlobal + Sync>(
         Run::Replay => {
             let setup = setup_of_square(alloc);
             tell_status(run_replay(rt, alloc, source, sink, &setup), errors)
+        }
+        Run::Boards => {
+            let walks = Choice::Walked {
+                moves: 12,
+                count: 10,
+                seed: 0,
+            };
+            match list_boards(sink, &Board::goal(square()), walks) {
+                Ok(()) => 0,
+                Err(_) => batch_cli::Ending::Faulted(BatchFault::Write).tell(errors),
+            }
         }
     }
 }

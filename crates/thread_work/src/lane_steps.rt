@@ -43,8 +43,12 @@ impl<'a, R: Wait, G: Gate, C: Tokens> Site<'a, R, G, C> {
         ensures kept { IsKept part.old part.new }
     {
         'items: for _ in 0..PACKET_LIMIT {
+            let known = part.worker.lists().len();
             match part.settle(self.alloc) {
-                Ok(()) => self.gate.pass(part.me, Kind::Settle),
+                Ok(()) => {
+                    self.gate.pass(part.me, Kind::Settle);
+                    self.show_growth(part, known);
+                }
                 Err(Refusal::Memory(refused)) => return self.halt_for_memory(part, refused),
                 Err(_) => return,
             }

@@ -76,15 +76,23 @@ impl<'a, R: Wait, G: Gate, C: Tokens> Site<'a, R, G, C> {
     {
         let mut some = false;
         'boards: for _ in 0..EXPANSIONS_IN_A_ROUND {
+            let known = part.worker.lists().len();
             if let Err(refusal) = part.expand(self.alloc) {
                 return self.help(part, refusal) || some;
             }
             self.gate.pass(part.me, Kind::Expand);
+            self.show_growth(part, known);
             // Where a packet is found to have no room, all of an expansion's work is done in vain.
             self.send_full(part);
             some = true;
         }
         some
+    }
+
+    // Shows the gate how many boards a step made known, before which the worker knew this many.
+    pub(crate) fn show_growth<S: Spread>(&self, part: &Part<'_, S, C>, known: usize) {
+        self.gate
+            .meet(part.worker.lists().len().saturating_sub(known));
     }
 
     // Does what has to be done before the next board can be expanded. Answers whether something was

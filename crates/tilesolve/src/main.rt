@@ -4,26 +4,59 @@
 //! are read from standard input, and what is answered goes to standard output.
 #![tactic(auto)]
 
-use batch_cli::{Ending, Gate, Kind, run_with_progress};
+use batch_cli::{Ending, Gate, Kind, Stats, Watch, run_with_progress, stats_text};
 use byte_streams::{BufferedSource, ByteSink};
 use std::alloc::Global;
 use std::env;
 use std::io::{BufWriter, ErrorKind};
 use std::process::ExitCode;
-use std::rt::Env;
-use std::sync::atomic::{AtomicU64, Ordering};
+use std::rt::{Clock, Env};
+use std::sync::atomic::{AtomicBool, AtomicU64, Ordering};
+use std::time::Instant;
 
-// How many boards are expanded from one line of progress to the next.
-const STRIDE: u64 = 1_000_000;
+// How many boards are expanded from one look at the clock to the next.
+const STRIDE: u64 = 10_000;
 
-// Tells on standard error how many boards were expanded so far, of all lines and by all workers.
+// How many microseconds a second has.
+const SECOND: u64 = 1_000_000;
+
+// Prints on standard error how many boards are expanded and known so far, of all lines and by all
+// workers, and the figures of each line.
 #[derive(Drop)]
 struct Progress<'a, R> {
     rt: &'a R,
     expanded: AtomicU64,
+    known: AtomicU64,
+    // When the program began, if the clock says so.
+    begun: Option<Instant>,
+    // The second for which a line of progress was printed last, or is due.
+    second: AtomicU64,
+    is_due: AtomicBool,
 }
 
-impl<R: Eprint> Gate for Progress<'_, R> {
+impl<R: Eprint + AllocGlobal + Clock> Progress<'_, R> {
+    // Nothing is expanded yet.
+    fn new(rt: &R) -> Progress<'_, R> {
+        Progress {
+            rt,
+            expanded: AtomicU64::new(0),
+            known: AtomicU64::new(0),
+            begun: Instant::now(rt).ok(),
+            second: AtomicU64::new(0),
+            is_due: AtomicBool::new(false),
+        }
+    }
+
+    // Makes a line of progress due, in each second once.
+    fn look_at_clock(&self) {
+        let second = self.microseconds() / SECOND;
+        if self.second.swap(second, Ordering::Relaxed) < second {
+            self.is_due.store(true, Ordering::Relaxed);
+        }
+    }
+}
+
+impl<R: Eprint + AllocGlobal + Clock> Gate for Progress<'_, R> {
     fn pass(&self, _worker: usize, kind: Kind) {
         if kind != Kind::Expand {
             return;
@@ -33,14 +66,51 @@ impl<R: Eprint> Gate for Progress<'_, R> {
             .fetch_add(1, Ordering::Relaxed)
             .wrapping_add(1);
         if expanded % STRIDE == 0 {
-            tell(self.rt, expanded);
+            self.look_at_clock();
         }
+    }
+
+    fn meet(&self, boards: usize) {
+        self.known.fetch_add(boards as u64, Ordering::Relaxed);
+    }
+
+    fn wants_bound(&self) -> bool {
+        self.is_due.load(Ordering::Relaxed)
+    }
+
+    // Where the line can't be written the run goes on.
+    fn show_bound(&self, bound: Option<u32>) {
+        if !self.is_due.swap(false, Ordering::Relaxed) {
+            return;
+        }
+        let expanded = self.expanded.load(Ordering::Relaxed);
+        let known = self.known.load(Ordering::Relaxed);
+        let _ = match bound {
+            Some(bound) => eprintln!(self.rt;
+                "tilesolve: {expanded} boards expanded, {known} known; no plan costs less than {bound}"
+            ),
+            None => eprintln!(self.rt; "tilesolve: {expanded} boards expanded, {known} known"),
+        };
     }
 }
 
-// Writes a line of progress; where it can't be written the run goes on.
-fn tell(rt: &impl Eprint, expanded: u64) {
-    let _ = eprintln!(rt; "tilesolve: {expanded} boards expanded");
+impl<R: Eprint + AllocGlobal + Clock> Watch for Progress<'_, R> {
+    fn microseconds(&self) -> u64 {
+        let Some(begun) = self.begun else {
+            return 0;
+        };
+        match begun.elapsed(self.rt) {
+            Ok(passed) => u64::try_from(passed.as_micros()).unwrap_or(u64::MAX),
+            Err(_) => 0,
+        }
+    }
+
+    // Where the line can't be made or written the run goes on.
+    fn observe(&self, id: &str, stats: &Stats) {
+        if let Ok(text) = stats_text(self.rt.alloc(), id, stats) {
+            let _ = eprintln!(self.rt; "{text}");
+        }
+    }
 }
 
 // The words after the program's name, or how the program ends where they are no texts or find no
@@ -72,10 +142,7 @@ fn main(rt: HostRuntime) -> ExitCode {
     };
     let mut source = source;
     let mut sink = ByteSink::new(writer);
-    let progress = Progress {
-        rt: &rt,
-        expanded: AtomicU64::new(0),
-    };
+    let progress = Progress::new(&rt);
     ExitCode::from(run_with_progress(
         &rt,
         alloc,

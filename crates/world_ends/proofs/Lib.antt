@@ -1,2 +1,3 @@
+pub mod FigureLemmas
 pub mod PartLemmas
 pub mod RowLemmas

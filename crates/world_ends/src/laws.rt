@@ -1,19 +1,25 @@
 //! The laws of endings: each is the contract of a function that does nothing.
 
-ghost use Rattle.std.specs.Prelude.{◌≡◌, ◌↔◌};
+ghost use Rattle.std.specs.Prelude.{◌≡◌, ◌↔◌, sum_by};
+ghost use Rattle.std.specs.FinMap.{len};
 ghost use Rattle.outcomes.specs.declared.outcome.Ending.{Ending};
 ghost use Rattle.outcomes.specs.declared.outcome.Outcome.{Outcome};
 ghost use Rattle.outcomes.specs.Endings.{without_rows, EndAnswers};
 ghost use Rattle.outcomes.specs.Outcomes.{Task, Answers};
+ghost use Rattle.world_model.specs.Credit.{expansion_count};
 ghost use Rattle.world_model.specs.Outcomes.{IsGiven};
 ghost use Rattle.world_model.specs.Worlds.{WorldState};
 ghost use Rattle.world_ends.specs.Endings.{EndsIn};
+ghost use Rattle.outcomes.specs.declared.outcome.Ending.TheVariants.{Unsolvable};
+ghost use Rattle.outcomes.specs.declared.outcome.Why.TheVariants.{Parity};
+ghost use Rattle.world_ends.specs.Readings.{EndsWithFigures};
+ghost use Rattle.world_ends.specs.declared.reading.EndingWithFigures.{EndingWithFigures};
 ghost use Rattle.world_ends.specs.Laws.{EndingsLackRowsAlone, WantedRowsLeaveABound};
 ghost use Rattle.world_ends.specs.Laws.{BoundsLackRowsAlone, WantedRowsLeaveTheBound};
 ghost use Rattle.world_ends.specs.Laws.{EndsAreBounds, MemoryEndsAreWanted};
 ghost use Rattle.world_ends.specs.Laws.{RowsMakeAnAnswer, RowsMakeABoundAnswer, EndingsAnswer};
 
-use crate::reading::{Reading, WithRows, WithoutRows};
+use crate::reading::{Reading, WithFigures, WithRows, WithoutRows};
 use world_model::laws::outcomes_answer;
 
 /// An ending is an outcome but for its rows, and a bound where memory is refused for these.
@@ -39,7 +45,19 @@ pub fn endings_answer()
     outcomes_answer();
 }
 
-/// Each reading is the one that its name says: `WithRows` of outcomes, `WithoutRows` of endings.
+/// The figures of a reading are those of the world that gives it: the boards that its workers have
+/// expanded, and those that they know.
+pub fn figures_are_of_worlds()
+    ensures expanded { (w : WorldState) (answer : EndingWithFigures)
+        → ⟦<WithFigures as Reading>⟧.gives w answer
+        → answer.figures.expanded ≡ expansion_count w }
+    ensures known { (w : WorldState) (answer : EndingWithFigures)
+        → ⟦<WithFigures as Reading>⟧.gives w answer
+        → answer.figures.known ≡ sum_by (λ worker. len worker.known) w.workers }
+{}
+
+/// Each reading is the one that its name says: `WithRows` of outcomes, `WithoutRows` of endings,
+/// `WithFigures` of endings with the figures of the world.
 pub fn readings_are_as_named()
     ensures outcomes { (w : WorldState) (outcome : Outcome)
         → ⟦<WithRows as Reading>⟧.gives w outcome ↔ IsGiven w outcome }
@@ -51,4 +69,14 @@ pub fn readings_are_as_named()
     ensures ending_answers { (task : Task) (ending : Ending)
         → ⟦<WithoutRows as Reading>⟧.answers task ending ↔ EndAnswers task ending }
     ensures ending_ends { (ending : Ending) → ⟦<WithoutRows as Reading>⟧.end ending ≡ ending }
+    ensures counted { (w : WorldState) (answer : EndingWithFigures)
+        → ⟦<WithFigures as Reading>⟧.gives w answer ↔ EndsWithFigures w answer }
+    ensures counted_answers { (task : Task) (answer : EndingWithFigures)
+        → ⟦<WithFigures as Reading>⟧.answers task answer ↔ EndAnswers task answer.ending }
+    ensures counted_ends { (answer : EndingWithFigures)
+        → ⟦<WithFigures as Reading>⟧.end answer ≡ answer.ending }
+    ensures uncounted { ⟦<WithFigures as Reading>⟧.parity ≡ record {
+      ending = Unsolvable Parity;
+      figures = record { expanded = 0; known = 0 };
+    } }
 {}

@@ -2,6 +2,7 @@
 #![tactic(auto)]
 
 mod asked;
+mod figures;
 pub mod laws;
 mod lowest;
 mod outcome;
@@ -10,6 +11,7 @@ mod reading;
 mod rows;
 
 pub use asked::{Asked, Snapshot};
+pub use figures::Figures;
 pub use lowest::lowest_of;
-pub use reading::{Reading, WithRows, WithoutRows, read};
+pub use reading::{EndingWithFigures, Reading, WithFigures, WithRows, WithoutRows, read};
 pub use rows::rows_for;

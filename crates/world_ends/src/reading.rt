@@ -1,4 +1,5 @@
-//! What is read of the workers of a world: its outcome, with the rows or without.
+//! What is read of the workers of a world: its outcome with the rows or without, or its ending with
+//! figures.
 
 ghost use Rattle.std.specs.Prelude.{◌≡◌, Bool, true, false};
 ghost use Rattle.outcomes.specs.declared.outcome.Ending.TheVariants.{Unsolvable};
@@ -7,9 +8,10 @@ ghost use Rattle.world_model.specs.Outcomes.{IsGiven};
 ghost use Rattle.world_model.specs.Worlds.{WorldState};
 ghost use Rattle.world_ends.specs.Endings.{EndsIn};
 ghost use Rattle.world_ends.specs.Parts.{states_of, AreOfWorld, IsSeen};
-ghost use Rattle.world_ends.specs.Readings.{WorldsAnswer, BoundsAreOfWorlds, IsForParity};
+ghost use Rattle.world_ends.specs.Readings.{WorldsAnswer, BoundsAreOfWorlds, IsForParity, HasFigures};
 
 use crate::asked::{Asked, Snapshot};
+use crate::figures::{Figures, figures_of, no_figures};
 use crate::outcome::{ending_of, outcome_of};
 use message_ledger::Counting;
 use outcomes::{Ending, Outcome, Why};
@@ -49,9 +51,10 @@ pub trait Reading {
     fn of_outcome(outcome: Outcome) -> Self::Answer
         ensures { has_rows ≡ true → (w : WorldState) → IsGiven w outcome → gives w result };
 
-    /// An ending, where none are. Else nothing is said of the answer.
-    fn of_ending(ending: Ending) -> Self::Answer
-        ensures { has_rows ≡ false → (w : WorldState) → EndsIn w ending → gives w result };
+    /// An ending and figures, where none are. Else nothing is said of the answer.
+    fn of_ending(ending: Ending, figures: Figures) -> Self::Answer
+        ensures { has_rows ≡ false → (w : WorldState) → EndsIn w ending → HasFigures w figures
+            → gives w result };
 
     /// The answer for a start that isn't in the goal's class.
     fn of_parity() -> Self::Answer
@@ -94,7 +97,7 @@ impl Reading for WithRows {
     }
 
     // (not asked for where rows are read)
-    fn of_ending(_ending: Ending) -> Outcome {
+    fn of_ending(_ending: Ending, _figures: Figures) -> Outcome {
         Outcome::Unsolvable {
             why: Why::Exhausted,
         }
@@ -138,12 +141,71 @@ impl Reading for WithoutRows {
         }
     }
 
-    fn of_ending(ending: Ending) -> Ending {
+    fn of_ending(ending: Ending, _figures: Figures) -> Ending {
         ending
     }
 
     fn of_parity() -> Ending {
         Ending::Unsolvable { why: Why::Parity }
+    }
+
+    fn keep_laws() {
+        outcomes_answer();
+    }
+}
+
+/// An ending, and the figures of the world that gives it.
+#[derive(Debug, Drop)]
+pub struct EndingWithFigures {
+    pub ending: Ending,
+    pub figures: Figures,
+}
+
+/// The ending with the figures of the world. Those of a start that isn't in the goal's class are 0.
+pub struct WithFigures;
+
+impl Reading for WithFigures {
+    ghost use Rattle.outcomes.specs.Endings.{EndAnswers};
+    ghost use Rattle.world_ends.specs.Readings.{EndsWithFigures};
+
+    type Answer = EndingWithFigures;
+
+    ghost has_rows = { false };
+
+    ghost gives = { λ w answer. EndsWithFigures w answer };
+
+    ghost answers = { λ task answer. EndAnswers task answer.ending };
+
+    ghost end = { λ answer. answer.ending };
+
+    ghost parity = { record {
+      ending = Unsolvable Parity;
+      figures = record { expanded = 0; known = 0 };
+    } };
+
+    fn takes_rows() -> bool {
+        false
+    }
+
+    // (not asked for where no rows are read)
+    fn of_outcome(_outcome: Outcome) -> EndingWithFigures {
+        EndingWithFigures {
+            ending: Ending::Unsolvable {
+                why: Why::Exhausted,
+            },
+            figures: no_figures(),
+        }
+    }
+
+    fn of_ending(ending: Ending, figures: Figures) -> EndingWithFigures {
+        EndingWithFigures { ending, figures }
+    }
+
+    fn of_parity() -> EndingWithFigures {
+        EndingWithFigures {
+            ending: Ending::Unsolvable { why: Why::Parity },
+            figures: no_figures(),
+        }
     }
 
     fn keep_laws() {
@@ -168,5 +230,6 @@ pub fn read<A: Reading, C: Counting, S: Spread>(
     if A::takes_rows() {
         return A::of_outcome(outcome_of(alloc, asked, owners, workers, snapshot));
     }
-    A::of_ending(ending_of(alloc, asked, owners, workers, snapshot))
+    let figures = figures_of(workers);
+    A::of_ending(ending_of(alloc, asked, owners, workers, snapshot), figures)
 }

@@ -1,8 +1,8 @@
-//! Each form of report.
+//! Each form of report, and the line of figures.
 
 use batch_cli::{
-    Cause, NoReport, Want, Why, accepted_report, outcome_report, refused_certificate_report,
-    refused_report,
+    Cause, NoReport, Stats, Want, Why, accepted_report, outcome_report, refused_certificate_report,
+    refused_report, stats_text,
 };
 use board::Move;
 use memory::{OutOfMemory, copy_of};
@@ -10,11 +10,12 @@ use outcomes::Ending;
 use std::alloc::Global;
 use std::io::{self, ErrorKind};
 
-/// Prints each form of report.
+/// Prints each form of report, and the line of figures.
 pub fn print(rt: &(impl Print + AllocGlobal), refused: OutOfMemory) -> io::Result<()> {
     print_outcomes(rt, refused)?;
     print_refused_lines(rt)?;
-    print_certificates(rt)
+    print_certificates(rt)?;
+    print_figures(rt)
 }
 
 // An outcome whose plans are slices, so that it can stand in a table.
@@ -97,6 +98,20 @@ fn print_certificates(rt: &(impl Print + AllocGlobal)) -> io::Result<()> {
         print_report(rt, refused_certificate_report(rt.alloc(), code))?;
     }
     Ok(())
+}
+
+fn print_figures(rt: &(impl Print + AllocGlobal)) -> io::Result<()> {
+    rt.println("\n# Figures of searches")?;
+    let stats = Stats {
+        expanded: 109,
+        known: u64::MAX,
+        microseconds: 0,
+        start_sum: 29,
+    };
+    match stats_text(rt.alloc(), "a\"b", &stats) {
+        Ok(text) => rt.println(text),
+        Err(_) => Err(ErrorKind::OutOfMemory.into()),
+    }
 }
 
 // Prints a report, which ends its own line.

@@ -16,4 +16,5 @@ returns c =
       spread = c.in_ok-spread.ensures;
       limit = c.in_ok-limit.ensures;
       progress = c.is_set-2.ensures;
+      stats = c.is_set-3.ensures;
     }

@@ -1,7 +1,7 @@
 use Rattle.std.proofs.Common.{◌≡◌, ◌++◌, ◌∷◌, [], Some, subst, sym}
 use Rattle.std.proofs.lemmas.List.Elements.{All-push}
 use Rattle.board.specs.Positions.{Position}
-use Rattle.outcomes.specs.declared.outcome.Ending.{Ending}
+use Rattle.batch_runs.specs.declared.stats.Solved.{Solved}
 use Rattle.batch_runs.specs.Batches.{AreAllowed}
 use Rattle.setup_runs.specs.Solving.{MayAnswer, rules_of}
 use Rattle.setup_runs.proofs.ahead.take_endings.Goals as goal
@@ -9,7 +9,7 @@ use Rattle.setup_runs.proofs.ahead.take_endings.Goals as goal
 pub places-preserved : goal.places-preserved
 places-preserved c =
     let setup = c.args.setup.now in
-    let answered : Position × Ending = (c.in-Some.ended.board, c.in-Some.ended.ending) in
+    let answered : Position × Solved = (c.in-Some.ended.board, c.in-Some.ended.solved) in
     let pushed : c.push.new.items.items ≡ c.places.ready.items ++ answered ∷ [] = rw c.if-is_err.ensures.negation at c.push.ensures.items in
-    let allowed = All-push (λ (it : Position × Ending). MayAnswer setup it.0 (Some it.1)) c.places.ready.items answered c.places.invariant.1 c.in-Some.ensures.ended in
+    let allowed = All-push (λ (it : Position × Solved). MayAnswer setup it.0 (Some it.1.ending)) c.places.ready.items answered c.places.invariant.1 c.in-Some.ensures.ended in
     (c.in-Some.ensures.lanes, subst (AreAllowed (rules_of setup)) (sym pushed) allowed)

@@ -21,5 +21,5 @@ pub returns-clause-report : goal.returns-clause-report
 returns-clause-report g c =
     let entry = c.in-Ok.entry in
     let named = rw (c.shape.ensures, c.self.view_is) at c.in-Ok.ensures.entry in
-    let ending = c.in-Ok-end_board.ending in
+    let ending = c.in-Ok-end_board.solved.ending in
     (answered entry.id.now ending, by_outcome entry.id.now entry.board ending named c.in-Ok-end_board.ensures.answered c.in_ok-text.ensures.small, c.in_ok-text.ensures.text, c.with_outcome.ensures)

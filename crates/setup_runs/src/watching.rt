@@ -1,0 +1,46 @@
+//! Who watches a run.
+
+use batch_runs::Stats;
+use hda_run::{Gate, Kind};
+
+/// A gate that is passed after each step of a search, a clock, and whoever takes the figures of lines.
+/// No contract says what becomes of these.
+pub trait Watch: Gate {
+    /// The microseconds since some moment.
+    fn microseconds(&self) -> u64;
+
+    /// Takes the figures of the line with this id, whose board is answered.
+    fn observe(&self, id: &str, stats: &Stats);
+}
+
+/// A gate alone.
+#[derive(Clone, Copy)]
+pub(crate) struct Unwatched<'a, G> {
+    pub(crate) gate: &'a G,
+}
+
+impl<G: Gate> Gate for Unwatched<'_, G> {
+    fn pass(&self, worker: usize, kind: Kind) {
+        self.gate.pass(worker, kind);
+    }
+
+    fn meet(&self, boards: usize) {
+        self.gate.meet(boards);
+    }
+
+    fn wants_bound(&self) -> bool {
+        self.gate.wants_bound()
+    }
+
+    fn show_bound(&self, bound: Option<u32>) {
+        self.gate.show_bound(bound);
+    }
+}
+
+impl<G: Gate> Watch for Unwatched<'_, G> {
+    fn microseconds(&self) -> u64 {
+        0
+    }
+
+    fn observe(&self, _id: &str, _stats: &Stats) {}
+}
