@@ -1,5 +1,6 @@
 -- Lemmas.
 mod PartsLemmas
 mod AloneLemmas
+mod BoundLemmas
 mod LowestLemmas
 pub mod LawLemmas

@@ -1,15 +1,18 @@
 -- What one worker does alone, round by round.
-use Rattle.std.specs.Prelude.{ℕ, ◌≡◌, ◌+◌, ◌-◌, List, [], ◌∷◌, ◌++◌, Option, Some, None}
+use Rattle.std.specs.Prelude.{ℕ, ◌≡◌, ◌⊎◌, ◌+◌, ◌-◌, List, [], ◌∷◌, ◌++◌, Option, Some, None}
+use Rattle.board.specs.Positions.{Position}
+use Rattle.world_model.specs.declared.parts.Known.{Known}
 use Rattle.world_model.specs.declared.steps.Refusal.{Refusal}
 use Rattle.world_model.specs.declared.steps.Refusal.TheVariants as refusals
 use Rattle.world_model.specs.declared.steps.Step.{Step}
 use Rattle.world_model.specs.declared.steps.Step.TheVariants.{Expand, Grant}
 use Rattle.world_model.specs.Credit.{IsCredited, packet_count, expansion_count}
+use Rattle.world_model.specs.Frontiers.{IsInFrontier}
 use Rattle.world_model.specs.Shapes.{IsShaped}
 use Rattle.world_model.specs.Steps.{IsRun, Next}
 use Rattle.world_model.specs.Turns.{turn}
 use Rattle.world_model.specs.Workers.{WorkerState}
-use Rattle.world_model.specs.Worlds.{WorldState}
+use Rattle.world_model.specs.Worlds.{WorldState, Knows}
 use Rattle.hda_run.specs.declared.alone.End.{End}
 use Rattle.hda_run.specs.declared.alone.End.TheVariants.{Quiet, Limit, Memory}
 use Rattle.hda_run.specs.Alone.{HaltsNowhere, AreLast}
@@ -32,6 +35,10 @@ pub record Reaches (w w' : WorldState) : Type 0 where
   pub run : IsRun w made w'
   pub goes_on : HaltsNowhere made
   pub lone : IsLone w'
+
+-- the worker knows the goal, or there is no frontier
+abbrev pub IsWithoutBound : WorldState → Type 0
+IsWithoutBound w = ((known : Known) × Knows w 0 w.task.goal known) ⊎ ((b : Position) (cost : ℕ) → ¬ IsInFrontier w b cost)
 
 -- what may still be granted, and what may still be expanded
 abbrev pub work_left : WorldState → ℕ

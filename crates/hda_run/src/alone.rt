@@ -1,9 +1,10 @@
 //! Jobs that one worker does alone.
 
-ghost use Rattle.std.specs.Prelude.{ℕ, ◌≡◌, ◌≢◌, ◌↔◌, ◌<◌, length, Ok, IfOk, IfErr, IsOk, IsTrue, Option, Vec};
+ghost use Rattle.std.specs.Prelude.{ℕ, ◌≡◌, ◌≢◌, ◌↔◌, ◌<◌, Ok, IfOk, IfErr, IfNone, IfSome, IsOk, IsTrue, Option, Vec};
 ghost use Rattle.std.specs.declared.alloc.Global.{Global};
 ghost use Rattle.board.specs.Positions.{Position};
 ghost use Rattle.board.specs.Classes.{SameClass};
+ghost use Rattle.board.specs.Plans.{NothingBelow};
 ghost use Rattle.board.specs.declared.moves.Move.{Move};
 ghost use Rattle.outcomes.specs.Outcomes.{Answers};
 ghost use Rattle.outcomes.specs.declared.outcome.Cause.{Cause};
@@ -17,7 +18,7 @@ ghost use Rattle.world_model.specs.Turns.{turn, refusal_in};
 ghost use Rattle.hda_run.specs.Alone.{IsRunAlone, IsFoundAlone, IsByOne};
 ghost use Rattle.hda_run.specs.Problems.{task_in};
 ghost use Rattle.hda_run.specs.Rounds.{IsLone, Reaches, work_left, Refuses, IsStuck};
-ghost use Rattle.hda_run.specs.Rounds.{Stops};
+ghost use Rattle.hda_run.specs.Rounds.{IsWithoutBound, Stops};
 ghost use Rattle.hda_run.specs.WholeRuns.{EndsWholeRun};
 ghost use Rattle.hda_run.specs.Worlds.{world_of, job_of};
 
@@ -127,6 +128,7 @@ fn run_alone<'a, S: Spread, G: Gate>(
 {
     let _ = job.goal();
     let mut world = World::open(alloc, job, 1, spread)?;
+    gate.meet(world.worker(0).lists().len());
     let end = go_on(alloc, &mut world, gate);
     stop_for(alloc, &mut world, gate, end);
     Ok(world)
@@ -172,18 +174,31 @@ fn round<S: Spread, G: Gate>(alloc: Global, world: &mut World<'_, S>, gate: &G) 
 
 // Shows the gate what the worker knows after an expansion, before which it knew this many boards.
 fn show_lists<S: Spread, G: Gate>(world: &World<'_, S>, gate: &G, known: usize)
-    requires { 0 < length world.now.workers.items }
+    requires { IsLone (world_of S.owner_of world.now) }
 {
     let lists = world.worker(0).lists();
     gate.meet(lists.len().saturating_sub(known));
-    if !gate.wants_bound() {
-        return;
+    if gate.wants_bound() {
+        gate.show_bound(bound_of(world));
     }
-    // Once the goal was met, a plan may cost less than the least f of what is open.
-    if lists.has_met_goal() {
-        return gate.show_bound(None);
+}
+
+// A cost that no plan undercuts: the least f of what waits. None where the goal is known, to which a
+// plan may cost less than that, or where no board is open.
+fn bound_of<S: Spread>(world: &World<'_, S>) -> Option<u32>
+    requires { IsLone (world_of S.owner_of world.now) }
+    ensures bound { IfSome result (NothingBelow world.now.job.rule world.now.job.start
+        world.now.job.goal) }
+    ensures none { IfNone result (IsWithoutBound (world_of S.owner_of world.now)) }
+{
+    // This call gives what each world keeps.
+    let _ = world.workers();
+    let lists = world.worker(0).lists();
+    let goal = world.job().keyed_goal().key();
+    match lists.get(goal) {
+        Some(_) => None,
+        None => lists.least(),
     }
-    gate.show_bound(lists.least());
 }
 
 // The worker is granted expansions.

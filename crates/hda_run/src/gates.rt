@@ -51,7 +51,8 @@ pub trait Gate {
     /// Returns when the worker that took the step may go on.
     fn pass(&self, worker: usize, kind: Kind);
 
-    /// Is shown, after an expansion and after an item is settled, how many boards became known by it.
+    /// Is shown, when a search begins, after an expansion and after an item is settled, how many boards
+    /// became known by it.
     fn meet(&self, _boards: usize) {}
 
     /// Whether a lower bound is wanted. A worker that searches alone asks after each expansion.

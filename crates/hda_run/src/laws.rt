@@ -19,6 +19,7 @@ pub fn runs_alone_stop()
 {}
 
 /// Outcomes of one problem that tell the truth agree, and their rows prove what they say.
+#[tactic(auto, using(crate::proofs::LawLemmas::optimal, crate::proofs::LawLemmas::bounded, crate::proofs::LawLemmas::unsolvable, crate::proofs::LawLemmas::rows_prove, crate::proofs::LawLemmas::bounds_prove, crate::proofs::LawLemmas::proofs_exist))]
 pub fn truths_agree()
     ensures optimal { OptimalTruthsAgree }
     ensures bounded { BoundTruthsAreBelow }
@@ -29,6 +30,7 @@ pub fn truths_agree()
 {}
 
 /// The outcome of one step is given by a world to which just that step leads.
+#[tactic(auto, using(crate::proofs::LawLemmas::of_steps))]
 pub fn outcomes_are_of_their_steps()
     ensures { OutcomesAreOfTheirSteps }
 {}

@@ -23,6 +23,7 @@ pub fn work<'a, S: Spread, C: Tokens, R: Wait, G: Gate>(
     ensures { result ≡ sealed.entry }
 {
     let mut part = sealed.open();
+    site.gate.meet(part.worker.lists().len());
     let mut turns = 0u32;
     'rounds: for _ in site.rt.forever() {
         if site.is_over() {

@@ -6,6 +6,9 @@ use Rattle.hda_run.specs.Worlds.{world_of}
 use Rattle.hda_run.proofs.AloneLemmas.{expands, takes, stays, reaches_on, refused_alone, quiet_only}
 use Rattle.hda_run.proofs.alone.round.Goals as goal
 
+pub show_lists-requires : goal.show_lists-requires
+show_lists-requires g c = (expands (world_of g.S.Spread.owner_of c.args.world.now) c.requires (world_of g.S.Spread.owner_of c.take.new.world) c.in_default.ensures.step).0
+
 pub announce_when_met-requires : goal.announce_when_met-requires
 announce_when_met-requires g c = (expands (world_of g.S.Spread.owner_of c.args.world.now) c.requires (world_of g.S.Spread.owner_of c.take.new.world) c.in_default.ensures.step).0
 
