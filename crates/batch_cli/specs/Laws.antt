@@ -1,5 +1,5 @@
 -- The laws of the definitions. Each is the contract of a function that does nothing.
-use Rattle.std.specs.Prelude.{ℕ, ◌≡◌, ◌≤◌, ◌<◌, false, List, [], ◌∷◌, ◌++◌, Ok, Some, map}
+use Rattle.std.specs.Prelude.{ℕ, Bool, ◌≡◌, ◌≤◌, ◌<◌, false, List, [], ◌∷◌, ◌++◌, Ok, Some, map}
 use Rattle.byte_streams.specs.Streams.{SourceState, SinkState, Change}
 use Rattle.board.specs.declared.moves.Move.{Move}
 use Rattle.board.specs.Plans.{Leads}
@@ -16,6 +16,8 @@ use Rattle.batch_cli.specs.declared.endings.Ending.{Ending}
 use Rattle.batch_cli.specs.Endings.{Tells, message_of}
 use Rattle.batch_cli.specs.Setups.{IsDefaultSetup, small_grid}
 use Rattle.batch_cli.specs.Headline.{IsTrue, IsTrueOf}
+use Rattle.batch_cli.specs.Programs.{PrintsAsAsked}
+use Rattle.batch_cli.specs.declared.commands.Command.TheVariants as command
 use Rattle.batch_runs.specs.Setups.{SetupState}
 use Rattle.setup_runs.specs.Solving.{rules_of, certifying_rules_of}
 
@@ -85,3 +87,10 @@ DefaultSetupsAreKorfs =
     × (map (λ g. g.tiles) setup.tables.split.groups ≡ (1 ∷ 2 ∷ 3 ∷ 4 ∷ []) ∷ (5 ∷ 6 ∷ 7 ∷ 8 ∷ []) ∷ [])
     × (setup.limit ≡ 18446744073709551615)
     × (setup.workers ≡ 1)
+
+-- a command prints what its options ask for
+abbrev pub OptionsArePrinted : Type 0
+OptionsArePrinted =
+    (o : Options) (setup : SetupState) (progress stats : Bool)
+    → (PrintsAsAsked (Solve o) (command.Solve setup progress stats) → (progress ≡ o.progress) × (stats ≡ o.stats))
+    × (PrintsAsAsked (Certify o) (command.Certify setup progress) → progress ≡ o.progress)

@@ -1,5 +1,5 @@
 -- What the program does for words, and how it ends.
-use Rattle.std.specs.Prelude.{ℕ, ◌≡◌, ◌⊎◌, List, Result, Ok, Err, ⊤, string_bytes}
+use Rattle.std.specs.Prelude.{ℕ, ◌≡◌, ◌⊎◌, List, Result, Ok, Err, ⊤, Bool, false, string_bytes}
 use Rattle.byte_streams.specs.Streams.{SourceState, SinkState, Change, from_to}
 use Rattle.byte_streams.specs.Sink.{Writes, Flushes}
 use Rattle.byte_streams.specs.declared.sink.WriteFailed.{WriteFailed}
@@ -151,3 +151,31 @@ Serves request command = (source : Change SourceState) (sink : Change SinkState)
 -- what is requested ends without memory, where nothing is read or written
 abbrev pub LacksMemory : Request → OutOfMemory → Type 0
 LacksMemory request lacking = (source : Change SourceState) (sink : Change SinkState) → IsUnused source sink → EndsRequest request source sink NoMemory
+
+-- ---- what is printed beside the output
+
+-- whether progress is asked for
+abbrev pub asks_progress : Request → Bool
+asks_progress (Solve o) = o.progress
+asks_progress (Certify o) = o.progress
+asks_progress _ = false
+
+-- whether figures are
+abbrev pub asks_stats : Request → Bool
+asks_stats (Solve o) = o.stats
+asks_stats _ = false
+
+-- whether a command prints progress
+abbrev pub prints_progress : Command → Bool
+prints_progress (command.Solve setup progress stats) = progress
+prints_progress (command.Certify setup progress) = progress
+prints_progress _ = false
+
+-- whether it prints figures
+abbrev pub prints_stats : Command → Bool
+prints_stats (command.Solve setup progress stats) = stats
+prints_stats _ = false
+
+-- progress and figures are printed just where they are asked for
+abbrev pub PrintsAsAsked : Request → Command → Type 0
+PrintsAsAsked request command = (prints_progress command ≡ asks_progress request) × (prints_stats command ≡ asks_stats request)

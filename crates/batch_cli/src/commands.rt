@@ -2,7 +2,7 @@
 
 ghost use Rattle.std.specs.Prelude.{IfOk, IfErr};
 ghost use Rattle.batch_cli.specs.Setups.{IsFit};
-ghost use Rattle.batch_cli.specs.Programs.{Serves, CanRun, LacksMemory};
+ghost use Rattle.batch_cli.specs.Programs.{Serves, CanRun, LacksMemory, PrintsAsAsked};
 
 use crate::setups::setup_of;
 use batch_runs::Setup;
@@ -50,6 +50,7 @@ pub(crate) fn command_for(
     ensures command { IfOk result (Serves request) }
     ensures fit { IfOk result CanRun }
     ensures lacking { IfErr result (LacksMemory request) }
+    ensures printed { IfOk result (PrintsAsAsked request) }
 {
     match request {
         Request::Solve(options) => {

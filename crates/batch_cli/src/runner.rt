@@ -1,6 +1,6 @@
 //! How commands run.
 
-ghost use Rattle.std.specs.Prelude.{◌≡◌, ◌⊎◌, Err, map, string_bytes};
+ghost use Rattle.std.specs.Prelude.{◌≡◌, ◌⊎◌, ◌↔◌, Err, IsTrue, map, string_bytes};
 ghost use Rattle.byte_streams.specs.Streams.{change};
 ghost use Rattle.byte_streams.specs.declared.sink.WriteFailed.{WriteFailed};
 ghost use Rattle.batch_runs.specs.Batches.{HasFailed};
@@ -8,7 +8,7 @@ ghost use Rattle.board_lists.specs.Lists.{MayBeListed};
 ghost use Rattle.batch_cli.specs.Endings.{HasNotBegun};
 ghost use Rattle.batch_cli.specs.Programs.{Solves, Certifies, Judges, Draws, Rewrites};
 ghost use Rattle.batch_cli.specs.Programs.{TakesSteps, Lists, Shows, FlushesBehind, EndsBy, CanRun, Runs};
-ghost use Rattle.batch_cli.specs.Programs.{after_flush};
+ghost use Rattle.batch_cli.specs.Programs.{after_flush, prints_progress, prints_stats};
 
 use crate::commands::{Command, command_for};
 use crate::endings::Ending;
@@ -67,12 +67,12 @@ impl<'a, R: Threads + Wait + Sync, W: Watch + Sync> Runner<'a, R, W> {
             (change K.state sink.old sink.new) result }
     {
         match command {
-            Command::Solve {
-                setup,
-                progress,
-                stats,
-            } => self.solve(setup, &self.asked(setup, *progress, *stats), source, sink),
-            Command::Certify { setup, progress } => self.certify(setup, *progress, source, sink),
+            Command::Solve { setup, .. } => {
+                self.solve(setup, &self.asked(setup, command), source, sink)
+            }
+            Command::Certify { setup, .. } => {
+                self.certify(setup, &self.asked(setup, command), source, sink)
+            }
             Command::Check => self.check(source, sink),
             Command::Draw(style) => self.draw(*style, source, sink),
             Command::Upgrade => self.upgrade(source, sink),
@@ -82,8 +82,21 @@ impl<'a, R: Threads + Wait + Sync, W: Watch + Sync> Runner<'a, R, W> {
         }
     }
 
-    // The watch of a setup's runs, where progress or figures are asked for.
-    fn asked(&self, setup: &Setup, progress: bool, stats: bool) -> WhereAsked<'a, W> {
+    // The watch of a setup's runs, where a command prints progress or figures.
+    fn asked(&self, setup: &Setup, command: &Command) -> WhereAsked<'a, W>
+        ensures alone { IsTrue result.is_alone ↔ (setup.now.workers ≡ 1) }
+        ensures progress { result.progress ≡ prints_progress command.now }
+        ensures stats { result.stats ≡ prints_stats command.now }
+    {
+        let (progress, stats) = match command {
+            Command::Solve {
+                progress,
+                stats,
+                ..
+            } => (*progress, *stats),
+            Command::Certify { progress, .. } => (*progress, false),
+            _ => (false, false),
+        };
         WhereAsked {
             watch: self.watch,
             is_alone: setup.worker_count() == 1,
@@ -111,15 +124,14 @@ impl<'a, R: Threads + Wait + Sync, W: Watch + Sync> Runner<'a, R, W> {
     fn certify<S: Source, K: Sink>(
         &self,
         setup: &Setup,
-        progress: bool,
+        watch: &WhereAsked<'_, W>,
         source: &mut S,
         sink: &mut K,
     ) -> Ending
         ensures { Certifies (change S.state source.old source.new) setup.now
             (change K.state sink.old sink.new) result }
     {
-        let gate = self.asked(setup, progress, false);
-        match run_cert(self.rt, self.alloc, source, sink, setup, &gate) {
+        match run_cert(self.rt, self.alloc, source, sink, setup, watch) {
             Ok(status) => Ending::Answered(status),
             Err(fault) => Ending::Faulted(BatchFault::from(fault)),
         }

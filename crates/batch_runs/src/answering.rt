@@ -1,13 +1,15 @@
 //! Who answers boards, and what is answered of each line.
 
-ghost use Rattle.std.specs.Prelude.{◌≡◌, ◌≢◌, IfOk, IfSome, OnErr, Some, None, string_bytes};
+ghost use Rattle.std.specs.Prelude.{ℕ, ◌≡◌, ◌≢◌, List, All, IfOk, IfSome, OnErr, Some, None, string_bytes};
+ghost use Rattle.board.specs.Positions.{Position};
+ghost use Rattle.batch_lines.specs.Words.{IsEntry};
 ghost use Rattle.batch_lines.specs.declared.lines.LineKind.TheVariants.{PassedOver};
 ghost use Rattle.batch_runs.specs.Batches.{Rules, Answer, AnswersKind, AnswersEntry};
 ghost use Rattle.batch_runs.specs.Batches.{HasRoom, MayGive, AreAllowed};
 ghost use Rattle.batch_runs.specs.Batches.{answer_text, with_answer};
 
 use crate::batch::Summary;
-use crate::stats::{Solved, Stats};
+use crate::stats::Solved;
 use batch_lines::{EntryFault, Line, LineKind, read_entry};
 use board::{Board, Shape};
 use memory::OutOfMemory;
@@ -24,8 +26,13 @@ pub trait Ruled {
 
 /// Who answers boards, as the rules allow.
 pub trait Solver: Ruled {
+    ghost use Rattle.batch_runs.specs.declared.stats.Solved.{Solved};
+
     // What a caller proves before each call. A solver with closures needs their contracts here.
     ghost is_callable: { Self → Type 0 };
+
+    // Whether a board's stats are those of the search that gave its ending.
+    ghost has_stats: { Self → Position → Solved → Type 0 };
 
     /// The shape of the boards.
     fn shape(&self) -> Shape
@@ -35,18 +42,22 @@ pub trait Solver: Ruled {
     fn solve(&self, start: &Board) -> Result<Solved, OutOfMemory>
         requires callable { is_callable self.now }
         requires grid { start.now.grid ≡ (Self.rules self.now).grid }
-        ensures { MayGive (Self.rules self.now) start.now result };
+        ensures allowed { MayGive (Self.rules self.now) start.now result }
+        ensures stats { IfOk result (has_stats self.now start.now) };
 
     /// Boards with their endings, the first one last: this board, and boards of the lines among the
     /// bytes that the source holds behind its line. There may be none.
     fn solve_ahead(&self, start: &Board, held: &[u8]) -> Vec<(Board, Solved)>
         requires callable { is_callable self.now }
         requires grid { start.now.grid ≡ (Self.rules self.now).grid }
-        ensures { AreAllowed (Self.rules self.now) result.items };
+        ensures allowed { AreAllowed (Self.rules self.now) result.items }
+        ensures stats { All (λ it. has_stats self.now it.0 it.1) result.items };
 
-    /// Takes the figures of the line with this id, whose board is answered. No contract says what
-    /// becomes of them.
-    fn observe(&self, id: &str, stats: &Stats);
+    /// Takes the figures of a line's board, which is answered, with the id of the line. No contract
+    /// says what becomes of them.
+    fn observe(&self, id: &str, solved: &Solved)
+        requires { (line : List ℕ) × (b : Position) × IsEntry (Self.rules self.now).grid line id.now b
+            × has_stats self.now b solved.now };
 }
 
 /// A solver, and the endings that are ready: of boards whose lines are not taken yet, the first one
@@ -65,7 +76,8 @@ impl<'a, A: Solver> Model for Answerer<'a, A> {
     ghost view = { λ answerer. answerer.solver.now };
 
     ghost invariant = { λ answerer. A.is_callable answerer.solver.now
-        × AreAllowed (A.rules answerer.solver.now) answerer.ready.items };
+        × AreAllowed (A.rules answerer.solver.now) answerer.ready.items
+        × All (λ it. A.has_stats answerer.solver.now it.0 it.1) answerer.ready.items };
 }
 
 impl<'a, A: Solver> Answerer<'a, A> {
@@ -136,7 +148,7 @@ impl<'a, A: Solver> Answerer<'a, A> {
             }
         };
         let text = outcome_report(self.alloc, entry.id, &solved.ending)?;
-        self.solver.observe(entry.id, &solved.stats);
+        self.solver.observe(entry.id, &solved);
         Ok((text, summary.with_outcome(&solved.ending)))
     }
 
@@ -147,6 +159,7 @@ impl<'a, A: Solver> Answerer<'a, A> {
         ensures same { self.new ≡ self.old }
         ensures answered { IfOk result (λ solved. (A.rules self.old).allows start.now (Some solved.ending)) }
         ensures lacking { OnErr result ((A.rules self.old).allows start.now None) }
+        ensures stats { IfOk result (A.has_stats self.old start.now) }
     {
         if self.ready.is_empty() {
             self.ready = self.solver.solve_ahead(start, held);
@@ -163,6 +176,7 @@ impl<'a, A: Solver> Answerer<'a, A> {
         ensures same { self.new ≡ self.old }
         ensures answered { IfSome result
             (λ solved. (A.rules self.old).allows start.now (Some solved.ending)) }
+        ensures stats { IfSome result (A.has_stats self.old start.now) }
     {
         let Some(next) = self.ready.pop() else {
             return None;

@@ -31,6 +31,7 @@ pub fn beginnings_tell_the_truth<A: Ruled>(asked: &A)
 }
 
 /// In a beginning of an output each line that another one follows is a line of the output.
+#[tactic(auto, using(crate::proofs::BatchLemmas::begun_same))]
 pub fn beginnings_are_of_lines()
     ensures { BeginningsAreOfLines }
 {}
@@ -45,6 +46,7 @@ pub fn runs_are_told<A: Ruled>(asked: &A)
 }
 
 /// A line of an input within the limit is lost only where the source has failed.
+#[tactic(auto, using(crate::proofs::BatchLemmas::lost))]
 pub fn lines_are_lost_to_failures()
     ensures { LinesAreLostToFailures }
 {}

@@ -1,5 +1,5 @@
 -- The laws of what options say. Each is the contract of a function that does nothing.
-use Rattle.std.specs.Prelude.{◌≡◌, ⊤, List, Option}
+use Rattle.std.specs.Prelude.{◌≡◌, ◌↔◌, ⊤, List, Option, IsTrue, false, codes}
 use Rattle.clap.specs.Words.{Text, Row}
 use Rattle.board.specs.Grids.{Grid}
 use Rattle.board.specs.Positions.{Position}
@@ -13,7 +13,7 @@ use Rattle.command_line.specs.declared.requests.Options.{Options}
 use Rattle.command_line.specs.declared.requests.Listing.{Listing}
 use Rattle.command_line.specs.declared.faults.NoRequest.{NoRequest}
 use Rattle.command_line.specs.declared.faults.NoRequest.TheVariants.{Usage, Goal, Costs, Groups, NoListing, Memory}
-use Rattle.command_line.specs.Requests.{HasShape, IsGoalSaid, IsGoalFault, AreCostsSaid, IsCostsFault, AreOptions, OptionsFail, IsListing, ListingFails}
+use Rattle.command_line.specs.Requests.{HasShape, IsGoalSaid, IsGoalFault, AreCostsSaid, IsCostsFault, IsSet, AreOptions, AreDefaults, OptionsFail, IsListing, ListingFails}
 
 -- the rows and columns say one shape
 abbrev pub ShapesAreDetermined : Type 0
@@ -59,3 +59,14 @@ GoalsAreJudgedBeforeGroups = (rows : List Row) (fault : TilesFault) (later : Gro
 
 abbrev pub CostsAreJudgedBeforeGroups : Type 0
 CostsAreJudgedBeforeGroups = (rows : List Row) (fault : WeightsFault) (later : GroupsFault) → OptionsFail rows (Costs fault) → ¬ OptionsFail rows (Groups later)
+
+-- tables are folded, and progress and figures printed, just where the option is there
+abbrev pub FlagsAreSaid : Type 0
+FlagsAreSaid =
+    (rows : List Row) (o : Options)
+    → AreOptions rows o
+    → (IsTrue o.fold ↔ IsSet rows (codes "fold")) × (IsTrue o.progress ↔ IsSet rows (codes "progress")) × (IsTrue o.stats ↔ IsSet rows (codes "stats"))
+
+-- none of this is done where there are no words
+abbrev pub FlagsAreOff : Type 0
+FlagsAreOff = (o : Options) → AreDefaults o → (o.fold ≡ false) × (o.progress ≡ false) × (o.stats ≡ false)

@@ -4,9 +4,11 @@ ghost use Rattle.command_line.specs.Laws.{ShapesAreDetermined, GoalsAreDetermine
 ghost use Rattle.command_line.specs.Laws.{GoalsHaveNoFault, CostsAreDetermined, CostsHaveNoFault};
 ghost use Rattle.command_line.specs.Laws.{OptionsHaveNoFault, ListingsHaveNoFault, GoalsAreJudgedBeforeCosts};
 ghost use Rattle.command_line.specs.Laws.{GoalsAreJudgedBeforeGroups, CostsAreJudgedBeforeGroups};
+ghost use Rattle.command_line.specs.Laws.{FlagsAreSaid, FlagsAreOff};
 
 /// One shape is said, one goal and one rule of costs; and where these are said, their texts have no
 /// fault.
+#[tactic(auto, using(crate::proofs::ParseLemmas::one_shape, crate::proofs::ParseLemmas::one_goal_said, crate::proofs::ParseLemmas::goal_no_fault, crate::proofs::ParseLemmas::one_rule_said, crate::proofs::ParseLemmas::costs_no_fault))]
 pub fn options_say_one_thing()
     ensures shapes { ShapesAreDetermined }
     ensures goals { GoalsAreDetermined }
@@ -28,4 +30,10 @@ pub fn options_are_judged_in_order()
     ensures costs { GoalsAreJudgedBeforeCosts }
     ensures groups { GoalsAreJudgedBeforeGroups }
     ensures costs_before_groups { CostsAreJudgedBeforeGroups }
+{}
+
+/// What is done just where its option is there, and by default isn't.
+pub fn flags_are_said()
+    ensures options { FlagsAreSaid }
+    ensures defaults { FlagsAreOff }
 {}

@@ -3,17 +3,20 @@
 ghost use Rattle.command_line.specs.Worked.{NumbersAreWithin, OptionsStandOnce, TextsAreAskedFor};
 
 /// A side of 6, 17 workers, 19 columns and x boards are no values of these options.
+#[tactic(auto, using(clap::proofs::OnLiterals::clap_on_literals), unfolding(clap::proofs::OnLiterals::clap_on_literals))]
 pub fn numbers_are_within()
     ensures { NumbersAreWithin }
 {}
 
 /// An option that stands twice is at fault, and so is one of another subcommand.
+#[tactic(auto, using(clap::proofs::OnLiterals::clap_on_literals), unfolding(clap::proofs::OnLiterals::clap_on_literals))]
 pub fn options_stand_once()
     ensures { OptionsStandOnce }
 {}
 
 /// Help and the version are asked for; `check` alone is at no fault, and neither are `upgrade` and
 /// `show`.
+#[tactic(auto, using(clap::proofs::OnLiterals::clap_on_literals), unfolding(clap::proofs::OnLiterals::clap_on_literals))]
 pub fn texts_are_asked_for()
     ensures { TextsAreAskedFor }
 {}

@@ -1,5 +1,5 @@
 -- The bounds that a board may be answered.
-use Rattle.std.proofs.Common.{arith, ℕ, ◌≡◌, ◌≤◌, ◌+◌, ◌*◌, ◌++◌, List, Option, Vec, refl, inl, inr}
+use Rattle.std.proofs.Common.{arith, ℕ, ◌≡◌, ◌≤◌, ◌+◌, ◌*◌, ◌++◌, List, Option, Vec, ◌∙◌, ◌⊎◌, refl, ap, inl, inr}
 use Rattle.std.specs.declared.alloc.Global.{Global}
 use Rattle.board.specs.declared.moves.Move.{Move}
 use Rattle.board.specs.Positions.{Position}
@@ -10,6 +10,7 @@ use Rattle.world_model.specs.Openings.{opening}
 use Rattle.world_model.specs.Steps.{IsRun}
 use Rattle.world_model.specs.Worlds.{WorldState}
 use Rattle.world_ends.specs.Endings.{EndsIn}
+use Rattle.world_ends.specs.Readings.{EndsWithFigures}
 use Rattle.hda_run.specs.Alone.{IsFoundAlone}
 use Rattle.outcomes.specs.declared.outcome.Cause.TheVariants.{Limit}
 use Rattle.hda_run.specs.Worlds.{job_of}
@@ -17,8 +18,14 @@ use Rattle.world_model.specs.Credit.{expansion_count}
 use Rattle.world_model.specs.declared.limits.TheConstants.{GREATEST_GRANT}
 use Rattle.world_ends.proofs.PartLemmas.{ends_bounded}
 use Rattle.world_model.proofs.KeptLemmas.{causes_stop}
+use Rattle.thread_runs.specs.Solved.{IsFoundByWorkers}
 use Rattle.batch_runs.specs.Setups.{SetupState, owner_by}
-use Rattle.setup_runs.specs.Laws.{job_by, BoundsAreNeverCut, LimitsAreTheSetups, LimitsAreNearlySpent}
+use Rattle.setup_runs.specs.Laws.{StatsAreOfTheSetups, job_by, BoundsAreNeverCut, LimitsAreTheSetups, LimitsAreNearlySpent, StatsAreOfWorlds}
+use Rattle.std.specs.FinMap as map
+use Rattle.std.specs.Prelude.{min, ◌^◌, ◌-◌, sum_by}
+use Rattle.board.specs.Classes.{SameClass}
+use Rattle.world_ends.specs.declared.figures.Figures.{Figures}
+use Rattle.batch_runs.specs.declared.stats.Solved.{Solved}
 use Rattle.setup_runs.specs.Solving.{problem_of}
 
 pub never_cut : BoundsAreNeverCut
@@ -58,3 +65,41 @@ limits_nearly setup b bound best (answers, inl (same, (inl (inl (several, (w, jo
 limits_nearly setup b bound best (answers, inl (same, (inl (inr (run, left)), kept))) = nearly_alone setup b bound best run
 limits_nearly setup b bound best (answers, inl (same, (inr run, kept))) = nearly_alone setup b bound best run
 limits_nearly setup b bound best (answers, inr (other, is)) = absurd (cc)
+
+-- the stats count what a world has expanded, and knows, and this world ends so
+abbrev Counts : Solved → Type 0
+Counts solved = (w : WorldState) × EndsIn w solved.ending × (solved.stats.expanded ≡ min (expansion_count w) (2 ^ 64 - 1)) × (solved.stats.known ≡ min (sum_by (λ worker. map.len worker.known) w.workers) (2 ^ 64 - 1))
+
+pub stats_of_worlds : StatsAreOfWorlds
+stats_of_worlds setup start solved (figures, of_run, stats) = (of_world, no_run, stats.start_sum)
+  where
+    counted : (w : WorldState) → EndsWithFigures w (record { ending = solved.ending; figures = figures }) → Counts solved
+    counted w gives = (w, gives.0, stats.expanded ∙ ap (λ k. min k (2 ^ 64 - 1)) gives.1.expanded, stats.known ∙ ap (λ k. min k (2 ^ 64 - 1)) gives.1.known)
+
+    by_run : IsFoundByWorkers EndsWithFigures owner_by (problem_of setup start) setup.spread setup.workers (record { ending = solved.ending; figures = figures }) ⊎ IsFoundAlone EndsWithFigures owner_by (problem_of setup start) setup.spread (record { ending = solved.ending; figures = figures }) → Counts solved
+    by_run (inl (inl (several, (w, joined, (kept, gives))))) = counted w gives
+    by_run (inl (inr ((w, run, gives), left))) = counted w gives
+    by_run (inr (w, run, gives)) = counted w gives
+
+    of_world : SameClass start setup.goal → Counts solved
+    of_world together = by_run (of_run.run together)
+
+    no_run : (¬ SameClass start setup.goal) → (solved.stats.expanded ≡ 0) × (solved.stats.known ≡ 0)
+    no_run other = (stats.expanded ∙ ap (λ (f : Figures). min f.expanded (2 ^ 64 - 1)) (of_run.apart other), stats.known ∙ ap (λ (f : Figures). min f.known (2 ^ 64 - 1)) (of_run.apart other))
+
+-- so do those of one worker, whose steps begin at the opening world
+abbrev CountsAlone : SetupState → Position → Solved → Type 0
+CountsAlone setup start solved =
+    (owner : Position → ℕ) × (via : Move) × (made : List (Step × Option Refusal)) × (w : WorldState)
+    × IsRun (opening (job_by owner setup start) via) made w × EndsIn w solved.ending × (solved.stats.expanded ≡ min (expansion_count w) (2 ^ 64 - 1))
+
+pub stats_of_setups : StatsAreOfTheSetups
+stats_of_setups setup start solved one together (figures, of_run, stats) = by_run (of_run.run together)
+  where
+    by_one : IsFoundAlone EndsWithFigures owner_by (problem_of setup start) setup.spread (record { ending = solved.ending; figures = figures }) → CountsAlone setup start solved
+    by_one (w, run, gives) = ((job_of owner_by (problem_of setup start) setup.spread 1).owner, run.via, run.first ++ run.last, w, run.run, gives.0, stats.expanded ∙ ap (λ k. min k (2 ^ 64 - 1)) gives.1.expanded)
+
+    by_run : IsFoundByWorkers EndsWithFigures owner_by (problem_of setup start) setup.spread setup.workers (record { ending = solved.ending; figures = figures }) ⊎ IsFoundAlone EndsWithFigures owner_by (problem_of setup start) setup.spread (record { ending = solved.ending; figures = figures }) → CountsAlone setup start solved
+    by_run (inl (inl (several, by))) = absurd (omega (arith, one, several))
+    by_run (inl (inr (run, left))) = by_one run
+    by_run (inr run) = by_one run

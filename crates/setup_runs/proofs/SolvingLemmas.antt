@@ -25,7 +25,8 @@ use Rattle.batch_runs.specs.Batches.{IsTruthful}
 use Rattle.thread_joins.specs.Threads.{IsJoined}
 use Rattle.thread_runs.specs.Solved.{IsFoundByWorkers, IsSolved, IsLeftToOne}
 use Rattle.setup_runs.specs.Ahead.{LacksMemory}
-use Rattle.setup_runs.specs.Solving.{AnswersBoard, IsOfRun, IsOfProvedRun, MayAnswer, MayCertify, certifying_rules_of, problem_of, rules_of}
+use Rattle.batch_runs.specs.declared.stats.Solved.{Solved}
+use Rattle.setup_runs.specs.Solving.{AnswersBoard, IsOfRun, IsOfProvedRun, MayAnswer, MayCertify, certifying_rules_of, problem_of, rules_of, AreStatsOf, AreFiguresOfRun, HasStats}
 use Rattle.outcomes.specs.declared.outcome.Outcome.{Outcome}
 use Rattle.outcomes.specs.Outcomes.{Task, Answers}
 use Rattle.world_model.specs.Outcomes.{IsGiven}
@@ -155,6 +156,20 @@ module _ (setup : SetupState) (start : Position) where
     where
       alone : IsFoundAlone EndsWithFigures owner_of (problem_of setup start) owners found → IsFoundAlone EndsIn owner_of (problem_of setup start) owners found.ending
       alone (w, run, gives) = (w, run, gives.0)
+
+  -- the stats of what is found, by the setup's workers or by one
+  has_stats : (found : EndingWithFigures) (solved : Solved) → (¬ SameClass start setup.goal → found.figures ≡ record { expanded = 0; known = 0 }) → (SameClass start setup.goal → Finds EndsWithFigures setup start owner_by setup.spread found ⊎ IsFoundAlone EndsWithFigures owner_by (problem_of setup start) setup.spread found) → solved.ending ≡ found.ending → AreStatsOf setup start found.figures solved.stats → HasStats setup start solved
+  has_stats found solved apart run same stats = (found.figures, subst (λ (ending : Ending). AreFiguresOfRun setup start ending found.figures) (sym same) (record { run = run; apart = apart }), stats)
+
+  -- where there is no run nothing was expanded
+  no_run_figures : (found : EndingWithFigures) → (¬ SameClass start setup.goal → ◌≡◌ {A = Result EndingWithFigures OutOfMemory} (Ok found) (Ok (record { ending = Unsolvable Parity; figures = record { expanded = 0; known = 0 } }))) → ¬ SameClass start setup.goal → found.figures ≡ record { expanded = 0; known = 0 }
+  no_run_figures found by_parity other = ap (λ (it : EndingWithFigures). it.figures) (ap (value_or found) (by_parity other))
+
+  pub workers_have_stats : (found : EndingWithFigures) (solved : Solved) → (¬ SameClass start setup.goal → ◌≡◌ {A = Result EndingWithFigures OutOfMemory} (Ok found) (Ok (record { ending = Unsolvable Parity; figures = record { expanded = 0; known = 0 } }))) → (SameClass start setup.goal → Finds EndsWithFigures setup start owner_by setup.spread found) → solved.ending ≡ found.ending → AreStatsOf setup start found.figures solved.stats → HasStats setup start solved
+  workers_have_stats found solved by_parity run same stats = has_stats found solved (no_run_figures found by_parity) (λ together. inl (run together)) same stats
+
+  pub one_has_stats : {S : Type 0} (owner_of : S → ℕ → Position → ℕ) → AreWorkers owner_of → (owners : S) (found : EndingWithFigures) (solved : Solved) → (¬ SameClass start setup.goal → ◌≡◌ {A = Result EndingWithFigures OutOfMemory} (Ok found) (Ok (record { ending = Unsolvable Parity; figures = record { expanded = 0; known = 0 } }))) → (SameClass start setup.goal → IsFoundAlone EndsWithFigures owner_of (problem_of setup start) owners found) → solved.ending ≡ found.ending → AreStatsOf setup start found.figures solved.stats → HasStats setup start solved
+  one_has_stats owner_of are owners found solved by_parity run same stats = has_stats found solved (no_run_figures found by_parity) (λ together. inr (alone_any EndsWithFigures setup start owner_of are owners owner_by setup_owners setup.spread found (run together))) same stats
 
   -- for a board of the other class memory is never refused
   pub may_refuse : {X : Type 0} (refused : OutOfMemory) (parity : X) → (¬ SameClass start setup.goal → error_of refused ≡ Ok parity) → MayAnswer setup start None

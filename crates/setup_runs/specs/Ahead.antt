@@ -9,7 +9,7 @@ use Rattle.outcomes.specs.declared.outcome.Ending.{Ending}
 use Rattle.outcomes.specs.declared.outcome.Ending.TheVariants.{Bounded}
 use Rattle.outcomes.specs.declared.outcome.Want.{Want}
 use Rattle.batch_runs.specs.Setups.{SetupState}
-use Rattle.setup_runs.specs.Solving.{MayAnswer}
+use Rattle.setup_runs.specs.Solving.{MayAnswer, HasStats}
 use Rattle.setup_runs.specs.declared.ahead.Ended.{Ended}
 
 -- the board has the sides of this grid
@@ -20,6 +20,7 @@ HasSides grid b = b.grid ≡ grid
 abbrev pub LacksMemory : Ending → Type 0
 LacksMemory ending = (bound : ℕ) × (best : Option (ℕ × Vec Move Global)) × (want : Want) × (ending ≡ Bounded bound best (Memory want))
 
--- each board of a lane may be answered by its ending
+-- each board of a lane may be answered by its ending, and has the stats of the search that gave it
 pub record AreEnded (setup : SetupState) (lane : Vec Ended Global) : Type 0 where
   pub each : All (λ it. MayAnswer setup it.board (Some it.solved.ending)) lane.items
+  pub stats : All (λ it. HasStats setup it.board it.solved) lane.items

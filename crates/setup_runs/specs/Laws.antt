@@ -1,5 +1,6 @@
 -- The laws of the definitions. Each is the contract of a function that does nothing.
-use Rattle.std.specs.Prelude.{ℕ, ◌≡◌, ◌≢◌, ◌⊎◌, ◌≤◌, ◌+◌, ◌*◌, List, Option, None, Some, Vec}
+use Rattle.std.specs.Prelude.{ℕ, ◌≡◌, ◌≢◌, ◌⊎◌, ◌≤◌, ◌+◌, ◌-◌, ◌*◌, ◌^◌, min, sum_by, List, Option, None, Some, Vec}
+use Rattle.std.specs.FinMap as map
 use Rattle.std.specs.declared.alloc.Global.{Global}
 use Rattle.board.specs.declared.moves.Move.{Move}
 use Rattle.board.specs.Positions.{Position}
@@ -23,7 +24,8 @@ use Rattle.world_model.specs.Openings.{Job, opening}
 use Rattle.world_model.specs.Steps.{IsRun}
 use Rattle.world_model.specs.Worlds.{WorldState}
 use Rattle.batch_runs.specs.Setups.{SetupState, task_of}
-use Rattle.setup_runs.specs.Solving.{MayAnswer, MayCertify}
+use Rattle.batch_runs.specs.declared.stats.Solved.{Solved}
+use Rattle.setup_runs.specs.Solving.{MayAnswer, MayCertify, HasStats}
 
 -- a board of the other class is refused for no want of memory
 abbrev pub ParityWantsNoMemory : Type 0
@@ -77,3 +79,24 @@ IsAloneBound (outcome.Bounded bound best cause rows) = (rows ≡ None) × Stands
 -- what may be certified may be answered, but for its rows, by a batch too, if it is no such bound
 abbrev pub CertifiedEndsAreAnswered : Type 0
 CertifiedEndsAreAnswered = (setup : SetupState) (b : Position) (given : Outcome) → MayCertify setup b (Some given) → MayAnswer setup b (Some (without_rows given)) ⊎ IsAloneBound given
+
+-- The stats of a board count what a world that ends so has expanded, and knows, up to 2^64 - 1. Without a search they are 0. The start's sum is the task's own.
+abbrev pub StatsAreOfWorlds : Type 0
+StatsAreOfWorlds =
+    (setup : SetupState) (start : Position) (solved : Solved)
+    → HasStats setup start solved
+    → (SameClass start setup.goal → (w : WorldState)
+    × EndsIn w solved.ending × (solved.stats.expanded ≡ min (expansion_count w) (2 ^ 64 - 1))
+    × (solved.stats.known ≡ min (sum_by (λ worker. map.len worker.known) w.workers) (2 ^ 64 - 1)))
+    × ((¬ SameClass start setup.goal) → (solved.stats.expanded ≡ 0) × (solved.stats.known ≡ 0))
+    × (solved.stats.start_sum ≡ (task_of setup start).sum start)
+
+-- Where one worker solves a board of the goal's class, steps from the opening world of the board's job lead to the world that the stats count.
+abbrev pub StatsAreOfTheSetups : Type 0
+StatsAreOfTheSetups =
+    (setup : SetupState) (start : Position) (solved : Solved)
+    → setup.workers ≡ 1
+    → SameClass start setup.goal
+    → HasStats setup start solved
+    → (owner : Position → ℕ) × (via : Move) × (made : List (Step × Option Refusal)) × (w : WorldState)
+    × IsRun (opening (job_by owner setup start) via) made w × EndsIn w solved.ending × (solved.stats.expanded ≡ min (expansion_count w) (2 ^ 64 - 1))

@@ -1,5 +1,5 @@
 -- How the boards of a setup are answered.
-use Rattle.std.specs.Prelude.{◌≡◌, ◌⊎◌, ◌↔◌, Option, None, Some, Result, Ok, IfOk}
+use Rattle.std.specs.Prelude.{ℕ, List, ◌≡◌, ◌⊎◌, ◌↔◌, ◌-◌, ◌^◌, min, Option, None, Some, Result, Ok, IfOk}
 use Rattle.memory.specs.declared.OutOfMemory.{OutOfMemory}
 use Rattle.board.specs.Positions.{Position}
 use Rattle.board.specs.Classes.{SameClass}
@@ -12,12 +12,19 @@ use Rattle.outcomes.specs.Outcomes.{Task, Answers}
 use Rattle.outcomes.specs.Endings.{EndAnswers}
 use Rattle.world_model.specs.Worlds.{WorldState}
 use Rattle.world_ends.specs.Endings.{EndsIn}
+use Rattle.world_ends.specs.Readings.{EndsWithFigures}
+use Rattle.world_ends.specs.declared.figures.Figures.{Figures}
 use Rattle.hda_run.specs.Alone.{IsFoundAlone}
 use Rattle.hda_run.specs.Problems.{Problem, problem}
 use Rattle.hda_run.specs.WholeRuns.{EndsWholeRun, HasWholeRun}
 use Rattle.thread_runs.specs.Solved.{IsFoundByWorkers, IsSolved}
+use Rattle.lower_bound.specs.Bounds.{sum_of}
+use Rattle.lower_bound.specs.Tables.{parts_of}
 use Rattle.batch_runs.specs.Setups.{SetupState, owner_by, task_of}
 use Rattle.batch_runs.specs.Batches.{Rules}
+use Rattle.batch_lines.specs.Words.{IsEntry}
+use Rattle.batch_runs.specs.declared.stats.Stats.{Stats}
+use Rattle.batch_runs.specs.declared.stats.Solved.{Solved}
 use Rattle.certificate_runs.specs.Rules.{ProofRules}
 
 -- what is to be solved for a board: the setup says the rest
@@ -65,3 +72,25 @@ rules_of setup = record { grid = setup.goal.grid; task = task_of setup; allows =
 -- and how where the rows are asked for
 abbrev pub certifying_rules_of : SetupState → ProofRules
 certifying_rules_of setup = record { grid = setup.goal.grid; task = task_of setup; allows = MayCertify setup }
+
+-- ---- figures
+
+-- The stats name the figures of a search, each cut to 64 bits, and the sum of the setup's tables for the start. When a search began and ended is said by no definition.
+pub record AreStatsOf (setup : SetupState) (start : Position) (figures : Figures) (stats : Stats) : Type 0 where
+  pub expanded : stats.expanded ≡ min figures.expanded (2 ^ 64 - 1)
+  pub known : stats.known ≡ min figures.known (2 ^ 64 - 1)
+  pub start_sum : stats.start_sum ≡ sum_of (parts_of setup.tables) start
+
+-- the figures are those of a run by the setup's workers, or by one of them, which ends so; without a run they are 0
+pub record AreFiguresOfRun (setup : SetupState) (start : Position) (ending : Ending) (figures : Figures) : Type 0 where
+  pub run : SameClass start setup.goal → IsFoundByWorkers EndsWithFigures owner_by (problem_of setup start) setup.spread setup.workers (record { ending = ending; figures = figures }) ⊎ IsFoundAlone EndsWithFigures owner_by (problem_of setup start) setup.spread (record { ending = ending; figures = figures })
+  pub apart : (¬ SameClass start setup.goal) → figures ≡ record { expanded = 0; known = 0 }
+
+-- the board is answered with the stats of the run that gives its ending
+abbrev pub HasStats : SetupState → Position → Solved → Type 0
+HasStats setup start solved = (figures : Figures) × AreFiguresOfRun setup start solved.ending figures × AreStatsOf setup start figures solved.stats
+
+-- the stats are those of a run for the board of a line with this id
+abbrev pub AreFiguresOfLine : List ℕ → Stats → Type 0
+AreFiguresOfLine id stats =
+    (setup : SetupState) × (line : List ℕ) × (b : Position) × (ending : Ending) × IsEntry setup.goal.grid line id b × HasStats setup b (record { ending = ending; stats = stats })

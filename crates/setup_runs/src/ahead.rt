@@ -4,7 +4,7 @@ ghost use Rattle.std.specs.Prelude.{◌≡◌, ◌↔◌, ◌<◌, All, IfSome, 
 ghost use Rattle.batch_runs.specs.Batches.{AreAllowed};
 ghost use Rattle.batch_runs.specs.Setups.{SetupState};
 ghost use Rattle.setup_runs.specs.Ahead.{HasSides, LacksMemory, AreEnded};
-ghost use Rattle.setup_runs.specs.Solving.{MayAnswer, rules_of};
+ghost use Rattle.setup_runs.specs.Solving.{MayAnswer, HasStats, rules_of};
 
 use crate::solving::{Question, job_for, solved_since};
 use crate::watching::Watch;
@@ -83,7 +83,8 @@ pub(crate) fn end_ahead<R: Threads + Wait + Sync, W: Watch + Sync>(
     watch: &W,
 ) -> Vec<(Board, Solved)>
     requires { All (HasSides setup.now.goal.grid) boards.now }
-    ensures { AreAllowed (rules_of setup.now) result.items }
+    ensures allowed { AreAllowed (rules_of setup.now) result.items }
+    ensures stats { All (λ it. HasStats setup.now it.0 it.1) result.items }
 {
     let threads = setup.worker_count();
     let Ok(made) = new_lanes(alloc, threads) else {
@@ -257,6 +258,7 @@ fn end_alone<S: Spread, W: Watch>(
         MayAnswer question.now.setup.now question.now.start.now (Some solved.ending)) }
     ensures whole { IfSome result (λ solved. ¬ LacksMemory solved.ending) }
     ensures none { IfNone result (MayAnswer question.now.setup.now question.now.start.now None) }
+    ensures stats { IfSome result (HasStats question.now.setup.now question.now.start.now) }
 {
     let begun = watch.microseconds();
     let job = job_for(question);
@@ -288,7 +290,8 @@ fn take_endings(
     lanes: &mut [Vec<Ended>],
 ) -> Vec<(Board, Solved)>
     requires { All (AreEnded setup.now) lanes.old }
-    ensures { AreAllowed (rules_of setup.now) result.items }
+    ensures allowed { AreAllowed (rules_of setup.now) result.items }
+    ensures stats { All (λ it. HasStats setup.now it.0 it.1) result.items }
 {
     let mut ready = Vec::new(alloc);
     'places: for place in (0..count).rev() {
@@ -308,6 +311,7 @@ fn take_ended(setup: &Setup, place: usize, lanes: &mut [Vec<Ended>]) -> Option<E
     requires { All (AreEnded setup.now) lanes.old }
     ensures lanes { All (AreEnded setup.now) lanes.new }
     ensures ended { IfSome result (λ it. MayAnswer setup.now it.board (Some it.solved.ending)) }
+    ensures stats { IfSome result (λ it. HasStats setup.now it.board it.solved) }
 {
     let _ = setup;
     'lanes: for lane in 0..lanes.len() {

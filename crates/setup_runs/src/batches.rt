@@ -1,15 +1,15 @@
 //! Batches of a setup.
 
-ghost use Rattle.std.specs.Prelude.{◌≡◌, ◌⊎◌};
+ghost use Rattle.std.specs.Prelude.{◌≡◌, ◌⊎◌, All, IfOk};
 ghost use Rattle.byte_streams.specs.Streams.{change};
 ghost use Rattle.batch_runs.specs.Batches.{ReportsLines, HasFailed, MayGive, AreAllowed};
 ghost use Rattle.batch_runs.specs.Headline.{IsTrueRun};
-ghost use Rattle.setup_runs.specs.Solving.{rules_of};
+ghost use Rattle.setup_runs.specs.Solving.{HasStats, rules_of};
 
 use crate::ahead::{boards_ahead, end_ahead};
 use crate::solving::{Question, solve_board};
 use crate::watching::{Unwatched, Watch};
-use batch_runs::{LinesFault, Ruled, Setup, Solved, Solver, Stats, Summary, run_lines};
+use batch_runs::{LinesFault, Ruled, Setup, Solved, Solver, Summary, run_lines};
 use board::{Board, Shape};
 use byte_streams::{Sink, Source};
 use hda_run::Gate;
@@ -44,12 +44,16 @@ impl<
         ((start : _) → start.now.grid ≡ guided.setup.now.goal.grid → F.pre guided.solve start)
         × ((start result : _) → start.now.grid ≡ guided.setup.now.goal.grid
         → F.post guided.solve start result
-        → MayGive (rules_of guided.setup.now) start.now result)
+        → MayGive (rules_of guided.setup.now) start.now result
+        × IfOk result (HasStats guided.setup.now start.now))
         × ((start held : _) → start.now.grid ≡ guided.setup.now.goal.grid
         → P.pre guided.ahead start held)
         × ((start held result : _) → start.now.grid ≡ guided.setup.now.goal.grid
         → P.post guided.ahead start held result
-        → AreAllowed (rules_of guided.setup.now) result.items) };
+        → AreAllowed (rules_of guided.setup.now) result.items
+        × All (λ it. HasStats guided.setup.now it.0 it.1) result.items) };
+
+    ghost has_stats = { λ guided b solved. HasStats guided.setup.now b solved };
 
     fn shape(&self) -> Shape {
         self.setup.shape()
@@ -63,8 +67,8 @@ impl<
         (self.ahead)(start, held)
     }
 
-    fn observe(&self, id: &str, stats: &Stats) {
-        self.watch.observe(id, stats);
+    fn observe(&self, id: &str, solved: &Solved) {
+        self.watch.observe(id, &solved.stats);
     }
 }
 
@@ -123,11 +127,13 @@ pub fn run_watched<R: Threads + Wait + Sync, S: Source, K: Sink, W: Watch + Sync
 {
     let solve = |start: &Board| -> Result<Solved, OutOfMemory>
         requires { start.now.grid ≡ setup.now.goal.grid }
-        ensures { MayGive (rules_of setup.entry.now) start.now result }
+        ensures { MayGive (rules_of setup.entry.now) start.now result
+            × IfOk result (HasStats setup.entry.now start.now) }
     { solve_board(rt, alloc, &Question { setup, start }, watch) };
     let ahead = |start: &Board, held: &[u8]| -> Vec<(Board, Solved)>
         requires { start.now.grid ≡ setup.now.goal.grid }
-        ensures { AreAllowed (rules_of setup.entry.now) result.items }
+        ensures { AreAllowed (rules_of setup.entry.now) result.items
+            × All (λ it. HasStats setup.entry.now it.0 it.1) result.items }
     {
         match boards_ahead(alloc, &Question { setup, start }, held) {
             Some(boards) => end_ahead(rt, alloc, setup, boards.as_slice(), watch),

@@ -2,7 +2,7 @@
 
 ghost use Rattle.setup_runs.specs.Laws.{ParityWantsNoMemory, ParityIsAnswered};
 ghost use Rattle.setup_runs.specs.Laws.{BoundsAreNeverCut, LimitsAreTheSetups, LimitsAreNearlySpent};
-ghost use Rattle.setup_runs.specs.Laws.{ParityIsCertified, CertifiedEndsAreAnswered};
+ghost use Rattle.setup_runs.specs.Laws.{ParityIsCertified, CertifiedEndsAreAnswered, StatsAreOfWorlds, StatsAreOfTheSetups};
 
 /// A board of the other class is refused for no want of memory.
 pub fn parity_wants_no_memory()
@@ -16,6 +16,7 @@ pub fn parity_is_answered()
 
 /// A bound is answered for no run that was cut, and for the limit after just as many expansions by
 /// one worker, and after nearly as many by more.
+#[tactic(auto, using(crate::proofs::LawLemmas::never_cut, crate::proofs::LawLemmas::limits, crate::proofs::LawLemmas::limits_nearly))]
 pub fn bounds_are_due()
     ensures kept { BoundsAreNeverCut }
     ensures limit { LimitsAreTheSetups }
@@ -24,7 +25,15 @@ pub fn bounds_are_due()
 
 /// What may be certified of a board may be answered too, but for a bound for which memory was
 /// refused.
+#[tactic(auto, using(crate::proofs::SolvingLemmas::certified_answered, crate::proofs::SolvingLemmas::parity_certified))]
 pub fn certified_ends_are_answered()
     ensures parity { ParityIsCertified }
     ensures answered { CertifiedEndsAreAnswered }
+{}
+
+/// Stats are those of a world that ends so.
+#[tactic(auto, using(crate::proofs::LawLemmas::stats_of_worlds, crate::proofs::LawLemmas::stats_of_setups))]
+pub fn stats_are_of_worlds()
+    ensures worlds { StatsAreOfWorlds }
+    ensures setups { StatsAreOfTheSetups }
 {}

@@ -1,10 +1,10 @@
 //! The solver of a setup's boards.
 
-ghost use Rattle.std.specs.Prelude.{◌≡◌};
+ghost use Rattle.std.specs.Prelude.{◌≡◌, ◌-◌, ◌^◌, min, IfOk};
 ghost use Rattle.board.specs.Positions.{Position};
 ghost use Rattle.batch_runs.specs.Setups.{owner_by};
 ghost use Rattle.batch_runs.specs.Batches.{MayGive};
-ghost use Rattle.setup_runs.specs.Solving.{problem_of, rules_of, IsSearched};
+ghost use Rattle.setup_runs.specs.Solving.{problem_of, rules_of, IsSearched, AreStatsOf, HasStats};
 
 use crate::watching::Watch;
 use batch_runs::{Setup, Solved, SpreadKind, Stats};
@@ -36,7 +36,8 @@ pub(crate) fn solve_board<R: Threads + Wait + Sync, W: Watch + Sync>(
     question: &Question<'_>,
     watch: &W,
 ) -> Result<Solved, OutOfMemory>
-    ensures { MayGive (rules_of question.now.setup.now) question.now.start.now result }
+    ensures allowed { MayGive (rules_of question.now.setup.now) question.now.start.now result }
+    ensures stats { IfOk result (HasStats question.now.setup.now question.now.start.now) }
 {
     let begun = watch.microseconds();
     match answer_board::<WithFigures, R, W>(rt, alloc, question, watch) {
@@ -52,7 +53,9 @@ pub(crate) fn solved_since<W: Watch>(
     found: EndingWithFigures,
     watch: &W,
 ) -> Solved
-    ensures { result.ending ≡ found.ending }
+    ensures ending { result.ending ≡ found.ending }
+    ensures stats { AreStatsOf question.now.setup.now question.now.start.now found.figures
+        result.stats }
 {
     let stats = Stats {
         expanded: narrowed(found.figures.expanded),
@@ -67,7 +70,9 @@ pub(crate) fn solved_since<W: Watch>(
 }
 
 // A count, or the greatest number of 64 bits where that is less.
-fn narrowed(count: u128) -> u64 {
+fn narrowed(count: u128) -> u64
+    ensures { result ≡ min count (2 ^ 64 - 1) }
+{
     u64::try_from(count).unwrap_or(u64::MAX)
 }
 

@@ -1,5 +1,7 @@
 //! Who watches a run.
 
+ghost use Rattle.setup_runs.specs.Solving.{AreFiguresOfLine};
+
 use batch_runs::Stats;
 use hda_run::{Gate, Kind};
 
@@ -10,7 +12,8 @@ pub trait Watch: Gate {
     fn microseconds(&self) -> u64;
 
     /// Takes the figures of the line with this id, whose board is answered.
-    fn observe(&self, id: &str, stats: &Stats);
+    fn observe(&self, id: &str, stats: &Stats)
+        requires { AreFiguresOfLine id.now stats.now };
 }
 
 /// A gate alone.

@@ -41,6 +41,8 @@ impl Ruled for ByBlank {
 impl Solver for ByBlank {
     ghost is_callable = { λ _. Unit {0} };
 
+    ghost has_stats = { λ _ _ _. Unit {0} };
+
     fn shape(&self) -> Shape {
         self.shape
     }
@@ -60,7 +62,7 @@ impl Solver for ByBlank {
         Vec::new(self.alloc)
     }
 
-    fn observe(&self, _id: &str, _stats: &Stats) {}
+    fn observe(&self, _id: &str, _solved: &Solved) {}
 }
 
 fn answer_by_blank(alloc: Global, start: &Board) -> Result<Ending, OutOfMemory> {

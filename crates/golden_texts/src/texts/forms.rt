@@ -105,7 +105,7 @@ fn print_figures(rt: &(impl Print + AllocGlobal)) -> io::Result<()> {
     let stats = Stats {
         expanded: 109,
         known: u64::MAX,
-        microseconds: 0,
+        microseconds: 8_000_007,
         start_sum: 29,
     };
     match stats_text(rt.alloc(), "a\"b", &stats) {

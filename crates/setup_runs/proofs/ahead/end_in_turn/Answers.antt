@@ -4,8 +4,8 @@ use Rattle.setup_runs.proofs.ahead.end_in_turn.Goals as goal
 
 pub returns-then-is_err : goal.returns-then-is_err
 returns-then-is_err g c =
-    ended_more c.args.shared.now.setup.now c.boards.lane c.push.new.items _ (is_ok c.push.result) c.push.ensures.items c.boards.invariant c.in-Some.ensures.some
+    ended_more c.args.shared.now.setup.now c.boards.lane c.push.new.items _ (is_ok c.push.result) c.push.ensures.items c.boards.invariant c.in-Some.ensures.some c.in-Some.ensures.stats
 
 pub boards-preserved : goal.boards-preserved
 boards-preserved g c =
-    ended_more c.args.shared.now.setup.now c.boards.lane c.push.new.items _ (is_ok c.push.result) c.push.ensures.items c.boards.invariant c.in-Some.ensures.some
+    ended_more c.args.shared.now.setup.now c.boards.lane c.push.new.items _ (is_ok c.push.result) c.push.ensures.items c.boards.invariant c.in-Some.ensures.some c.in-Some.ensures.stats

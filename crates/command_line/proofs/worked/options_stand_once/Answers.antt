@@ -1,7 +1,0 @@
-use Rattle.std.proofs.Common.{refl}
-use Rattle.clap.proofs.OnLiterals.{clap_on_literals}
-use Rattle.command_line.proofs.worked.options_stand_once.Goals as goal
-
-pub returns : goal.returns
-unfolding clap_on_literals
-returns c = λ spreads. (refl, refl)
