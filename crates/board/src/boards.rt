@@ -89,6 +89,7 @@ impl Board {
     /// The board with these numbers on its cells, from cell 0 on, or the first fault: E2 where
     /// their count is not that of the cells, else by place E3 where a number is not below the count
     /// of cells, E4 where it stood before.
+    #[tactic(auto, using(crate::proofs::FaultLemmas::no_fault, crate::proofs::FaultLemmas::one_fault))]
     pub fn from_tiles(shape: Shape, numbers: &[u8]) -> Result<Self, TilesFault>
         ensures accepted { IsOk result ↔ IsBoard (record { grid = shape; tiles = numbers.now }) }
         ensures value { IfOk result (λ b. b ≡ record { grid = shape; tiles = numbers.now }) }

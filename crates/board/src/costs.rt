@@ -67,6 +67,7 @@ impl Eq for Weights {
 
 impl Weights {
     /// Unit cost: every move costs 1.
+    #[tactic(auto, using(crate::proofs::GoalLemmas::ones_more, crate::proofs::GoalLemmas::unit_stored))]
     pub fn unit(shape: Shape) -> Self
         ensures { result ≡ unit_rule shape }
     {

@@ -19,6 +19,7 @@ pub fn all_moves_are_there()
 {}
 
 /// A letter is read as the move whose letter it is, and nothing else is read.
+#[tactic(auto, using(crate::proofs::LetterLemmas::letter_reads))]
 pub fn letters_are_read()
     ensures { LettersAreRead }
 {}
@@ -67,26 +68,31 @@ pub fn moves_keep_boards()
 {}
 
 /// A move leads to one board, at one cost.
+#[tactic(auto, using(crate::proofs::MoveLemmas::one_move))]
 pub fn moves_are_determined()
     ensures { MovesAreDetermined }
 {}
 
 /// The opposite move takes a move back, at the same cost.
+#[tactic(auto, using(crate::proofs::MoveLemmas::taken_back))]
 pub fn moves_are_taken_back()
     ensures { MovesAreTakenBack }
 {}
 
 /// Plans that follow one another make one plan, and their costs add up.
+#[tactic(auto, using(crate::proofs::PlanLemmas::joined))]
 pub fn plans_are_joined()
     ensures { PlansAreJoined }
 {}
 
 /// A plan can be cut at any place.
+#[tactic(auto, using(crate::proofs::PlanLemmas::cut))]
 pub fn plans_are_cut()
     ensures { PlansAreCut }
 {}
 
 /// A plan leads from a board to one board, at one cost.
+#[tactic(auto, using(crate::proofs::PlanLemmas::led_board, crate::proofs::PlanLemmas::one_end))]
 pub fn plans_are_determined()
     ensures boards { PlansKeepBoards }
     ensures one { PlansAreDetermined }
@@ -110,6 +116,7 @@ pub fn keys_name_boards()
 {}
 
 /// The order of keys is the order of lists of tiles.
+#[tactic(auto, using(std::proofs::lemmas::List::Elements::recursion_from_All, crate::proofs::KeyLemmas::packed_in_order, crate::proofs::KeyLemmas::tiles_small))]
 pub fn keys_are_in_order()
     ensures { KeysAreInOrder }
 {}

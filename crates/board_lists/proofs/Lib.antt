@@ -2,4 +2,3 @@ pub mod DrawLemmas
 pub mod WalkLemmas
 pub mod ListLemmas
 pub mod ClassLemmas
-pub mod EntryLemmas

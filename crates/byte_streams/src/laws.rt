@@ -12,11 +12,13 @@ pub fn ends_are_true()
 {}
 
 /// A byte that is answered is the first of those known to be left, and the others stay.
+#[tactic(auto, using(crate::proofs::SourceLemmas::one_taken))]
 pub fn bytes_are_first()
     ensures { BytesAreFirst }
 {}
 
 /// A failure takes none of the bytes known to be left.
+#[tactic(auto, using(crate::proofs::SourceLemmas::all_kept))]
 pub fn failures_take_none()
     ensures { FailuresTakeNone }
 {}
@@ -27,6 +29,7 @@ pub fn answers_tell_failures()
 {}
 
 /// A source that has failed answers neither a byte nor the end.
+#[tactic(auto, using(crate::proofs::SourceLemmas::none_given))]
 pub fn failures_last()
     ensures { FailuresLast }
 {}

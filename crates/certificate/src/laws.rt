@@ -7,6 +7,7 @@ ghost use Rattle.certificate.specs.Laws.{FaultlessIsSpelledOrCutOff, FaultsShowL
 
 /// A certificate is read exactly where the bytes spell it. Else they have one first fault. Nothing is
 /// wrong with bytes that spell one or are cut off, and with no others.
+#[tactic(auto, using(crate::proofs::CertificateLemmas::read_takes, crate::proofs::LawLemmas::spelled_read, crate::proofs::LawLemmas::spelled_or_faulty, crate::proofs::LawLemmas::not_both, crate::proofs::LawLemmas::faultless))]
 pub fn reading_is_spelling()
     ensures both_ways { ReadingIsSpelling }
     ensures all { SpelledOrFaulty }
@@ -16,11 +17,13 @@ pub fn reading_is_spelling()
 {}
 
 /// What stands before the first fault is the beginning of some spelling.
+#[tactic(auto, using(crate::proofs::CertificateLemmas::before_fault))]
 pub fn faults_come_first()
     ensures { FaultsComeFirst }
 {}
 
 /// No spelling begins another one.
+#[tactic(auto, using(crate::proofs::LawLemmas::none_begins_another))]
 pub fn none_begins_another()
     ensures { NoneBeginsAnother }
 {}
@@ -34,12 +37,14 @@ pub fn one_spelling_a_certificate()
 /// An answer tells of the bytes that were taken: they spell the certificate, or have its first
 /// fault; or they have none, unless they are cut off, where the source failed or memory was
 /// refused.
+#[tactic(auto, using(crate::proofs::LawLemmas::told_of_bytes))]
 pub fn answers_tell_of_bytes()
     ensures { AnswersTellOfBytes }
 {}
 
 /// No more is taken than shows the first fault: it shows with the last byte that was taken, or at
 /// the end.
+#[tactic(auto, using(crate::proofs::LawLemmas::fault_shows_last))]
 pub fn faults_show_last()
     ensures { FaultsShowLast }
 {}

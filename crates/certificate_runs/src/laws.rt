@@ -19,6 +19,7 @@ pub fn other_faults_leave_the_sink<A: ProofRuled>(asked: &A)
 }
 
 /// And so does one that checks a certificate.
+#[tactic(auto, using(crate::proofs::HeadlineLemmas::no_verdict))]
 pub fn other_faults_write_no_verdict()
     ensures { OtherFaultsWriteNoVerdict }
 {}
@@ -32,6 +33,7 @@ pub fn silence_is_unasked<A: ProofRuled>(asked: &A)
 
 /// No report names a least plan, or a bound but for want of memory: of such an answer the
 /// certificate is written, and its status tells which.
+#[tactic(auto, using(crate::proofs::HeadlineLemmas::certified, crate::proofs::HeadlineLemmas::bounds_certified, crate::proofs::HeadlineLemmas::claims_of_endings, crate::proofs::HeadlineLemmas::statuses_tell))]
 pub fn least_plans_are_certified()
     ensures plans { LeastPlansAreCertified }
     ensures bounds { BoundsAreCertified }
@@ -61,6 +63,7 @@ pub fn replies_are_of_rules<A: ProofRuled>(asked: &A)
 
 /// A verdict is given, or memory is wanting for one, only where a certificate was read or a fault
 /// of the bytes.
+#[tactic(auto, using(crate::proofs::HeadlineLemmas::for_verdicts, crate::proofs::HeadlineLemmas::on_what_was_read))]
 pub fn verdicts_are_on_what_was_read()
     ensures verdicts { VerdictsAreOnWhatWasRead }
     ensures wants { WantsAreForVerdicts }

@@ -14,6 +14,7 @@ pub fn own_tables_are_as_good()
 
 /// Where they were folded, the whole tables that they were folded from are as good, where those are
 /// potentials: no certificate of a run that was guided by folded tables is refused with them.
+#[tactic(auto, using(crate::proofs::OutcomeLemmas::folded_from))]
 pub fn tables_folded_from_are_as_good()
     ensures { TablesFoldedFromAreAsGood }
 {}
@@ -37,6 +38,7 @@ pub fn proved_plans_are_least()
 
 /// Behind the outcome of a checked run, and behind a certificate that is refused, stands what so many
 /// workers answer, or one alone.
+#[tactic(auto, using(crate::proofs::OutcomeLemmas::run_behind))]
 pub fn checked_runs_are_runs<S: Spread>()
     ensures { CheckedRunsAreRuns S.owner_of }
 {}

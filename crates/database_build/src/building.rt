@@ -52,6 +52,7 @@ pub fn build_in(
 }
 
 // The same, in a frame of its own.
+#[tactic(auto, using(crate::proofs::FrameLemmas::table_built))]
 fn build_of(
     alloc: Global,
     frame: Frame,

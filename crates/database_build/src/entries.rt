@@ -68,6 +68,7 @@ pub(crate) fn keep_values(
 }
 
 // What views have at their slots, where what nodes have is given.
+#[tactic(auto, using(crate::proofs::EntryLemmas::all_written, crate::proofs::EntryLemmas::slots_all))]
 fn fill_slots<T: Copy>(
     alloc: Global,
     group: &Group,

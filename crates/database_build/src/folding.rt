@@ -71,6 +71,7 @@ impl Folded {
     }
 
     /// Its group.
+    #[tactic(auto, using(crate::proofs::FoldLemmas::fold_size))]
     pub fn group(&self) -> &Group
         ensures value { result.now ≡ self.now.selection }
         ensures size { length self.now.least ≡ folded_size_of self.now.selection }
@@ -168,6 +169,7 @@ impl Folded {
     }
 
     /// How many values it has: N! / (N - k)! for k tiles and N cells.
+    #[tactic(auto, using(crate::proofs::FoldLemmas::fold_size))]
     pub fn size(&self) -> usize
         ensures value { result ≡ folded_size_of self.now.selection }
         ensures values { result ≡ length self.now.least }

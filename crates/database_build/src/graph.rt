@@ -78,6 +78,7 @@ fn costs_of(group: &Group, weights: &Weights) -> [u8; 9]
 }
 
 // Writes the cell of each tile.
+#[tactic(auto, using(std::proofs::lemmas::List::take_more_set, std::proofs::lemmas::List::map_more))]
 fn pick_cells(numbers: &[u8; 25], tiles: &[u8], cells: &mut [u8])
     requires same { length cells.old ≡ length tiles.now }
     requires within { All (λ tile. tile < 25) tiles.now }

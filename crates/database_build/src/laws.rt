@@ -63,6 +63,7 @@ pub fn folded_values_are_least()
 
 /// Values are kept best in one form: by rank, as bytes, or as words. Folded values are kept as words
 /// only where some value needs one.
+#[tactic(auto, using(crate::proofs::EntryLemmas::one_form, crate::proofs::PlacementLemmas::small_places))]
 pub fn forms_are_determined()
     ensures best { FormsAreDetermined }
     ensures words { WordsAreNeeded }

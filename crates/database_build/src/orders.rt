@@ -98,6 +98,7 @@ pub(crate) struct Orders {
 }
 
 impl Orders {
+    #[tactic(auto, using(crate::proofs::OrderTables::kept_next, crate::proofs::OrderTables::kept_own))]
     pub(crate) fn new(alloc: Global, count: usize) -> Result<Self, OutOfMemory>
         requires some { 0 < count }
         requires short { count ≤ 9 }
@@ -161,6 +162,7 @@ impl Orders {
     }
 
     // The tile at a position.
+    #[tactic(auto, using(crate::proofs::OrderTables::tile_read))]
     pub(crate) fn tile(&self, order: usize, position: usize) -> usize
         requires orders { IsOrders self.now.count self.now }
         requires order { order < factorial self.now.count }
@@ -172,6 +174,7 @@ impl Orders {
     }
 
     // The order after the tile at a position has come to another.
+    #[tactic(auto, using(crate::proofs::OrderTables::move_read))]
     pub(crate) fn moved(&self, order: usize, from: usize, to: usize) -> usize
         requires orders { IsOrders self.now.count self.now }
         requires order { order < factorial self.now.count }

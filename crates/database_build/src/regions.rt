@@ -61,6 +61,7 @@ impl Regions {
     }
 
     // Numbers the cells of a set, after those of the sets below it.
+    #[tactic(auto, using(crate::proofs::RegionLemmas::set_written))]
     fn add_set(&mut self, set: usize) -> Result<(), OutOfMemory>
         requires begun { AreBegun self.old.shape self.old.count set self.old }
         requires below { set < choose (cell_count self.old.shape) self.old.count }
@@ -225,6 +226,7 @@ fn lower_towards(
 }
 
 // Whether a tile stands on the cell.
+#[tactic(auto, using(std::proofs::lemmas::List::get_or_default))]
 pub(crate) fn stands_on(cells: &[u8], cell: usize) -> bool
     requires { cell < 2 ^ 8 }
     ensures { IsTrue result ↔ Contains cells.now cell }

@@ -40,6 +40,7 @@ impl Choices {
     }
 
     // The place of a set of different cells, in any order.
+    #[tactic(auto, using(crate::proofs::SetLemmas::placed_more, crate::proofs::SetLemmas::placed_all))]
     pub(crate) fn place(&self, cells: &[u8]) -> usize
         requires choices { IsChoices self.now }
         requires few { length cells.now ≤ 9 }

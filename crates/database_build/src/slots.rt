@@ -34,6 +34,7 @@ pub(crate) fn find_positions(alloc: Global, count: usize) -> Result<Vec<u8>, Out
 }
 
 // Puts the positions of all tiles in an order at the end.
+#[tactic(auto, using(crate::proofs::SlotLemmas::pushed_position, crate::proofs::SlotLemmas::position_read, crate::proofs::SlotLemmas::pushed_all))]
 fn add_positions(count: usize, order: usize, all: &mut Vec<u8>) -> Result<(), OutOfMemory>
     requires count { count ≤ 9 }
     requires order { order < factorial count }

@@ -65,6 +65,7 @@ impl Table {
     }
 
     /// Its group, which has as many views as the table has values.
+    #[tactic(auto, using(crate::proofs::EntryLemmas::table_size))]
     pub fn group(&self) -> &Group
         ensures value { result.now ≡ self.now.selection }
         ensures size { length self.now.values ≡ size_of self.now.selection }
@@ -75,6 +76,7 @@ impl Table {
     }
 
     /// The value of a view.
+    #[tactic(auto, using(crate::proofs::EntryLemmas::byte_read, crate::proofs::EntryLemmas::word_read))]
     pub fn value(&self, view: &View) -> u16
         requires { IsView self.now.selection.grid self.now.selection.tiles view.now }
         ensures { result ≡ value_in self.now view.now }

@@ -5,6 +5,7 @@ ghost use Rattle.drawings.specs.Worked.{PlansAreDrawn, BoundsAreDrawn};
 ghost use Rattle.drawings.specs.Worked.{OblongPlansAreDrawn, NumbersFit};
 
 /// The bands have each picture once, in order.
+#[tactic(auto, using(crate::proofs::TextLemmas::bands_whole))]
 pub fn bands_are_whole()
     ensures { BandsAreWhole }
 {}

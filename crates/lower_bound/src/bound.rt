@@ -218,6 +218,7 @@ impl Bound {
     }
 
     // Its folded tables, where none is whole.
+    #[tactic(auto, using(crate::proofs::PartLemmas::folds_fit))]
     fn folds(&self) -> &[Folded]
         requires { self.now.lookups ≡ [] }
         ensures value { result.now ≡ self.now.folds }
@@ -296,6 +297,7 @@ fn are_folds_of(groups: &[Group], folds: &[Folded]) -> bool
 }
 
 // The tables folded, each given back then. Where there is none, nothing is refused.
+#[tactic(auto, using(crate::proofs::PartLemmas::folded_more))]
 fn fold_all(alloc: Global, tables: Vec<Table>) -> Result<Vec<Folded>, OutOfMemory>
     requires { length tables.items ≤ 24 }
     ensures folded { IfOk result (λ folds. AreFolded tables.items folds.items) }

@@ -27,11 +27,13 @@ pub fn folded_sums_are_lower_bounds()
 {}
 
 /// A bound whose tables were folded says no more of a board than it said before.
+#[tactic(auto, using(crate::proofs::PartLemmas::folded_no_more))]
 pub fn folded_bounds_say_no_more()
     ensures { FoldedBoundsSayNoMore }
 {}
 
 /// The tables that a bound gives out are one for each of its groups, in the order of the groups.
+#[tactic(auto, using(crate::proofs::PartLemmas::listed_each))]
 pub fn listed_tables_are_one_each()
     ensures { ListedTablesAreOneEach }
 {}

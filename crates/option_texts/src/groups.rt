@@ -19,6 +19,7 @@ use std::alloc::Global;
 /// fault of the first group that has one, E5 where it has no word, else by place E6 where a word is
 /// no tile, E7 where its tile stood before, else E8; and where no group has one, E10 where there
 /// are too many groups, else E9 where two share a tile. Memory may be refused for the groups.
+#[tactic(auto, using(crate::proofs::TextLemmas::groups_fit))]
 pub fn read_groups(alloc: Global, shape: Shape, text: &str) -> Result<Partition, GroupsFault>
     ensures groups { IfOk result
         (λ p. (p.grid ≡ shape) × AreGroupsOf shape (group_texts text.now) p.groups) }

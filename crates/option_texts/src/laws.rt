@@ -8,6 +8,7 @@ ghost use Rattle.option_texts.specs.Laws.{PartitionsHaveNoFault, FaultsAreDeterm
 ghost use Rattle.option_texts.specs.Laws.{DefaultsHaveEachTile};
 
 /// A text says one goal at most, and one that says a goal has no fault.
+#[tactic(auto, using(crate::proofs::TextLemmas::one_goal, crate::proofs::TextLemmas::no_goal_fault))]
 pub fn goals_say_one_thing()
     ensures goals { GoalsAreDetermined }
     ensures none { GoalsHaveNoFault }
@@ -23,12 +24,14 @@ pub fn costs_say_one_thing()
 
 /// Texts that say a partition have no fault, and no texts have two first faults; of both it is left
 /// out that memory is refused.
+#[tactic(auto, using(crate::proofs::LawLemmas::no_groups_fault, crate::proofs::LawLemmas::one_groups_fault))]
 pub fn texts_say_one_thing()
     ensures partitions { PartitionsHaveNoFault }
     ensures faults { FaultsAreDetermined }
 {}
 
 /// Where no groups are named, they have each tile once, in rising order.
+#[tactic(auto, using(crate::proofs::LawLemmas::each_tile))]
 pub fn defaults_have_each_tile()
     ensures { DefaultsHaveEachTile }
 {}

@@ -1,6 +1,5 @@
 pub mod RankLemmas
 pub mod WaysLemmas
-pub mod MaskLemmas
 pub mod CellLemmas
 pub mod SightLemmas
 pub mod PlaceLemmas

@@ -120,6 +120,7 @@ impl Group {
     }
 
     /// Its tiles in rising order.
+    #[tactic(auto, using(crate::proofs::GroupLemmas::groups_small))]
     pub fn tiles(&self) -> &[u8]
         ensures value { result.now ≡ self.now.tiles }
         ensures group { IsSelection self.now }
@@ -153,6 +154,7 @@ impl Group {
     }
 
     /// What it sees of a board: the board's abstraction for the group.
+    #[tactic(auto, using(crate::proofs::ViewMoveLemmas::board_view))]
     pub fn view(&self, board: &Board) -> View
         requires { board.now.grid ≡ self.now.grid }
         ensures value { result ≡ view_of self.now.tiles board.now }

@@ -15,6 +15,7 @@ ghost use Rattle.pattern_index.specs.Laws.{ViewMovesAreDetermined, ViewPlansAreD
 use crate::group::MAX_SIZE;
 
 /// The ways to list different cells are a quotient of factorials.
+#[tactic(auto, using(crate::proofs::WaysLemmas::ways_quotient))]
 pub fn ways_are_factorials()
     ensures { WaysAreFactorials }
 {}
@@ -29,12 +30,14 @@ pub fn ranks_are_places()
 {}
 
 /// A group has 2^26 views at most, and 9 tiles at most.
+#[tactic(auto, using(crate::proofs::GroupLemmas::groups_small))]
 pub fn groups_are_small()
     ensures views { MAX_SIZE ≡ 2 ^ 26 }
     ensures tiles { GroupsAreSmall }
 {}
 
 /// The ranks of a group's views are the numbers below its size, and no two views share one.
+#[tactic(auto, using(crate::proofs::GroupLemmas::groups_small, crate::proofs::SightLemmas::sight_below, crate::proofs::SightLemmas::sight_from_rank, crate::proofs::SightLemmas::sight_at))]
 pub fn views_are_ranked()
     ensures below { ViewRanksAreBelow }
     ensures differ { ViewRanksDiffer }
@@ -43,6 +46,7 @@ pub fn views_are_ranked()
 
 /// The place of a view is below the group's folded size, and views share one exactly where they show
 /// the tiles on the same cells.
+#[tactic(auto, using(crate::proofs::PlaceLemmas::place_below, crate::proofs::PlaceLemmas::same_cells))]
 pub fn places_are_ranked()
     ensures below { PlacesAreBelow }
     ensures differ { PlacesDiffer }
@@ -58,6 +62,7 @@ pub fn sparse_places_are_numbers()
 
 /// The slot of a view has its cells as digits, it is below the count of slots, and no two views share
 /// one.
+#[tactic(auto, using(crate::proofs::SparseLemmas::slot_below, crate::proofs::SparseLemmas::slots_differ))]
 pub fn views_have_slots()
     ensures digits { SlotsAreDigits }
     ensures count { SlotsAreCounted }
@@ -66,6 +71,7 @@ pub fn views_have_slots()
 {}
 
 /// What a group sees of a board, its abstraction, is a view.
+#[tactic(auto, using(crate::proofs::ViewMoveLemmas::board_view))]
 pub fn boards_have_views()
     ensures { BoardsHaveViews }
 {}
@@ -88,6 +94,7 @@ pub fn view_moves_are_taken_back()
 {}
 
 /// A view's move, and a view plan, leads to one view, at one cost.
+#[tactic(auto, using(crate::proofs::ViewMoveLemmas::one_view_move, crate::proofs::ViewMoveLemmas::one_view_end))]
 pub fn view_plans_are_determined()
     ensures moves { ViewMovesAreDetermined }
     ensures plans { ViewPlansAreDetermined }

@@ -145,6 +145,7 @@ pub fn cells_of(board: &Board) -> [u8; 25]
 }
 
 // Writes what a list holds at each place.
+#[tactic(auto, using(std::proofs::lemmas::List::take_more_set, std::proofs::lemmas::List::map_more))]
 fn pick(list: &[u8; 25], places: &[u8], picked: &mut [u8])
     requires same { length picked.old ≡ length places.now }
     requires within { All (λ place. place < 25) places.now }

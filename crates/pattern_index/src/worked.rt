@@ -4,16 +4,19 @@ ghost use Rattle.pattern_index.specs.Worked.{ViewRanks, ViewSlots, GroupSizes, O
 ghost use Rattle.pattern_index.specs.Worked.{FourViewMoves, OneViewPlan};
 
 /// The ranks of six views.
+#[tactic(auto, unfolding(crate::specs::Ranks::ways, crate::specs::Ranks::rank_after, crate::specs::Ranks::rank_of))]
 pub fn view_ranks()
     ensures { ViewRanks }
 {}
 
 /// The slots of four views, and how many two groups have.
+#[tactic(auto, unfolding(crate::specs::Sparse::sparse_of))]
 pub fn view_slots()
     ensures { ViewSlots }
 {}
 
 /// The sizes of five groups, and the greatest size between them.
+#[tactic(auto, unfolding(crate::specs::Ranks::ways))]
 pub fn group_sizes()
     ensures { GroupSizes }
 {}

@@ -5,16 +5,19 @@ ghost use Rattle.reports.specs.Laws.{OutcomesAreTold, OutcomesAreToldAlike, Refu
 ghost use Rattle.reports.specs.Laws.{CostsAreTold, BoundsAreTold, CodesAreTold};
 
 /// A report has one line feed, its last byte.
+#[tactic(auto, using(crate::proofs::TextLemmas::text_other))]
 pub fn reports_are_lines()
     ensures { ReportsAreLines }
 {}
 
 /// Whoever reads the line of a report as JSON reads the value that it was made of.
+#[tactic(auto, using(crate::proofs::ReadLemmas::report_read))]
 pub fn reports_are_read()
     ensures { ReportsAreRead }
 {}
 
 /// Equal texts are reports of equal values.
+#[tactic(auto, using(crate::proofs::ReadLemmas::one_thing))]
 pub fn reports_say_one_thing()
     ensures { ReportsSayOneThing }
 {}
@@ -26,11 +29,13 @@ pub fn outcomes_are_told()
 {}
 
 /// A refused line's report is that of no other code and number.
+#[tactic(auto, using(crate::proofs::ToldLemmas::refusal_told))]
 pub fn refusals_are_told()
     ensures { RefusalsAreTold }
 {}
 
 /// A certificate's report is that of no other cost, bound, or code.
+#[tactic(auto, using(crate::proofs::ToldLemmas::cost_told, crate::proofs::ToldLemmas::bound_told, crate::proofs::ToldLemmas::code_told))]
 pub fn certificates_are_told()
     ensures costs { CostsAreTold }
     ensures bounds { BoundsAreTold }

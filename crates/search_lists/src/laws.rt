@@ -19,6 +19,7 @@ pub fn lost_places_are_no_room()
 {}
 
 /// What was in order is in order where there is more room.
+#[tactic(auto, using(crate::proofs::OrderLemmas::order_with_room))]
 pub fn more_room_leaves_the_order()
     ensures { MoreRoomLeavesTheOrder }
 {}

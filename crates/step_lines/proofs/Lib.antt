@@ -1,3 +1,2 @@
-mod NumberLemmas
 mod StepLemmas
 mod WorkedLemmas

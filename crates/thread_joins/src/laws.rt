@@ -9,11 +9,13 @@ use world_ends::Reading;
 
 /// Each board is owned in a joined world by whom the job says, one of as many workers as the job
 /// has.
+#[tactic(auto, using(crate::proofs::WorldLemmas::have_owners))]
 pub fn boards_have_owners()
     ensures { BoardsHaveOwners }
 {}
 
 /// A joined world expanded no more than the limit, and where it was halted for that, nearly all.
+#[tactic(auto, using(crate::proofs::WorldLemmas::limits_kept, crate::proofs::WorldLemmas::limits_spent))]
 pub fn limits_are_kept()
     ensures kept { LimitsAreKept }
     ensures spent { LimitsAreSpent }

@@ -13,27 +13,32 @@ pub fn owners_are_workers<S: Spread>()
 {}
 
 /// What one worker is asked for is found by it alone.
+#[tactic(auto, using(crate::proofs::LawLemmas::one_alone))]
 pub fn one_is_alone<A: Reading, S: Spread>()
     ensures { OneIsAlone A.gives S.owner_of }
 {}
 
 /// What is solved ends so without rows.
+#[tactic(auto, using(crate::proofs::LawLemmas::solved_ends))]
 pub fn solved_runs_end<S: Spread>()
     ensures { SolvedRunsEnd S.owner_of }
 {}
 
 /// What is found is found within the limit.
+#[tactic(auto, using(crate::proofs::LawLemmas::limits_kept))]
 pub fn limits_are_kept<A: Reading, S: Spread>()
     ensures { LimitsAreKept A.gives S.owner_of }
 {}
 
 /// What threads find is given by a world of as many workers as were asked for, who own boards as
 /// the owners say.
+#[tactic(auto, using(crate::proofs::LawLemmas::as_asked))]
 pub fn threads_are_as_asked<A: Reading, S: Spread>()
     ensures { ThreadsAreAsAsked A.gives S.owner_of }
 {}
 
 /// A bound of a run that stopped by itself is for the limit, for the cost, or for refused memory.
+#[tactic(auto, using(crate::proofs::LawLemmas::runs_say_why))]
 pub fn whole_runs_say_why()
     ensures { WholeRunsSayWhy }
 {}

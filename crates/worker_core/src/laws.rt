@@ -36,6 +36,7 @@ pub fn onward_steps_alone_are_whole()
 {}
 
 /// A settle that is refused changes nothing, and drops no item.
+#[tactic(auto, using(crate::proofs::GuideLemmas::refused_settles))]
 pub fn refused_settles_change_nothing()
     ensures { RefusedSettlesChangeNothing }
 {}

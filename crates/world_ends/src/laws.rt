@@ -23,6 +23,7 @@ use crate::reading::{Reading, WithFigures, WithRows, WithoutRows};
 use world_model::laws::outcomes_answer;
 
 /// An ending is an outcome but for its rows, and a bound where memory is refused for these.
+#[tactic(auto, using(crate::proofs::PartLemmas::rows_alone, crate::proofs::PartLemmas::bound_left, crate::proofs::PartLemmas::rows_make))]
 pub fn endings_lack_rows_alone()
     ensures rows { EndingsLackRowsAlone }
     ensures memory { WantedRowsLeaveABound }

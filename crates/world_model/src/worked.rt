@@ -19,6 +19,7 @@ ghost use Rattle.world_model.specs.WorkedOutcomes.{JobsAreOfAllCounts};
 use crate::limits::{CREDIT_DRAWN, GREATEST_GRANT, LANE_LIMIT, PACKET_LIMIT, WORKER_LIMIT};
 
 /// Two workers find a plan of one move; or the run is cut, or halted, before they do.
+#[tactic(auto, using(crate::proofs::WorkedLemmas::plan_given, crate::proofs::WorkedLemmas::cut_given, crate::proofs::WorkedLemmas::halt_given, crate::proofs::WorkedLemmas::limit_given))]
 pub fn one_move()
     ensures plan { PlanIsGiven }
     ensures cut { CutIsGiven }
@@ -27,6 +28,7 @@ pub fn one_move()
 {}
 
 /// What is refused in an opening world, and later.
+#[tactic(auto, using(crate::proofs::WorkedLemmas::refusals_given, crate::proofs::WorkedLemmas::way_given))]
 pub fn refusals()
     ensures opening { RefusalsAreGiven }
     ensures way { RefusalsOnTheWayAreGiven }
@@ -38,6 +40,7 @@ pub fn relaxations()
 {}
 
 /// A board that was expanded is met at a lower cost, and expanded again.
+#[tactic(auto, using(crate::proofs::WorkedLemmas::again_given))]
 pub fn expanded_again()
     ensures { BoardIsExpandedAgain }
 {}
@@ -52,6 +55,7 @@ pub fn limits()
 {}
 
 /// What a step does at a limit, and just below it.
+#[tactic(auto, using(crate::proofs::WorkedLemmas::full_packets, crate::proofs::WorkedLemmas::full_lanes, crate::proofs::WorkedLemmas::full_purses, crate::proofs::WorkedLemmas::full_credits))]
 pub fn full_parts()
     ensures packets { FullPacketsRefuse }
     ensures lanes { FullLanesRefuse }
@@ -60,12 +64,14 @@ pub fn full_parts()
 {}
 
 /// The order in which items are settled and sent.
+#[tactic(auto, using(crate::proofs::WorkedLemmas::last_settled, crate::proofs::WorkedLemmas::in_order))]
 pub fn item_order()
     ensures settled { LastIsSettled }
     ensures sent { SuccessorsAreInOrder }
 {}
 
 /// What a step leaves of a worker and the book, and what it refuses there.
+#[tactic(auto, using(crate::proofs::WorkedLemmas::lower_goals, crate::proofs::WorkedLemmas::whole_grants, crate::proofs::WorkedLemmas::kept_floors, crate::proofs::WorkedLemmas::halted_limits))]
 pub fn book_steps()
     ensures announce { LowerGoalsAreAnnounced }
     ensures grant { GrantsAreWhole }
@@ -74,6 +80,7 @@ pub fn book_steps()
 {}
 
 /// The worlds of the run of one move, in full, half-way and at its end.
+#[tactic(auto, using(crate::proofs::WorkedOutcomeLemmas::worlds_reached))]
 pub fn whole_worlds()
     ensures { WorldsAreReached }
 {}
@@ -95,11 +102,13 @@ pub fn other_ends()
 {}
 
 /// An opening world is not kept, whatever stops it but memory.
+#[tactic(auto, using(crate::proofs::WorkedOutcomeLemmas::not_kept))]
 pub fn unkept()
     ensures { OpeningsAreNotKept }
 {}
 
 /// How many workers a job may have.
+#[tactic(auto, using(crate::proofs::WorkedOutcomeLemmas::jobs_of_all))]
 pub fn jobs()
     ensures { JobsAreOfAllCounts }
 {}

@@ -1,7 +1,7 @@
 use Rattle.std.proofs.Common.{length, sym, ◌∙◌, arith}
 use Rattle.std.proofs.lemmas.Bool.{eqb-false}
 use Rattle.std.proofs.lemmas.List.{take_all}
-use Rattle.batch_lines.proofs.StartLemmas.{return_dropped, nothing_dropped}
+use Rattle.batch_lines.proofs.LineLemmas.{return_dropped, nothing_dropped}
 use Rattle.batch_lines.proofs.lines.length_without_return.Goals as goal
 
 pub returns-then-bytes-last-eq13 : goal.returns-then-bytes-last-eq13

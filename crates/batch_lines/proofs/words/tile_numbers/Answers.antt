@@ -1,6 +1,6 @@
 use Rattle.std.proofs.Common.{List, ℕ, ◌<◌, ◌∙◌, ap, sym, subst, arith, rules, length}
 use Rattle.batch_lines.specs.TileNumbers.{tile_number}
-use Rattle.batch_lines.proofs.TileLemmas.{AreRead, AreRead-none, AreRead-more, AreRead-end, AreRead-full}
+use Rattle.batch_lines.proofs.FaultLemmas.{AreRead, AreRead-none, AreRead-more, AreRead-end, AreRead-full}
 use Rattle.batch_lines.proofs.words.tile_numbers.Goals as goal
 
 pub words-init : goal.words-init

@@ -1,7 +1,7 @@
 use Rattle.std.proofs.Common.{◌-◌, length}
 use denote.Shadow.{shadow}
 use denote.Text.{Utf8}
-use Rattle.batch_lines.proofs.TileLemmas.{AreRead}
+use Rattle.batch_lines.proofs.FaultLemmas.{AreRead}
 use Rattle.batch_lines.proofs.words.tile_numbers.Given as goal
 
 abbrev pub invariant-words : goal.invariant-words

@@ -1,4 +1,8 @@
-use Rattle.std.proofs.Common.{◌∙◌, length, refl, ap, arith, subst, sym}
+use Rattle.std.proofs.Common.{◌≡◌, Option, ap, inl, inr, ◌∙◌, length, refl, arith, subst, sym}
+use Rattle.world_model.specs.declared.steps.Refusal.{Refusal}
+use Rattle.world_model.specs.BookSteps.{AtBook, AnnounceStep}
+use Rattle.world_model.specs.Turns.{turn}
+use Rattle.world_model.specs.Workers.{Role}
 use Rattle.message_ledger.specs.Spending.{Spending}
 use Rattle.owners.specs.Owners.{owner_by_blank}
 use Rattle.search_lists.specs.Lists.{Lists}
@@ -6,8 +10,14 @@ use Rattle.worker_core.specs.Contexts.{task_from}
 use Rattle.worker_core.specs.Expanding.{role_by}
 use Rattle.worker_core.specs.Roles.{IsGuided, task_of}
 use Rattle.worker_core.specs.Workers.{state_of, with_book}
-use Rattle.bench_searches.proofs.SearchLemmas.{announced}
 use Rattle.bench_searches.proofs.expand.refill.Goals as goal
+
+-- What is granted stays when the goal is announced.
+
+announced : (role : Role) (before after : AtBook) (answer : Option Refusal) → AnnounceStep role (turn before answer after) → after.book.granted ≡ before.book.granted
+announced role before after answer (inl refused) = ap (λ (at : AtBook). at.book.granted) refused.1.1
+announced role before after answer (inr (_, inl refused)) = ap (λ (at : AtBook). at.book.granted) refused.1.1
+announced role before after answer (inr (_, inr done)) = ap (λ (at : AtBook). at.book.granted) done.1.2.1
 
 pub grant-requires-clause-counted : goal.grant-requires-clause-counted
 grant-requires-clause-counted c κs =

@@ -1,8 +1,23 @@
-use Rattle.std.proofs.Common.{arith}
-use Rattle.std.specs.Char.{is_ascii_digit}
+use Rattle.std.proofs.Common.{◌≡◌, ◌+◌, ◌-◌, ◌*◌, ◌^◌, ◌≤◌, ◌<◌, ℕ, List, length, take, get_or, arith}
+use Rattle.std.proofs.lemmas.Nat.{pow-add}
+use Rattle.std.specs.Char.{digit_value, is_ascii_digit}
+use Rattle.std.specs.Str.Parse.{digits_value}
+use Rattle.std.proofs.lemmas.Int.Digits.{digits_value_more}
 use Rattle.std.proofs.lemmas.List.Folds.{list_all_more}
-use Rattle.step_lines.proofs.NumberLemmas.{number_more}
 use Rattle.step_lines.proofs.steps.number_of.Goals as goal
+
+-- The numbers that words say.
+
+-- one digit more is ten times as much
+power_more : (i : ℕ) → 10 ^ (i + 1) ≡ 10 ^ i * 10
+power_more i = pow-add 10 i 1
+
+-- one digit more of a number
+number_more : (word : List ℕ) (i n : ℕ) → i < length word → 48 ≤ get_or word i 0 → get_or word i 0 ≤ 57 → n ≡ digits_value 10 (take i word) → n < 10 ^ i → (n * 10 + (get_or word i 0 - 48) ≡ digits_value 10 (take (i + 1) word)) × (n * 10 + (get_or word i 0 - 48) < 10 ^ (i + 1))
+number_more word i n within low high e few =
+    let value : digit_value (get_or word i 0) ≡ get_or word i 0 - 48 = grind arith in
+    let power = power_more i in
+    (omega (arith, digits_value_more 10 word i within, value, e), omega arith)
 
 pub digits-preserved : goal.digits-preserved
 digits-preserved c =

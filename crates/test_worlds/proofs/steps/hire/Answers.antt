@@ -1,9 +1,33 @@
-use Rattle.std.proofs.Common.{◌≡◌, sym, subst}
-use Rattle.search_lists.specs.Lists.{Lists, empty_lists}
-use Rattle.search_lists.specs.Orders.{IsInOrder}
+use Rattle.std.proofs.Common.{◌≡◌, ℕ, ◌<◌, Option, Some, None, sym, ◌∙◌, arith, subst}
+use Rattle.std.specs.Ordering.{nat_cmp}
+use Rattle.outcomes.specs.Outcomes.{Task}
+use Rattle.closed_table.specs.Tables.{empty_table}
+use Rattle.search_lists.specs.Lists.{empty_lists, Lists}
+use Rattle.search_lists.specs.Orders.{Guide, IsInOrder}
+use Rattle.world_model.specs.declared.parts.Known.{Known}
+use Rattle.world_model.specs.Knowledge.{Knowledge}
 use Rattle.worker_core.specs.Roles.{AreTaskBoards, guide_of, task_of}
-use Rattle.test_worlds.proofs.ListLemmas.{empty_order, empty_boards}
+use Rattle.std.specs.FinMap as map
 use Rattle.test_worlds.proofs.steps.hire.Goals as goal
+
+-- Lists with no board, and the lists of a worker that met one.
+
+abbrev no_boards : Knowledge
+no_boards = map.empty
+
+unknown : (key : ℕ) (known : Known) → map.get no_boards key ≡ Some known → ⊥
+unknown key known at = let none : ◌≡◌ {A = Option Known} None (Some known) = sym (map.get-empty nat_cmp key) ∙ at in cc
+
+-- nothing waits where nothing is known
+empty_order : (guide : Guide) → IsInOrder guide empty_lists
+empty_order guide = record {
+  waits = λ key known at. absurd (unknown key known at.knows);
+  adds = λ f place cost has. let inside : has.0 < 0 = has.1 in absurd (omega (arith, inside));
+}
+
+-- nothing is known that is no board of the task
+empty_boards : (task : Task) → AreTaskBoards task empty_table
+empty_boards task = λ key known at. absurd (unknown key known at)
 
 pub returns : goal.returns
 returns g c =
