@@ -1,5 +1,5 @@
 -- The bounds that a board may be answered.
-use Rattle.std.proofs.Common.{arith, ℕ, ◌≡◌, ◌≤◌, ◌+◌, ◌*◌, ◌++◌, List, Option, Vec, ◌∙◌, ◌⊎◌, refl, ap, inl, inr}
+use Rattle.std.proofs.Common.{arith, ℕ, ◌≡◌, ◌≤◌, ◌+◌, ◌*◌, ◌++◌, List, Option, Vec, ◌∙◌, ◌⊎◌, refl, ap, subst, inl, inr}
 use Rattle.std.specs.declared.alloc.Global.{Global}
 use Rattle.board.specs.declared.moves.Move.{Move}
 use Rattle.board.specs.Positions.{Position}
@@ -18,15 +18,15 @@ use Rattle.world_model.specs.Credit.{expansion_count}
 use Rattle.world_model.specs.declared.limits.TheConstants.{GREATEST_GRANT}
 use Rattle.world_ends.proofs.PartLemmas.{ends_bounded}
 use Rattle.world_model.proofs.KeptLemmas.{causes_stop}
-use Rattle.thread_runs.specs.Solved.{IsFoundByWorkers}
 use Rattle.batch_runs.specs.Setups.{SetupState, owner_by}
-use Rattle.setup_runs.specs.Laws.{StatsAreOfTheSetups, job_by, BoundsAreNeverCut, LimitsAreTheSetups, LimitsAreNearlySpent, StatsAreOfWorlds}
+use Rattle.setup_runs.specs.Laws.{StatsAreOfTheSetups, job_by, BoundsAreNeverCut, LimitsAreTheSetups, LimitsAreNearlySpent, StatsAreOfWorlds, StatsAreWithinTheLimit}
 use Rattle.std.specs.FinMap as map
 use Rattle.std.specs.Prelude.{min, ◌^◌, ◌-◌, sum_by}
 use Rattle.board.specs.Classes.{SameClass}
 use Rattle.world_ends.specs.declared.figures.Figures.{Figures}
 use Rattle.batch_runs.specs.declared.stats.Solved.{Solved}
-use Rattle.setup_runs.specs.Solving.{problem_of}
+use Rattle.setup_runs.specs.Solving.{problem_of, problem_within, IsFound, IsFoundByOne, IsFoundWithin, IsNoBound}
+use Rattle.hda_run.proofs.LawLemmas.{one_class}
 
 pub never_cut : BoundsAreNeverCut
 never_cut setup b bound best cause (answers, inl (same, run)) = run.1
@@ -41,10 +41,21 @@ limits_alone :
 limits_alone setup b bound best (w, run, given) =
     ((job_of owner_by (problem_of setup b) setup.spread 1).owner, run.via, run.first ++ run.last, w, run.run, run.spent ((causes_stop w bound best Limit (ends_bounded w bound best Limit given)).0 refl))
 
+-- where one worker ends a board with a bound, its limit is the setup's
+bounds_alone :
+    (setup : SetupState) (b : Position) (bound : ℕ) (best : Option (ℕ × Vec Move Global))
+    → IsFoundByOne EndsIn (λ it. it) setup b (Bounded bound best Limit)
+    → IsFoundAlone EndsIn owner_by (problem_of setup b) setup.spread (Bounded bound best Limit)
+bounds_alone setup b bound best (limit, found) = by_limit found.whole
+  where
+    by_limit : (limit ≡ setup.limit) ⊎ ((2 ≤ setup.workers) × IsNoBound (Bounded bound best Limit)) → IsFoundAlone EndsIn owner_by (problem_of setup b) setup.spread (Bounded bound best Limit)
+    by_limit (inl e) = subst (λ (k : ℕ). IsFoundAlone EndsIn owner_by (problem_within k setup b) setup.spread (Bounded bound best Limit)) e found.run
+    by_limit (inr (several, none)) = absurd none
+
 pub limits : LimitsAreTheSetups
 limits setup b bound best one (answers, inl (same, (inl (inl (several, by)), kept))) = absurd (omega (arith, one, several))
 limits setup b bound best one (answers, inl (same, (inl (inr (run, left)), kept))) = limits_alone setup b bound best run
-limits setup b bound best one (answers, inl (same, (inr run, kept))) = limits_alone setup b bound best run
+limits setup b bound best one (answers, inl (same, (inr run, kept))) = limits_alone setup b bound best (bounds_alone setup b bound best run)
 limits setup b bound best one (answers, inr (other, is)) = absurd (cc)
 
 -- all of the limit is spent but for some of it
@@ -63,7 +74,7 @@ pub limits_nearly : LimitsAreNearlySpent
 limits_nearly setup b bound best (answers, inl (same, (inl (inl (several, (w, joined, (kept_world, given)))), kept))) =
     (w, given, joined.within_limit, (joined.at_limit ((causes_stop w bound best Limit (ends_bounded w bound best Limit given)).0 refl)).1)
 limits_nearly setup b bound best (answers, inl (same, (inl (inr (run, left)), kept))) = nearly_alone setup b bound best run
-limits_nearly setup b bound best (answers, inl (same, (inr run, kept))) = nearly_alone setup b bound best run
+limits_nearly setup b bound best (answers, inl (same, (inr run, kept))) = nearly_alone setup b bound best (bounds_alone setup b bound best run)
 limits_nearly setup b bound best (answers, inr (other, is)) = absurd (cc)
 
 -- the stats count what a world has expanded, and knows, and this world ends so
@@ -76,10 +87,13 @@ stats_of_worlds setup start solved (figures, of_run, stats) = (of_world, no_run,
     counted : (w : WorldState) → EndsWithFigures w (record { ending = solved.ending; figures = figures }) → Counts solved
     counted w gives = (w, gives.0, stats.expanded ∙ ap (λ k. min k (2 ^ 64 - 1)) gives.1.expanded, stats.known ∙ ap (λ k. min k (2 ^ 64 - 1)) gives.1.known)
 
-    by_run : IsFoundByWorkers EndsWithFigures owner_by (problem_of setup start) setup.spread setup.workers (record { ending = solved.ending; figures = figures }) ⊎ IsFoundAlone EndsWithFigures owner_by (problem_of setup start) setup.spread (record { ending = solved.ending; figures = figures }) → Counts solved
+    by_one : (limit : ℕ) → IsFoundAlone EndsWithFigures owner_by (problem_within limit setup start) setup.spread (record { ending = solved.ending; figures = figures }) → Counts solved
+    by_one limit (w, run, gives) = counted w gives
+
+    by_run : IsFound EndsWithFigures (λ it. it.ending) setup start (record { ending = solved.ending; figures = figures }) → Counts solved
     by_run (inl (inl (several, (w, joined, (kept, gives))))) = counted w gives
-    by_run (inl (inr ((w, run, gives), left))) = counted w gives
-    by_run (inr (w, run, gives)) = counted w gives
+    by_run (inl (inr (run, left))) = by_one setup.limit run
+    by_run (inr (limit, found)) = by_one limit found.run
 
     of_world : SameClass start setup.goal → Counts solved
     of_world together = by_run (of_run.run together)
@@ -99,7 +113,30 @@ stats_of_setups setup start solved one together (figures, of_run, stats) = by_ru
     by_one : IsFoundAlone EndsWithFigures owner_by (problem_of setup start) setup.spread (record { ending = solved.ending; figures = figures }) → CountsAlone setup start solved
     by_one (w, run, gives) = ((job_of owner_by (problem_of setup start) setup.spread 1).owner, run.via, run.first ++ run.last, w, run.run, gives.0, stats.expanded ∙ ap (λ k. min k (2 ^ 64 - 1)) gives.1.expanded)
 
-    by_run : IsFoundByWorkers EndsWithFigures owner_by (problem_of setup start) setup.spread setup.workers (record { ending = solved.ending; figures = figures }) ⊎ IsFoundAlone EndsWithFigures owner_by (problem_of setup start) setup.spread (record { ending = solved.ending; figures = figures }) → CountsAlone setup start solved
+    by_limit : (limit : ℕ) → IsFoundWithin EndsWithFigures (λ it. it.ending) setup start (record { ending = solved.ending; figures = figures }) limit → (limit ≡ setup.limit) ⊎ ((2 ≤ setup.workers) × IsNoBound solved.ending) → CountsAlone setup start solved
+    by_limit limit found (inl e) = by_one (subst (λ (k : ℕ). IsFoundAlone EndsWithFigures owner_by (problem_within k setup start) setup.spread (record { ending = solved.ending; figures = figures })) e found.run)
+    by_limit limit found (inr (several, none)) = absurd (omega (arith, one, several))
+
+    by_run : IsFound EndsWithFigures (λ it. it.ending) setup start (record { ending = solved.ending; figures = figures }) → CountsAlone setup start solved
     by_run (inl (inl (several, by))) = absurd (omega (arith, one, several))
     by_run (inl (inr (run, left))) = by_one run
-    by_run (inr run) = by_one run
+    by_run (inr (limit, found)) = by_limit limit found found.whole
+
+-- no more is expanded than the setup's limit
+pub stats_within_limits : StatsAreWithinTheLimit
+stats_within_limits setup start solved (figures, of_run, stats) = by_class (one_class start setup.goal)
+  where
+    cut : (limit : ℕ) (w : WorldState) → expansion_count w ≤ limit → limit ≤ setup.limit → figures.expanded ≡ expansion_count w → solved.stats.expanded ≤ setup.limit
+    cut limit w few within is = let e = stats.expanded in omega (arith, few, within, is, e)
+
+    by_one : (limit : ℕ) → limit ≤ setup.limit → IsFoundAlone EndsWithFigures owner_by (problem_within limit setup start) setup.spread (record { ending = solved.ending; figures = figures }) → solved.stats.expanded ≤ setup.limit
+    by_one limit within (w, run, gives) = cut limit w run.within_limit within gives.1.expanded
+
+    by_run : IsFound EndsWithFigures (λ it. it.ending) setup start (record { ending = solved.ending; figures = figures }) → solved.stats.expanded ≤ setup.limit
+    by_run (inl (inl (several, (w, joined, (kept, gives))))) = cut setup.limit w joined.within_limit (omega arith) gives.1.expanded
+    by_run (inl (inr (run, left))) = by_one setup.limit (omega arith) run
+    by_run (inr (limit, found)) = by_one limit found.within found.run
+
+    by_class : SameClass start setup.goal ⊎ (¬ SameClass start setup.goal) → solved.stats.expanded ≤ setup.limit
+    by_class (inl together) = by_run (of_run.run together)
+    by_class (inr other) = let e = stats.expanded in let none : figures.expanded ≡ 0 = ap (λ (f : Figures). f.expanded) (of_run.apart other) in omega (arith, e, none)

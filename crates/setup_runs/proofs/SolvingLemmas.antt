@@ -1,5 +1,5 @@
 -- What the setup's workers answer is what its rules allow.
-use Rattle.std.proofs.Common.{ℕ, ◌≡◌, ◌⊎◌, ◌↔◌, None, Some, Result, Ok, Err, IfOk, refl, ap, subst, inl, inr, sym, arith}
+use Rattle.std.proofs.Common.{ℕ, ◌≡◌, ◌⊎◌, ◌↔◌, ◌≤◌, None, Some, Result, Ok, Err, IfOk, refl, ap, subst, inl, inr, sym, arith}
 use Rattle.board.specs.Positions.{Position}
 use Rattle.board.specs.Classes.{SameClass}
 use Rattle.memory.specs.declared.OutOfMemory.{OutOfMemory}
@@ -23,15 +23,15 @@ use Rattle.batch_runs.specs.declared.setup.SpreadKind.TheVariants.{Zobrist, Blan
 use Rattle.batch_runs.specs.Setups.{SetupState, owner_by, task_of}
 use Rattle.batch_runs.specs.Batches.{IsTruthful}
 use Rattle.thread_joins.specs.Threads.{IsJoined}
-use Rattle.thread_runs.specs.Solved.{IsFoundByWorkers, IsSolved, IsLeftToOne}
+use Rattle.thread_runs.specs.Solved.{IsFoundByWorkers, IsLeftToOne}
 use Rattle.setup_runs.specs.Ahead.{LacksMemory}
 use Rattle.batch_runs.specs.declared.stats.Solved.{Solved}
-use Rattle.setup_runs.specs.Solving.{AnswersBoard, IsOfRun, IsOfProvedRun, MayAnswer, MayCertify, certifying_rules_of, problem_of, rules_of, AreStatsOf, AreFiguresOfRun, HasStats}
+use Rattle.setup_runs.specs.Solving.{AnswersBoard, IsFound, IsFoundByOne, IsSearched, IsNoBound, IsOfRun, IsOfProvedRun, MayAnswer, MayCertify, certifying_rules_of, problem_of, problem_within, rules_of, AreStatsOf, AreFiguresOfRun, HasStats}
 use Rattle.outcomes.specs.declared.outcome.Outcome.{Outcome}
 use Rattle.outcomes.specs.Outcomes.{Task, Answers}
 use Rattle.world_model.specs.Outcomes.{IsGiven}
 use Rattle.thread_runs.specs.Laws.{HasItsRows}
-use Rattle.thread_runs.proofs.LawLemmas.{solved_ends}
+use Rattle.thread_runs.proofs.LawLemmas.{solved_ends, one_alone}
 use Rattle.certificate_runs.specs.Rules.{MayProve}
 use Rattle.certificate_runs.proofs.HeadlineLemmas.{ends_answered}
 use Rattle.setup_runs.specs.Laws.{CertifiedEndsAreAnswered, IsAloneBound, ParityIsCertified}
@@ -71,15 +71,15 @@ module _ {X : Type 0} (gives : WorldState → X → Type 0) (setup : SetupState)
   abbrev JoinedOwned : X → (Position → ℕ) → Type 0
   JoinedOwned answer owner = (w : WorldState) × IsJoined (job_owned setup.workers owner) w × (IsKept w × gives w answer)
 
-  abbrev AloneOwned : X → (Position → ℕ) → Type 0
-  AloneOwned answer owner = (w : WorldState) × IsRunAlone (job_owned 1 owner) w × gives w answer
+  abbrev AloneOwned : ℕ → X → (Position → ℕ) → Type 0
+  AloneOwned limit answer owner = (w : WorldState) × IsRunAlone (record (job_owned 1 owner) { limit = limit }) w × gives w answer
 
   abbrev LeftOwned : (Position → ℕ) → Type 0
   LeftOwned owner = (w : WorldState) × IsJoined (job_owned setup.workers owner) w × (¬ IsKept w)
 
   -- one worker finds the same, whoever the owners are
-  pub alone_any : {S T : Type 0} (owner_of : S → ℕ → Position → ℕ) → AreWorkers owner_of → (owners : S) (other_of : T → ℕ → Position → ℕ) → AreWorkers other_of → (others : T) (answer : X) → IsFoundAlone gives owner_of (problem_of setup start) owners answer → IsFoundAlone gives other_of (problem_of setup start) others answer
-  alone_any owner_of are owners other_of others_are others answer run = subst (AloneOwned answer) (lone_owner owner_of are owners other_of others_are others) run
+  pub alone_any : (limit : ℕ) {S T : Type 0} (owner_of : S → ℕ → Position → ℕ) → AreWorkers owner_of → (owners : S) (other_of : T → ℕ → Position → ℕ) → AreWorkers other_of → (others : T) (answer : X) → IsFoundAlone gives owner_of (problem_within limit setup start) owners answer → IsFoundAlone gives other_of (problem_within limit setup start) others answer
+  alone_any limit owner_of are owners other_of others_are others answer run = subst (AloneOwned limit answer) (lone_owner owner_of are owners other_of others_are others) run
 
   module _ {S T : Type 0} (owner_of : S → ℕ → Position → ℕ) (are : AreWorkers owner_of) (owners : S) (other_of : T → ℕ → Position → ℕ) (others_are : AreWorkers other_of) (others : T) (same : (b : Position) → owner_of owners setup.workers b ≡ other_of others setup.workers b) where
     -- what is left to one worker is so, whatever gives each board the same owner
@@ -90,11 +90,21 @@ module _ {X : Type 0} (gives : WorldState → X → Type 0) (setup : SetupState)
     -- so is what they find
     found_any : (answer : X) → Finds owner_of owners answer → Finds other_of others answer
     found_any answer (inl (several, by)) = inl (several, subst (JoinedOwned answer) (λ t b. same b t) by)
-    found_any answer (inr (run, left)) = inr (alone_any owner_of are owners other_of others_are others answer run, left_any left)
+    found_any answer (inr (run, left)) = inr (alone_any setup.limit owner_of are owners other_of others_are others answer run, left_any left)
 
-    pub found_so : (result : Result X OutOfMemory) → IfOk result (Finds owner_of owners) → IfOk result (Finds other_of others)
-    found_so (Ok answer) found = found_any answer found
-    found_so (Err refused) found = found
+    pub found_so : (end : X → Ending) (result : Result X OutOfMemory) → IfOk result (Finds owner_of owners) → IfOk result (λ answer. Finds other_of others answer ⊎ IsFoundByOne gives end setup start answer)
+    found_so end (Ok answer) found = inl (found_any answer found)
+    found_so end (Err refused) found = found
+
+-- what one of the setup's workers finds within a limit is what a search may answer
+pub searched_by_one : {X : Type 0} (gives : WorldState → X → Type 0) (answers : Task → X → Type 0) (end : X → Ending) (parity : X) (setup : SetupState) (start : Position) (limit : ℕ) {S : Type 0} (owner_of : S → ℕ → Position → ℕ) → AreWorkers owner_of → (owners : S) (answer : X) → limit ≤ setup.limit → (limit ≡ setup.limit) ⊎ ((2 ≤ setup.workers) × IsNoBound (end answer)) → (◌≡◌ {A = Result X OutOfMemory} (Ok answer) (Ok parity)) ↔ (¬ SameClass start setup.goal) → (SameClass start setup.goal → IsFoundAlone gives owner_of (problem_within limit setup start) owners answer) → answers (task_of setup start) answer → EndsWholeRun (end answer) → IsSearched gives answers end parity setup start (Ok answer)
+searched_by_one gives answers end parity setup start limit owner_of are owners answer within whole at_parity run answered kept =
+    record {
+      at_parity = at_parity;
+      run = λ together. inr (limit, record { run = alone_any gives setup start limit owner_of are owners owner_by setup_owners setup.spread answer (run together); within = within; whole = whole });
+      answered = answered;
+      kept = kept;
+    }
 
 -- the value of a result that has one
 abbrev value_or : {X : Type 0} → X → Result X OutOfMemory → X
@@ -138,38 +148,48 @@ module _ (setup : SetupState) (start : Position) where
   ending_of (Err refused) = Err refused
 
   -- an ending is found where it is found with figures
-  found_ending : (found : EndingWithFigures) → Finds EndsWithFigures setup start owner_by setup.spread found → Finds EndsIn setup start owner_by setup.spread found.ending
-  found_ending found (inl (several, (w, joined, (kept, gives)))) = inl (several, (w, joined, (kept, gives.0)))
-  found_ending found (inr ((w, run, gives), left)) = inr ((w, run, gives.0), left)
+  alone_ending : (limit : ℕ) (found : EndingWithFigures) → IsFoundAlone EndsWithFigures owner_by (problem_within limit setup start) setup.spread found → IsFoundAlone EndsIn owner_by (problem_within limit setup start) setup.spread found.ending
+  alone_ending limit found (w, run, gives) = (w, run, gives.0)
+
+  found_ending : (found : EndingWithFigures) → IsFound EndsWithFigures (λ it. it.ending) setup start found → IsFound EndsIn (λ it. it) setup start found.ending
+  found_ending found (inl (inl (several, (w, joined, (kept, gives))))) = inl (inl (several, (w, joined, (kept, gives.0))))
+  found_ending found (inl (inr (run, left))) = inl (inr (alone_ending setup.limit found run, left))
+  found_ending found (inr (limit, it)) = inr (limit, record { run = alone_ending limit found it.run; within = it.within; whole = it.whole })
 
   -- what the setup's workers find of a board, with figures, is what its rules allow
-  pub may_solve : (figures : Figures) (found : Result EndingWithFigures OutOfMemory) → (¬ SameClass start setup.goal → found ≡ Ok (record { ending = Unsolvable Parity; figures = figures })) → (SameClass start setup.goal → IfOk found (Finds EndsWithFigures setup start owner_by setup.spread)) → IfOk found (λ it. EndAnswers (task_of setup start) it.ending) → IfOk found (λ it. EndsWholeRun it.ending) → Gives EndAnswers (IsOfRun setup start) (Unsolvable Parity) setup start (ending_of found)
+  pub may_solve : (figures : Figures) (found : Result EndingWithFigures OutOfMemory) → (¬ SameClass start setup.goal → found ≡ Ok (record { ending = Unsolvable Parity; figures = figures })) → (SameClass start setup.goal → IfOk found (IsFound EndsWithFigures (λ it. it.ending) setup start)) → IfOk found (λ it. EndAnswers (task_of setup start) it.ending) → IfOk found (λ it. EndsWholeRun it.ending) → Gives EndAnswers (IsOfRun setup start) (Unsolvable Parity) setup start (ending_of found)
   may_solve figures (Ok found) by_parity run answered kept =
-      gives_so EndAnswers (IsOfRun setup start) (Unsolvable Parity) setup start (Ok found.ending) (λ other. ap ending_of (by_parity other)) (λ together. (inl (found_ending found (run together)), kept)) answered
+      gives_so EndAnswers (IsOfRun setup start) (Unsolvable Parity) setup start (Ok found.ending) (λ other. ap ending_of (by_parity other)) (λ together. (found_ending found (run together), kept)) answered
   may_solve figures (Err refused) by_parity run answered kept =
       gives_so EndAnswers (IsOfRun setup start) (Unsolvable Parity) setup start (Err refused) (λ other. ap ending_of (by_parity other)) (λ together. run together) answered
 
-  -- so is what one of them ends
-  pub may_end : {S : Type 0} (owner_of : S → ℕ → Position → ℕ) → AreWorkers owner_of → (owners : S) (figures : Figures) (found : EndingWithFigures) → (¬ SameClass start setup.goal → ◌≡◌ {A = Result EndingWithFigures OutOfMemory} (Ok found) (Ok (record { ending = Unsolvable Parity; figures = figures }))) → (SameClass start setup.goal → IsFoundAlone EndsWithFigures owner_of (problem_of setup start) owners found) → EndAnswers (task_of setup start) found.ending → EndsWholeRun found.ending → MayAnswer setup start (Some found.ending)
-  may_end owner_of are owners figures found by_parity run answered kept =
-      gives_so EndAnswers (IsOfRun setup start) (Unsolvable Parity) setup start (Ok found.ending) (λ other. ap ending_of (by_parity other)) (λ together. (inr (alone_any EndsIn setup start owner_of are owners owner_by setup_owners setup.spread found.ending (alone (run together))), kept)) answered
+  -- so is what one of them ends, within a limit
+  pub may_end : (limit : ℕ) {S : Type 0} (owner_of : S → ℕ → Position → ℕ) → AreWorkers owner_of → (owners : S) (figures : Figures) (found : EndingWithFigures) → limit ≤ setup.limit → (limit ≡ setup.limit) ⊎ ((2 ≤ setup.workers) × IsNoBound found.ending) → (¬ SameClass start setup.goal → ◌≡◌ {A = Result EndingWithFigures OutOfMemory} (Ok found) (Ok (record { ending = Unsolvable Parity; figures = figures }))) → (SameClass start setup.goal → IsFoundAlone EndsWithFigures owner_of (problem_within limit setup start) owners found) → EndAnswers (task_of setup start) found.ending → EndsWholeRun found.ending → MayAnswer setup start (Some found.ending)
+  may_end limit owner_of are owners figures found within whole by_parity run answered kept =
+      gives_so EndAnswers (IsOfRun setup start) (Unsolvable Parity) setup start (Ok found.ending) (λ other. ap ending_of (by_parity other)) (λ together. (inr (by_one (run together)), kept)) answered
     where
-      alone : IsFoundAlone EndsWithFigures owner_of (problem_of setup start) owners found → IsFoundAlone EndsIn owner_of (problem_of setup start) owners found.ending
+      alone : IsFoundAlone EndsWithFigures owner_of (problem_within limit setup start) owners found → IsFoundAlone EndsIn owner_of (problem_within limit setup start) owners found.ending
       alone (w, run, gives) = (w, run, gives.0)
 
+      by_one : IsFoundAlone EndsWithFigures owner_of (problem_within limit setup start) owners found → IsFoundByOne EndsIn (λ it. it) setup start found.ending
+      by_one run = (limit, record { run = alone_any EndsIn setup start limit owner_of are owners owner_by setup_owners setup.spread found.ending (alone run); within = within; whole = whole })
+
   -- the stats of what is found, by the setup's workers or by one
-  has_stats : (found : EndingWithFigures) (solved : Solved) → (¬ SameClass start setup.goal → found.figures ≡ record { expanded = 0; known = 0 }) → (SameClass start setup.goal → Finds EndsWithFigures setup start owner_by setup.spread found ⊎ IsFoundAlone EndsWithFigures owner_by (problem_of setup start) setup.spread found) → solved.ending ≡ found.ending → AreStatsOf setup start found.figures solved.stats → HasStats setup start solved
+  has_stats : (found : EndingWithFigures) (solved : Solved) → (¬ SameClass start setup.goal → found.figures ≡ record { expanded = 0; known = 0 }) → (SameClass start setup.goal → IsFound EndsWithFigures (λ it. it.ending) setup start found) → solved.ending ≡ found.ending → AreStatsOf setup start found.figures solved.stats → HasStats setup start solved
   has_stats found solved apart run same stats = (found.figures, subst (λ (ending : Ending). AreFiguresOfRun setup start ending found.figures) (sym same) (record { run = run; apart = apart }), stats)
 
   -- where there is no run nothing was expanded
   no_run_figures : (found : EndingWithFigures) → (¬ SameClass start setup.goal → ◌≡◌ {A = Result EndingWithFigures OutOfMemory} (Ok found) (Ok (record { ending = Unsolvable Parity; figures = record { expanded = 0; known = 0 } }))) → ¬ SameClass start setup.goal → found.figures ≡ record { expanded = 0; known = 0 }
   no_run_figures found by_parity other = ap (λ (it : EndingWithFigures). it.figures) (ap (value_or found) (by_parity other))
 
-  pub workers_have_stats : (found : EndingWithFigures) (solved : Solved) → (¬ SameClass start setup.goal → ◌≡◌ {A = Result EndingWithFigures OutOfMemory} (Ok found) (Ok (record { ending = Unsolvable Parity; figures = record { expanded = 0; known = 0 } }))) → (SameClass start setup.goal → Finds EndsWithFigures setup start owner_by setup.spread found) → solved.ending ≡ found.ending → AreStatsOf setup start found.figures solved.stats → HasStats setup start solved
-  workers_have_stats found solved by_parity run same stats = has_stats found solved (no_run_figures found by_parity) (λ together. inl (run together)) same stats
+  pub workers_have_stats : (found : EndingWithFigures) (solved : Solved) → (¬ SameClass start setup.goal → ◌≡◌ {A = Result EndingWithFigures OutOfMemory} (Ok found) (Ok (record { ending = Unsolvable Parity; figures = record { expanded = 0; known = 0 } }))) → (SameClass start setup.goal → IsFound EndsWithFigures (λ it. it.ending) setup start found) → solved.ending ≡ found.ending → AreStatsOf setup start found.figures solved.stats → HasStats setup start solved
+  workers_have_stats found solved by_parity run same stats = has_stats found solved (no_run_figures found by_parity) run same stats
 
-  pub one_has_stats : {S : Type 0} (owner_of : S → ℕ → Position → ℕ) → AreWorkers owner_of → (owners : S) (found : EndingWithFigures) (solved : Solved) → (¬ SameClass start setup.goal → ◌≡◌ {A = Result EndingWithFigures OutOfMemory} (Ok found) (Ok (record { ending = Unsolvable Parity; figures = record { expanded = 0; known = 0 } }))) → (SameClass start setup.goal → IsFoundAlone EndsWithFigures owner_of (problem_of setup start) owners found) → solved.ending ≡ found.ending → AreStatsOf setup start found.figures solved.stats → HasStats setup start solved
-  one_has_stats owner_of are owners found solved by_parity run same stats = has_stats found solved (no_run_figures found by_parity) (λ together. inr (alone_any EndsWithFigures setup start owner_of are owners owner_by setup_owners setup.spread found (run together))) same stats
+  pub one_has_stats : (limit : ℕ) {S : Type 0} (owner_of : S → ℕ → Position → ℕ) → AreWorkers owner_of → (owners : S) (found : EndingWithFigures) (solved : Solved) → limit ≤ setup.limit → (limit ≡ setup.limit) ⊎ ((2 ≤ setup.workers) × IsNoBound found.ending) → (¬ SameClass start setup.goal → ◌≡◌ {A = Result EndingWithFigures OutOfMemory} (Ok found) (Ok (record { ending = Unsolvable Parity; figures = record { expanded = 0; known = 0 } }))) → (SameClass start setup.goal → IsFoundAlone EndsWithFigures owner_of (problem_within limit setup start) owners found) → solved.ending ≡ found.ending → AreStatsOf setup start found.figures solved.stats → HasStats setup start solved
+  one_has_stats limit owner_of are owners found solved within whole by_parity run same stats = has_stats found solved (no_run_figures found by_parity) (λ together. inr (by_one (run together))) same stats
+    where
+      by_one : IsFoundAlone EndsWithFigures owner_of (problem_within limit setup start) owners found → IsFoundByOne EndsWithFigures (λ it. it.ending) setup start found
+      by_one run = (limit, record { run = alone_any EndsWithFigures setup start limit owner_of are owners owner_by setup_owners setup.spread found run; within = within; whole = whole })
 
   -- for a board of the other class memory is never refused
   pub may_refuse : {X : Type 0} (refused : OutOfMemory) (parity : X) → (¬ SameClass start setup.goal → error_of refused ≡ Ok parity) → MayAnswer setup start None
@@ -188,9 +208,9 @@ module _ (setup : SetupState) (start : Position) where
       of_class (inr other) = let parity : found.ending ≡ Unsolvable Parity = ap (λ (it : EndingWithFigures). it.ending) (ap (value_or found) (by_parity other)) in absurd (cc)
 
   -- what they find with rows is what its rules allow too
-  pub may_prove : (result : Result Outcome OutOfMemory) → (result ≡ Ok (outcome.Unsolvable Parity)) ↔ (¬ SameClass start setup.goal) → (SameClass start setup.goal → IfOk result (Finds IsGiven setup start owner_by setup.spread)) → IfOk result (Answers (task_of setup start)) → IfOk result HasWholeRun → MayProve (certifying_rules_of setup) start result
+  pub may_prove : (result : Result Outcome OutOfMemory) → (result ≡ Ok (outcome.Unsolvable Parity)) ↔ (¬ SameClass start setup.goal) → (SameClass start setup.goal → IfOk result (IsFound IsGiven without_rows setup start)) → IfOk result (Answers (task_of setup start)) → IfOk result HasWholeRun → MayProve (certifying_rules_of setup) start result
   may_prove result by_parity run answered kept =
-      as_rules result (gives_so Answers (IsOfProvedRun setup start) (outcome.Unsolvable Parity) setup start result by_parity.1 (λ together. both (Finds IsGiven setup start owner_by setup.spread) HasWholeRun result (run together) kept) answered)
+      as_rules result (gives_so Answers (IsOfProvedRun setup start) (outcome.Unsolvable Parity) setup start result by_parity.1 (λ together. both (IsFound IsGiven without_rows setup start) HasWholeRun result (run together) kept) answered)
     where
       as_rules : (result : Result Outcome OutOfMemory) → Gives Answers (IsOfProvedRun setup start) (outcome.Unsolvable Parity) setup start result → MayProve (certifying_rules_of setup) start result
       as_rules (Ok given) allowed = allowed
@@ -212,10 +232,17 @@ pub certified_answered : CertifiedEndsAreAnswered
 certified_answered setup b o (answers, inr (other, is)) = inl (ends_answered (task_of setup b) o answers, inr (other, ap without_rows is))
 certified_answered setup b o (answers, inl (together, (solved, kept))) = by_rows o answers solved kept
   where
-    ends : (o : Outcome) → HasItsRows o → Answers (task_of setup b) o → IsSolved owner_by (problem_of setup b) setup.spread setup.workers o → HasWholeRun o → MayAnswer setup b (Some (without_rows o))
-    ends o has answers solved kept = (ends_answered (task_of setup b) o answers, inl (together, (inl (solved_ends owner_by (problem_of setup b) setup.spread setup.workers o solved has), kept)))
+    alone : (o : Outcome) (limit : ℕ) → HasItsRows o → IsFoundAlone IsGiven owner_by (problem_within limit setup b) setup.spread o → IsFoundAlone EndsIn owner_by (problem_within limit setup b) setup.spread (without_rows o)
+    alone o limit has run = one_alone EndsIn owner_by (problem_within limit setup b) setup.spread (without_rows o) (solved_ends owner_by (problem_within limit setup b) setup.spread 1 o (inr (run, inl refl)) has)
 
-    by_rows : (o : Outcome) → Answers (task_of setup b) o → IsSolved owner_by (problem_of setup b) setup.spread setup.workers o → HasWholeRun o → MayAnswer setup b (Some (without_rows o)) ⊎ IsAloneBound o
+    found : (o : Outcome) → HasItsRows o → IsFound IsGiven without_rows setup b o → IsFound EndsIn (λ it. it) setup b (without_rows o)
+    found o has (inl solved) = inl (solved_ends owner_by (problem_of setup b) setup.spread setup.workers o solved has)
+    found o has (inr (limit, it)) = inr (limit, record { run = alone o limit has it.run; within = it.within; whole = it.whole })
+
+    ends : (o : Outcome) → HasItsRows o → Answers (task_of setup b) o → IsFound IsGiven without_rows setup b o → HasWholeRun o → MayAnswer setup b (Some (without_rows o))
+    ends o has answers solved kept = (ends_answered (task_of setup b) o answers, inl (together, (found o has solved, kept)))
+
+    by_rows : (o : Outcome) → Answers (task_of setup b) o → IsFound IsGiven without_rows setup b o → HasWholeRun o → MayAnswer setup b (Some (without_rows o)) ⊎ IsAloneBound o
     by_rows (outcome.Optimal cost plan rows) answers solved kept = inl (ends (outcome.Optimal cost plan rows) tt answers solved kept)
     by_rows (outcome.Unsolvable why) answers solved kept = inl (ends (outcome.Unsolvable why) tt answers solved kept)
     by_rows (outcome.Bounded bound best cause (Some rows)) answers solved kept = inl (ends (outcome.Bounded bound best cause (Some rows)) refl answers solved kept)

@@ -100,3 +100,7 @@ StatsAreOfTheSetups =
     → HasStats setup start solved
     → (owner : Position → ℕ) × (via : Move) × (made : List (Step × Option Refusal)) × (w : WorldState)
     × IsRun (opening (job_by owner setup start) via) made w × EndsIn w solved.ending × (solved.stats.expanded ≡ min (expansion_count w) (2 ^ 64 - 1))
+
+-- The stats of a board count no more expansions than the setup allows.
+abbrev pub StatsAreWithinTheLimit : Type 0
+StatsAreWithinTheLimit = (setup : SetupState) (start : Position) (solved : Solved) → HasStats setup start solved → solved.stats.expanded ≤ setup.limit

@@ -1,15 +1,16 @@
 -- How the boards of a setup are answered.
-use Rattle.std.specs.Prelude.{ℕ, List, ◌≡◌, ◌⊎◌, ◌↔◌, ◌-◌, ◌^◌, min, Option, None, Some, Result, Ok, IfOk}
+use Rattle.std.specs.Prelude.{ℕ, List, ◌≡◌, ◌⊎◌, ◌↔◌, ◌≤◌, ◌-◌, ◌^◌, ⊤, min, Option, None, Some, Result, Ok, IfOk}
 use Rattle.memory.specs.declared.OutOfMemory.{OutOfMemory}
 use Rattle.board.specs.Positions.{Position}
 use Rattle.board.specs.Classes.{SameClass}
 use Rattle.outcomes.specs.declared.outcome.Ending.{Ending}
-use Rattle.outcomes.specs.declared.outcome.Ending.TheVariants.{Unsolvable}
+use Rattle.outcomes.specs.declared.outcome.Ending.TheVariants.{Optimal, Unsolvable, Bounded}
 use Rattle.outcomes.specs.declared.outcome.Why.TheVariants.{Parity}
 use Rattle.outcomes.specs.declared.outcome.Outcome.{Outcome}
 use Rattle.outcomes.specs.declared.outcome.Outcome.TheVariants as outcome
 use Rattle.outcomes.specs.Outcomes.{Task, Answers}
-use Rattle.outcomes.specs.Endings.{EndAnswers}
+use Rattle.outcomes.specs.Endings.{EndAnswers, without_rows}
+use Rattle.world_model.specs.Outcomes.{IsGiven}
 use Rattle.world_model.specs.Worlds.{WorldState}
 use Rattle.world_ends.specs.Endings.{EndsIn}
 use Rattle.world_ends.specs.Readings.{EndsWithFigures}
@@ -17,7 +18,7 @@ use Rattle.world_ends.specs.declared.figures.Figures.{Figures}
 use Rattle.hda_run.specs.Alone.{IsFoundAlone}
 use Rattle.hda_run.specs.Problems.{Problem, problem}
 use Rattle.hda_run.specs.WholeRuns.{EndsWholeRun, HasWholeRun}
-use Rattle.thread_runs.specs.Solved.{IsFoundByWorkers, IsSolved}
+use Rattle.thread_runs.specs.Solved.{IsFoundByWorkers}
 use Rattle.lower_bound.specs.Bounds.{sum_of}
 use Rattle.lower_bound.specs.Tables.{parts_of}
 use Rattle.batch_runs.specs.Setups.{SetupState, owner_by, task_of}
@@ -27,28 +28,48 @@ use Rattle.batch_runs.specs.declared.stats.Stats.{Stats}
 use Rattle.batch_runs.specs.declared.stats.Solved.{Solved}
 use Rattle.certificate_runs.specs.Rules.{ProofRules}
 
--- what is to be solved for a board: the setup says the rest
+-- what is to be solved for a board within a limit: the setup says the rest
+abbrev pub problem_within : ℕ → SetupState → Position → Problem
+problem_within limit setup start = problem start setup.goal setup.rule setup.tables limit
+
+-- the same within the setup's limit
 abbrev pub problem_of : SetupState → Position → Problem
-problem_of setup start = problem start setup.goal setup.rule setup.tables setup.limit
+problem_of setup start = problem_within setup.limit setup start
+
+-- the ending is no bound
+abbrev pub IsNoBound : Ending → Type 0
+IsNoBound (Optimal cost plan) = ⊤
+IsNoBound (Unsolvable why) = ⊤
+IsNoBound (Bounded bound best cause) = ⊥
+
+-- One worker finds the answer within this limit: the setup's, or a lower one where there are several workers and the answer is no bound.
+pub record IsFoundWithin {X : Type 0} (gives : WorldState → X → Type 0) (end : X → Ending) (setup : SetupState) (start : Position) (answer : X) (limit : ℕ) : Type 0 where
+  pub run : IsFoundAlone gives owner_by (problem_within limit setup start) setup.spread answer
+  pub within : limit ≤ setup.limit
+  pub whole : (limit ≡ setup.limit) ⊎ ((2 ≤ setup.workers) × IsNoBound (end answer))
+
+-- one worker finds the answer: several boards may be solved side by side, and an easy board is not shared
+abbrev pub IsFoundByOne : {X : Type 0} → (WorldState → X → Type 0) → (X → Ending) → SetupState → Position → X → Type 0
+IsFoundByOne gives end setup start answer = (limit : ℕ) × IsFoundWithin gives end setup start answer limit
+
+-- the setup's workers find the answer, or one of them does
+abbrev pub IsFound : {X : Type 0} → (WorldState → X → Type 0) → (X → Ending) → SetupState → Position → X → Type 0
+IsFound gives end setup start answer = IsFoundByWorkers gives owner_by (problem_of setup start) setup.spread setup.workers answer ⊎ IsFoundByOne gives end setup start answer
 
 -- What a search by the setup's workers may answer for a board: its parity just where the board isn't in the goal's class, and else what a run finds. Memory may be refused before the first step.
 pub record IsSearched {X : Type 0} (gives : WorldState → X → Type 0) (answers : Task → X → Type 0) (end : X → Ending) (parity : X) (setup : SetupState) (start : Position) (found : Result X OutOfMemory) : Type 0 where
   pub at_parity : (found ≡ Ok parity) ↔ (¬ SameClass start setup.goal)
-  pub run : SameClass start setup.goal → IfOk found (IsFoundByWorkers gives owner_by (problem_of setup start) setup.spread setup.workers)
+  pub run : SameClass start setup.goal → IfOk found (IsFound gives end setup start)
   pub answered : IfOk found (answers (task_of setup start))
   pub kept : IfOk found (λ answer. EndsWholeRun (end answer))
 
--- the board is ended by one worker: several boards may be solved side by side
-abbrev pub IsOfOneWorker : SetupState → Position → Ending → Type 0
-IsOfOneWorker setup start ending = IsFoundAlone EndsIn owner_by (problem_of setup start) setup.spread ending
-
 -- the ending is that of a run by the setup's workers, which are guided by its tables and keep to its limit, or by one of them
 abbrev pub IsOfRun : SetupState → Position → Ending → Type 0
-IsOfRun setup start ending = (IsFoundByWorkers EndsIn owner_by (problem_of setup start) setup.spread setup.workers ending ⊎ IsOfOneWorker setup start ending) × EndsWholeRun ending
+IsOfRun setup start ending = IsFound EndsIn (λ it. it) setup start ending × EndsWholeRun ending
 
--- the outcome is that of a run by the setup's workers
+-- the outcome is that of such a run
 abbrev pub IsOfProvedRun : SetupState → Position → Outcome → Type 0
-IsOfProvedRun setup start given = IsSolved owner_by (problem_of setup start) setup.spread setup.workers given × HasWholeRun given
+IsOfProvedRun setup start given = IsFound IsGiven without_rows setup start given × HasWholeRun given
 
 -- A board is answered by what answers its task. A board that isn't in the goal's class is answered by its parity; any other one by a run, which may want memory before the first step: when it does, no definition can tell.
 abbrev pub AnswersBoard : {X : Type 0} → (Task → X → Type 0) → (X → Type 0) → X → SetupState → Position → Option X → Type 0
@@ -83,7 +104,7 @@ pub record AreStatsOf (setup : SetupState) (start : Position) (figures : Figures
 
 -- the figures are those of a run by the setup's workers, or by one of them, which ends so; without a run they are 0
 pub record AreFiguresOfRun (setup : SetupState) (start : Position) (ending : Ending) (figures : Figures) : Type 0 where
-  pub run : SameClass start setup.goal → IsFoundByWorkers EndsWithFigures owner_by (problem_of setup start) setup.spread setup.workers (record { ending = ending; figures = figures }) ⊎ IsFoundAlone EndsWithFigures owner_by (problem_of setup start) setup.spread (record { ending = ending; figures = figures })
+  pub run : SameClass start setup.goal → IsFound EndsWithFigures (λ it. it.ending) setup start (record { ending = ending; figures = figures })
   pub apart : (¬ SameClass start setup.goal) → figures ≡ record { expanded = 0; known = 0 }
 
 -- the board is answered with the stats of the run that gives its ending

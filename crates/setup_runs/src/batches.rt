@@ -80,7 +80,7 @@ impl<
 ///
 /// Where a setup has several workers and the source holds several lines, their boards are solved side
 /// by side, each by one worker. Their lines are taken, and their reports written, one after the other
-/// as ever. A line that comes alone is solved by all workers.
+/// as ever. A line that comes alone is solved by one worker if its board is easy, and else by all.
 ///
 /// The sink is flushed after each report, so that whoever waits for one has it; nothing is flushed
 /// for a line that is passed over.

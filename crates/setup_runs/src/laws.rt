@@ -3,6 +3,7 @@
 ghost use Rattle.setup_runs.specs.Laws.{ParityWantsNoMemory, ParityIsAnswered};
 ghost use Rattle.setup_runs.specs.Laws.{BoundsAreNeverCut, LimitsAreTheSetups, LimitsAreNearlySpent};
 ghost use Rattle.setup_runs.specs.Laws.{ParityIsCertified, CertifiedEndsAreAnswered, StatsAreOfWorlds, StatsAreOfTheSetups};
+ghost use Rattle.setup_runs.specs.Laws.{StatsAreWithinTheLimit};
 
 /// A board of the other class is refused for no want of memory.
 pub fn parity_wants_no_memory()
@@ -25,7 +26,7 @@ pub fn bounds_are_due()
 
 /// What may be certified of a board may be answered too, but for a bound for which memory was
 /// refused.
-#[tactic(auto, using(crate::proofs::SolvingLemmas::certified_answered, crate::proofs::SolvingLemmas::parity_certified))]
+#[tactic(auto, using(crate::proofs::SolvingLemmas::parity_certified))]
 pub fn certified_ends_are_answered()
     ensures parity { ParityIsCertified }
     ensures answered { CertifiedEndsAreAnswered }
@@ -36,4 +37,11 @@ pub fn certified_ends_are_answered()
 pub fn stats_are_of_worlds()
     ensures worlds { StatsAreOfWorlds }
     ensures setups { StatsAreOfTheSetups }
+{}
+
+/// The stats of a line count no more expansions than the setup allows. What one worker expanded before
+/// all shared a board is not among them.
+#[tactic(auto, using(crate::proofs::LawLemmas::stats_within_limits))]
+pub fn stats_are_within_the_limit()
+    ensures { StatsAreWithinTheLimit }
 {}

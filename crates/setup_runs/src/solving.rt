@@ -1,16 +1,18 @@
 //! The solver of a setup's boards.
 
-ghost use Rattle.std.specs.Prelude.{◌≡◌, ◌-◌, ◌^◌, min, IfOk};
+ghost use Rattle.std.specs.Prelude.{◌≡◌, ◌-◌, ◌^◌, ◌≤◌, min, IfOk, IfSome, IsFalse, IsTrue, Ok};
 ghost use Rattle.board.specs.Positions.{Position};
 ghost use Rattle.batch_runs.specs.Setups.{owner_by};
 ghost use Rattle.batch_runs.specs.Batches.{MayGive};
-ghost use Rattle.setup_runs.specs.Solving.{problem_of, rules_of, IsSearched, AreStatsOf, HasStats};
+ghost use Rattle.setup_runs.specs.Solving.{problem_of, problem_within, rules_of};
+ghost use Rattle.setup_runs.specs.Solving.{IsSearched, IsNoBound, AreStatsOf, HasStats};
 
 use crate::watching::Watch;
 use batch_runs::{Setup, Solved, SpreadKind, Stats};
 use board::Board;
-use hda_run::{Gate, Job};
+use hda_run::{Gate, Job, read_one};
 use memory::OutOfMemory;
+use outcomes::{Ending, Outcome};
 use owners::{ByBlank, Spread, Zobrist};
 use std::alloc::Global;
 use std::sync::Wait;
@@ -18,7 +20,31 @@ use std::thread::Threads;
 use thread_parts::Search;
 use thread_runs::laws::owners_are_workers;
 use thread_runs::search_by_workers;
-use world_ends::{EndingWithFigures, Reading, WithFigures};
+use world_ends::{EndingWithFigures, Reading, WithFigures, WithRows};
+
+// The most boards that one worker expands before several share the search. They expand up to a
+// thousand times more for an easy board.
+const EASY_EXPANSIONS: u64 = 16_384;
+
+/// A reading that tells bounds from other answers.
+pub(crate) trait TellsBounds: Reading {
+    /// Whether an answer is a bound.
+    fn is_bound(answer: &Self::Answer) -> bool
+        ensures no { IsFalse result → IsNoBound (Self.end answer.now) }
+        ensures yes { IsTrue result → ¬ IsNoBound (Self.end answer.now) };
+}
+
+impl TellsBounds for WithRows {
+    fn is_bound(answer: &Outcome) -> bool {
+        matches!(answer, Outcome::Bounded { .. })
+    }
+}
+
+impl TellsBounds for WithFigures {
+    fn is_bound(answer: &EndingWithFigures) -> bool {
+        matches!(answer.ending, Ending::Bounded { .. })
+    }
+}
 
 /// A setup, and a board of its shape that is to be answered.
 #[derive(Drop)]
@@ -76,9 +102,10 @@ fn narrowed(count: u128) -> u64
     u64::try_from(count).unwrap_or(u64::MAX)
 }
 
-/// The answer of a board by the setup's workers, in a reading: one alone in the calling thread, more
-/// in threads of their own. The error: out of memory before the first step.
-pub(crate) fn answer_board<A: Reading, R: Threads + Wait + Sync, G: Gate + Sync>(
+/// The answer of a board by the setup's workers, in a reading: an easy one by one worker in the
+/// calling thread, any other one by all of them, several in threads of their own. The error: out of
+/// memory before the first step.
+pub(crate) fn answer_board<A: TellsBounds, R: Threads + Wait + Sync, G: Gate + Sync>(
     rt: &R,
     alloc: Global,
     question: &Question<'_>,
@@ -92,6 +119,9 @@ pub(crate) fn answer_board<A: Reading, R: Threads + Wait + Sync, G: Gate + Sync>
     if setup.worker_count() == 1 {
         return answer_spread::<A, R, ByBlank, G>(rt, alloc, question, &ByBlank, gate);
     }
+    if let Some(answer) = answer_easy::<A, ByBlank, G>(alloc, question, &ByBlank, gate) {
+        return Ok(answer);
+    }
     match setup.spread_kind() {
         SpreadKind::Zobrist => {
             let spread = Zobrist::new(setup.shape());
@@ -103,7 +133,35 @@ pub(crate) fn answer_board<A: Reading, R: Threads + Wait + Sync, G: Gate + Sync>
     }
 }
 
-// The same, where each worker owns the boards that the setup says by this spread.
+// The answer of a board by one of several workers, where the board is easy or the setup's limit is so
+// low. None where the board is to be shared.
+fn answer_easy<A: TellsBounds, S: Spread, G: Gate>(
+    alloc: Global,
+    question: &Question<'_>,
+    spread: &S,
+    gate: &G,
+) -> Option<A::Answer>
+    requires { 2 ≤ question.now.setup.now.workers }
+    ensures { IfSome result (λ answer. IsSearched A.gives A.answers A.end A.parity
+        question.now.setup.now question.now.start.now (Ok answer)) }
+{
+    let whole = question.setup.expansion_limit();
+    let limit = whole.min(EASY_EXPANSIONS);
+    let job = job_within(question, limit);
+    let Ok(answer) = read_one::<A, S, G>(alloc, job, spread, gate) else {
+        return None;
+    };
+    if limit == whole {
+        return Some(answer);
+    }
+    if A::is_bound(&answer) {
+        return None;
+    }
+    Some(answer)
+}
+
+// The answer of a board by all workers, each of which owns the boards that the setup says by this
+// spread.
 fn answer_spread<A: Reading, R: Threads + Wait + Sync, S: Spread + Sync, G: Gate + Sync>(
     rt: &R,
     alloc: Global,
@@ -129,13 +187,20 @@ fn answer_spread<A: Reading, R: Threads + Wait + Sync, S: Spread + Sync, G: Gate
 pub(crate) fn job_for<'a>(question: &Question<'a>) -> Job<'a>
     ensures { result ≡ problem_of question.now.setup.now question.now.start.now }
 {
+    job_within(question, question.setup.expansion_limit())
+}
+
+// The same with a limit of its own.
+fn job_within<'a>(question: &Question<'a>, limit: u64) -> Job<'a>
+    ensures { result ≡ problem_within limit question.now.setup.now question.now.start.now }
+{
     let setup = question.setup;
     Job::new(
         *question.start,
         setup.goal(),
         setup.weights(),
         setup.tables(),
-        setup.expansion_limit(),
+        limit,
     )
     .unwrap()
 }

@@ -1,4 +1,4 @@
-use Rattle.std.proofs.Common.{Some, subst, sym}
+use Rattle.std.proofs.Common.{arith, Some, inl, refl, subst, sym}
 use Rattle.outcomes.specs.declared.outcome.Ending.{Ending}
 use Rattle.setup_runs.specs.Solving.{MayAnswer}
 use Rattle.setup_runs.proofs.SolvingLemmas.{may_end, may_lack, may_refuse, one_has_stats}
@@ -20,9 +20,9 @@ returns-clause-some g c =
     let start = c.args.question.now.start.now in
     let run = rw c.job_for-job.ensures at c.in-Ok.ensures in
     subst (λ (ending : Ending). MayAnswer setup start (Some ending)) (sym c.solved_since.ensures.ending)
-    (may_end setup start g.S.Spread.owner_of g.met.S.Spread.owners_are_workers c.args.spread.now _ c.in-Ok.found run.parity.1 run.run run.answers run.kept)
+    (may_end setup start setup.limit g.S.Spread.owner_of g.met.S.Spread.owners_are_workers c.args.spread.now _ c.in-Ok.found (omega arith) (inl refl) run.parity.1 run.run run.answers run.kept)
 
 pub returns-clause-stats : goal.returns-clause-stats
 returns-clause-stats g c =
     let run = rw c.job_for-job.ensures at c.in-Ok.ensures in
-    one_has_stats c.args.question.now.setup.now c.args.question.now.start.now g.S.Spread.owner_of g.met.S.Spread.owners_are_workers c.args.spread.now c.in-Ok.found _ run.parity.1 run.run c.solved_since.ensures.ending c.solved_since.ensures.stats
+    one_has_stats c.args.question.now.setup.now c.args.question.now.start.now c.args.question.now.setup.now.limit g.S.Spread.owner_of g.met.S.Spread.owners_are_workers c.args.spread.now c.in-Ok.found _ (omega arith) (inl refl) run.parity.1 run.run c.solved_since.ensures.ending c.solved_since.ensures.stats
