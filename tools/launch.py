@@ -18,7 +18,7 @@ WHAT_IS_BUILT = f"""{PROGRAM}: building the program without repeating its proofs
 def build_quick():
     """Builds the quick program. Where sources change meanwhile, it is built again."""
     if not is_buildable():
-        fail(f"{NEEDED}; found is {version() or 'no toolchain'}")
+        fail(f"{NEEDED}; found: {version() or 'none'}")
     print(WHAT_IS_BUILT, file=sys.stderr, flush=True)
     made_of = None
     with tempfile.TemporaryDirectory(prefix="building-", dir=OUT) as room:
