@@ -28,5 +28,11 @@ FAR = {
     "14 10 2 1 13 9 8 11 7 3 6 12 15 5 4 0": 62,
     "12 9 4 11 10 6 8 0 3 7 13 5 15 2 14 1": 60,
 }
+# Boards for which one worker expands 5,553,561, 8,178,082 and 12,313,987 boards with the default groups, with their costs.
+LONG = {
+    "14 15 13 9 8 10 12 7 11 2 4 0 1 5 3 6": 65,
+    "15 0 11 7 13 1 10 4 6 14 3 8 12 5 9 2": 59,
+    "14 12 7 4 9 15 2 13 11 0 6 5 8 1 10 3": 61,
+}
 # A board that is far from solved after 6,000,000 expansions with the default groups.
 HARD = "0 12 9 13 15 11 10 14 7 3 2 5 4 8 6 1"
