@@ -22,7 +22,8 @@ use Rattle.clap.proofs.WalkLemmas.{one_text-rows, first_value-rows}
 use Rattle.clap.specs.Simple.{subcommand_rows}
 use Rattle.clap.specs.declared.parser.matches.ArgMatches.TheViews.{out-ArgMatches, out-SubCommand}
 use Rattle.clap.specs.declared.parser.matches.SubCommand.{SubCommand}
-use Rattle.command_line.specs.Commands.{Choices, program_app, AreChoices, IsProgram}
+use Rattle.clap.specs.declared.builder.value_parser.ValueParser.{ValueParser}
+use Rattle.command_line.specs.Commands.{Choices, program_app, parsed_rule, AreChoices, IsProgram, IsReadAs}
 use Rattle.command_line.specs.Requests.{HasNumber, HasShape, IsGoalSaid, IsGoalFault, AreCostsSaid, IsCostsFault, AreGroupsSaid, IsGroupsFault, AreOptions, OptionsFail, RunFails, AsksRun, AsksText, TextFails, WordsAsk, WordsFail}
 use Rattle.command_line.specs.declared.faults.NoRequest.TheVariants.{Usage, Goal, Costs, Groups, NoListing, Memory}
 use Rattle.command_line.specs.declared.requests.Request.{Request}
@@ -59,19 +60,28 @@ pub program_is_free : (spreads : Choices) → is_simple_and_free (program_app sp
 unfolding clap_on_literals
 program_is_free spreads = refl
 
--- ---- what a command has after an argument was added
+-- ---- how a command is read after an argument or a subcommand was added
+
+pub read_as : {command : Command} {app : App} → app_of command ≡ app → (out-Command command).has_globals ≡ false → IsReadAs app command
+read_as parse local = record { parse = parse; local = local }
 
 -- the argument's rule comes last
-pub adds_rule : (old new : Command) (arg : Arg) → AddsArg old arg new → arg.global ≡ false → {app : App} → app_of old ≡ app → {rule : Rule} → rule_of arg ≡ rule → app_of new ≡ with_rule app rule
-adds_rule old new arg added local before is = added.shape local ∙ ap₂ with_rule before is
-
--- no argument is global
-pub stays_local : (old new : Command) (arg : Arg) → AddsArg old arg new → arg.global ≡ false → (out-Command old).has_globals ≡ false → (out-Command new).has_globals ≡ false
-stays_local old new arg added local before = added.globals ∙ ap₂ (λ (x y : Bool). x || y) before local
+pub adds_rule : (old new : Command) (arg : Arg) → AddsArg old arg new → arg.global ≡ false → {rule : Rule} → rule_of arg ≡ rule → {app : App} → IsReadAs app old → IsReadAs (with_rule app rule) new
+adds_rule old new arg added local is before = record {
+  parse = added.shape local ∙ ap₂ with_rule before.parse is;
+  local = added.globals ∙ ap₂ (λ (x y : Bool). x || y) before.local local;
+}
 
 -- the subcommand comes last
-pub adds_subcommand : (old below new : Command) → AddsSubcommand old below new → (out-Command below).has_globals ≡ false → {app : App} → app_of old ≡ app → {app' : App} → app_of below ≡ app' → app_of new ≡ with_subcommand app app'.top
-adds_subcommand old below new added local before is = added.shape local ∙ ap₂ with_subcommand before (ap (λ (a : App). a.top) is)
+pub adds_subcommand : (old below new : Command) → AddsSubcommand old below new → {app' : App} → IsReadAs app' below → {app : App} → IsReadAs app old → IsReadAs (with_subcommand app app'.top) new
+adds_subcommand old below new added is before = record {
+  parse = added.shape is.local ∙ ap₂ with_subcommand before.parse (ap (λ (a : App). a.top) is.parse);
+  local = added.globals ∙ ap₂ (λ (x y : Bool). x || y) before.local is.local;
+}
+
+-- an option whose values are parsed so
+pub parses : (option arg : Rule) (parser : ValueParser) (given : Text) → arg ≡ parsed_rule option parser given → {rule : Rule} → option ≡ rule → arg ≡ parsed_rule rule parser given
+parses option arg parser given made is = made ∙ ap (λ (r : Rule). parsed_rule r parser given) is
 
 -- ---- what a parse of words by the program says of them
 

@@ -1,11 +1,11 @@
 //! The program's subcommands and their options.
 
-ghost use Rattle.std.specs.Prelude.{◌≡◌, IfOk, IfErr, false};
-ghost use Rattle.clap.specs.Words.{app_of, rule_of, kind_of};
-ghost use Rattle.clap.specs.declared.builder.command.Command.TheViews.{out-Command};
-ghost use Rattle.clap.specs.declared.error.kind.ErrorKind.TheVariants.{OutOfMemory};
-ghost use Rattle.command_line.specs.Commands.{option_rule, side_rule, text_rule, parsed_rule};
-ghost use Rattle.command_line.specs.Commands.{flag_rule, count_rule, puzzle_app, show_app, boards_app, program_app};
+ghost use Rattle.std.specs.Prelude.{◌≡◌, codes, false};
+ghost use Rattle.clap.specs.Words.{App, new_app, rule_of};
+ghost use Rattle.command_line.specs.Commands.{IsReadAs, MakesCommand, option_rule, side_rule};
+ghost use Rattle.command_line.specs.Commands.{text_rule, parsed_rule, flag_rule, count_rule, sided_app};
+ghost use Rattle.command_line.specs.Commands.{stated_app, puzzle_app, solve_app, show_app, boards_app};
+ghost use Rattle.command_line.specs.Commands.{top_app, proving_app, program_app};
 
 use crate::help;
 use clap::builder::ValueParser;
@@ -15,68 +15,125 @@ use std::alloc::Global;
 /// `tilesolve` with its subcommands `solve`, `check`, `show`, `upgrade`, `replay` and `boards`.
 /// The error is that memory was refused.
 pub(crate) fn program<'a>(alloc: Global, spreads: &'a [&'a str]) -> Result<Command<'a>, Error>
-    ensures app { IfOk result (λ c. app_of c ≡ program_app spreads.entry) }
-    ensures refused { IfErr result (λ e. kind_of e ≡ OutOfMemory) }
+    ensures { MakesCommand (program_app spreads.entry) result }
 {
-    let solve = puzzle(alloc, "solve", spreads)?
-        .about(help::SOLVE)
-        .long_about(help::SOLVE_LONG)
-        .after_help(help::SOLVE_AFTER)
-        .arg(flag(alloc, "cert", help::CERT))?
-        .arg(flag(alloc, "progress", help::PROGRESS))?
-        .arg(flag(alloc, "stats", help::STATS))?;
-    let check = Command::new(alloc, "check")
-        .about(help::CHECK)
-        .long_about(help::CHECK_LONG)
-        .after_help(help::CHECK_AFTER);
-    let show = showing(alloc)?
-        .about(help::SHOW)
-        .long_about(help::SHOW_LONG)
-        .after_help(help::SHOW_AFTER);
-    let upgrade = Command::new(alloc, "upgrade")
-        .about(help::UPGRADE)
-        .long_about(help::UPGRADE_LONG)
-        .after_help(help::UPGRADE_AFTER);
-    let replay = puzzle(alloc, "replay", spreads)?
-        .about(help::REPLAY)
-        .long_about(help::REPLAY_LONG)
-        .after_help(help::REPLAY_AFTER);
-    let boards = listing(alloc)?
-        .about(help::BOARDS)
-        .long_about(help::BOARDS_LONG)
-        .after_help(help::BOARDS_AFTER);
+    let command = proving(alloc, spreads)?
+        .subcommand(replaying(alloc, spreads)?)?
+        .subcommand(listing(alloc)?)?;
+    Ok(command)
+}
+
+// The program with the subcommands that solve, and that read certificates.
+fn proving<'a>(alloc: Global, spreads: &'a [&'a str]) -> Result<Command<'a>, Error>
+    ensures { MakesCommand (proving_app spreads.entry) result }
+{
+    let command = top(alloc)?
+        .subcommand(solving(alloc, spreads)?)?
+        .subcommand(checking(alloc))?
+        .subcommand(showing(alloc)?)?
+        .subcommand(upgrading(alloc))?;
+    Ok(command)
+}
+
+// The program without its subcommands.
+fn top<'a>(alloc: Global) -> Result<Command<'a>, Error>
+    ensures { MakesCommand top_app result }
+{
     let command = Command::new(alloc, "tilesolve")
         .bin_name("tilesolve")?
         .version(help::VERSION)
-        .about(help::PROGRAM)
-        .long_about(help::PROGRAM_LONG)
-        .after_help(help::PROGRAM_AFTER)
         .no_binary_name(true)
         .subcommand_required(true)
-        .disable_help_subcommand(true)
-        .subcommand(solve)?
-        .subcommand(check)?
-        .subcommand(show)?
-        .subcommand(upgrade)?
-        .subcommand(replay)?
-        .subcommand(boards)?;
-    Ok(command)
+        .disable_help_subcommand(true);
+    Ok(with_help(
+        command,
+        help::PROGRAM,
+        help::PROGRAM_LONG,
+        help::PROGRAM_AFTER,
+    ))
+}
+
+// The subcommand `solve`.
+fn solving<'a>(alloc: Global, spreads: &'a [&'a str]) -> Result<Command<'a>, Error>
+    ensures { MakesCommand (solve_app spreads.entry) result }
+{
+    let command = puzzle(alloc, "solve", spreads)?
+        .arg(flag(alloc, "cert", help::CERT))?
+        .arg(flag(alloc, "progress", help::PROGRESS))?
+        .arg(flag(alloc, "stats", help::STATS))?;
+    Ok(with_help(command, help::SOLVE, help::SOLVE_LONG, help::SOLVE_AFTER))
+}
+
+// The subcommand `check`.
+fn checking<'a>(alloc: Global) -> Command<'a>
+    ensures { IsReadAs (new_app (codes "check")) result }
+{
+    let command = Command::new(alloc, "check");
+    with_help(command, help::CHECK, help::CHECK_LONG, help::CHECK_AFTER)
+}
+
+// The subcommand `show`.
+fn showing<'a>(alloc: Global) -> Result<Command<'a>, Error>
+    ensures { MakesCommand show_app result }
+{
+    let command = Command::new(alloc, "show")
+        .arg(parsed(
+            option(alloc, "width", "N", help::WIDTH),
+            ValueParser::Unsigned(20, 1000),
+            "80",
+        ))?
+        .arg(flag(alloc, "svg", help::SVG))?
+        .arg(parsed(
+            option(alloc, "seconds", "N", help::SECONDS),
+            ValueParser::Unsigned(1, 60),
+            "1",
+        ))?;
+    Ok(with_help(command, help::SHOW, help::SHOW_LONG, help::SHOW_AFTER))
+}
+
+// The subcommand `upgrade`.
+fn upgrading<'a>(alloc: Global) -> Command<'a>
+    ensures { IsReadAs (new_app (codes "upgrade")) result }
+{
+    let command = Command::new(alloc, "upgrade");
+    with_help(
+        command,
+        help::UPGRADE,
+        help::UPGRADE_LONG,
+        help::UPGRADE_AFTER,
+    )
+}
+
+// The subcommand `replay`.
+fn replaying<'a>(alloc: Global, spreads: &'a [&'a str]) -> Result<Command<'a>, Error>
+    ensures { MakesCommand (puzzle_app spreads.entry (codes "replay")) result }
+{
+    let command = puzzle(alloc, "replay", spreads)?;
+    Ok(with_help(command, help::REPLAY, help::REPLAY_LONG, help::REPLAY_AFTER))
+}
+
+// The subcommand `boards`.
+fn listing<'a>(alloc: Global) -> Result<Command<'a>, Error>
+    ensures { MakesCommand boards_app result }
+{
+    let command = sided(alloc, "boards")?
+        .arg(option(alloc, "goal", "TILES", help::GOAL))?
+        .arg(count(alloc, "count", help::COUNT))?
+        .arg(parsed(
+            option(alloc, "seed", "N", help::SEED),
+            ValueParser::Unsigned(0, u64::MAX),
+            "0",
+        ))?
+        .arg(count(alloc, "moves", help::MOVES))?
+        .arg(flag(alloc, "all", help::ALL))?;
+    Ok(with_help(command, help::BOARDS, help::BOARDS_LONG, help::BOARDS_AFTER))
 }
 
 // A subcommand with the options that say a puzzle and how it is searched.
 fn puzzle<'a>(alloc: Global, name: &'a str, spreads: &'a [&'a str]) -> Result<Command<'a>, Error>
-    ensures app { IfOk result (λ c.
-        app_of c ≡ puzzle_app spreads.entry name.entry.now) }
-    ensures local { IfOk result (λ c. (out-Command c).has_globals ≡ false) }
-    ensures refused { IfErr result (λ e. kind_of e ≡ OutOfMemory) }
+    ensures { MakesCommand (puzzle_app spreads.entry name.entry.now) result }
 {
-    let command = Command::new(alloc, name)
-        .arg(side(alloc, "rows", help::ROWS))?
-        .arg(side(alloc, "cols", help::COLS))?
-        .arg(text(alloc, "cost", "COST", help::COST, "unit"))?
-        .arg(option(alloc, "goal", "TILES", help::GOAL))?
-        .arg(option(alloc, "groups", "GROUPS", help::GROUPS))?
-        .arg(flag(alloc, "fold", help::FOLD))?
+    let command = stated(alloc, name)?
         .arg(parsed(
             option(alloc, "workers", "N", help::WORKERS),
             ValueParser::Unsigned(1, 16),
@@ -95,46 +152,38 @@ fn puzzle<'a>(alloc: Global, name: &'a str, spreads: &'a [&'a str]) -> Result<Co
     Ok(command)
 }
 
-// The subcommand `show` with its options.
-fn showing<'a>(alloc: Global) -> Result<Command<'a>, Error>
-    ensures app { IfOk result (λ c. app_of c ≡ show_app) }
-    ensures local { IfOk result (λ c. (out-Command c).has_globals ≡ false) }
-    ensures refused { IfErr result (λ e. kind_of e ≡ OutOfMemory) }
+// A subcommand with the options that say a puzzle.
+fn stated<'a>(alloc: Global, name: &'a str) -> Result<Command<'a>, Error>
+    ensures { MakesCommand (stated_app name.entry.now) result }
 {
-    let command = Command::new(alloc, "show")
-        .arg(parsed(
-            option(alloc, "width", "N", help::WIDTH),
-            ValueParser::Unsigned(20, 1000),
-            "80",
-        ))?
-        .arg(flag(alloc, "svg", help::SVG))?
-        .arg(parsed(
-            option(alloc, "seconds", "N", help::SECONDS),
-            ValueParser::Unsigned(1, 60),
-            "1",
-        ))?;
+    let command = sided(alloc, name)?
+        .arg(text(alloc, "cost", "COST", help::COST, "unit"))?
+        .arg(option(alloc, "goal", "TILES", help::GOAL))?
+        .arg(option(alloc, "groups", "GROUPS", help::GROUPS))?
+        .arg(flag(alloc, "fold", help::FOLD))?;
     Ok(command)
 }
 
-// The subcommand `boards` with its options.
-fn listing<'a>(alloc: Global) -> Result<Command<'a>, Error>
-    ensures app { IfOk result (λ c. app_of c ≡ boards_app) }
-    ensures local { IfOk result (λ c. (out-Command c).has_globals ≡ false) }
-    ensures refused { IfErr result (λ e. kind_of e ≡ OutOfMemory) }
+// A subcommand with the sides of its boards.
+fn sided<'a>(alloc: Global, name: &'a str) -> Result<Command<'a>, Error>
+    ensures { MakesCommand (sided_app name.entry.now) result }
 {
-    let command = Command::new(alloc, "boards")
+    let command = Command::new(alloc, name)
         .arg(side(alloc, "rows", help::ROWS))?
-        .arg(side(alloc, "cols", help::COLS))?
-        .arg(option(alloc, "goal", "TILES", help::GOAL))?
-        .arg(count(alloc, "count", help::COUNT))?
-        .arg(parsed(
-            option(alloc, "seed", "N", help::SEED),
-            ValueParser::Unsigned(0, u64::MAX),
-            "0",
-        ))?
-        .arg(count(alloc, "moves", help::MOVES))?
-        .arg(flag(alloc, "all", help::ALL))?;
+        .arg(side(alloc, "cols", help::COLS))?;
     Ok(command)
+}
+
+// A command with its texts of help.
+fn with_help<'a>(
+    command: Command<'a>,
+    about: &'a str,
+    in_detail: &'a str,
+    after: &'a str,
+) -> Command<'a>
+    ensures { (app : App) → IsReadAs app command.entry → IsReadAs app result }
+{
+    command.about(about).long_about(in_detail).after_help(after)
 }
 
 // An option of one value, any text, which help shows by a name.

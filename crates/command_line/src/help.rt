@@ -25,7 +25,7 @@ Examples:
 Without arguments: tilesolve solve --rows 3 --cols 3
 
 Exit status:
-  0  every line is optimal or unsolvable, or the certificate is accepted, shown or upgraded
+  0  every line optimal or unsolvable, a certificate accepted, shown or upgraded, or boards listed
   1  some line is bounded or refused, or a replay line is not a step (B4)
   2  invalid arguments, including the values of --goal, --cost and --groups
   3  standard input can't be read (B1, F6) or standard output can't be written (B2, F8)

@@ -1,4 +1,4 @@
-use Rattle.std.proofs.Common.{◌≡◌, ◌∙◌, Option, codes, option_map, sym, subst}
+use Rattle.std.proofs.Common.{◌≡◌, ◌∙◌, Option, codes, sym, subst}
 use Rattle.clap.specs.Words.{Text, first_of, found_of, rows_of}
 use Rattle.clap.proofs.WalkLemmas.{first_value-rows}
 use Rattle.board.specs.Grids.{Grid}

@@ -13,10 +13,10 @@ pub returns-clause-matches : goal.returns-clause-matches
 returns-clause-matches c =
     let spreads = c.as_slice.result in
     let choices : AreChoices spreads = search rules in
-    matches_say spreads choices _ c.in_ok-program.ensures.app (map string_bytes c.args.words.now) c.try_get_matches_from.result c.try_get_matches_from.ensures.matches c.try_get_matches_from.ensures.kinds
+    matches_say spreads choices _ c.in_ok-program.ensures.command.parse (map string_bytes c.args.words.now) c.try_get_matches_from.result c.try_get_matches_from.ensures.matches c.try_get_matches_from.ensures.kinds
 
 pub returns-clause-fault : goal.returns-clause-fault
 returns-clause-fault c =
     let spreads = c.as_slice.result in
     let choices : AreChoices spreads = search rules in
-    error_says spreads choices _ c.in_ok-program.ensures.app (map string_bytes c.args.words.now) c.try_get_matches_from.result c.try_get_matches_from.ensures.kinds
+    error_says spreads choices _ c.in_ok-program.ensures.command.parse (map string_bytes c.args.words.now) c.try_get_matches_from.result c.try_get_matches_from.ensures.kinds
