@@ -101,7 +101,11 @@ fn run_world(rt: &(impl Print + AllocGlobal), setup: Setup) -> Option<()> {
     let start = Board::from_tiles(shape, setup.start).ok()?;
     let bound = bound_of(rt.alloc(), &goal, &weights, setup.groups)?;
     let job = Job::new(start, goal, weights, &bound, u64::MAX).ok()?;
-    let world = searched(rt.alloc(), job, &ByBlank)?;
+    print_world(rt, searched(rt.alloc(), job, &ByBlank)?)
+}
+
+// Prints the figures and the outcome of a world; None where nothing can be printed.
+fn print_world(rt: &(impl Print + AllocGlobal), world: World<'_, ByBlank>) -> Option<()> {
     if world.workers() > 0 {
         let known = world.worker(0).lists().len();
         let expanded = world.worker(0).expansions();

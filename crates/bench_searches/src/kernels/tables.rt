@@ -74,6 +74,23 @@ impl Task {
         }
     }
 
+    /// The same for tables that are built and not read.
+    pub fn unread(self) -> Self {
+        Task {
+            is_read: false,
+            ..self
+        }
+    }
+
+    /// The same for these weights and this goal.
+    pub fn drawn(self, weights: usize, goal: usize) -> Self {
+        Task {
+            weights: weights as u64,
+            goal: goal as u64,
+            ..self
+        }
+    }
+
     // Its weights for a shape, or None where they make none.
     fn weights(&self, shape: Shape) -> Option<Weights>
         ensures { IfSome result (λ weights. weights.grid ≡ shape) }

@@ -65,69 +65,80 @@ fn small(name: &str) -> &'static [usize] {
 
 // The part of a name with its numbers, or `None` where there is none, or no memory for it.
 fn read_part(alloc: Global, name: &str, numbers: &[usize]) -> Option<Part> {
-    match (name, numbers) {
-        ("step", [side, steps]) => {
-            let shape = shape_of(*side, *side)?;
-            Some(Part::Steps(shape, u32::try_from(*steps).ok()?))
-        }
-        ("rank", [side, count, ranks]) => {
-            let group = Group::new(shape_of(*side, *side)?, TILES.get(..*count)?).ok()?;
-            Some(Part::Ranks(group, u32::try_from(*ranks).ok()?))
-        }
-        ("table", [rows, cols, counts @ ..]) => {
-            let shape = shape_of(*rows, *cols)?;
-            Some(Part::Tables(read_groups(alloc, shape, counts)?, Task::plain()))
-        }
-        ("weighed", [weights, goal, rows, cols, counts @ ..]) => {
-            let shape = shape_of(*rows, *cols)?;
-            let task = task_of(*weights, *goal, true);
-            Some(Part::Tables(read_groups(alloc, shape, counts)?, task))
-        }
-        ("folded", [weights, goal, rows, cols, counts @ ..]) => {
-            let shape = shape_of(*rows, *cols)?;
-            let task = task_of(*weights, *goal, true).folded();
-            Some(Part::Tables(read_groups(alloc, shape, counts)?, task))
-        }
-        ("built", [weights, goal, rows, cols, counts @ ..]) => {
-            let shape = shape_of(*rows, *cols)?;
-            let task = task_of(*weights, *goal, false);
-            Some(Part::Tables(read_groups(alloc, shape, counts)?, task))
-        }
-        ("built-folded", [weights, goal, rows, cols, counts @ ..]) => {
-            let shape = shape_of(*rows, *cols)?;
-            let task = task_of(*weights, *goal, false).folded();
-            Some(Part::Tables(read_groups(alloc, shape, counts)?, task))
-        }
-        ("group", [weights, goal, rows, cols, tiles @ ..]) => {
-            let shape = shape_of(*rows, *cols)?;
-            let task = task_of(*weights, *goal, true);
-            Some(Part::Tables(group_of(alloc, shape, tiles)?, task))
-        }
-        ("group-folded", [weights, goal, rows, cols, tiles @ ..]) => {
-            let shape = shape_of(*rows, *cols)?;
-            let task = task_of(*weights, *goal, true).folded();
-            Some(Part::Tables(group_of(alloc, shape, tiles)?, task))
-        }
-        ("sums", [side, boards, rounds, counts @ ..]) => {
-            let shape = shape_of(*side, *side)?;
-            let groups = read_groups(alloc, shape, counts)?;
-            let bound = drawn_bound(alloc, shape, groups)?;
-            let boards = u32::try_from(*boards).ok()?;
-            Some(Part::Sums(bound, boards, u32::try_from(*rounds).ok()?))
-        }
-        ("containers", [count]) => Some(Part::Containers(*count)),
+    match name {
+        "step" => read_steps(numbers),
+        "rank" => read_ranks(numbers),
+        "table" => read_plain(alloc, numbers),
+        "weighed" => read_tables(alloc, numbers, Task::plain()),
+        "folded" => read_tables(alloc, numbers, Task::plain().folded()),
+        "built" => read_tables(alloc, numbers, Task::plain().unread()),
+        "built-folded" => read_tables(alloc, numbers, Task::plain().unread().folded()),
+        "group" => read_one_table(alloc, numbers, Task::plain()),
+        "group-folded" => read_one_table(alloc, numbers, Task::plain().folded()),
+        "sums" => read_sums(alloc, numbers),
+        "containers" => read_count(numbers),
         _ => None,
     }
 }
 
-// The task of these numbers.
-fn task_of(weights: usize, goal: usize, is_read: bool) -> Task {
-    Task {
-        weights: weights as u64,
-        goal: goal as u64,
-        is_folded: false,
-        is_read,
-    }
+fn read_steps(numbers: &[usize]) -> Option<Part> {
+    let [side, steps] = numbers else {
+        return None;
+    };
+    let shape = shape_of(*side, *side)?;
+    Some(Part::Steps(shape, u32::try_from(*steps).ok()?))
+}
+
+fn read_ranks(numbers: &[usize]) -> Option<Part> {
+    let [side, count, ranks] = numbers else {
+        return None;
+    };
+    let group = Group::new(shape_of(*side, *side)?, TILES.get(..*count)?).ok()?;
+    Some(Part::Ranks(group, u32::try_from(*ranks).ok()?))
+}
+
+fn read_plain(alloc: Global, numbers: &[usize]) -> Option<Part> {
+    let [rows, cols, counts @ ..] = numbers else {
+        return None;
+    };
+    let groups = read_groups(alloc, shape_of(*rows, *cols)?, counts)?;
+    Some(Part::Tables(groups, Task::plain()))
+}
+
+fn read_sums(alloc: Global, numbers: &[usize]) -> Option<Part> {
+    let [side, boards, rounds, counts @ ..] = numbers else {
+        return None;
+    };
+    let boards = u32::try_from(*boards).ok()?;
+    let rounds = u32::try_from(*rounds).ok()?;
+    let shape = shape_of(*side, *side)?;
+    let groups = read_groups(alloc, shape, counts)?;
+    Some(Part::Sums(drawn_bound(alloc, shape, groups)?, boards, rounds))
+}
+
+fn read_count(numbers: &[usize]) -> Option<Part> {
+    let [count] = numbers else {
+        return None;
+    };
+    Some(Part::Containers(*count))
+}
+
+// Tables of groups of these counts of tiles, for drawn weights and a drawn goal.
+fn read_tables(alloc: Global, numbers: &[usize], task: Task) -> Option<Part> {
+    let [weights, goal, rows, cols, counts @ ..] = numbers else {
+        return None;
+    };
+    let groups = read_groups(alloc, shape_of(*rows, *cols)?, counts)?;
+    Some(Part::Tables(groups, task.drawn(*weights, *goal)))
+}
+
+// The table of the group of these tiles.
+fn read_one_table(alloc: Global, numbers: &[usize], task: Task) -> Option<Part> {
+    let [weights, goal, rows, cols, tiles @ ..] = numbers else {
+        return None;
+    };
+    let groups = group_of(alloc, shape_of(*rows, *cols)?, tiles)?;
+    Some(Part::Tables(groups, task.drawn(*weights, *goal)))
 }
 
 // The shape with these sides.
