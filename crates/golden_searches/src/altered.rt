@@ -18,22 +18,31 @@ const PLACES: usize = 500;
 /// Prints what is said of the certificate itself, and of those whose row's cost is one more or, at
 /// every other place, one less.
 pub fn print_altered<R: Threads + Print + AllocGlobal + Sync>(rt: &R) -> io::Result<()> {
-    let Some((certificate, bound)) = certificate_with_tables(rt.alloc()) else {
-        return Err(ErrorKind::OutOfMemory.into());
-    };
+    match certificate_with_tables(rt.alloc()) {
+        Some((certificate, bound)) => print_tallies(rt, &certificate, &bound),
+        None => Err(ErrorKind::OutOfMemory.into()),
+    }
+}
+
+// Prints what is said of a certificate itself, and of those that are altered.
+fn print_tallies<R: Threads + Print + AllocGlobal + Sync>(
+    rt: &R,
+    certificate: &Certificate,
+    bound: &Bound,
+) -> io::Result<()> {
     println!(rt;
         "rows {}, cost {}",
         certificate.rows().len(),
         certificate.cost()
     )?;
     let mut itself = Tally::new();
-    note(rt, &certificate, &bound, &mut itself);
+    note(rt, certificate, bound, &mut itself);
     itself.print(rt, "itself")?;
     let mut tallies = [Tally::new(), Tally::new()];
     for number in 0..PLACES {
         let place = place_of(number, certificate.rows().len());
         let tally = &mut tallies[number % 2];
-        if !note_altered(rt, &certificate, &bound, place, number % 2 == 0, tally) {
+        if !note_altered(rt, certificate, bound, place, number % 2 == 0, tally) {
             return Err(ErrorKind::OutOfMemory.into());
         }
     }

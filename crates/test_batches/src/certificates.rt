@@ -145,24 +145,38 @@ fn is_refused<R: Threads + AllocGlobal + Sync>(
     Some(is_judged(rt, bytes.as_slice(), report.as_bytes(), 5))
 }
 
-// Whether what the search finds of the hardest board of 3 by 3 is accepted by the checker.
-fn is_hardest_accepted<R: Threads + Wait + AllocGlobal + Sync>(rt: &R) -> Option<bool> {
+// The certificate that is written of the hardest board of 3 by 3. None where none is written, or
+// memory was refused.
+fn certificate_of_hardest<R: Threads + Wait + AllocGlobal + Sync>(rt: &R) -> Option<Vec<u8>> {
     let alloc = rt.alloc();
     let shape = Shape::new(3, 3).ok()?;
     let setup = Setup::new(alloc, Board::goal(shape), Weights::unit(shape));
     let mut source = ByteSource::new("h 8 0 6 5 4 7 2 3 1\n".as_bytes());
     let mut sink = ByteSink::new(Vec::new(alloc));
-    let status = run_cert(rt, alloc, &mut source, &mut sink, &setup, &Free).ok()?;
-    let certificate = sink.into_inner();
-    let report = b"{\"cost\":31,\"status\":\"accepted\"}\n";
-    Some(status == 0 && is_judged(rt, certificate.as_slice(), report, 0))
+    match run_cert(rt, alloc, &mut source, &mut sink, &setup, &Free) {
+        Ok(0) => Some(sink.into_inner()),
+        _ => None,
+    }
 }
 
 #[test]
-fn certificates_are_judged(rt: HostRuntime) {
+fn what_the_search_finds_is_accepted(rt: HostRuntime) {
+    let Some(certificate) = certificate_of_hardest(&rt) else {
+        panic!(rt; "no certificate");
+    };
+    let report = b"{\"cost\":31,\"status\":\"accepted\"}\n";
+    assert!(rt; is_judged(&rt, certificate.as_slice(), report, 0));
+}
+
+#[test]
+fn changed_certificates_are_refused(rt: HostRuntime) {
     for (from, to, by, code) in CHANGES {
         assert_eq!(rt; is_refused(&rt, from, to, by, code), Some(true), "{code}");
     }
+}
+
+#[test]
+fn certificates_that_end_early_are_refused(rt: HostRuntime) {
     for length in 0..45 {
         assert_eq!(rt;
             is_refused(&rt, length, 45, &[], "F2"),
@@ -170,6 +184,10 @@ fn certificates_are_judged(rt: HostRuntime) {
             "{length}"
         );
     }
+}
+
+#[test]
+fn high_bytes_are_refused(rt: HostRuntime) {
     let mut from = 0;
     for (end, code) in HIGH_BYTES {
         for place in from..end {
@@ -178,5 +196,4 @@ fn certificates_are_judged(rt: HostRuntime) {
         }
         from = end;
     }
-    assert_eq!(rt; is_hardest_accepted(&rt), Some(true));
 }

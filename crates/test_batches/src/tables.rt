@@ -1,6 +1,6 @@
 //! The tables of the groups where none are named.
 
-ghost use Rattle.std.specs.Prelude.{◌≡◌};
+ghost use Rattle.std.specs.Prelude.{◌≡◌, IfSome};
 
 use board::{Board, Shape, Weights};
 use database_build::{Folded, Table};
@@ -19,25 +19,30 @@ fn values_of_all_views(rt: HostRuntime) -> Result<(), Fail> {
     let three = Shape::new(3, 3)?;
     let four = Shape::new(3, 4)?;
     let rows = [
-        (three, Weights::unit(three), [147_308, 142_010, 0]),
-        (three, Weights::face(three), [358_802, 909_974, 0]),
-        (four, Weights::unit(four), [8_973_222, 8_391_306, 330]),
-        (four, Weights::face(four), [25_659_994, 66_328_908, 3_630]),
+        (Weights::unit(three), [147_308, 142_010, 0]),
+        (Weights::face(three), [358_802, 909_974, 0]),
+        (Weights::unit(four), [8_973_222, 8_391_306, 330]),
+        (Weights::face(four), [25_659_994, 66_328_908, 3_630]),
     ];
-    for (shape, weights, wanted) in rows {
-        let groups = default_groups(alloc, shape)?;
-        let goal = Board::goal(shape);
-        let bound = build_bound(&rt, alloc, groups, &goal, &weights)?;
-        let TableList::Whole(tables) = bound.tables() else {
-            return Err("the tables are whole")?;
-        };
-        let mut sums = [0; 3];
-        for (sum, table) in sums.iter_mut().zip(tables) {
-            *sum = sum_of_table(table);
-        }
-        assert_eq!(rt; sums, wanted);
+    for (weights, wanted) in rows {
+        assert_eq!(rt; sums_of_tables(&rt, alloc, &weights), Some(wanted));
     }
     Ok(())
+}
+
+// All values of each whole table of the default groups added. None where there are no such tables.
+fn sums_of_tables<R: Threads + Sync>(rt: &R, alloc: Global, weights: &Weights) -> Option<[u64; 3]> {
+    let shape = weights.shape();
+    let groups = default_groups(alloc, shape).ok()?;
+    let bound = build_bound(rt, alloc, groups, &Board::goal(shape), weights).ok()?;
+    let TableList::Whole(tables) = bound.tables() else {
+        return None;
+    };
+    let mut sums = [0; 3];
+    for (sum, table) in sums.iter_mut().zip(tables) {
+        *sum = sum_of_table(table);
+    }
+    Some(sums)
 }
 
 fn sum_of_table(table: &Table) -> u64 {
@@ -104,19 +109,43 @@ fn fold_groups<R: Threads + Sync>(
 ) -> Option<(u32, [u64; 3], bool)>
     requires { weights.now.grid ≡ board.now.grid }
 {
-    let shape = board.shape();
-    let goal = Board::goal(shape);
-    let groups = default_groups(alloc, shape).ok()?;
-    let folded = build_folded_bound(rt, alloc, groups, &goal, weights).ok()?;
-    let sum_of_board = folded.of(board);
+    let goal = Board::goal(board.shape());
+    let folded = folded_at_once(rt, alloc, &goal, weights)?;
     let mut sums = [0; 3];
     for (sum, fold) in sums.iter_mut().zip(folded_tables(&folded)?) {
         *sum = sum_of_fold(fold);
     }
-    let groups = default_groups(alloc, shape).ok()?;
-    let whole = build_bound(rt, alloc, groups, &goal, weights).ok()?;
-    let later = whole.folded(alloc).ok()?;
-    Some((sum_of_board, sums, are_folded_alike(&folded, &later)))
+    let later = folded_later(rt, alloc, &goal, weights)?;
+    let are_alike = are_folded_alike(&folded, &later);
+    Some((folded.of(board), sums, are_alike))
+}
+
+// The bound by folded tables of the default groups.
+fn folded_at_once<R: Threads + Sync>(
+    rt: &R,
+    alloc: Global,
+    goal: &Board,
+    weights: &Weights,
+) -> Option<Bound>
+    requires { weights.now.grid ≡ goal.now.grid }
+    ensures { IfSome result (λ bound. bound.split.grid ≡ goal.now.grid) }
+{
+    let groups = default_groups(alloc, goal.shape()).ok()?;
+    build_folded_bound(rt, alloc, groups, goal, weights).ok()
+}
+
+// The same, built whole and then folded.
+fn folded_later<R: Threads + Sync>(
+    rt: &R,
+    alloc: Global,
+    goal: &Board,
+    weights: &Weights,
+) -> Option<Bound>
+    requires { weights.now.grid ≡ goal.now.grid }
+{
+    let groups = default_groups(alloc, goal.shape()).ok()?;
+    let whole = build_bound(rt, alloc, groups, goal, weights).ok()?;
+    whole.folded(alloc).ok()
 }
 
 // The sum of a board, and all folded values added, as a plain search by other means gave them.

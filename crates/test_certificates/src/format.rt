@@ -222,11 +222,15 @@ const EXAMPLES: [Example; 9] = [
     },
 ];
 
+// The certificate of an example.
+fn made_of(rt: &(impl Abort + AllocGlobal), example: &Example) -> Certificate {
+    Certificate::new(parts_of(rt, example)).expect(rt, "they have a spelling")
+}
+
 #[test]
 fn written_and_read(rt: HostRuntime) {
     for (row, example) in EXAMPLES.iter().enumerate() {
-        let parts = parts_of(&rt, example);
-        let certificate = Certificate::new(parts).expect(&rt, "they have a spelling");
+        let certificate = made_of(&rt, example);
         assert!(rt;
             is_written(rt.alloc(), &certificate, example.bytes),
             "row {row}"

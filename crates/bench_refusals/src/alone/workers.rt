@@ -212,12 +212,21 @@ pub fn meet_board(alloc: Global) -> Answer {
     let Some(mut worker) = hire(alloc, &job, purse, Allowance::plain()) else {
         return Answer::Refused;
     };
-    let Some(start) = item(&job, &START, 20) else {
-        return Answer::Wrong("no board");
-    };
-    let answer = meet_it(alloc, &job, &mut worker, &start);
+    let answer = meet_start(alloc, &job, &mut worker, 20);
     let is_known = knows(&worker, &job, (&START, 20, Move::U, false));
     if_so(answer, is_known && worker.lists().len() == 1, "not known")
+}
+
+// Meets the start at a cost.
+fn meet_start(alloc: Global, job: &Job, worker: &mut Worker<Plain>, cost: u32) -> Answer
+    requires job { IsFit job.now }
+    requires led { IsLed job.now worker.old.lists }
+    ensures led { IsLed job.now worker.new.lists }
+{
+    match item(job, &START, cost) {
+        Some(start) => meet_it(alloc, job, worker, &start),
+        None => Answer::Wrong("no board"),
+    }
 }
 
 // Two items that come in by a lane; None where there is no memory for the lane.
@@ -250,16 +259,29 @@ pub fn settle_items(alloc: Global) -> Answer {
     let (mut credit, purse) = Credit::plain();
     let mut other = credit.empty_purse();
     credit.draw(&mut other, 1);
-    let Some(mut worker) = hire(alloc, &job, purse, Allowance::plain()) else {
+    match hire(alloc, &job, purse, Allowance::plain()) {
+        Some(mut worker) => settle_two(alloc, &job, &mut worker, &mut other),
+        None => Answer::Refused,
+    }
+}
+
+// Settles two items of a worker that knows no board.
+fn settle_two(
+    alloc: Global,
+    job: &Job,
+    worker: &mut Worker<Plain>,
+    purse: &mut Purse<Plain>,
+) -> Answer
+    requires job { IsFit job.now }
+    requires led { IsLed job.now worker.old.lists }
+{
+    let Some(()) = hold_two(alloc, job, worker, purse) else {
         return Answer::Refused;
     };
-    let Some(()) = hold_two(alloc, &job, &mut worker, &mut other) else {
-        return Answer::Refused;
-    };
-    let first = settle_it(alloc, &job, &mut worker);
-    let second = settle_it(alloc, &job, &mut worker);
-    let is_so = knows(&worker, &job, (&START, 20, Move::U, false))
-        && knows(&worker, &job, (&BEHIND_UP, 30, Move::U, false))
+    let first = settle_it(alloc, job, worker);
+    let second = settle_it(alloc, job, worker);
+    let is_so = knows(worker, job, (&START, 20, Move::U, false))
+        && knows(worker, job, (&BEHIND_UP, 30, Move::U, false))
         && worker.lists().len() == 2
         && worker.held().is_empty();
     if_so(both(first, second), is_so, "not settled so")
@@ -275,19 +297,10 @@ pub fn expand_board(alloc: Global) -> Answer {
     let Some(mut worker) = hire(alloc, &job, purse, Allowance::plain()) else {
         return Answer::Refused;
     };
-    let Some(start) = item(&job, &START, 0) else {
-        return Answer::Wrong("no board");
-    };
-    let met = meet_it(alloc, &job, &mut worker, &start);
-    if worker.allowance() != 0 || worker.expansions() != 0 || worker.grant(&mut book).is_err() {
-        return Answer::Wrong("not granted");
-    }
-    let expanded = expand_it(alloc, &job, &mut worker);
-    if_so(
-        both(met, expanded),
-        is_expanded(&worker, &job, 3),
-        "not expanded so",
-    )
+    let met = meet_start(alloc, &job, &mut worker, 0);
+    let expanded = expand_granted(alloc, &job, &mut worker, &mut book);
+    let is_so = is_expanded(&worker, &job, 3);
+    if_so(both(met, expanded), is_so, "not expanded so")
 }
 
 /// Expands a board where the table of known boards is full but for three places, so that the table
@@ -302,15 +315,25 @@ pub fn expand_in_full_table(alloc: Global) -> Answer {
         return Answer::Refused;
     };
     let met = fill_table(alloc, &job, &mut worker);
-    if worker.allowance() != 0 || worker.expansions() != 0 || worker.grant(&mut book).is_err() {
+    let expanded = expand_granted(alloc, &job, &mut worker, &mut book);
+    let is_so = is_expanded(&worker, &job, PAGE_LENGTH - 1);
+    if_so(both(met, expanded), is_so, "not expanded so")
+}
+
+// Expands a board of a worker to which nothing was granted yet.
+fn expand_granted(
+    alloc: Global,
+    job: &Job,
+    worker: &mut Worker<Plain>,
+    book: &mut Book<Plain>,
+) -> Answer
+    requires job { IsFit job.now }
+    requires led { IsLed job.now worker.old.lists }
+{
+    if worker.allowance() != 0 || worker.expansions() != 0 || worker.grant(book).is_err() {
         return Answer::Wrong("not granted");
     }
-    let expanded = expand_it(alloc, &job, &mut worker);
-    if_so(
-        both(met, expanded),
-        is_expanded(&worker, &job, PAGE_LENGTH - 1),
-        "not expanded so",
-    )
+    expand_it(alloc, job, worker)
 }
 
 // Meets the start at no cost, and others at a greater one, until three places are left in the first

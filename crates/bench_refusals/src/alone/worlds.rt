@@ -75,9 +75,14 @@ pub fn finish_world(alloc: Global) -> Answer {
     let Some(job) = job_of(start, &bound) else {
         return Answer::Wrong("no job");
     };
-    let Ok(mut world) = World::new(alloc, job, WORKERS, &ByBlank) else {
-        return Answer::Refused;
-    };
+    match World::new(alloc, job, WORKERS, &ByBlank) {
+        Ok(world) => finish(alloc, &start, world),
+        Err(_) => Answer::Refused,
+    }
+}
+
+// Lets the workers of a world take turns until they have ended, and finishes it.
+fn finish(alloc: Global, start: &Board, mut world: World<'_, ByBlank>) -> Answer {
     for _ in 0..TURNS {
         for me in 0..WORKERS {
             take_turn(alloc, &mut world, me);
@@ -87,7 +92,7 @@ pub fn finish_world(alloc: Global) -> Answer {
         return Answer::Wrong("no end");
     };
     let outcome = world.finish(alloc);
-    judge(&outcome, &start, &Weights::unit(start.shape()), Some(6))
+    judge(&outcome, start, &Weights::unit(start.shape()), Some(6))
 }
 
 // A worker takes each of its steps that is lawful now.

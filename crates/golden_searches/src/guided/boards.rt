@@ -50,23 +50,46 @@ pub fn tally_boards<R: Threads + Sync>(
         wrong: 0,
     };
     for groups in partitions_of(alloc, goal.shape())?.as_slice() {
-        let mut lists = Vec::new(alloc);
-        for tiles in groups.as_slice() {
-            lists.push(tiles.as_slice()).ok()?;
-        }
-        let whole = bound_of(rt, alloc, goal, weights, lists.as_slice())?;
-        let guide = guide_of(rt, alloc, goal, weights, lists.as_slice(), fold)?;
-        tally.partitions = tally.partitions.saturating_add(1);
-        for (start, least) in boards.as_slice() {
-            let problem = Problem {
-                start: *start,
-                goal: *goal,
-                weights: *weights,
-            };
-            count(&mut tally, alloc, &problem, &guide, &whole, *least)?;
-        }
+        let lists = lists_of(alloc, groups)?;
+        tally_partition(rt, alloc, goal, weights, &lists, fold, &boards, &mut tally)?;
     }
     Some(tally)
+}
+
+// The groups, lent.
+fn lists_of<'a>(alloc: Global, groups: &'a [Vec<u8>]) -> Option<Vec<&'a [u8]>> {
+    let mut lists = Vec::new(alloc);
+    for tiles in groups {
+        lists.push(tiles.as_slice()).ok()?;
+    }
+    Some(lists)
+}
+
+// Counts what is answered of all boards by a partition.
+fn tally_partition<R: Threads + Sync>(
+    rt: &R,
+    alloc: Global,
+    goal: &Board,
+    weights: &Weights,
+    groups: &[&[u8]],
+    fold: bool,
+    boards: &[(Board, Option<u32>)],
+    tally: &mut Tally,
+) -> Option<()>
+    requires { weights.now.grid ≡ goal.now.grid }
+{
+    let whole = bound_of(rt, alloc, goal, weights, groups)?;
+    let guide = guide_of(rt, alloc, goal, weights, groups, fold)?;
+    tally.partitions = tally.partitions.saturating_add(1);
+    for (start, least) in boards {
+        let problem = Problem {
+            start: *start,
+            goal: *goal,
+            weights: *weights,
+        };
+        count(tally, alloc, &problem, &guide, &whole, *least)?;
+    }
+    Some(())
 }
 
 // What is answered of a board.
@@ -154,6 +177,20 @@ pub fn compare_on_a_walk<R: Threads + Sync>(rt: &R, alloc: Global) -> Option<Agr
     let weights = Weights::unit(shape);
     let whole = guide_of(rt, alloc, &goal, &weights, &lists, false)?;
     let folded = guide_of(rt, alloc, &goal, &weights, &lists, true)?;
+    compare(alloc, goal, weights, &whole, &folded)
+}
+
+// Compares what two bounds answer of boards on a walk from a goal.
+fn compare(
+    alloc: Global,
+    goal: Board,
+    weights: Weights,
+    whole: &Bound,
+    folded: &Bound,
+) -> Option<Agreed>
+    requires whole { Guides goal weights whole.now }
+    requires folded { Guides goal weights folded.now }
+{
     let mut agreed = Agreed {
         boards: 0,
         costs: 0,
@@ -168,10 +205,10 @@ pub fn compare_on_a_walk<R: Threads + Sync>(rt: &R, alloc: Global) -> Option<Agr
             goal,
             weights,
         };
-        let cost = cost_of(alloc, &problem, &whole)?;
+        let cost = cost_of(alloc, &problem, whole)?;
         agreed.boards = agreed.boards.saturating_add(1);
         agreed.costs = agreed.costs.saturating_add(u64::from(cost));
-        if cost_of(alloc, &problem, &folded)? == cost {
+        if cost_of(alloc, &problem, folded)? == cost {
             agreed.same = agreed.same.saturating_add(1);
         }
     }
