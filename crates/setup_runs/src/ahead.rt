@@ -134,31 +134,35 @@ fn whole_lines(held: &[u8]) -> &[u8] {
 fn boards_among(alloc: Global, start: &Board, lines: &[u8], most: usize) -> Vec<Board>
     ensures { All (HasSides start.now.grid) result.items }
 {
-    let shape = start.shape();
     let mut boards = Vec::new(alloc);
-    if push(&mut boards, *start).is_err() {
-        return boards;
+    if let Ok(()) = push(&mut boards, *start) {
+        add_boards(&mut boards, start.shape(), lines, most);
     }
+    boards
+}
+
+// Adds the boards of a shape that lines name, in their order, until there are this many; not all of
+// them where memory is refused.
+fn add_boards(boards: &mut Vec<Board>, shape: Shape, lines: &[u8], most: usize)
+    requires { All (HasSides shape) boards.old.items }
+    ensures { All (HasSides shape) boards.new.items }
+{
     let mut reader = LineReader::new();
     let mut source = ByteSource::new(lines);
     'lines: for _ in 0..MOST_LINES {
         if most <= boards.len() {
-            return boards;
+            return;
         }
-        let Ok(next) = reader.next_line(&mut source) else {
-            return boards;
-        };
-        let Some(line) = next else {
-            return boards;
+        let Ok(Some(line)) = reader.next_line(&mut source) else {
+            return;
         };
         let Some(board) = board_in(shape, line.kind, reader.bytes()) else {
             continue;
         };
-        if push(&mut boards, board).is_err() {
-            return boards;
+        if push(boards, board).is_err() {
+            return;
         }
     }
-    boards
 }
 
 // The board that a line names, if it names one.
