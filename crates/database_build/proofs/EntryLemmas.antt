@@ -20,13 +20,13 @@ use Rattle.pattern_index.proofs.RankLemmas.{below_in, differ_in, length-list_at,
 use Rattle.pattern_index.proofs.SightLemmas.{sight_below, listing}
 use Rattle.pattern_index.proofs.SparseLemmas.{slot_below}
 use Rattle.database_build.specs.Entries.{HasEntries, HaveOneForm, IsKeptBest, by_rank, slot_of_rank, values_in, widened}
-use Rattle.database_build.specs.FoldEntries.{by_place, most_places}
+use Rattle.database_build.specs.FoldEntries.{HasNoView, by_place, most_places}
 use Rattle.database_build.specs.Graphs.{node_in, node_count}
 use Rattle.database_build.specs.Orders.{order_of}
-use Rattle.database_build.specs.Placements.{placement_count, placement_in}
+use Rattle.database_build.specs.Placements.{AreAllWritten, placement_count, placement_in}
 use Rattle.database_build.specs.Regions.{IsFree, IsPlaced, IsRegions, region_in}
 use Rattle.database_build.specs.Sets.{choose, set_place}
-use Rattle.database_build.specs.Slots.{AreFilledTo, placement_of}
+use Rattle.database_build.specs.Slots.{AreAllFilled, AreFilledTo, placement_of}
 use Rattle.database_build.specs.Tables.{Lookup, value_in}
 use Rattle.database_build.specs.declared.entries.Entries.{Entries}
 use Rattle.database_build.specs.declared.entries.Entries.TheVariants.{Ranked, Bytes, Words}
@@ -198,9 +198,41 @@ nodes_low g r regions =
     let wide : cell_count g.grid ^ suc (length g.tiles) ≤ digit_base g.grid ^ suc (length g.tiles) = pow-le-pow_left (le-max_left (cell_count g.grid) 16) (suc (length g.tiles)) in
     omega (arith, few, same, low, wide)
 
+-- slots of the regions of a group are those of the group
+pub slots_size : {A : Type 0} (g : Selection) (r : Regions) → IsRegions g.grid (length g.tiles) r → (slots : List A) → length slots ≡ digit_base r.shape ^ suc r.count → length slots ≡ slot_count_of g
+slots_size g r regions slots size = size ∙ (λ i. digit_base (regions.shape i) ^ suc (regions.tiles i))
+
 -- a vector whose elements were all written
 pub all_written : {A : Type 0} (len : ℕ) (new was items : List A) → len ≡ length items → was ≡ items → length new ≡ length was → take len (new ++ drop (length new) items) ≡ new
 all_written len new was items long is all = take_at new (drop (length new) items) len (all ∙ ap length is ∙ sym long)
+
+-- the slots of a group in such a vector are those that were filled
+pub filled_again :
+    {A : Type 0} (g : Selection) (r : Regions) (nodes was new items : List A) (filler : A) (len count : ℕ)
+    → IsRegions g.grid (length g.tiles) r
+    → len ≡ length items
+    → was ≡ items
+    → items ≡ replicate count filler
+    → count ≡ slot_count_of g
+    → AreAllFilled r nodes new
+    → AreAllFilled r nodes (take len (new ++ drop (length new) items))
+filled_again {A} g r nodes was new items filler len count regions long is copies counted filled =
+    let size : length new ≡ length was = slots_size g r regions new filled.size ∙ sym (ap length (is ∙ copies) ∙ length-replicate count filler ∙ counted) in
+    subst (λ (xs : List A). AreAllFilled r nodes xs) (sym (all_written len new was items long is size)) filled
+
+-- and its sparse places those that were written
+pub written_again :
+    {A : Type 0} (g : Selection) (least was new items : List A) (filler : A) (len count size : ℕ)
+    → len ≡ length items
+    → was ≡ items
+    → items ≡ replicate count filler
+    → count ≡ size
+    → AreAllWritten g least was new
+    → AreAllWritten g least (replicate size filler) (take len (new ++ drop (length new) items))
+written_again {A} g least was new items filler len count size long is copies counted written =
+    let start : was ≡ replicate size filler = is ∙ copies ∙ ap (λ (n : ℕ). replicate n filler) counted in
+    subst (λ (xs : List A). AreAllWritten g least xs (take len (new ++ drop (length new) items))) start
+    (subst (λ (xs : List A). AreAllWritten g least was xs) (sym (all_written len new was items long is written.size)) written)
 
 -- what a byte that was kept for a value stands for
 byte_back :
@@ -284,6 +316,10 @@ pub replicated : {A : Type 0} (n i : ℕ) (a x : A) → slice_get (replicate n a
 replicated n i a x is =
     let low = slice_get_within (replicate n a) i x is in
     sym (get_or_from_slice_get (replicate n a) i x a is) ∙ get_or-replicate n i a a (let all = length-replicate n a in omega (arith, all, low))
+
+-- where no view has a place that was not written, what was there is there
+pub others_kept : {A : Type 0} (g : Selection) (least places : List A) (filler : A) → AreAllWritten g least (replicate (sparse_size_of g) filler) places → (sparse : ℕ) (entry : A) → HasNoView g sparse → slice_get places sparse ≡ Some entry → entry ≡ filler
+others_kept g least places filler written sparse entry none is = replicated (sparse_size_of g) sparse filler entry (sym (written.others sparse none) ∙ is)
 
 -- there are as many placements as places
 pub least_long : (g : Selection) (least : List ℕ) → length least ≡ placement_count (cell_count g.grid) (length g.tiles) → length least ≡ folded_size_of g

@@ -15,6 +15,7 @@ use Rattle.pattern_index.proofs.SparseLemmas.{sparse_below, sparse_small, sparse
 use Rattle.database_build.specs.Graphs.{node_in, node_count}
 use Rattle.database_build.specs.Marks.{AreMarksOf}
 use Rattle.database_build.specs.Orders.{below, order_of, positions_at}
+use Rattle.database_build.specs.Placements.{AreMarkedCells}
 use Rattle.database_build.specs.Regions.{IsRegions, IsPlaced, IsFree, region_in}
 use Rattle.database_build.specs.Sets.{choose, set_place, set_at, AreSame}
 use Rattle.database_build.specs.Slots.{ArePositions, placement_of, AreFilledTo, AreFilledUpTo}
@@ -355,6 +356,10 @@ module _ (r : Regions) (set order end : ℕ) (cells positions : List ℕ) (is : 
       width : (a b : ℕ) → a + b - a ≡ b
       width a b = omega arith
 
+  -- there is one for each tile
+  pub row_size : r.count ≡ length (take (order * r.count + r.count - order * r.count) (drop (order * r.count) positions))
+  row_size = sym (ap length row_is ∙ length-positions_at r.count order)
+
   -- each position is that of a cell
   pub row_within : All (λ position. position < length cells) (take (order * r.count + r.count - order * r.count) (drop (order * r.count) positions))
   row_within =
@@ -375,3 +380,22 @@ set_marks n count set order xs ys marks is placement are cell =
       λ marked. (placement.same cell).1 ((here cell).0 marked),
       λ there. (here cell).1 ((placement.same cell).0 there),
     )
+
+-- so are the cells of the tiles, which stand on the set
+pub marked_placement :
+    (r : Regions) (set order end : ℕ) (cells positions : List ℕ)
+    → cells ≡ set_at (cell_count r.shape) r.count set
+    → set < choose (cell_count r.shape) r.count
+    → ArePositions r.count positions
+    → order < end
+    → end ≡ factorial r.count
+    → (ys rest : List ℕ)
+    → ys ≡ map (slice_index cells) (take (order * r.count + r.count - order * r.count) (drop (order * r.count) positions))
+    → (marks : List Bool)
+    → AreMarksOf cells marks
+    → AreMarkedCells r.shape r.count (take r.count (ys ++ rest)) marks
+marked_placement r set order end cells positions is low all before ended ys rest placing marks are =
+    let there = tiles_placed r set order end cells positions is low all before ended ys rest placing in record {
+      placed = record { listing = there.listing; one_each = there.size };
+      marked = set_marks (cell_count r.shape) r.count set order cells (take r.count (ys ++ rest)) marks is there are;
+    }

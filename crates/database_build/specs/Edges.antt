@@ -1,12 +1,12 @@
 -- The edges of a region, as they are found: by the cells of its set in rising order, tile by tile and in each direction.
-use Rattle.std.specs.Prelude.{ℕ, ◌≡◌, ◌+◌, ◌*◌, ◌<◌, ◌≤◌, List, ◌++◌, length, slice_index, slice_index_or, Contains}
+use Rattle.std.specs.Prelude.{ℕ, ◌≡◌, ◌+◌, ◌*◌, ◌<◌, ◌≤◌, List, ◌++◌, length, slice_index, slice_index_or, take, Contains}
 use Rattle.board.specs.declared.moves.Move.{Move}
 use Rattle.board.specs.declared.moves.Move.TheVariants.{U}
 use Rattle.board.specs.Moves.{all_moves}
 use Rattle.board.specs.Neighbours.{LiesTowards}
 use Rattle.database_build.specs.Orders.{below}
 use Rattle.database_build.specs.Sets.{set_place}
-use Rattle.database_build.specs.Regions.{IsPlaced, IsFree, IsCrossing, IsEdgeOf, region_in}
+use Rattle.database_build.specs.Regions.{AreGroupRegions, IsPlaced, IsFree, IsCrossing, IsEdgeOf, region_in}
 use Rattle.database_build.specs.declared.edges.Edge.{Edge}
 use Rattle.database_build.specs.declared.regions.Regions.{Regions}
 
@@ -15,6 +15,11 @@ pub record IsRising (r : Regions) (set : ℕ) (cells : List ℕ) : Type 0 where
   pub placed : IsPlaced r.shape r.count cells
   pub place : set_place cells ≡ set
   pub rising : (tile : ℕ) → tile < r.count → below (slice_index cells tile) cells ≡ tile
+
+-- the cells of the set at a place of a group's regions, over the front of an array
+pub record AreSetCells (r : Regions) (set : ℕ) (array : List ℕ) : Type 0 where
+  pub regions : AreGroupRegions r
+  pub cells : IsRising r set (take r.count array)
 
 -- the tile on a cell can go in a direction, to where the blank of a region stands
 pub record IsStep (r : Regions) (cells : List ℕ) (region from : ℕ) (m : Move) (to : ℕ) : Type 0 where

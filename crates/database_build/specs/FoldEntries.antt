@@ -33,6 +33,10 @@ HasNoView g sparse = ¬ AllPairs (λ x y. x ≢ y) (digits_in (cell_count g.grid
 abbrev pub most_places : Selection → ℕ
 most_places g = min MOST_PLACES (PLACES_A_VALUE * folded_size_of g)
 
+-- they are not too many to be kept
+abbrev pub HasFewPlaces : Selection → Type 0
+HasFewPlaces g = sparse_size_of g ≤ most_places g
+
 -- there is an entry for each sparse place, and what is there where no view is says that there is no value
 pub record ArePlaces (g : Selection) (none : ℕ) (entries : List ℕ) : Type 0 where
   pub few : sparse_size_of g ≤ most_places g

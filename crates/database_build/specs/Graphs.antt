@@ -2,10 +2,11 @@
 use Rattle.std.specs.Prelude.{ℕ, suc, ◌≡◌, ◌⊎◌, ◌+◌, ◌-◌, ◌*◌, ◌/◌, ◌%◌, ◌<◌, ◌≤◌, List, length, map, slice_index}
 use Rattle.board.specs.declared.moves.Move.{Move}
 use Rattle.board.specs.CostRules.{CostRule, weight_of}
+use Rattle.board.specs.Grids.{Grid}
 use Rattle.pattern_index.specs.Laws.{factorial}
 use Rattle.pattern_index.specs.Views.{Sight, IsView, Abstraction, ViewMoves, ViewLeads}
 use Rattle.database_build.specs.Orders.{order_of, positions_at, tile_of, exchanged, moved_order}
-use Rattle.database_build.specs.Regions.{region_in, HasEdge}
+use Rattle.database_build.specs.Regions.{IsRegions, region_in, HasEdge}
 use Rattle.database_build.specs.declared.orders.Orders.{Orders}
 use Rattle.database_build.specs.declared.orders.TheConstants.{MOST_MOVED}
 use Rattle.database_build.specs.declared.edges.Edge.{Edge}
@@ -45,9 +46,18 @@ node_in r v = region_in r v.cells v.blank * factorial r.count + order_of v.cells
 abbrev pub node_count : Regions → ℕ
 node_count r = length r.homes.items * factorial r.count
 
+-- the regions are those of all sets of `count` cells of a grid, and there is one entry for each node
+pub record AreNodesOf {A : Type 0} (grid : Grid) (count : ℕ) (r : Regions) (nodes : List A) : Type 0 where
+  pub regions : IsRegions grid count r
+  pub one_each : length nodes ≡ node_count r
+
 -- what it costs to move each tile of a group, by the tile's place among them
 abbrev pub AreWeightsOf : CostRule → List ℕ → List ℕ → Type 0
 AreWeightsOf rule tiles weights = (place : ℕ) → place < length tiles → slice_index weights place ≡ weight_of rule (slice_index tiles place)
+
+-- each of these costs something
+abbrev pub AreSomeCosts : List ℕ → List ℕ → Type 0
+AreSomeCosts tiles costs = (place : ℕ) → place < length tiles → 1 ≤ slice_index costs place
 
 -- an edge leads from the node to another: the order changes as the tile's position does, at the tile's weight
 pub record IsPast (r : Regions) (es : Edges) (weights : List ℕ) (node : ℕ) (e : Edge) (to c : ℕ) : Type 0 where

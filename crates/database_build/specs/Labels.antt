@@ -29,6 +29,12 @@ pub record IsLowering (before after : List ℕ) (changed : Bool) : Type 0 where
   pub falls : changed ≡ true → sum after < sum before
   pub same : changed ≡ false → after ≡ before
 
+-- the labels after that: each free cell still has one, and if none was changed they are settled so far
+pub record HasLowered (grid : Grid) (cells : List ℕ) (AreSettledSoFar : List ℕ → Type 0) (before after : List ℕ) (changed : Bool) : Type 0 where
+  pub labels : AreLabels grid cells after
+  pub lowering : IsLowering before after changed
+  pub settled : changed ≡ false → AreSettledSoFar after
+
 -- all free cells that the blank reaches from one another have one label
 pub record AreSettled (grid : Grid) (cells labels : List ℕ) : Type 0 where
   pub are : AreLabels grid cells labels

@@ -1,5 +1,5 @@
 -- How a search goes on layer by layer, where each tile costs the same.
-use Rattle.std.specs.Prelude.{ℕ, zero, suc, ◌≡◌, ◌≢◌, ◌+◌, ◌*◌, ◌/◌, ◌%◌, ◌<◌, List, length, replicate, slice_index}
+use Rattle.std.specs.Prelude.{ℕ, zero, suc, ◌≡◌, ◌≢◌, ◌+◌, ◌*◌, ◌/◌, ◌%◌, ◌<◌, Bool, false, List, length, replicate, slice_index}
 use Rattle.pattern_index.specs.Laws.{factorial}
 use Rattle.database_build.specs.Orders.{moved_order}
 use Rattle.database_build.specs.Regions.{HasEdge}
@@ -41,6 +41,11 @@ pub record AreLayers (l : Layers) : Type 0 where
   pub now : IsSetOf l.graph l.now
   pub next : IsSetOf l.graph l.next
 
+-- this is one of their regions
+pub record AreLayersWith (region : ℕ) (l : Layers) : Type 0 where
+  pub layers : AreLayers l
+  pub inside : region < length l.graph.regions.homes.items
+
 -- no node has a value, and one alone is in this layer
 pub record IsAtStart (g : Graph) (start : ℕ) (l : Layers) : Type 0 where
   pub graph : l.graph ≡ g
@@ -80,3 +85,8 @@ IsRegionPassed region cost (suc place) l l' = (m : Layers) × IsRegionPassed reg
 abbrev pub IsLayerPassed : ℕ → ℕ → Layers → Layers → Type 0
 IsLayerPassed cost zero l l' = l' ≡ l
 IsLayerPassed cost (suc region) l l' = (m : Layers) × IsLayerPassed cost region l m × IsRegionPassed region cost m.now.width m l'
+
+-- a part is passed, and where no node of it was fresh all is as it was
+pub record HasPassed (IsPartPassed : Layers → Layers → Type 0) (any : Bool) (l l' : Layers) : Type 0 where
+  pub passed : IsPartPassed l l'
+  pub same : any ≡ false → l' ≡ l

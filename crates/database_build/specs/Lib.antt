@@ -4,6 +4,7 @@ pub mod Faults
 pub mod Falls
 pub mod Folds
 pub mod Marks
+pub mod Indices
 pub mod FoldEntries
 pub mod Buckets
 pub mod Orders

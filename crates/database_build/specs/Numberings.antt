@@ -4,7 +4,7 @@ use Rattle.board.specs.Grids.{Grid, cell_count}
 use Rattle.pattern_index.specs.Ranks.{ways, IsListing}
 use Rattle.pattern_index.specs.declared.group.TheConstants.{MAX_SIZE}
 use Rattle.database_build.specs.Orders.{below}
-use Rattle.database_build.specs.Sets.{IsChoices, set_at}
+use Rattle.database_build.specs.Sets.{IsChoices, choose, set_at}
 use Rattle.database_build.specs.Regions.{IsFree}
 use Rattle.database_build.specs.Labels.{AreSettled}
 use Rattle.database_build.specs.declared.regions.Home.{Home}
@@ -41,6 +41,10 @@ pub record AreNumberedTo (grid : Grid) (count : ℕ) (cells labels numbers : Lis
   pub are_homes : (region : ℕ) (home : Home) → slice_get homes region ≡ Some home → IsHome grid count numbers region home
   pub few : length homes + below cell cells ≤ set * (cell_count grid - count) + cell
 
+-- these are numbered in the regions
+abbrev pub AreNumberedIn : Regions → List ℕ → List ℕ → ℕ → ℕ → Type 0
+AreNumberedIn r cells labels set cell = AreNumberedTo r.shape (length cells) cells labels r.numbers.items r.homes.items set cell
+
 -- the regions of the sets of `count` cells below one are numbered, and there are no more views than a group may have
 pub record AreBegun (grid : Grid) (count set : ℕ) (r : Regions) : Type 0 where
   pub shape : r.shape ≡ grid
@@ -50,6 +54,11 @@ pub record AreBegun (grid : Grid) (count set : ℕ) (r : Regions) : Type 0 where
   pub room : suc count ≤ cell_count grid
   pub small : ways (cell_count grid) (suc count) ≤ MAX_SIZE
   pub numbered : AreNumbered grid count r.numbers.items r.homes.items set
+
+-- the sets below this one are numbered, and it is a set
+pub record IsNextSet (set : ℕ) (r : Regions) : Type 0 where
+  pub begun : AreBegun r.shape r.count set r
+  pub inside : set < choose (cell_count r.shape) r.count
 
 -- both have the same grid, count and choices
 pub record AreOfSameSets (r r' : Regions) : Type 0 where

@@ -1,5 +1,5 @@
 -- Orders: how tiles stand on a set of cells, whatever the cells are.
-use Rattle.std.specs.Prelude.{ℕ, zero, suc, ◌+◌, ◌-◌, ◌*◌, ◌/◌, ◌%◌, ◌==◌, List, [], ◌∷◌, ◌++◌, length, map, count_by, nat_lt, if◌then◌else◌}
+use Rattle.std.specs.Prelude.{ℕ, zero, suc, ◌+◌, ◌-◌, ◌*◌, ◌/◌, ◌%◌, ◌==◌, ◌≡◌, ◌<◌, ◌≤◌, List, [], ◌∷◌, ◌++◌, length, map, count_by, nat_lt, if◌then◌else◌}
 use Rattle.std.specs.List.{position_or_len}
 use Rattle.pattern_index.specs.Laws.{factorial}
 use Rattle.pattern_index.specs.Ranks.{spread}
@@ -42,3 +42,24 @@ moved_position from to position = if position == from then to else spread to (cl
 -- the order after the tile at a position has come to another
 abbrev pub moved_order : ℕ → ℕ → ℕ → ℕ → ℕ
 moved_order count order from to = order_of (map (moved_position from to) (positions_at count order))
+
+-- an order of `count` tiles, and two positions
+pub record IsChange (count order from to : ℕ) : Type 0 where
+  pub order_low : order < factorial count
+  pub from_low : from < count
+  pub to_low : to < count
+
+-- the order after the tile at the first position has come to the second
+pub record IsChanged (count order from to changed : ℕ) : Type 0 where
+  pub value : changed ≡ moved_order count order from to
+  pub below : changed < factorial count
+
+-- at least one tile, and at most nine
+pub record IsTileCount (count : ℕ) : Type 0 where
+  pub some : 0 < count
+  pub short : count ≤ 9
+
+-- an order of at most nine tiles
+pub record IsOrderOf (count order : ℕ) : Type 0 where
+  pub few : count ≤ 9
+  pub below : order < factorial count

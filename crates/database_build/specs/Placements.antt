@@ -1,13 +1,15 @@
 -- The placements of a group's tiles, by their set of cells and then by their order.
-use Rattle.std.specs.Prelude.{ℕ, ◌≡◌, ◌≢◌, ◌+◌, ◌*◌, ◌<◌, List, length, slice_get, slice_index}
+use Rattle.std.specs.Prelude.{ℕ, ◌≡◌, ◌≢◌, ◌+◌, ◌*◌, ◌<◌, Bool, List, length, slice_get, slice_index}
 use Rattle.board.specs.Grids.{Grid, cell_count}
 use Rattle.pattern_index.specs.Laws.{factorial}
-use Rattle.pattern_index.specs.Selections.{Selection}
+use Rattle.pattern_index.specs.Selections.{Selection, place_in, rank_in}
 use Rattle.pattern_index.specs.Sparse.{sparse_of}
 use Rattle.pattern_index.specs.Views.{Sight, IsView}
+use Rattle.database_build.specs.Marks.{AreMarksOf}
 use Rattle.database_build.specs.Orders.{order_of}
 use Rattle.database_build.specs.Sets.{AreSame, choose, set_at, set_place}
-use Rattle.database_build.specs.Regions.{IsPlaced}
+use Rattle.database_build.specs.Regions.{IsPlaced, IsRegions}
+use Rattle.database_build.specs.Graphs.{node_count, node_in}
 use Rattle.database_build.specs.Rows.{IsLeastNode}
 use Rattle.database_build.specs.Tables.{Lookup}
 use Rattle.database_build.specs.Folds.{IsFoldedValue}
@@ -22,9 +24,32 @@ placement_in count cells = set_place cells * factorial count + order_of cells
 abbrev pub placement_count : ℕ → ℕ → ℕ
 placement_count cells count = choose cells count * factorial count
 
+-- there is one entry for each placement of a group's tiles
+abbrev pub IsOnePerPlacement : {A : Type 0} → Selection → List A → Type 0
+IsOnePerPlacement g least = length least ≡ placement_count (cell_count g.grid) (length g.tiles)
+
+-- tiles stand on these different cells, which are marked
+pub record AreMarkedCells (grid : Grid) (count : ℕ) (cells : List ℕ) (marks : List Bool) : Type 0 where
+  pub placed : IsPlaced grid count cells
+  pub marked : AreMarksOf cells marks
+
 -- the cells of a set of `count` cells of a grid, in rising order
 abbrev pub IsSetList : Grid → ℕ → List ℕ → Type 0
 IsSetList grid count cells = (set : ℕ) × (set < choose (cell_count grid) count) × (cells ≡ set_at (cell_count grid) count set)
+
+-- the set is one of those of the regions, and there is one entry for each of their nodes
+pub record AreNodesWith {A : Type 0} (set : ℕ) (r : Regions) (nodes : List A) : Type 0 where
+  pub regions : IsRegions r.shape r.count r
+  pub one_each : length nodes ≡ node_count r
+  pub inside : set < choose (cell_count r.shape) r.count
+
+-- the values of a group's views, by rank, are those of their nodes
+abbrev pub AreNodeValues : Selection → Regions → List ℕ → List ℕ → Type 0
+AreNodeValues g r nodes values = (v : Sight) → IsView g.grid g.tiles v → slice_index values (rank_in g.grid v) ≡ slice_index nodes (node_in r v)
+
+-- the values of views, by the place of their tiles, are those of the tiles' placements
+abbrev pub ArePlaceValues : Selection → List ℕ → List ℕ → Type 0
+ArePlaceValues g least values = (v : Sight) → IsView g.grid g.tiles v → slice_index values (place_in g.grid v) ≡ slice_index least (placement_in (length g.tiles) v.cells)
 
 -- the least value of the nodes of each placement
 pub record AreLeastNodes (r : Regions) (nodes least : List ℕ) : Type 0 where

@@ -23,6 +23,11 @@ pub record IsFree (grid : Grid) (cells : List ℕ) (cell : ℕ) : Type 0 where
   pub inside : cell < cell_count grid
   pub free : ¬ Contains cells cell
 
+-- tiles stand on different cells, and the blank on another one
+pub record AreApart (grid : Grid) (count : ℕ) (cells : List ℕ) (blank : ℕ) : Type 0 where
+  pub placed : IsPlaced grid count cells
+  pub free : IsFree grid cells blank
+
 -- the moves take the blank from one cell to another past none of the tiles
 abbrev pub Wanders : Grid → List ℕ → ℕ → List Move → ℕ → Type 0
 Wanders grid cells from [] to = to ≡ from

@@ -87,6 +87,11 @@ IsVisited node cost s s' =
     ((slice_index s.values.items node ≢ cost) × (s' ≡ s))
     ⊎ ((slice_index s.values.items node ≡ cost) × IsSpreadFrom (node / factorial s.graph.regions.count) (node % factorial s.graph.regions.count) cost s s')
 
+-- the graph is sound, and the search begins at one of its nodes
+pub record IsStart (g : Graph) (start : ℕ) : Type 0 where
+  pub sound : IsSoundGraph g
+  pub inside : start < node_count g.regions
+
 -- the graph is that of a group, and the search begins at the goal's node
 pub record IsSought (selection : Selection) (rule : CostRule) (goal : Position) (g : Graph) (start : ℕ) : Type 0 where
   pub made : IsGraphOf selection rule g
@@ -98,3 +103,7 @@ pub record AreFound (selection : Selection) (rule : CostRule) (goal : Position) 
   pub regions : IsRegions selection.grid (length selection.tiles) found.regions
   pub size : length found.values.items ≡ node_count found.regions
   pub values : (v : Sight) → IsView selection.grid selection.tiles v → IsValue (abstraction_of selection rule) (view_of selection.tiles goal) v (slice_index found.values.items (node_in found.regions v))
+
+-- each view has its node's value, of whatever group the graph is, and for whatever goal that the search began at
+abbrev pub AreFoundFrom : Graph → ℕ → Found → Type 0
+AreFoundFrom g start found = (selection : Selection) (rule : CostRule) (goal : Position) → IsSought selection rule goal g start → AreFound selection rule goal found

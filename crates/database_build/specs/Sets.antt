@@ -1,5 +1,5 @@
 -- Sets of cells, and their places among those of one size: the combinatorial number system.
-use Rattle.std.specs.Prelude.{ℕ, zero, suc, ◌+◌, ◌-◌, ◌<◌, ◌==◌, ◌↔◌, List, [], ◌∷◌, ◌++◌, map, sum, Contains, nat_lt, length, ◌≡◌, slice_index, slice_index_or, if◌then◌else◌}
+use Rattle.std.specs.Prelude.{ℕ, zero, suc, ◌+◌, ◌-◌, ◌<◌, ◌≤◌, ◌==◌, ◌↔◌, List, [], ◌∷◌, ◌++◌, map, sum, Contains, nat_lt, length, ◌≡◌, slice_index, slice_index_or, if◌then◌else◌}
 use Rattle.database_build.specs.Orders.{below}
 use Rattle.database_build.specs.declared.sets.Choices.{Choices}
 
@@ -32,3 +32,8 @@ pub record IsChoices (c : Choices) : Type 0 where
   pub rows : length c.table ≡ 26
   pub row : (cells : ℕ) → cells < 26 → length (slice_index_or c.table cells []) ≡ 11
   pub counts : (cells count : ℕ) → cells < 26 → count < 11 → slice_index (slice_index_or c.table cells []) count ≡ choose cells count
+
+-- the table of choices has them, also of this many cells
+pub record CanChoose (c : Choices) (cells : ℕ) : Type 0 where
+  pub choices : IsChoices c
+  pub wide : cells ≤ 25

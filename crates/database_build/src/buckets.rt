@@ -1,6 +1,6 @@
 //! Ranks that wait in buckets of cost.
 
-ghost use Rattle.std.specs.Prelude.{ℕ, ◌≡◌, ◌+◌, ◌<◌, ◌≤◌, length, OnOk, MatchOption};
+ghost use Rattle.std.specs.Prelude.{◌≡◌, ◌<◌, ◌≤◌, length, OnOk, MatchOption};
 ghost use Rattle.database_build.specs.Buckets.{IsGrown, IsPut, IsTaken, waiting_count};
 
 use crate::table::NO_VALUE;

@@ -2,7 +2,7 @@
 
 ghost use Rattle.std.specs.Prelude.{◌≡◌, IfOk};
 ghost use Rattle.database_build.specs.Tables.{HoldsValues};
-ghost use Rattle.database_build.specs.Frames.{Fits};
+ghost use Rattle.database_build.specs.Frames.{IsTask, Fits};
 ghost use Rattle.database_build.specs.Folds.{IsTrueFold};
 
 use crate::entries::{keep_least, keep_values};
@@ -60,9 +60,7 @@ fn build_of(
     goal: &Board,
     weights: &Weights,
 ) -> Result<Table, OutOfMemory>
-    requires fits { Fits frame group.now }
-    requires grid { goal.now.grid ≡ group.now.grid }
-    requires weights { weights.now.grid ≡ group.now.grid }
+    requires { IsTask frame group.now goal.now weights.now }
     ensures group { IfOk result (λ t. t.selection ≡ group.now) }
     ensures values { IfOk result (λ t. HoldsValues t weights.now goal.now) }
 {
@@ -113,9 +111,7 @@ fn fold_of(
     goal: &Board,
     weights: &Weights,
 ) -> Result<Folded, OutOfMemory>
-    requires fits { Fits frame group.now }
-    requires grid { goal.now.grid ≡ group.now.grid }
-    requires weights { weights.now.grid ≡ group.now.grid }
+    requires { IsTask frame group.now goal.now weights.now }
     ensures group { IfOk result (λ fold. fold.selection ≡ group.now) }
     ensures values { IfOk result (IsTrueFold weights.now goal.now) }
 {

@@ -3,8 +3,8 @@
 ghost use Rattle.std.specs.Prelude.{ℕ, ◌≡◌, ◌+◌, ◌*◌, ◌<◌, length, take};
 ghost use Rattle.std.specs.Prelude.{slice_index, IfOk, OnOk, MatchOption};
 ghost use Rattle.database_build.specs.Orders.{below};
-ghost use Rattle.database_build.specs.Regions.{AreEdges, AreGroupRegions, IsEdgeOf, IsFree, IsPlaced};
-ghost use Rattle.database_build.specs.Edges.{IsRising, IsStep, IsStepEdge, HasFound, AreAdded};
+ghost use Rattle.database_build.specs.Regions.{AreApart, AreEdges, AreGroupRegions, IsEdgeOf};
+ghost use Rattle.database_build.specs.Edges.{AreSetCells, IsStep, IsStepEdge, HasFound, AreAdded};
 
 use crate::orders::count_below;
 use crate::regions::{Regions, stands_on};
@@ -83,8 +83,7 @@ fn add_edges(
     set: usize,
     cells: &[u8; 9],
 ) -> Result<(), OutOfMemory>
-    requires regions { AreGroupRegions regions.now }
-    requires cells { IsRising regions.now set (take regions.now.count cells.now) }
+    requires { AreSetCells regions.now set cells.now }
     ensures { OnOk result (HasFound regions.now (take regions.now.count cells.now) region
         (regions.now.count * 4) edges.old.items edges.new.items) }
 {
@@ -107,8 +106,7 @@ fn find_edge(
     tile: usize,
     direction: Move,
 ) -> Option<Edge>
-    requires regions { AreGroupRegions regions.now }
-    requires cells { IsRising regions.now set (take regions.now.count cells.now) }
+    requires set { AreSetCells regions.now set cells.now }
     requires tile { tile < regions.now.count }
     ensures { MatchOption result
         ((to : ℕ) → ¬ IsStep regions.now (take regions.now.count cells.now) region
@@ -131,12 +129,10 @@ fn find_edge(
 // The edge of a tile that goes to a free cell.
 fn edge_to(regions: &Regions, cells: &[u8; 9], tile: usize, to: usize) -> Edge
     requires regions { AreGroupRegions regions.now }
-    requires placed { IsPlaced regions.now.shape regions.now.count
-        (take regions.now.count cells.now) }
+    requires apart { AreApart regions.now.shape regions.now.count
+        (take regions.now.count cells.now) to }
     requires tile { tile < regions.now.count }
-    requires rising { below (slice_index cells.now tile) (take regions.now.count cells.now)
-        ≡ tile }
-    requires free { IsFree regions.now.shape (take regions.now.count cells.now) to }
+    requires rising { below (slice_index cells.now tile) (take regions.now.count cells.now) ≡ tile }
     ensures { IsEdgeOf regions.now (take regions.now.count cells.now)
         (slice_index cells.now tile) to result }
 {

@@ -1,16 +1,14 @@
 //! What a table keeps of the views of its group: their values by rank, or by slot.
 
-ghost use Rattle.std.specs.Prelude.{ℕ, ◌≡◌, ◌↔◌, ◌<◌, ◌≤◌, ◌^◌, IfOk, IsTrue, Some};
-ghost use Rattle.std.specs.Prelude.{List, length, map, min, slice_get, slice_index};
-ghost use Rattle.board.specs.Grids.{cell_count};
-ghost use Rattle.pattern_index.specs.Views.{Sight, IsView};
-ghost use Rattle.pattern_index.specs.Selections.{place_in, rank_in};
-ghost use Rattle.pattern_index.specs.Sparse.{slot_count_of, slot_in, sparse_of, sparse_size_of};
+ghost use Rattle.std.specs.Prelude.{replicate, ◌≡◌, ◌↔◌, ◌<◌, ◌≤◌, ◌^◌, IfOk, IsTrue};
+ghost use Rattle.std.specs.Prelude.{length, map, min};
+ghost use Rattle.pattern_index.specs.Sparse.{slot_count_of, sparse_size_of};
 ghost use Rattle.database_build.specs.Entries.{AreSmall, HasEntries, IsKeptBest, values_in};
-ghost use Rattle.database_build.specs.FoldEntries.{HasLeast, HasNoView, least_in, most_places};
-ghost use Rattle.database_build.specs.Placements.{placement_count, placement_in};
-ghost use Rattle.database_build.specs.Graphs.{node_in, node_count};
-ghost use Rattle.database_build.specs.Regions.{IsPlaced, IsRegions};
+ghost use Rattle.database_build.specs.FoldEntries.{HasFewPlaces, HasLeast, least_in, most_places};
+ghost use Rattle.database_build.specs.Graphs.{AreNodesOf};
+ghost use Rattle.database_build.specs.Slots.{AreAllFilled};
+ghost use Rattle.database_build.specs.Placements.{IsOnePerPlacement, AreNodeValues, ArePlaceValues};
+ghost use Rattle.database_build.specs.Placements.{AreAllWritten};
 
 use crate::folding::{MOST_PLACES, PLACES_A_VALUE};
 use crate::orders::factorial;
@@ -44,14 +42,11 @@ pub(crate) fn keep_values(
     regions: &Regions,
     nodes: &[u16],
 ) -> Result<Entries, OutOfMemory>
-    requires regions { IsRegions group.now.grid (length group.now.tiles) regions.now }
-    requires nodes { length nodes.now ≡ node_count regions.now }
+    requires nodes { AreNodesOf group.now.grid (length group.now.tiles) regions.now nodes.now }
     ensures entries { IfOk result (HasEntries group.now) }
-    ensures values { IfOk result (λ entries. (v : Sight) → IsView group.now.grid group.now.tiles v
-        → slice_index (values_in group.now entries) (rank_in group.now.grid v)
-        ≡ slice_index nodes.now (node_in regions.now v)) }
-    ensures best { IfOk result
-        (IsKeptBest (slot_count_of group.now ≤ MOST_SLOTS) nodes.now) }
+    ensures values { IfOk result
+        (λ e. AreNodeValues group.now regions.now nodes.now (values_in group.now e)) }
+    ensures best { IfOk result (IsKeptBest (slot_count_of group.now ≤ MOST_SLOTS) nodes.now) }
 {
     if group.slot_count() > MOST_SLOTS {
         let orders = factorial(group.tiles().len());
@@ -68,7 +63,6 @@ pub(crate) fn keep_values(
 }
 
 // What views have at their slots, where what nodes have is given.
-#[tactic(auto, using(crate::proofs::EntryLemmas::all_written, crate::proofs::EntryLemmas::slots_all))]
 fn fill_slots<T: Copy>(
     alloc: Global,
     group: &Group,
@@ -76,13 +70,9 @@ fn fill_slots<T: Copy>(
     nodes: &[T],
     filler: T,
 ) -> Result<Vec<T>, OutOfMemory>
-    requires regions { IsRegions group.now.grid (length group.now.tiles) regions.now }
-    requires nodes { length nodes.now ≡ node_count regions.now }
+    requires nodes { AreNodesOf group.now.grid (length group.now.tiles) regions.now nodes.now }
     requires few { slot_count_of group.now ≤ MOST_SLOTS }
-    ensures size { IfOk result (λ slots. length slots.items ≡ slot_count_of group.now) }
-    ensures values { IfOk result (λ slots. (v : Sight) → IsView group.now.grid group.now.tiles v
-        → slice_get slots.items (slot_in group.now.grid v)
-        ≡ slice_get nodes.now (node_in regions.now v)) }
+    ensures { IfOk result (λ slots. AreAllFilled regions.now nodes.now slots.items) }
 {
     let positions = find_positions(alloc, regions.count)?;
     let mut slots = filled(alloc, filler, group.slot_count())?;
@@ -97,14 +87,10 @@ pub(crate) fn keep_least(
     group: &Group,
     least: &[u16],
 ) -> Result<Entries, OutOfMemory>
-    requires { length least.now
-        ≡ placement_count (cell_count group.now.grid) (length group.now.tiles) }
+    requires { IsOnePerPlacement group.now least.now }
     ensures entries { IfOk result (HasLeast group.now) }
-    ensures values { IfOk result (λ entries. (v : Sight) → IsView group.now.grid group.now.tiles v
-        → slice_index (least_in group.now entries) (place_in group.now.grid v)
-        ≡ slice_index least.now (placement_in (length group.now.tiles) v.cells)) }
-    ensures best { IfOk result
-        (IsKeptBest (sparse_size_of group.now ≤ most_places group.now) least.now) }
+    ensures values { IfOk result (λ e. ArePlaceValues group.now least.now (least_in group.now e)) }
+    ensures best { IfOk result (IsKeptBest (HasFewPlaces group.now) least.now) }
 {
     if has_many_places(group) {
         let values = rank_least(alloc, group, least)?;
@@ -133,16 +119,10 @@ fn fill_places<T: Copy>(
     least: &[T],
     filler: T,
 ) -> Result<Vec<T>, OutOfMemory>
-    requires few { sparse_size_of group.now ≤ most_places group.now }
-    requires least { length least.now
-        ≡ placement_count (cell_count group.now.grid) (length group.now.tiles) }
-    ensures size { IfOk result (λ places. length places.items ≡ sparse_size_of group.now) }
-    ensures values { IfOk result (λ places. (cells : List ℕ)
-        → IsPlaced group.now.grid (length group.now.tiles) cells
-        → slice_get places.items (sparse_of (cell_count group.now.grid) cells)
-        ≡ slice_get least.now (placement_in (length group.now.tiles) cells)) }
-    ensures others { IfOk result (λ places. (sparse : ℕ) (entry : T) → HasNoView group.now sparse
-        → slice_get places.items sparse ≡ Some entry → entry ≡ filler) }
+    requires few { HasFewPlaces group.now }
+    requires least { IsOnePerPlacement group.now least.now }
+    ensures { IfOk result (λ places. AreAllWritten group.now least.now
+        (replicate (sparse_size_of group.now) filler) places.items) }
 {
     let positions = find_positions(alloc, group.tiles().len())?;
     let mut places = filled(alloc, filler, group.sparse_size())?;

@@ -1,8 +1,8 @@
 //! The values of nodes: by layers where each tile costs the same, else by buckets.
 
 ghost use Rattle.std.specs.Prelude.{ℕ, ◌≡◌, ◌<◌, ◌↔◌, length, replicate, Some, IfOk};
-ghost use Rattle.database_build.specs.Frames.{Fits};
 ghost use Rattle.database_build.specs.Searches.{AreFound};
+ghost use Rattle.database_build.specs.Frames.{IsTask};
 
 use crate::frame::Frame;
 use crate::graph::Graph;
@@ -29,9 +29,7 @@ pub(crate) fn find_values(
     goal: &Board,
     weights: &Weights,
 ) -> Result<Found, OutOfMemory>
-    requires fits { Fits frame group.now }
-    requires grid { goal.now.grid ≡ group.now.grid }
-    requires weights { weights.now.grid ≡ group.now.grid }
+    requires { IsTask frame group.now goal.now weights.now }
     ensures { IfOk result (AreFound group.now weights.now goal.now) }
 {
     let graph = Graph::new(frame, group, weights);

@@ -1,7 +1,7 @@
 //! Folded tables: those without the blank.
 
 ghost use Rattle.std.specs.Prelude.{ℕ, ◌≡◌, ◌⊎◌, ◌<◌, ◌≤◌, ◌↔◌, length, slice_index};
-ghost use Rattle.std.specs.Prelude.{All, Contains, IfNone, IfOk, IfSome, IsTrue, None};
+ghost use Rattle.std.specs.Prelude.{Contains, IfNone, IfOk, IfSome, IsTrue, None};
 ghost use Rattle.board.specs.Grids.{cell_count};
 ghost use Rattle.pattern_index.specs.Views.{IsView, Sight, view_at};
 ghost use Rattle.pattern_index.specs.Selections.{IsSelection, folded_size_of};
@@ -55,10 +55,7 @@ impl Folded {
     // The folded table of a group with these entries.
     pub(crate) fn of_group(group: &Group, entries: Entries) -> Self
         requires { HasLeast group.now entries }
-        ensures { result ≡ record {
-          selection = group.now;
-          least = least_in group.now entries;
-        } }
+        ensures { result ≡ record { selection = group.now; least = least_in group.now entries } }
     {
         let marks = mark_tiles(group);
         let strides = find_strides(group);

@@ -1,12 +1,13 @@
 //! The graph that a search goes over: the nodes of a group's views, and the edges between them.
 
-ghost use Rattle.std.specs.Prelude.{ℕ, ◌≡◌, ◌<◌, ◌≤◌, length, slice_index, map, All};
+ghost use Rattle.std.specs.Prelude.{◌≡◌, ◌<◌, length, slice_index, map};
 ghost use Rattle.pattern_index.specs.Views.{IsView, view_of};
 ghost use Rattle.pattern_index.specs.Selections.{IsSelection};
 ghost use Rattle.database_build.specs.Regions.{IsRegions};
-ghost use Rattle.database_build.specs.Graphs.{node_in, node_count, AreWeightsOf};
+ghost use Rattle.database_build.specs.Graphs.{AreSomeCosts, node_in, node_count, AreWeightsOf};
 ghost use Rattle.database_build.specs.Frames.{Fits};
 ghost use Rattle.database_build.specs.Searches.{IsGraphOf, IsSoundGraph};
+ghost use Rattle.database_build.specs.Indices.{AreIndices};
 
 use crate::edges::Edges;
 use crate::frame::Frame;
@@ -32,8 +33,7 @@ impl Graph {
         requires weights { weights.now.grid ≡ group.now.grid }
         ensures graph { IsGraphOf group.now weights.now result }
         ensures sound { IsSoundGraph result }
-        ensures costs { (place : ℕ) → place < length group.now.tiles
-            → 1 ≤ slice_index result.costs place }
+        ensures costs { AreSomeCosts group.now.tiles result.costs }
     {
         Graph {
             regions: frame.regions,
@@ -67,7 +67,7 @@ fn costs_of(group: &Group, weights: &Weights) -> [u8; 9]
     ensures group { IsSelection group.now }
     ensures length { length result ≡ 9 }
     ensures costs { AreWeightsOf weights.now group.now.tiles result }
-    ensures some { (place : ℕ) → place < length group.now.tiles → 1 ≤ slice_index result place }
+    ensures some { AreSomeCosts group.now.tiles result }
 {
     let mut costs = [0; 9];
     let tiles = group.tiles();
@@ -80,8 +80,7 @@ fn costs_of(group: &Group, weights: &Weights) -> [u8; 9]
 // Writes the cell of each tile.
 #[tactic(auto, using(std::proofs::lemmas::List::take_more_set, std::proofs::lemmas::List::map_more))]
 fn pick_cells(numbers: &[u8; 25], tiles: &[u8], cells: &mut [u8])
-    requires same { length cells.old ≡ length tiles.now }
-    requires within { All (λ tile. tile < 25) tiles.now }
+    requires { AreIndices 25 tiles.now cells.old }
     ensures { cells.new ≡ map (slice_index numbers.now) tiles.now }
 {
     'tiles: for place in 0..tiles.len() {

@@ -1,17 +1,15 @@
 //! The search for the values of nodes where each tile costs the same: layer by layer, since all nodes
 //! that are found in a layer have one value.
 
-ghost use Rattle.std.specs.Prelude.{ℕ, suc, ◌≡◌, ◌+◌, ◌*◌, ◌<◌, ◌≤◌, false, length, replicate, slice_index, IfOk};
-ghost use Rattle.board.specs.Positions.{Position};
-ghost use Rattle.board.specs.CostRules.{CostRule};
+ghost use Rattle.std.specs.Prelude.{ℕ, suc, ◌≡◌, ◌+◌, ◌*◌, ◌<◌, ◌≤◌, false, length, slice_index, IfOk};
 ghost use Rattle.pattern_index.specs.Laws.{factorial};
-ghost use Rattle.pattern_index.specs.Selections.{Selection};
-ghost use Rattle.database_build.specs.Graphs.{IsOrders, node_count};
+ghost use Rattle.database_build.specs.Graphs.{IsOrders};
 ghost use Rattle.database_build.specs.Regions.{HasPositions};
-ghost use Rattle.database_build.specs.Searches.{IsSoundGraph, IsSought, AreFound};
-ghost use Rattle.database_build.specs.NodeSets.{Has, IsIn, IsNodeSet, IsUnion};
+ghost use Rattle.database_build.specs.Searches.{AreFoundFrom, IsStart, IsSoundGraph};
+ghost use Rattle.database_build.specs.NodeSets.{IsIn, IsUnion};
 ghost use Rattle.database_build.specs.Layers.{AreBelow, AreLayers, IsAtStart, IsLed, IsMovedFrom, IsWritten};
-ghost use Rattle.database_build.specs.Layers.{IsWordPassed, IsRegionPassed, IsLayerPassed};
+ghost use Rattle.database_build.specs.Layers.{HasPassed, IsWordPassed, IsRegionPassed, IsLayerPassed};
+ghost use Rattle.database_build.specs.Layers.{AreLayersWith, IsSetOf};
 
 use crate::edges::Edge;
 use crate::finding::Found;
@@ -36,8 +34,7 @@ pub(crate) struct Layers {
 impl Layers {
     // No node has a value, and one is in this layer.
     fn new(alloc: Global, graph: Graph, start: usize) -> Result<Self, OutOfMemory>
-        requires sound { IsSoundGraph graph }
-        requires inside { start < node_count graph.regions }
+        requires { IsStart graph start }
         ensures { IfOk result (IsAtStart graph start) }
     {
         let regions = graph.regions.homes.len();
@@ -60,9 +57,8 @@ impl Layers {
     // lead from there into the next layer. Answers whether there were such nodes.
     fn pass_layer(&mut self, cost: u16) -> bool
         requires { AreLayers self.old }
-        ensures passed { IsLayerPassed cost (length self.old.graph.regions.homes.items)
+        ensures { HasPassed (IsLayerPassed cost (length self.old.graph.regions.homes.items)) result
             self.old self.new }
-        ensures same { result ≡ false → self.new ≡ self.old }
     {
         let mut any = false;
         'regions: for region in 0..self.graph.regions.homes.len() {
@@ -74,10 +70,8 @@ impl Layers {
 
     // The same for the nodes of a region.
     fn pass_region(&mut self, region: usize, cost: u16) -> bool
-        requires layers { AreLayers self.old }
-        requires region { region < length self.old.graph.regions.homes.items }
-        ensures passed { IsRegionPassed region cost self.old.now.width self.old self.new }
-        ensures same { result ≡ false → self.new ≡ self.old }
+        requires { AreLayersWith region self.old }
+        ensures { HasPassed (IsRegionPassed region cost self.old.now.width) result self.old self.new }
     {
         let mut any = false;
         'words: for place in 0..self.now.width() {
@@ -89,11 +83,9 @@ impl Layers {
 
     // The same for 64 orders of a region.
     fn pass_word(&mut self, region: usize, place: usize, cost: u16) -> bool
-        requires layers { AreLayers self.old }
-        requires region { region < length self.old.graph.regions.homes.items }
+        requires layers { AreLayersWith region self.old }
         requires place { place < self.old.now.width }
-        ensures passed { IsWordPassed region place cost self.old self.new }
-        ensures same { result ≡ false → self.new ≡ self.old }
+        ensures { HasPassed (IsWordPassed region place cost) result self.old self.new }
     {
         let fresh = self.now.word(region, place) & !self.seen.word(region, place);
         if fresh == 0 {
@@ -126,11 +118,9 @@ fn insert_next(graph: &Graph, region: usize, place: usize, bits: u64, next: &mut
     requires region { region < length graph.now.regions.homes.items }
     requires place { place < next.old.width }
     requires bits { AreBelow (factorial graph.now.regions.count) place bits }
-    requires next { IsNodeSet (length graph.now.regions.homes.items)
-        (factorial graph.now.regions.count) next.old }
+    requires next { IsSetOf graph.now next.old }
     ensures union { IsUnion (IsLed graph.now region place bits) next.old next.new }
-    ensures next { IsNodeSet (length graph.now.regions.homes.items)
-        (factorial graph.now.regions.count) next.new }
+    ensures next { IsSetOf graph.now next.new }
 {
     let first = graph.edges.starts[region] as usize;
     let end = graph.edges.starts[region + 1] as usize;
@@ -170,14 +160,11 @@ pub(crate) fn find_by_layers(
     start: usize,
     weight: u8,
 ) -> Result<Found, OutOfMemory>
-    requires sound { IsSoundGraph graph }
-    requires inside { start < node_count graph.regions }
+    requires start { IsStart graph start }
     requires some { 1 ≤ weight }
     requires same { (place : ℕ) → place < graph.regions.count
         → slice_index graph.costs place ≡ weight }
-    ensures { (selection : Selection) (rule : CostRule) (goal : Position)
-        → IsSought selection rule goal graph start
-        → IfOk result (AreFound selection rule goal) }
+    ensures { IfOk result (AreFoundFrom graph start) }
 {
     let mut layers = Layers::new(alloc, graph, start)?;
     let mut cost = 0;

@@ -1,21 +1,21 @@
 //! The least value of each placement of a group's tiles: by their set of cells, and then by their
 //! order.
 
-ghost use Rattle.std.specs.Prelude.{ℕ, List, ◌≡◌, ◌≢◌, ◌<◌, All, AllPairs, IfOk, OnOk};
+ghost use Rattle.std.specs.Prelude.{ℕ, List, ◌≡◌, ◌≢◌, ◌<◌, AllPairs, IfOk, OnOk};
 ghost use Rattle.std.specs.Prelude.{length, map, min, replicate, slice_index};
-ghost use Rattle.board.specs.Grids.{cell_count};
 ghost use Rattle.pattern_index.specs.Laws.{factorial};
 ghost use Rattle.pattern_index.specs.Selections.{IsSelection};
 ghost use Rattle.pattern_index.specs.Views.{Sight, IsView};
 ghost use Rattle.database_build.specs.Folds.{IsFoldedValue};
-ghost use Rattle.database_build.specs.Graphs.{node_count};
-ghost use Rattle.database_build.specs.Marks.{AreMarksOf};
 ghost use Rattle.database_build.specs.Orders.{order_of};
-ghost use Rattle.database_build.specs.Placements.{AreAdded, AreLeastNodes, AreLeastOf, IsSetList};
-ghost use Rattle.database_build.specs.Regions.{IsPlaced, IsRegions};
+ghost use Rattle.database_build.specs.Placements.{AreMarkedCells, AreAdded, AreLeastNodes, AreLeastOf};
+ghost use Rattle.database_build.specs.Regions.{IsPlaced};
 ghost use Rattle.database_build.specs.Rows.{IsLeastNode};
-ghost use Rattle.database_build.specs.Sets.{choose, set_place};
-ghost use Rattle.database_build.specs.Slots.{ArePositions};
+ghost use Rattle.database_build.specs.Sets.{set_place};
+ghost use Rattle.database_build.specs.Graphs.{AreNodesOf};
+ghost use Rattle.database_build.specs.Slots.{AreSetOrders};
+ghost use Rattle.database_build.specs.Indices.{AreIndices};
+ghost use Rattle.database_build.specs.Placements.{AreNodesWith};
 
 use crate::orders::factorial;
 use crate::regions::Regions;
@@ -34,8 +34,7 @@ pub(crate) fn fold_nodes(
     regions: &Regions,
     nodes: &[u16],
 ) -> Result<Vec<u16>, OutOfMemory>
-    requires regions { IsRegions group.now.grid (length group.now.tiles) regions.now }
-    requires nodes { length nodes.now ≡ node_count regions.now }
+    requires nodes { AreNodesOf group.now.grid (length group.now.tiles) regions.now nodes.now }
     ensures { IfOk result (λ least. AreLeastNodes regions.now nodes.now least.items) }
 {
     let sets = regions.choices.count(regions.shape.cells(), regions.count);
@@ -54,9 +53,7 @@ pub(crate) fn fold_nodes(
 
 // Lowers the values of a set's placements, by order, to those of its nodes.
 fn lower_set(regions: &Regions, set: usize, nodes: &[u16], row: &mut [u16])
-    requires regions { IsRegions regions.now.shape regions.now.count regions.now }
-    requires nodes { length nodes.now ≡ node_count regions.now }
-    requires set { set < choose (cell_count regions.now.shape) regions.now.count }
+    requires nodes { AreNodesWith set regions.now nodes.now }
     requires row { row.old ≡ replicate (factorial regions.now.count) NO_VALUE }
     ensures size { length row.new ≡ factorial regions.now.count }
     ensures least { (cells : List ℕ) → IsPlaced regions.now.shape regions.now.count cells
@@ -117,9 +114,7 @@ fn add_orders(
     least: &mut Vec<u16>,
 ) -> Result<(), OutOfMemory>
     requires group { IsSelection table.now.selection }
-    requires set { IsSetList table.now.selection.grid (length table.now.selection.tiles)
-        cells.now }
-    requires positions { ArePositions (length table.now.selection.tiles) positions.now }
+    requires cells { AreSetOrders table.now.selection cells.now positions.now }
     ensures { OnOk result (AreAdded table.now cells.now least.old.items least.new.items) }
 {
     let count = cells.len();
@@ -138,9 +133,8 @@ fn add_orders(
 
 // The least value that a table has of the views with the tiles on these cells, wherever the blank is.
 fn least_value(table: &Table, cells: &[u8], marks: &[bool; 25]) -> u16
-    requires placed { IsPlaced table.now.selection.grid (length table.now.selection.tiles)
-        cells.now }
-    requires marks { AreMarksOf cells.now marks.now }
+    requires { AreMarkedCells table.now.selection.grid (length table.now.selection.tiles) cells.now
+        marks.now }
     ensures { (v : Sight) → IsView table.now.selection.grid table.now.selection.tiles v
         → v.cells ≡ cells.now → IsFoldedValue table.now v result }
 {
@@ -159,8 +153,7 @@ fn least_value(table: &Table, cells: &[u8], marks: &[bool; 25]) -> u16
 
 // Writes the cell of each tile.
 fn put_cells(tiles: &[u8], cells: &[u8], numbers: &mut [u8; 25])
-    requires same { length cells.now ≡ length tiles.now }
-    requires within { All (λ tile. tile < 25) tiles.now }
+    requires tiles { AreIndices 25 tiles.now cells.now }
     requires different { AllPairs (λ x y. x ≢ y) tiles.now }
     ensures { map (slice_index numbers.new) tiles.now ≡ cells.now }
 {

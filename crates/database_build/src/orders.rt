@@ -1,11 +1,12 @@
 //! Orders: how tiles stand on a set of cells, whatever the cells are.
 
-ghost use Rattle.std.specs.Prelude.{ℕ, suc, ◌≡◌, ◌+◌, ◌-◌, ◌*◌, ◌<◌, ◌≤◌, ◌==◌, ◌++◌, length, map, All, IfOk, OnOk};
+ghost use Rattle.std.specs.Prelude.{ℕ, ◌≡◌, ◌+◌, ◌-◌, ◌*◌, ◌<◌, ◌≤◌, ◌==◌, ◌++◌, length, map, All, IfOk, OnOk};
 ghost use Rattle.std.specs.List.{position_or_len, range_with_len};
 ghost use Rattle.pattern_index.specs.Laws.{factorial};
 ghost use Rattle.pattern_index.specs.Ranks.{spread};
 ghost use Rattle.database_build.specs.Orders.{below, order_of, positions_at, tile_of, exchanged, moved_order};
 ghost use Rattle.database_build.specs.Graphs.{AreMoves, HasPasses, HasPassesTo, IsOrders};
+ghost use Rattle.database_build.specs.Orders.{IsOrderOf, IsTileCount, IsChange, IsChanged};
 
 use memory::{OutOfMemory, copy_of, push};
 use std::alloc::Global;
@@ -55,8 +56,7 @@ pub(crate) fn order_of(cells: &[u8]) -> usize
 
 // Writes for each tile how many tiles stand on smaller cells, by their order.
 pub(crate) fn write_positions(order: usize, positions: &mut [u8])
-    requires few { length positions.old ≤ 9 }
-    requires below { order < factorial (length positions.old) }
+    requires { IsOrderOf (length positions.old) order }
     ensures { positions.new ≡ positions_at (length positions.old) order }
 {
     let mut rest = order;
@@ -100,8 +100,7 @@ pub(crate) struct Orders {
 impl Orders {
     #[tactic(auto, using(crate::proofs::OrderTables::kept_next, crate::proofs::OrderTables::kept_own))]
     pub(crate) fn new(alloc: Global, count: usize) -> Result<Self, OutOfMemory>
-        requires some { 0 < count }
-        requires short { count ≤ 9 }
+        requires { IsTileCount count }
         ensures { IfOk result (IsOrders count) }
     {
         let mut orders = Orders {
@@ -177,11 +176,8 @@ impl Orders {
     #[tactic(auto, using(crate::proofs::OrderTables::move_read))]
     pub(crate) fn moved(&self, order: usize, from: usize, to: usize) -> usize
         requires orders { IsOrders self.now.count self.now }
-        requires order { order < factorial self.now.count }
-        requires from { from < self.now.count }
-        requires to { to < self.now.count }
-        ensures value { result ≡ moved_order self.now.count order from to }
-        ensures below { result < factorial self.now.count }
+        requires change { IsChange self.now.count order from to }
+        ensures { IsChanged self.now.count order from to result }
     {
         if self.count <= MOST_MOVED {
             return self.moves[(from * self.count + to) * self.size + order] as usize;
@@ -192,11 +188,8 @@ impl Orders {
     // The same, by one exchange after another.
     fn passed(&self, order: usize, from: usize, to: usize) -> usize
         requires orders { HasPasses self.now.count self.now }
-        requires order { order < factorial self.now.count }
-        requires from { from < self.now.count }
-        requires to { to < self.now.count }
-        ensures value { result ≡ moved_order self.now.count order from to }
-        ensures below { result < factorial self.now.count }
+        requires change { IsChange self.now.count order from to }
+        ensures { IsChanged self.now.count order from to result }
     {
         let mut order = order;
         let mut at = from;

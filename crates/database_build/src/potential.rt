@@ -1,6 +1,6 @@
 //! The test for a potential.
 
-ghost use Rattle.std.specs.Prelude.{ℕ, ◌≡◌, ◌↔◌, ◌<◌, ◌≤◌, IsTrue};
+ghost use Rattle.std.specs.Prelude.{◌≡◌, ◌↔◌, ◌<◌, IsTrue};
 ghost use Rattle.pattern_index.specs.Views.{IsView, view_of};
 ghost use Rattle.pattern_index.specs.Selections.{size_of, abstraction_of, sight_successor};
 ghost use Rattle.database_build.specs.Values.{IsPotential};

@@ -2,14 +2,16 @@
 //! are.
 
 ghost use Rattle.std.specs.Prelude.{ℕ, suc, ◌≡◌, ◌<◌, ◌≤◌, ◌+◌, ◌-◌, ◌*◌, ◌^◌, ◌↔◌};
-ghost use Rattle.std.specs.Prelude.{false, length, IfOk, IsTrue, Contains};
+ghost use Rattle.std.specs.Prelude.{false, IfOk, IsTrue, Contains};
 ghost use Rattle.board.specs.Grids.{cell_count};
 ghost use Rattle.pattern_index.specs.Ranks.{ways};
 ghost use Rattle.pattern_index.specs.declared.group.TheConstants.{MAX_SIZE};
-ghost use Rattle.database_build.specs.Regions.{AreSameRegions, IsRegions, IsPlaced, IsFree, region_in};
-ghost use Rattle.database_build.specs.Sets.{choose, set_at};
-ghost use Rattle.database_build.specs.Numberings.{AreBegun, AreNumberedTo, AreOfSameSets, IsLabelled};
-ghost use Rattle.database_build.specs.Labels.{AreLabels, AreSettled, IsLowering, IsSettled, IsSettledTowards};
+ghost use Rattle.database_build.specs.Regions.{AreApart, AreSameRegions, IsRegions, IsFree, region_in};
+ghost use Rattle.database_build.specs.Sets.{set_at};
+ghost use Rattle.database_build.specs.Numberings.{AreNumberedIn, AreBegun, AreOfSameSets, IsLabelled};
+ghost use Rattle.database_build.specs.Labels.{HasLowered, AreLabels, AreSettled, IsSettled, IsSettledTowards};
+ghost use Rattle.database_build.specs.Numberings.{IsNextSet};
+ghost use Rattle.database_build.specs.Orders.{IsTileCount};
 
 use crate::sets::Choices;
 use board::{Move, Shape};
@@ -40,8 +42,7 @@ pub(crate) struct Regions {
 impl Regions {
     // The regions of all sets of this count of a shape's cells.
     pub(crate) fn new(alloc: Global, shape: Shape, count: usize) -> Result<Self, OutOfMemory>
-        requires some { 0 < count }
-        requires short { count ≤ 9 }
+        requires count { IsTileCount count }
         requires room { suc count ≤ cell_count shape }
         requires small { ways (cell_count shape) (suc count) ≤ MAX_SIZE }
         ensures { IfOk result (IsRegions shape count) }
@@ -63,8 +64,7 @@ impl Regions {
     // Numbers the cells of a set, after those of the sets below it.
     #[tactic(auto, using(crate::proofs::RegionLemmas::set_written))]
     fn add_set(&mut self, set: usize) -> Result<(), OutOfMemory>
-        requires begun { AreBegun self.old.shape self.old.count set self.old }
-        requires below { set < choose (cell_count self.old.shape) self.old.count }
+        requires { IsNextSet set self.old }
         ensures { IfOk result (λ _. AreBegun self.old.shape self.old.count (set + 1) self.new) }
     {
         let mut cells = [0; 9];
@@ -75,8 +75,7 @@ impl Regions {
 
     // Numbers the cells of a set on which tiles stand.
     fn add_row(&mut self, set: usize, cells: &[u8]) -> Result<(), OutOfMemory>
-        requires begun { AreBegun self.old.shape self.old.count set self.old }
-        requires below { set < choose (cell_count self.old.shape) self.old.count }
+        requires next { IsNextSet set self.old }
         requires cells { cells.now ≡ set_at (cell_count self.old.shape) self.old.count set }
         ensures { IfOk result (λ _. AreBegun self.old.shape self.old.count (set + 1) self.new) }
     {
@@ -98,10 +97,9 @@ impl Regions {
     ) -> Result<(), OutOfMemory>
         requires inside { cell < cell_count self.old.shape }
         requires row { IsLabelled self.old.shape set cells.now labels.now }
-        requires numbered { AreNumberedTo self.old.shape (length cells.now) cells.now labels.now
-            self.old.numbers.items self.old.homes.items set cell }
-        ensures numbered { IfOk result (λ _. AreNumberedTo self.old.shape (length cells.now) cells.now
-            labels.now self.new.numbers.items self.new.homes.items set (cell + 1)) }
+        requires numbered { AreNumberedIn self.old cells.now labels.now set cell }
+        ensures numbered { IfOk result
+            (λ _. AreNumberedIn self.new cells.now labels.now set (cell + 1)) }
         ensures same { AreOfSameSets self.old self.new }
     {
         let count = self.shape.cells();
@@ -138,8 +136,7 @@ impl Regions {
     // The region of the blank's cell while tiles stand on these cells.
     pub(crate) fn region(&self, cells: &[u8], blank: u8) -> usize
         requires regions { IsRegions self.now.shape self.now.count self.now }
-        requires placed { IsPlaced self.now.shape self.now.count cells.now }
-        requires free { IsFree self.now.shape cells.now blank }
+        requires apart { AreApart self.now.shape self.now.count cells.now blank }
         ensures { result ≡ region_in self.now cells.now blank }
     {
         let set = self.choices.place(cells);
@@ -165,10 +162,8 @@ fn label_cells(shape: Shape, cells: &[u8]) -> [u8; 25]
 // Lowers the label of each cell to those of its neighbours. Whether one was changed.
 fn lower_labels(shape: Shape, cells: &[u8], labels: &mut [u8; 25]) -> bool
     requires { AreLabels shape cells.now labels.old }
-    ensures labels { AreLabels shape cells.now labels.new }
-    ensures lowering { IsLowering labels.old labels.new result }
-    ensures settled { result ≡ false → (cell : ℕ) → cell < cell_count shape
-        → IsSettled shape cells.now labels.new cell }
+    ensures { HasLowered shape cells.now (λ l. (cell : ℕ) → cell < cell_count shape
+        → IsSettled shape cells.now l cell) labels.old labels.new result }
 {
     let mut is_changed = false;
     'cells: for cell in 0..shape.cells() {
@@ -182,9 +177,8 @@ fn lower_labels(shape: Shape, cells: &[u8], labels: &mut [u8; 25]) -> bool
 fn lower_label(shape: Shape, cells: &[u8], labels: &mut [u8; 25], cell: usize) -> bool
     requires inside { cell < cell_count shape }
     requires labels { AreLabels shape cells.now labels.old }
-    ensures labels { AreLabels shape cells.now labels.new }
-    ensures lowering { IsLowering labels.old labels.new result }
-    ensures settled { result ≡ false → IsSettled shape cells.now labels.new cell }
+    ensures { HasLowered shape cells.now (λ l. IsSettled shape cells.now l cell) labels.old
+        labels.new result }
 {
     if stands_on(cells, cell) {
         return false;
@@ -206,9 +200,8 @@ fn lower_towards(
 ) -> bool
     requires free { IsFree shape cells.now cell }
     requires labels { AreLabels shape cells.now labels.old }
-    ensures labels { AreLabels shape cells.now labels.new }
-    ensures lowering { IsLowering labels.old labels.new result }
-    ensures settled { result ≡ false → IsSettledTowards shape cells.now labels.new direction cell }
+    ensures { HasLowered shape cells.now (λ l. IsSettledTowards shape cells.now l direction cell)
+        labels.old labels.new result }
 {
     let _ = shape.cells();
     let Some(next) = shape.neighbour(cell, direction) else {

@@ -1,18 +1,17 @@
 //! Values of views, by rank.
 
 ghost use Rattle.std.specs.Prelude.{suc, [], ◌≡◌, ◌-◌, ◌<◌, ◌++◌, ◌∷◌};
-ghost use Rattle.std.specs.Prelude.{length, take, slice_index, IfOk, OnOk, Contains};
+ghost use Rattle.std.specs.Prelude.{length, take, IfOk, OnOk, Contains};
 ghost use Rattle.board.specs.Grids.{cell_count};
 ghost use Rattle.pattern_index.specs.Laws.{factorial};
 ghost use Rattle.pattern_index.specs.Ranks.{IsListing};
-ghost use Rattle.pattern_index.specs.Views.{Sight, IsView};
-ghost use Rattle.pattern_index.specs.Selections.{size_of, rank_in, folded_size_of, place_in};
+ghost use Rattle.pattern_index.specs.Selections.{size_of, folded_size_of};
 ghost use Rattle.database_build.specs.Marks.{AreMarksOf};
 ghost use Rattle.database_build.specs.Sets.{set_place};
-ghost use Rattle.database_build.specs.Regions.{AreGroupRegions, IsRegions, IsPlaced};
-ghost use Rattle.database_build.specs.Graphs.{node_in, node_count};
+ghost use Rattle.database_build.specs.Regions.{AreGroupRegions, IsRegions};
+ghost use Rattle.database_build.specs.Graphs.{AreNodesOf, node_count};
 ghost use Rattle.database_build.specs.Rows.{AreLarger, IsRow, node_value};
-ghost use Rattle.database_build.specs.Placements.{placement_count, placement_in};
+ghost use Rattle.database_build.specs.Placements.{IsOnePerPlacement, AreNodeValues, ArePlaceValues};
 
 use crate::orders::{factorial, order_of};
 use crate::regions::{Regions, stands_on};
@@ -29,13 +28,10 @@ pub(crate) fn rank_values(
     orders: usize,
     nodes: &[u16],
 ) -> Result<Vec<u16>, OutOfMemory>
-    requires regions { IsRegions group.now.grid (length group.now.tiles) regions.now }
     requires orders { orders ≡ factorial (length group.now.tiles) }
-    requires nodes { length nodes.now ≡ node_count regions.now }
+    requires nodes { AreNodesOf group.now.grid (length group.now.tiles) regions.now nodes.now }
     ensures size { IfOk result (λ values. length values.items ≡ size_of group.now) }
-    ensures values { IfOk result (λ values. (v : Sight) → IsView group.now.grid group.now.tiles v
-        → slice_index values.items (rank_in group.now.grid v)
-        ≡ slice_index nodes.now (node_in regions.now v)) }
+    ensures values { IfOk result (λ all. AreNodeValues group.now regions.now nodes.now all.items) }
 {
     let larger = find_larger(alloc, regions)?;
     let mut values = with_capacity(alloc, group.size())?;
@@ -105,12 +101,9 @@ pub(crate) fn rank_least(
     group: &Group,
     least: &[u16],
 ) -> Result<Vec<u16>, OutOfMemory>
-    requires { length least.now
-        ≡ placement_count (cell_count group.now.grid) (length group.now.tiles) }
+    requires { IsOnePerPlacement group.now least.now }
     ensures size { IfOk result (λ values. length values.items ≡ folded_size_of group.now) }
-    ensures values { IfOk result (λ values. (v : Sight) → IsView group.now.grid group.now.tiles v
-        → slice_index values.items (place_in group.now.grid v)
-        ≡ slice_index least.now (placement_in (length group.now.tiles) v.cells)) }
+    ensures values { IfOk result (λ all. ArePlaceValues group.now least.now all.items) }
 {
     let choices = Choices::new();
     let cells = group.shape().cells();

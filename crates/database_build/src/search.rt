@@ -1,15 +1,15 @@
 //! The search for the values of nodes by buckets of cost: backwards from the goal's node, since each
 //! view move can be taken back at the same cost.
 
-ghost use Rattle.std.specs.Prelude.{ℕ, ◌≡◌, ◌+◌, ◌<◌, ◌≤◌, ◌^◌, length, slice_index, IfOk, OnOk};
+ghost use Rattle.std.specs.Prelude.{◌+◌, ◌<◌, ◌≤◌, ◌^◌, length, slice_index, IfOk, OnOk};
 ghost use Rattle.board.specs.Positions.{Position};
 ghost use Rattle.board.specs.CostRules.{CostRule};
 ghost use Rattle.pattern_index.specs.Laws.{factorial};
 ghost use Rattle.pattern_index.specs.Selections.{Selection};
 ghost use Rattle.database_build.specs.Graphs.{node_count};
 ghost use Rattle.database_build.specs.Regions.{HasPositions};
-ghost use Rattle.database_build.specs.Searches.{IsSoundGraph, IsSought, AreFound, IsFit, IsFresh, IsLowered};
-ghost use Rattle.database_build.specs.Searches.{IsPassed, IsVisited, target};
+ghost use Rattle.database_build.specs.Searches.{IsStart, IsSoundGraph, IsSought, IsFit, IsFresh, IsLowered};
+ghost use Rattle.database_build.specs.Searches.{AreFoundFrom, IsPassed, IsVisited, target};
 
 use crate::buckets::{grow, put, release, take};
 use crate::edges::Edge;
@@ -72,8 +72,7 @@ impl Search {
         requires fits { IsFit self.old }
         requires order { order < factorial self.old.graph.regions.count }
         requires positions { HasPositions self.old.graph.regions.count edge.now }
-        requires inside { target self.old.graph order edge.now
-            < node_count self.old.graph.regions }
+        requires inside { target self.old.graph order edge.now < node_count self.old.graph.regions }
         requires cost { cost ≤ NO_VALUE }
         ensures { OnOk result (IsPassed order cost edge.now self.old self.new) }
     {
@@ -112,13 +111,10 @@ pub(crate) fn find_by_buckets(
     graph: Graph,
     start: usize,
 ) -> Result<Found, OutOfMemory>
-    requires sound { IsSoundGraph graph }
+    requires start { IsStart graph start }
     requires sought { (selection : Selection) × (rule : CostRule) × (goal : Position)
         × IsSought selection rule goal graph start }
-    requires inside { start < node_count graph.regions }
-    ensures { (selection : Selection) (rule : CostRule) (goal : Position)
-        → IsSought selection rule goal graph start
-        → IfOk result (AreFound selection rule goal) }
+    ensures { IfOk result (AreFoundFrom graph start) }
 {
     let mut search = Search::new(alloc, graph)?;
     search.lower(start, 0)?;

@@ -1,8 +1,8 @@
 //! Sets of cells, and their places among those of one size (the combinatorial number system).
 
-ghost use Rattle.std.specs.Prelude.{ℕ, ◌≡◌, ◌^◌, ◌<◌, ◌≤◌, length, slice_index};
+ghost use Rattle.std.specs.Prelude.{◌≡◌, ◌^◌, ◌<◌, ◌≤◌, length};
 ghost use Rattle.pattern_index.specs.Ranks.{IsListing};
-ghost use Rattle.database_build.specs.Sets.{choose, set_place, set_at, IsChoices};
+ghost use Rattle.database_build.specs.Sets.{CanChoose, choose, set_place, set_at, IsChoices};
 
 use crate::orders::count_below;
 
@@ -30,8 +30,7 @@ impl Choices {
 
     // How many sets of `count` cells there are among the first `cells` ones.
     pub(crate) fn count(&self, cells: usize, count: usize) -> usize
-        requires choices { IsChoices self.now }
-        requires cells { cells ≤ 25 }
+        requires from { CanChoose self.now cells }
         requires count { count ≤ 10 }
         ensures value { result ≡ choose cells count }
         ensures high { result < 2 ^ 32 }
@@ -56,8 +55,7 @@ impl Choices {
 
     // Writes the cells of the set at a place, in rising order.
     pub(crate) fn write_set(&self, cells: usize, place: usize, set: &mut [u8])
-        requires choices { IsChoices self.now }
-        requires cells { cells ≤ 25 }
+        requires from { CanChoose self.now cells }
         requires few { length set.old ≤ 9 }
         requires below { place < choose cells (length set.old) }
         ensures { set.new ≡ set_at cells (length set.old) place }

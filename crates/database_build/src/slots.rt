@@ -1,17 +1,16 @@
 //! Values of views, by slot.
 
-ghost use Rattle.std.specs.Prelude.{suc, ◌≡◌, ◌+◌, ◌*◌, ◌<◌, ◌≤◌, ◌^◌, ◌++◌, All, IfOk, OnOk, length, map, slice_index};
-ghost use Rattle.board.specs.Grids.{cell_count};
+ghost use Rattle.std.specs.Prelude.{suc, ◌≡◌, ◌+◌, ◌*◌, ◌<◌, ◌≤◌, ◌^◌, ◌++◌, IfOk, OnOk, length, map, slice_index};
 ghost use Rattle.pattern_index.specs.Laws.{factorial};
-ghost use Rattle.pattern_index.specs.Sparse.{digit_base, sparse_of, sparse_size_of};
-ghost use Rattle.database_build.specs.Graphs.{node_count};
-ghost use Rattle.database_build.specs.Marks.{AreMarksOf};
-ghost use Rattle.database_build.specs.Orders.{order_of, positions_at};
-ghost use Rattle.database_build.specs.Placements.{AreAllWritten, AreWritten, IsSetList};
-ghost use Rattle.database_build.specs.Placements.{placement_count};
-ghost use Rattle.database_build.specs.Regions.{IsRegions, IsPlaced};
-ghost use Rattle.database_build.specs.Sets.{choose, set_place};
-ghost use Rattle.database_build.specs.Slots.{AreFilledTo, AreFilledUpTo, ArePositions};
+ghost use Rattle.pattern_index.specs.Sparse.{digit_base, sparse_size_of};
+ghost use Rattle.database_build.specs.Orders.{IsOrderOf, order_of, positions_at};
+ghost use Rattle.database_build.specs.Placements.{AreMarkedCells, IsOnePerPlacement, AreAllWritten, AreWritten};
+ghost use Rattle.database_build.specs.Sets.{set_place};
+ghost use Rattle.database_build.specs.Slots.{AreOrdersFilled, ArePositions, AreSetOrders, AreAllFilled};
+ghost use Rattle.database_build.specs.Graphs.{AreNodesOf};
+ghost use Rattle.database_build.specs.Slots.{AreSetsFilled};
+ghost use Rattle.database_build.specs.Indices.{AreIndices};
+ghost use Rattle.database_build.specs.Placements.{AreNodesWith};
 
 use crate::orders::{factorial, write_positions};
 use crate::regions::Regions;
@@ -36,8 +35,7 @@ pub(crate) fn find_positions(alloc: Global, count: usize) -> Result<Vec<u8>, Out
 // Puts the positions of all tiles in an order at the end.
 #[tactic(auto, using(crate::proofs::SlotLemmas::pushed_position, crate::proofs::SlotLemmas::position_read, crate::proofs::SlotLemmas::pushed_all))]
 fn add_positions(count: usize, order: usize, all: &mut Vec<u8>) -> Result<(), OutOfMemory>
-    requires count { count ≤ 9 }
-    requires order { order < factorial count }
+    requires { IsOrderOf count order }
     ensures { OnOk result (all.new.items ≡ all.old.items ++ positions_at count order) }
 {
     let mut positions = [0; 9];
@@ -55,13 +53,10 @@ pub(crate) fn write_slots<T: Copy>(
     nodes: &[T],
     slots: &mut [T],
 )
-    requires regions { IsRegions regions.now.shape regions.now.count regions.now }
     requires positions { ArePositions regions.now.count positions.now }
-    requires nodes { length nodes.now ≡ node_count regions.now }
+    requires nodes { AreNodesOf regions.now.shape regions.now.count regions.now nodes.now }
     requires slots { length slots.old ≡ digit_base regions.now.shape ^ suc regions.now.count }
-    ensures { AreFilledTo regions.now nodes.now
-        (choose (cell_count regions.now.shape) regions.now.count * factorial regions.now.count)
-        slots.new }
+    ensures { AreAllFilled regions.now nodes.now slots.new }
 {
     let sets = regions.choices.count(regions.shape.cells(), regions.count);
     'sets: for set in 0..sets {
@@ -71,14 +66,10 @@ pub(crate) fn write_slots<T: Copy>(
 
 // The same for the views with tiles on the cells of a set, where it is done for those of smaller sets.
 fn write_set<T: Copy>(regions: &Regions, positions: &[u8], set: usize, nodes: &[T], slots: &mut [T])
-    requires regions { IsRegions regions.now.shape regions.now.count regions.now }
     requires positions { ArePositions regions.now.count positions.now }
-    requires nodes { length nodes.now ≡ node_count regions.now }
-    requires set { set < choose (cell_count regions.now.shape) regions.now.count }
-    requires filled { AreFilledTo regions.now nodes.now (set * factorial regions.now.count)
-        slots.old }
-    ensures { AreFilledTo regions.now nodes.now ((set + 1) * factorial regions.now.count)
-        slots.new }
+    requires nodes { AreNodesWith set regions.now nodes.now }
+    requires filled { AreSetsFilled regions.now nodes.now set slots.old }
+    ensures { AreSetsFilled regions.now nodes.now (set + 1) slots.new }
 {
     let count = regions.count;
     let mut cells = [0; 9];
@@ -99,8 +90,7 @@ fn write_set<T: Copy>(regions: &Regions, positions: &[u8], set: usize, nodes: &[
 
 // Writes on which cell each tile stands, by its position among the cells.
 pub(crate) fn place_tiles(cells: &[u8], positions: &[u8], placed: &mut [u8])
-    requires same { length placed.old ≡ length positions.now }
-    requires within { All (λ position. position < length cells.now) positions.now }
+    requires { AreIndices (length cells.now) positions.now placed.old }
     ensures { placed.new ≡ map (slice_index cells.now) positions.now }
 {
     'tiles: for tile in 0..placed.len() {
@@ -118,16 +108,12 @@ fn write_blanks<T: Copy>(
     nodes: &[T],
     slots: &mut [T],
 )
-    requires regions { IsRegions regions.now.shape regions.now.count regions.now }
-    requires placed { IsPlaced regions.now.shape regions.now.count cells.now }
+    requires cells { AreMarkedCells regions.now.shape regions.now.count cells.now marks.now }
     requires set { set ≡ set_place cells.now }
     requires order { order ≡ order_of cells.now }
-    requires marks { AreMarksOf cells.now marks.now }
-    requires nodes { length nodes.now ≡ node_count regions.now }
-    requires filled { AreFilledTo regions.now nodes.now
-        (set * factorial regions.now.count + order) slots.old }
-    ensures { AreFilledTo regions.now nodes.now
-        (set * factorial regions.now.count + order + 1) slots.new }
+    requires nodes { AreNodesOf regions.now.shape regions.now.count regions.now nodes.now }
+    requires filled { AreOrdersFilled regions.now nodes.now set order slots.old }
+    ensures { AreOrdersFilled regions.now nodes.now set (order + 1) slots.new }
 {
     let count = regions.shape.cells();
     let base = digit_base(regions.shape);
@@ -145,8 +131,7 @@ fn write_blanks<T: Copy>(
 // Writes what each placement of a group's tiles has at its sparse place.
 pub(crate) fn write_places<T: Copy>(group: &Group, positions: &[u8], least: &[T], places: &mut [T])
     requires positions { ArePositions (length group.now.tiles) positions.now }
-    requires least { length least.now
-        ≡ placement_count (cell_count group.now.grid) (length group.now.tiles) }
+    requires least { IsOnePerPlacement group.now least.now }
     requires places { length places.old ≡ sparse_size_of group.now }
     ensures { AreAllWritten group.now least.now places.old places.new }
 {
@@ -164,8 +149,7 @@ pub(crate) fn write_places<T: Copy>(group: &Group, positions: &[u8], least: &[T]
 
 // The same for the placements of tiles on these cells, by their orders.
 fn write_orders<T: Copy>(group: &Group, cells: &[u8], positions: &[u8], row: &[T], places: &mut [T])
-    requires set { IsSetList group.now.grid (length group.now.tiles) cells.now }
-    requires positions { ArePositions (length group.now.tiles) positions.now }
+    requires cells { AreSetOrders group.now cells.now positions.now }
     requires row { length row.now ≡ factorial (length group.now.tiles) }
     requires places { length places.old ≡ sparse_size_of group.now }
     ensures { AreWritten group.now cells.now row.now places.old places.new }

@@ -2,7 +2,7 @@
 
 ghost use Rattle.std.specs.Prelude.{ℕ, ◌≡◌, ◌≢◌, ◌↔◌, ◌<◌, ◌≤◌, length, slice_index, IsOk, IsErrOf, IfOk};
 ghost use Rattle.pattern_index.specs.Views.{IsView, view_at, exchanged};
-ghost use Rattle.pattern_index.specs.Selections.{IsSelection, size_of};
+ghost use Rattle.pattern_index.specs.Selections.{size_of};
 ghost use Rattle.database_build.specs.Entries.{HasEntries, values_in, widened};
 ghost use Rattle.database_build.specs.Tables.{value_in};
 ghost use Rattle.database_build.specs.declared.faults.TableFault.{TableFault};
@@ -38,10 +38,7 @@ impl Table {
     // The table of a group with these entries.
     pub(crate) fn of_group(group: &Group, entries: Entries) -> Self
         requires { HasEntries group.now entries }
-        ensures { result ≡ record {
-          selection = group.now;
-          values = values_in group.now entries;
-        } }
+        ensures { result ≡ record { selection = group.now; values = values_in group.now entries } }
     {
         Table {
             group: *group,

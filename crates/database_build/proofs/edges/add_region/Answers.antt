@@ -15,11 +15,11 @@ write_set-requires-clause-below c =
     let at = slice_get_read r.homes.items (length r.homes.items) c.args.region c.index.result.now refl c.requires.inside c.index.ensures in
     home_within r c.requires.regions.regions c.args.region c.index.result.now at c.cells.result _ c.cells.ensures.value (first_length r.count c.requires.regions.regions.short)
 
-pub add_edges-requires-clause-cells : goal.add_edges-requires-clause-cells
-add_edges-requires-clause-cells c =
+pub add_edges-requires : goal.add_edges-requires
+add_edges-requires c =
     let r = c.args.regions.now in
     let at = slice_get_read r.homes.items (length r.homes.items) c.args.region c.index.result.now refl c.requires.inside c.index.ensures in
-    written_rising r c.requires.regions.regions c.args.region c.index.result.now at c.write_set.new.set _ c.cells.result _ c.cells.ensures.value (first_length r.count c.requires.regions.regions.short) c.write_set.ensures
+    record { regions = c.requires.regions; cells = written_rising r c.requires.regions.regions c.args.region c.index.result.now at c.write_set.new.set _ c.cells.result _ c.cells.ensures.value (first_length r.count c.requires.regions.regions.short) c.write_set.ensures }
 
 pub returns : goal.returns
 returns c =

@@ -1,5 +1,7 @@
 use Rattle.std.proofs.Common.{ℕ, ◌≡◌, ◌<◌, length, ap, arith}
 use Rattle.std.specs.Prelude.{slice_index}
+use Rattle.std.proofs.lemmas.Result.{IfOk-weaker}
+use Rattle.database_build.specs.Searches.{AreFound, AreFoundFrom}
 use Rattle.database_build.proofs.GraphLemmas.{same_each}
 use Rattle.database_build.proofs.finding.find_values.Goals as goal
 
@@ -26,7 +28,9 @@ find_by_layers-requires-clause-same c place less =
     each c place (omega arith)
 
 pub returns-in-Some : goal.returns-in-Some
-returns-in-Some c = c.find_by_layers.ensures c.args.group.now c.args.weights.now c.args.goal.now (record { made = c.new-graph.ensures.graph; view = c.node_of-start.ensures.view; node = c.node_of-start.ensures.value })
+returns-in-Some c = IfOk-weaker c.find_by_layers.result (AreFoundFrom c.new-graph.result c.node_of-start.result) (AreFound c.args.group.now c.args.weights.now c.args.goal.now)
+    (λ _ found. found c.args.group.now c.args.weights.now c.args.goal.now (record { made = c.new-graph.ensures.graph; view = c.node_of-start.ensures.view; node = c.node_of-start.ensures.value })) c.find_by_layers.ensures
 
 pub returns-in-None : goal.returns-in-None
-returns-in-None c = c.find_by_buckets.ensures c.args.group.now c.args.weights.now c.args.goal.now (record { made = c.new-graph.ensures.graph; view = c.node_of-start.ensures.view; node = c.node_of-start.ensures.value })
+returns-in-None c = IfOk-weaker c.find_by_buckets.result (AreFoundFrom c.new-graph.result c.node_of-start.result) (AreFound c.args.group.now c.args.weights.now c.args.goal.now)
+    (λ _ found. found c.args.group.now c.args.weights.now c.args.goal.now (record { made = c.new-graph.ensures.graph; view = c.node_of-start.ensures.view; node = c.node_of-start.ensures.value })) c.find_by_buckets.ensures

@@ -19,10 +19,13 @@ overflow_add-order c =
     let small = factorial_small c.args.orders.now.count c.requires.orders.passes.short in
     omega arith
 
-pub moved-moved-requires-clause-order : goal.moved-moved-requires-clause-order
-moved-moved-requires-clause-order c =
-    let clear = cleared c.bits.left c.bits-test.true (omega arith) in
-    c.requires.bits (64 * c.args.place + trailing_zeros w64 c.bits.left) (order_here c.args.place c.args.bits c.bits.left (trailing_zeros w64 c.bits.left) _ clear c.bits.invariant.rest)
+pub moved-moved-requires-clause-change : goal.moved-moved-requires-clause-change
+moved-moved-requires-clause-change c =
+    let clear = cleared c.bits.left c.bits-test.true (omega arith) in record {
+      order_low = c.requires.bits (64 * c.args.place + trailing_zeros w64 c.bits.left) (order_here c.args.place c.args.bits c.bits.left (trailing_zeros w64 c.bits.left) _ clear c.bits.invariant.rest);
+      from_low = c.requires.positions.from;
+      to_low = c.requires.positions.to;
+    }
 
 pub bits-preserved : goal.bits-preserved
 bits-preserved c =

@@ -5,7 +5,7 @@ use Rattle.database_build.proofs.LeastNodeLemmas.{least_to_none, least_to_all, l
 use Rattle.database_build.proofs.least.fold_nodes.Goals as goal
 
 pub sets-init : goal.sets-init
-sets-init c = least_to_none c.args.group.now c.args.regions.now c.args.nodes.now c.in_ok-least.least.items c.folded_size.result c.requires.regions c.folded_size.ensures.value c.in_ok-least.ensures.items
+sets-init c = least_to_none c.args.group.now c.args.regions.now c.args.nodes.now c.in_ok-least.least.items c.folded_size.result c.requires.nodes.regions c.folded_size.ensures.value c.in_ok-least.ensures.items
 
 pub lower_set-requires-clause-row : goal.lower_set-requires-clause-row
 lower_set-requires-clause-row c =

@@ -3,7 +3,7 @@ use Rattle.database_build.proofs.ReachLemmas.{seeking_some, are_seeking_first, s
 use Rattle.database_build.proofs.search.find_by_buckets.Goals as goal
 
 pub costs-init : goal.costs-init
-costs-init c = are_seeking_first c.args.graph c.in_ok-search.search c.lower.new.self c.args.start c.requires.sound c.in_ok-search.ensures c.in_ok-lower.ensures
+costs-init c = are_seeking_first c.args.graph c.in_ok-search.search c.lower.new.self c.args.start c.requires.start.sound c.in_ok-search.ensures c.in_ok-lower.ensures
 
 pub visit-requires-clause-fits : goal.visit-requires-clause-fits
 visit-requires-clause-fits c =

@@ -5,15 +5,11 @@ use Rattle.database_build.specs.Regions.{IsPlaced}
 use Rattle.database_build.proofs.GraphLemmas.{board_seen, cells_picked, view_seen, free_at, node_by}
 use Rattle.database_build.proofs.graph.Graph.node_of.Goals as goal
 
-pub region-region-requires-clause-placed : goal.region-region-requires-clause-placed
-region-region-requires-clause-placed c =
+pub region-region-requires-clause-apart : goal.region-region-requires-clause-apart
+region-region-requires-clause-apart c =
     let seen = view_seen c.args.group.now c.args.self.now (view_of c.args.group.now.tiles c.args.board.now) c.requires.regions (board_seen c.args.group.now c.args.board.now c.cells_of-numbers.ensures.board c.tiles.ensures.group c.requires.grid) in
-    subst (λ (xs : List ℕ). IsPlaced c.args.self.now.regions.shape c.args.self.now.regions.count xs) (sym (cells_picked c.args.group.now c.args.board.now c.cells_of-numbers.result c.tiles-count.result.now c.tiles.result.now c.pick_cells.new.cells _ c.tiles.ensures.group c.requires.grid c.tiles-count.ensures.value c.tiles.ensures.value c.pick_cells.ensures c.cells_of-numbers.ensures.cells)) seen.placed
-
-pub region-region-requires-clause-free : goal.region-region-requires-clause-free
-region-region-requires-clause-free c =
-    let seen = view_seen c.args.group.now c.args.self.now (view_of c.args.group.now.tiles c.args.board.now) c.requires.regions (board_seen c.args.group.now c.args.board.now c.cells_of-numbers.ensures.board c.tiles.ensures.group c.requires.grid) in
-    free_at c.args.self.now.regions.shape _ _ _ _ (cells_picked c.args.group.now c.args.board.now c.cells_of-numbers.result c.tiles-count.result.now c.tiles.result.now c.pick_cells.new.cells _ c.tiles.ensures.group c.requires.grid c.tiles-count.ensures.value c.tiles.ensures.value c.pick_cells.ensures c.cells_of-numbers.ensures.cells) (c.cells_of-numbers.ensures.cells 0 (cells_above c.args.board.now.grid c.cells_of-numbers.ensures.board.sides)) seen.free
+    let picked = cells_picked c.args.group.now c.args.board.now c.cells_of-numbers.result c.tiles-count.result.now c.tiles.result.now c.pick_cells.new.cells _ c.tiles.ensures.group c.requires.grid c.tiles-count.ensures.value c.tiles.ensures.value c.pick_cells.ensures c.cells_of-numbers.ensures.cells in
+    record { placed = subst (λ (xs : List ℕ). IsPlaced c.args.self.now.regions.shape c.args.self.now.regions.count xs) (sym picked) seen.placed; free = free_at c.args.self.now.regions.shape _ _ _ _ picked (c.cells_of-numbers.ensures.cells 0 (cells_above c.args.board.now.grid c.cells_of-numbers.ensures.board.sides)) seen.free }
 
 pub overflow_mul-result : goal.overflow_mul-result
 overflow_mul-result c =

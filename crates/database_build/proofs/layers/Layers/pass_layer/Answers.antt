@@ -3,16 +3,11 @@ use Rattle.database_build.specs.declared.graph.Graph.{Graph}
 use Rattle.database_build.proofs.LayerStepLemmas.{layer_kept, layer_more, same_still}
 use Rattle.database_build.proofs.layers.Layers.pass_layer.Goals as goal
 
-pub pass_region-is_passed-requires-clause-layers : goal.pass_region-is_passed-requires-clause-layers
-pass_region-is_passed-requires-clause-layers c =
-    let kept = layer_kept c.args.cost c.regions.region c.args.self.now c.regions.self c.requires c.regions.invariant.passed in
-    kept.layers
-
-pub pass_region-is_passed-requires-clause-region : goal.pass_region-is_passed-requires-clause-region
-pass_region-is_passed-requires-clause-region c =
+pub pass_region-is_passed-requires : goal.pass_region-is_passed-requires
+pass_region-is_passed-requires c =
     let kept = layer_kept c.args.cost c.regions.region c.args.self.now c.regions.self c.requires c.regions.invariant.passed in
     let ok = c.args.self.now.graph.regions.homes.ok in
-    subst (λ (g : Graph). c.regions.region < length g.regions.homes.items) (sym kept.graph) (omega (arith, c.regions-test.true, c.len-region-end.ensures))
+    record { layers = kept.layers; inside = subst (λ (g : Graph). c.regions.region < length g.regions.homes.items) (sym kept.graph) (omega (arith, c.regions-test.true, c.len-region-end.ensures)) }
 
 pub regions-preserved : goal.regions-preserved
 regions-preserved c =

@@ -7,12 +7,7 @@ use Rattle.database_build.proofs.layers.Layers.pass_region.Goals as goal
 pub pass_word-is_passed-requires-clause-layers : goal.pass_word-is_passed-requires-clause-layers
 pass_word-is_passed-requires-clause-layers c =
     let kept = region_kept c.args.region c.args.cost c.words.place c.args.self.now c.words.self c.requires.layers c.words.invariant.passed in
-    kept.layers
-
-pub pass_word-is_passed-requires-clause-region : goal.pass_word-is_passed-requires-clause-region
-pass_word-is_passed-requires-clause-region c =
-    let kept = region_kept c.args.region c.args.cost c.words.place c.args.self.now c.words.self c.requires.layers c.words.invariant.passed in
-    subst (λ (g : Graph). c.args.region < length g.regions.homes.items) (sym kept.graph) c.requires.region
+    record { layers = kept.layers; inside = subst (λ (g : Graph). c.args.region < length g.regions.homes.items) (sym kept.graph) c.requires.inside }
 
 pub pass_word-is_passed-requires-clause-place : goal.pass_word-is_passed-requires-clause-place
 pass_word-is_passed-requires-clause-place c =

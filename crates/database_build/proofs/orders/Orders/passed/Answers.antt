@@ -4,7 +4,7 @@ use Rattle.database_build.proofs.orders.Orders.passed.Goals as goal
 
 pub up-init : goal.up-init
 up-init c = record {
-  moved = moved_start c.args.self.now.count c.args.order c.args.from c.requires.order c.requires.from;
+  moved = moved_start c.args.self.now.count c.args.order c.args.from c.requires.change.order_low c.requires.change.from_low;
   above = omega arith;
   short = λ lt. absurd (omega arith);
 }

@@ -5,7 +5,7 @@ use Rattle.database_build.proofs.RegionLemmas.{begun_all, begun_first, begun_row
 use Rattle.database_build.proofs.regions.Regions.add_row.Goals as goal
 
 pub cells-init : goal.cells-init
-cells-init c = (record { shape = refl; count = refl; choices = refl }, begun_first c.args.self.now c.args.set c.args.cells.now c.label_cells-labels.result c.requires.begun c.requires.below c.requires.cells)
+cells-init c = (record { shape = refl; count = refl; choices = refl }, begun_first c.args.self.now c.args.set c.args.cells.now c.label_cells-labels.result c.requires.next.begun c.requires.next.inside c.requires.cells)
 
 pub add_cell-requires-clause-inside : goal.add_cell-requires-clause-inside
 add_cell-requires-clause-inside c = subst (λ (grid : Grid). c.cells.cell < cell_count grid) (sym c.cells.invariant.0.shape) (omega arith)
@@ -13,7 +13,7 @@ add_cell-requires-clause-inside c = subst (λ (grid : Grid). c.cells.cell < cell
 pub add_cell-requires-clause-row : goal.add_cell-requires-clause-row
 add_cell-requires-clause-row c =
     subst (λ (grid : Grid). IsLabelled grid c.args.set c.args.cells.now c.label_cells-labels.result) (sym c.cells.invariant.0.shape)
-    (begun_row c.args.self.now c.args.set c.args.cells.now c.label_cells-labels.result c.requires.begun c.requires.below c.requires.cells c.label_cells-labels.ensures)
+    (begun_row c.args.self.now c.args.set c.args.cells.now c.label_cells-labels.result c.requires.next.begun c.requires.next.inside c.requires.cells c.label_cells-labels.ensures)
 
 pub add_cell-requires-clause-numbered : goal.add_cell-requires-clause-numbered
 add_cell-requires-clause-numbered c =
@@ -23,10 +23,10 @@ pub cells-preserved : goal.cells-preserved
 cells-preserved c =
     let same = c.add_cell.ensures.same in (
       record { shape = same.shape ∙ c.cells.invariant.0.shape; count = same.count ∙ c.cells.invariant.0.count; choices = same.choices ∙ c.cells.invariant.0.choices },
-      subst (λ (grid : Grid). AreNumberedTo grid (length c.args.cells.now) c.args.cells.now c.label_cells-labels.result c.add_cell.new.self.numbers.items c.add_cell.new.self.homes.items c.args.set (c.cells.cell + 1)) c.cells.invariant.0.shape c.in_ok-add_cell.ensures.numbered,
+      subst (λ (grid : Grid). AreNumberedTo grid (length c.args.cells.now) c.args.cells.now c.label_cells-labels.result c.add_cell.new.self.numbers.items c.add_cell.new.self.homes.items c.args.set (c.cells.cell + 1)) (same.shape ∙ c.cells.invariant.0.shape) c.in_ok-add_cell.ensures.numbered,
     )
 
 pub returns : goal.returns
 returns c =
-    begun_all c.args.self.now c.args.set c.args.cells.now c.label_cells-labels.result c.requires.begun c.requires.below c.requires.cells c.label_cells-labels.ensures
+    begun_all c.args.self.now c.args.set c.args.cells.now c.label_cells-labels.result c.requires.next.begun c.requires.next.inside c.requires.cells c.label_cells-labels.ensures
     c.cells.cell (omega arith) (omega arith) c.cells.self c.cells.invariant.0 c.cells.invariant.1
