@@ -4,10 +4,12 @@
 -- chain. The bucket of a chain has the places and the hashes of its first seven slots, and the others hang in a list.
 -- What a bucket and a link have to be is a function of the keys alone.
 use Rattle.std.specs.Prelude.{ℕ, ◌≡◌, ◌≢◌, ◌<◌, ◌≤◌, ◌+◌, ◌-◌, ◌*◌, ◌/◌, ◌%◌, ◌^◌, ◌==◌, ◌⊎◌, nat_lt, cond, if◌then◌else◌, max, not, zero, suc, Bool, List, length, map, take, set, replicate, slice_index_or, slice_index, bit_or, false}
+use Rattle.board.specs.declared.moves.Move.{Move}
 use Rattle.board.specs.declared.moves.Move.TheVariants.{U}
 use Rattle.world_model.specs.declared.parts.Known.{Known}
 use Rattle.closed_table.specs.declared.index.Slot.{Slot}
 use Rattle.closed_table.specs.declared.index.Bucket.{Bucket}
+use Rattle.closed_table.specs.declared.index.Index.{Index}
 
 -- the hash of a key
 unfoldable pub hash_of : ℕ → ℕ
@@ -21,6 +23,11 @@ chain_count len = if len == 0 then 0 else max 127 ((len + 3) / 4)
 -- the hash, or one bit less where there is no such chain yet
 unfoldable pub place : ℕ → ℕ → ℕ → ℕ
 place bits n hash = cond (nat_lt (hash % 2 ^ bits) n) (hash % 2 ^ bits) (hash % 2 ^ bits - 2 ^ bits / 2)
+
+-- n chains are at least half of those that this many bits of a hash can tell
+pub record AreBitsFor (bits n : ℕ) : Type 0 where
+  pub small : bits ≤ 32
+  pub low : 2 ^ bits / 2 ≤ n
 
 -- the bucket of a chain with no slot
 abbrev pub no_bucket : Bucket
@@ -74,13 +81,53 @@ pub record IsIndexed (slots : List Slot) (links : List ℕ) (buckets : List Buck
   pub nexts : (i : ℕ) → i < len → (bucket_at slots bits n (chain_at slots bits n i) i).count ≡ 7 → slice_index links i ≡ (bucket_at slots bits n (chain_at slots bits n i) i).link
   pub different : (i j : ℕ) → i < len → j < len → key_at slots i ≡ key_at slots j → i ≡ j
 
+-- the slots of an index are in n chains
+abbrev pub HasChains : Index → ℕ → Type 0
+HasChains index n = IsIndexed index.slots index.links index.buckets index.len n index.bits
+
+-- the slots are in as many chains as there are for their number
+abbrev pub IsInOrder : Index → Type 0
+IsInOrder index = HasChains index (chain_count index.len)
+
+-- an index has n chains and this count of slots after a step, and as many places as before it
+pub record IsGrown (was index : Index) (n count : ℕ) : Type 0 where
+  pub indexed : HasChains index n
+  pub len : index.len ≡ count
+  pub slots : length index.slots ≡ length was.slots
+  pub links : length index.links ≡ length was.links
+  pub buckets : length index.buckets ≡ length was.buckets
+
+-- a bucket has at most seven places itself, and each is below n
+pub record HasPlacesBelow (bucket : Bucket) (n : ℕ) : Type 0 where
+  pub count : bucket.count ≤ 7
+  pub places : (k : ℕ) → k < bucket.count → slice_index bucket.places k < n
+
+-- no slot has this key
+abbrev pub HasNoKey : Index → ℕ → Type 0
+HasNoKey index key = (i : ℕ) → i < index.len → key_at index.slots i ≢ key
+
 -- each bucket is that of a chain with no slot
 abbrev pub AreClear : List Bucket → Type 0
 AreClear buckets = (chain : ℕ) → slice_index_or buckets chain no_bucket ≡ no_bucket
 
+-- the index is in order, and has buckets for the chains that it has with one slot more, which are clear before the first
+pub record HasNextChains (index : Index) : Type 0 where
+  pub indexed : IsInOrder index
+  pub room : chain_count (index.len + 1) ≤ length index.buckets
+  pub clear : index.len ≡ 0 → AreClear index.buckets
+
+-- a place is below n, and a link can lead to it
+pub record IsPlace (place n : ℕ) : Type 0 where
+  pub within : place < n
+  pub small : place < 2 ^ 32 - 1
+
 -- what a slot says of its key
 abbrev pub row_of : Slot → ℕ × Known
 row_of slot = (key_in slot, record { cost = slot.cost; expanded = slot.expanded; via = slot.via })
+
+-- what is said of a board that is met the first time
+abbrev pub new_row : ℕ → ℕ → Move → ℕ × Known
+new_row key cost via = (key, record { cost = cost; expanded = false; via = via })
 
 abbrev pub rows_of : List Slot → ℕ → List (ℕ × Known)
 rows_of slots len = map row_of (take len slots)

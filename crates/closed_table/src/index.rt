@@ -1,12 +1,13 @@
 //! Slots in chains by the hashes of their keys.
 
-ghost use Rattle.std.specs.Prelude.{◌≡◌, ◌≢◌, ◌<◌, ◌≤◌, ◌+◌, ◌-◌, ◌*◌, ◌/◌, ◌^◌, ◌++◌, ◌∷◌, [], ℕ};
-ghost use Rattle.std.specs.Prelude.{if◌then◌else◌, false, length, List, IsTrue, IsFalse, MatchOption, OnOk};
+ghost use Rattle.std.specs.Prelude.{◌≡◌, ◌≢◌, ◌<◌, ◌≤◌, ◌+◌, ◌-◌, ◌*◌, ◌^◌, ◌++◌, ◌∷◌, [], ℕ};
+ghost use Rattle.std.specs.Prelude.{if◌then◌else◌, length, min, List, IsTrue, IsFalse, MatchOption, OnOk};
 ghost use Rattle.std.specs.Prelude.{slice_index, slice_index_or, slice_set};
-ghost use Rattle.world_model.specs.declared.parts.Known.{Known};
-ghost use Rattle.closed_table.specs.Chains.{hash_of, place, bucket_with, IsIndexed, AreClear};
-ghost use Rattle.closed_table.specs.Chains.{key_at, key_in, chain_count, rows_of, part_of};
-ghost use Rattle.closed_table.specs.Chains.{stays, goes, IsRelinked, MayBeRelinked};
+ghost use Rattle.closed_table.specs.Chains.{hash_of, place, bucket_with, AreBitsFor, HasPlacesBelow};
+ghost use Rattle.closed_table.specs.Chains.{IsInOrder, IsGrown, IsPlace, HasNextChains, HasNoKey};
+ghost use Rattle.closed_table.specs.Chains.{key_at, key_in, chain_count, row_of, rows_of, new_row};
+ghost use Rattle.closed_table.specs.Chains.{part_of, stays, goes, AreClear};
+ghost use Rattle.closed_table.specs.Chains.{IsRelinked, MayBeRelinked};
 ghost use Rattle.closed_table.specs.declared.index.TheConstants.{FIRST_CHAINS, LOAD};
 
 use board::Move;
@@ -126,8 +127,7 @@ pub(crate) fn chain_count_of(len: usize) -> usize
 
 // The chain to which a hash belongs, among so many chains.
 fn chain_of(hash: u32, bits: u32, chains: usize) -> usize
-    requires small { bits ≤ 32 }
-    requires low { 2 ^ bits / 2 ≤ chains }
+    requires { AreBitsFor bits chains }
     ensures { result ≡ place bits chains hash }
 {
     let wide = hash as usize & ((1usize << bits) - 1);
@@ -140,10 +140,7 @@ fn chain_of(hash: u32, bits: u32, chains: usize) -> usize
 
 // The slot of a board that is met the first time.
 fn new_slot(key: u128, cost: u32, via: Move) -> Slot
-    ensures key { key_in result ≡ key }
-    ensures cost { result.cost ≡ cost }
-    ensures expanded { result.expanded ≡ false }
-    ensures via { result.via ≡ via }
+    ensures { row_of result ≡ new_row key cost via }
 {
     Slot {
         high: (key / 0x1_0000_0000_0000_0000) as u64,
@@ -193,9 +190,7 @@ fn has_hash(bucket: &Bucket, hash: u32) -> bool
 
 // The place of a key among the slots that a bucket has itself.
 fn find_inside(bucket: &Bucket, slots: &Pages<Slot>, key: u128, hash: u32) -> Option<usize>
-    requires count { bucket.now.count ≤ 7 }
-    requires places { (k : ℕ) → k < bucket.now.count
-        → slice_index bucket.now.places k < length slots.now }
+    requires { HasPlacesBelow bucket.now (length slots.now) }
     ensures { MatchOption result
         ((k : ℕ) → k < bucket.now.count → slice_index bucket.now.hashes k ≡ hash
         → key_at slots.now (slice_index bucket.now.places k) ≢ key)
@@ -218,11 +213,9 @@ fn find_inside(bucket: &Bucket, slots: &Pages<Slot>, key: u128, hash: u32) -> Op
 
 // The place of a key among the slots.
 pub(crate) fn find(index: &Index, key: u128, hash: u32) -> Option<usize>
-    requires indexed { IsIndexed index.now.slots index.now.links index.now.buckets index.now.len
-        (chain_count index.now.len) index.now.bits }
+    requires indexed { IsInOrder index.now }
     requires hash { hash ≡ hash_of key }
-    ensures { MatchOption result
-        ((i : ℕ) → i < index.now.len → key_at index.now.slots i ≢ key)
+    ensures { MatchOption result (HasNoKey index.now key)
         (λ i. (i < index.now.len) × (key_at index.now.slots i ≡ key)) }
 {
     if index.len == 0 {
@@ -250,8 +243,7 @@ pub(crate) fn find(index: &Index, key: u128, hash: u32) -> Option<usize>
 // Reads the buckets that `find` will read of these keys, so that the reads of memory overlap. The
 // answer means nothing.
 pub(crate) fn read_ahead(index: &Index, keys: &[u128]) -> u32
-    requires indexed { IsIndexed index.now.slots index.now.links index.now.buckets index.now.len
-        (chain_count index.now.len) index.now.bits }
+    requires indexed { IsInOrder index.now }
 {
     if index.len == 0 {
         return 0;
@@ -284,12 +276,9 @@ fn put_if(bucket: &mut Bucket, place: usize, hash: u32, belongs: bool)
 
 // Divides the slots that a bucket has itself.
 fn divided(bucket: &Bucket, bits: u32, chains: usize, from: usize) -> Halves
-    requires small { bits ≤ 32 }
-    requires low { 2 ^ bits / 2 ≤ chains }
+    requires bits { AreBitsFor bits chains }
     requires few { chains < 2 ^ 32 }
-    requires count { bucket.now.count ≤ 7 }
-    requires places { (k : ℕ) → k < bucket.now.count
-        → slice_index bucket.now.places k < 2 ^ 32 - 1 }
+    requires places { HasPlacesBelow bucket.now (2 ^ 32 - 1) }
     ensures stay { result.stay ≡ part_of (stays bits chains from) bucket.now bucket.now.count }
     ensures go { result.go ≡ part_of (goes bits chains from) bucket.now bucket.now.count }
 {
@@ -309,8 +298,7 @@ fn divided(bucket: &Bucket, bits: u32, chains: usize, from: usize) -> Halves
 
 // Puts a slot of a list into its half, and gives it the link of that half.
 fn put_linked(links: &mut Pages<u32>, half: &mut Bucket, place: usize, hash: u32)
-    requires within { place < length links.old }
-    requires small { place < 2 ^ 32 - 1 }
+    requires { IsPlace place (length links.old) }
     ensures links { links.new ≡ slice_set links.old place half.old.link }
     ensures half { half.new ≡ bucket_with half.old place hash }
 {
@@ -325,10 +313,7 @@ fn relink(index: &mut Index, chains: usize, from: usize, link: u32, halves: &mut
         from link halves.old.stay halves.old.go }
     ensures done { IsRelinked index.old.slots index.old.links index.new.links index.old.len
         index.old.bits chains from link halves.new.stay halves.new.go }
-    ensures slots { index.new.slots ≡ index.old.slots }
-    ensures buckets { index.new.buckets ≡ index.old.buckets }
-    ensures len { index.new.len ≡ index.old.len }
-    ensures bits { index.new.bits ≡ index.old.bits }
+    ensures kept { index.new ≡ record index.old { links = index.new.links } }
 {
     if link == 0 {
         return;
@@ -346,12 +331,10 @@ fn relink(index: &mut Index, chains: usize, from: usize, link: u32, halves: &mut
 
 // How many bits of a hash tell its chain when there is one chain more than these.
 fn bits_for_more(bits: u32, chains: usize) -> u32
-    requires small { bits ≤ 32 }
-    requires low { 2 ^ bits / 2 ≤ chains }
+    requires bits { AreBitsFor bits chains }
     requires high { chains ≤ 2 ^ bits }
     requires few { chains < 2 ^ 32 - 1 }
-    ensures small { result ≤ 32 }
-    ensures low { 2 ^ result / 2 ≤ chains }
+    ensures bits { AreBitsFor result chains }
     ensures high { chains < 2 ^ result }
     ensures places { (hash : ℕ) → place result chains hash ≡ place bits chains hash }
 {
@@ -393,16 +376,11 @@ fn read_list(index: &Index, chain: usize) -> u64 {
 
 // Adds a chain, and divides the one chain that it halves.
 fn add_chain(index: &mut Index)
-    requires indexed { IsIndexed index.old.slots index.old.links index.old.buckets index.old.len
-        (chain_count index.old.len) index.old.bits }
+    requires indexed { IsInOrder index.old }
     requires many { FIRST_CHAINS * LOAD ≤ index.old.len }
     requires room { chain_count index.old.len < length index.old.buckets }
-    ensures indexed { IsIndexed index.new.slots index.new.links index.new.buckets index.old.len
-        (chain_count index.old.len + 1) index.new.bits }
-    ensures len { index.new.len ≡ index.old.len }
+    ensures grown { IsGrown index.old index.new (chain_count index.old.len + 1) index.old.len }
     ensures slots { index.new.slots ≡ index.old.slots }
-    ensures links { length index.new.links ≡ length index.old.links }
-    ensures buckets { length index.new.buckets ≡ length index.old.buckets }
 {
     let chains = chain_count_of(index.len);
     let bits = bits_for_more(index.bits, chains);
@@ -421,28 +399,17 @@ fn make_first_chains(index: &mut Index)
     requires none { index.old.len ≡ 0 }
     requires room { 127 ≤ length index.old.buckets }
     requires clear { AreClear index.old.buckets }
-    ensures indexed { IsIndexed index.new.slots index.new.links index.new.buckets index.old.len
-        127 index.new.bits }
-    ensures len { index.new.len ≡ index.old.len }
+    ensures grown { IsGrown index.old index.new 127 index.old.len }
     ensures slots { index.new.slots ≡ index.old.slots }
-    ensures links { length index.new.links ≡ length index.old.links }
-    ensures buckets { length index.new.buckets ≡ length index.old.buckets }
 {
     index.bits = FIRST_BITS;
 }
 
 // Makes as many chains as are wanted where a slot is added.
 fn make_chains(index: &mut Index)
-    requires indexed { IsIndexed index.old.slots index.old.links index.old.buckets index.old.len
-        (chain_count index.old.len) index.old.bits }
-    requires room { chain_count (index.old.len + 1) ≤ length index.old.buckets }
-    requires clear { index.old.len ≡ 0 → AreClear index.old.buckets }
-    ensures indexed { IsIndexed index.new.slots index.new.links index.new.buckets index.old.len
-        (chain_count (index.old.len + 1)) index.new.bits }
-    ensures len { index.new.len ≡ index.old.len }
+    requires { HasNextChains index.old }
+    ensures grown { IsGrown index.old index.new (chain_count (index.old.len + 1)) index.old.len }
     ensures slots { index.new.slots ≡ index.old.slots }
-    ensures links { length index.new.links ≡ length index.old.links }
-    ensures buckets { length index.new.buckets ≡ length index.old.buckets }
 {
     if index.len == 0 {
         make_first_chains(index);
@@ -458,23 +425,13 @@ fn make_chains(index: &mut Index)
 
 // Adds a slot for a key that has none.
 pub(crate) fn add(index: &mut Index, key: u128, hash: u32, cost: u32, via: Move)
-    requires indexed { IsIndexed index.old.slots index.old.links index.old.buckets index.old.len
-        (chain_count index.old.len) index.old.bits }
+    requires chains { HasNextChains index.old }
+    requires place { IsPlace index.old.len (min (length index.old.slots) (length index.old.links)) }
     requires hash { hash ≡ hash_of key }
-    requires absent { (i : ℕ) → i < index.old.len → key_at index.old.slots i ≢ key }
-    requires slots { index.old.len < length index.old.slots }
-    requires links { index.old.len < length index.old.links }
-    requires buckets { chain_count (index.old.len + 1) ≤ length index.old.buckets }
-    requires clear { index.old.len ≡ 0 → AreClear index.old.buckets }
-    requires small { index.old.len < 2 ^ 32 - 1 }
-    ensures indexed { IsIndexed index.new.slots index.new.links index.new.buckets index.new.len
-        (chain_count index.new.len) index.new.bits }
-    ensures len { index.new.len ≡ index.old.len + 1 }
+    requires absent { HasNoKey index.old key }
+    ensures grown { IsGrown index.old index.new (chain_count index.new.len) (index.old.len + 1) }
     ensures rows { rows_of index.new.slots index.new.len ≡ rows_of index.old.slots index.old.len
-        ++ (key, record { cost = cost; expanded = false; via = via }) ∷ [] }
-    ensures slots { length index.new.slots ≡ length index.old.slots }
-    ensures links { length index.new.links ≡ length index.old.links }
-    ensures buckets { length index.new.buckets ≡ length index.old.buckets }
+        ++ new_row key cost via ∷ [] }
 {
     make_chains(index);
     let place = index.len;

@@ -14,14 +14,14 @@ pub put_if-requires-clause-free : goal.put_if-requires-clause-free
 put_if-requires-clause-free c =
     let few : c.entries.halves.stay.count ≤ c.entries.k = subst (λ (x : Bucket). x.count ≤ c.entries.k) (sym c.entries.invariant.stay) (part_few (stays c.args.bits c.args.chains c.args.from) c.args.bucket.now c.entries.k) in
     let within = c.entries-test.true in
-    let count = c.requires.count in
+    let count = c.requires.places.count in
     omega (arith, few, within, count)
 
 pub put_if-requires-in-entries-clause-free : goal.put_if-requires-in-entries-clause-free
 put_if-requires-in-entries-clause-free c =
     let few : c.entries.halves.go.count ≤ c.entries.k = subst (λ (x : Bucket). x.count ≤ c.entries.k) (sym c.entries.invariant.go) (part_few (goes c.args.bits c.args.chains c.args.from) c.args.bucket.now c.entries.k) in
     let within = c.entries-test.true in
-    let count = c.requires.count in
+    let count = c.requires.places.count in
     omega (arith, few, within, count)
 
 pub entries-preserved : goal.entries-preserved

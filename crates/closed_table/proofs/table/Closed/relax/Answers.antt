@@ -9,30 +9,23 @@ use Rattle.closed_table.proofs.SlotLemmas.{none_known, has_room, listed_there, k
 use Rattle.closed_table.proofs.TableLemmas.{unknown, pushed, table_new, table_lower, table_kept, met_at, kept_is, lower_is}
 use Rattle.closed_table.proofs.table.Closed.relax.Goals as goal
 
-pub add-requires-clause-slots : goal.add-requires-clause-slots
-add-requires-clause-slots c =
+pub add-requires-clause-chains : goal.add-requires-clause-chains
+add-requires-clause-chains c =
     let room : 0 < c.self.inside.room = has_room c.self.inside c.self.invariant c.args.self.now c.self.view_is c.args.key c.in_default.ensures c.requires in
-    let le = c.self.invariant.slots in
-    omega arith
-
-pub add-requires-clause-links : goal.add-requires-clause-links
-add-requires-clause-links c =
-    let room : 0 < c.self.inside.room = has_room c.self.inside c.self.invariant c.args.self.now c.self.view_is c.args.key c.in_default.ensures c.requires in
-    let le = c.self.invariant.links in
-    omega arith
-
-pub add-requires-clause-buckets : goal.add-requires-clause-buckets
-add-requires-clause-buckets c =
-    let room : 0 < c.self.inside.room = has_room c.self.inside c.self.invariant c.args.self.now c.self.view_is c.args.key c.in_default.ensures c.requires in
-    let le = c.self.invariant.buckets in
     let more = count_le (c.self.inside.index.len + 1) (c.self.inside.index.len + c.self.inside.room) (omega arith) in
-    omega arith
+    record {
+      indexed = c.self.invariant.indexed;
+      room = let le = c.self.invariant.buckets in omega arith;
+      clear = c.self.invariant.clear;
+    }
 
-pub add-requires-clause-small : goal.add-requires-clause-small
-add-requires-clause-small c =
+pub add-requires-clause-place : goal.add-requires-clause-place
+add-requires-clause-place c =
     let room : 0 < c.self.inside.room = has_room c.self.inside c.self.invariant c.args.self.now c.self.view_is c.args.key c.in_default.ensures c.requires in
-    let le = c.self.invariant.few in
-    omega arith
+    let slots = c.self.invariant.slots in
+    let links = c.self.invariant.links in
+    let few = c.self.invariant.few in
+    record { within = omega arith; small = omega arith }
 
 pub overflow_sub-self : goal.overflow_sub-self
 overflow_sub-self c =
@@ -43,12 +36,12 @@ pub invariant_of-self : goal.invariant_of-self
 invariant_of-self c =
     let s = c.self.inside.index in
     let room : 0 < c.self.inside.room = has_room c.self.inside c.self.invariant c.args.self.now c.self.view_is c.args.key c.in_default.ensures c.requires in
-    let len : c.add.new.index.len ≡ s.len + 1 = c.add.ensures.len in
+    let len : c.add.new.index.len ≡ s.len + 1 = c.add.ensures.grown.len in
     record {
-      indexed = c.add.ensures.indexed;
-      slots = let le = c.self.invariant.slots in let e = c.add.ensures.slots in omega arith;
-      links = let le = c.self.invariant.links in let e = c.add.ensures.links in omega arith;
-      buckets = let le = c.self.invariant.buckets in let e = c.add.ensures.buckets in let more = count_le (c.add.new.index.len + (c.self.inside.room - 1)) (s.len + c.self.inside.room) (omega arith) in omega arith;
+      indexed = c.add.ensures.grown.indexed;
+      slots = let le = c.self.invariant.slots in let e = c.add.ensures.grown.slots in omega arith;
+      links = let le = c.self.invariant.links in let e = c.add.ensures.grown.links in omega arith;
+      buckets = let le = c.self.invariant.buckets in let e = c.add.ensures.grown.buckets in let more = count_le (c.add.new.index.len + (c.self.inside.room - 1)) (s.len + c.self.inside.room) (omega arith) in omega arith;
       few = let le = c.self.invariant.few in omega arith;
       clear = λ none. absurd (omega arith);
     }
