@@ -1,6 +1,6 @@
 -- What one worker that is alone tells of costs: a number that no plan undercuts.
 use Rattle.std.proofs.Common.{◌≡◌, ℕ, zero, suc, ◌+◌, ◌<◌, ◌≤◌, List, [], ◌∷◌, length, get_or, refl, sym, ap, ◌∙◌, subst, inl, inr, arith, Option, Some, None}
-use Rattle.std.specs.Prelude.{sum_by, slice_get, slice_index_or, IfSome, IfNone}
+use Rattle.std.specs.Prelude.{All, sum_by, slice_get, slice_index_or, IfSome, IfNone}
 use Rattle.std.specs.FinMap as fin
 use Rattle.std.proofs.lemmas.Option.{none-some, slice_get_within}
 use Rattle.board.specs.Keys.{key_of}
@@ -23,7 +23,7 @@ use Rattle.worker_core.proofs.GuideLemmas.{none_below, open_key}
 use Rattle.hda_run.specs.declared.parts.Parts.{Parts}
 use Rattle.hda_run.specs.Problems.{task_in}
 use Rattle.hda_run.specs.Rounds.{IsLone, IsWithoutBound}
-use Rattle.hda_run.specs.Worlds.{world_of, AreGuided}
+use Rattle.hda_run.specs.Worlds.{world_of, AreGuided, WaitsFrom}
 use Rattle.hda_run.proofs.AloneLemmas.{same}
 use Rattle.hda_run.proofs.PartsLemmas.{W, is_worker, is_guided, state_count}
 
@@ -134,3 +134,24 @@ module _ {S : Type 0} (owner_of : S → ℕ → Position → ℕ) (parts : Parts
     -- and where the goal is known
     pub goal_known : (known : Known) → fin.get worker.lists.closed.known (key_of parts.job.goal) ≡ Some known → IsWithoutBound (world_of owner_of parts)
     goal_known known knows = inl (known, record { worker = state_of worker; is = there; board = (lone.shaped.task.goal, refl); knows = knows })
+
+-- ---- at which f the one worker's boards wait
+
+one_waits : (w worker : W) → worker ≡ w → (lists : Lists) → lists ≡ worker.lists → (f : ℕ) → WaitsFrom lists f → (k : ℕ) (d : W) → k < 1 → WaitsFrom (get_or (w ∷ []) k d).lists f
+one_waits w worker is lists kept f waits zero d first = subst (λ (l : Lists). WaitsFrom l f) (kept ∙ ap (λ (x : W). x.lists) is) waits
+one_waits w worker is lists kept f waits (suc k) d first = absurd (omega (arith, first))
+
+waits_alone : (workers : List W) (worker : W) → length workers ≡ 1 → worker ≡ get_or workers 0 worker → (lists : Lists) → lists ≡ worker.lists → (f : ℕ) → WaitsFrom lists f → All (λ (w : W). WaitsFrom w.lists f) workers
+waits_alone [] worker one is lists kept f waits = absurd (omega (arith, one))
+waits_alone (w ∷ []) worker one is lists kept f waits = one_waits w worker is lists kept f waits
+waits_alone (w ∷ x ∷ rest) worker one is lists kept f waits = absurd (omega (arith, one))
+
+pub least_told : {S : Type 0} (owner_of : S → ℕ → Position → ℕ) (parts : Parts S) → IsLone (world_of owner_of parts) → (worker : W) → worker ≡ get_or parts.workers.items 0 worker → (lists : Lists) → lists ≡ worker.lists → (least : Option ℕ) → ((f : ℕ) → least ≡ Some f → WaitsFrom lists f) → IfSome least (λ f. All (λ (w : W). WaitsFrom w.lists f) parts.workers.items)
+least_told owner_of parts lone worker is lists kept None waits = tt
+least_told owner_of parts lone worker is lists kept (Some f) waits =
+    let one = sym (state_count owner_of parts) ∙ ap (λ (xs : List WorkerState). length xs) lone.is in
+    waits_alone parts.workers.items worker one is lists kept f (waits f refl)
+
+pub goal_is_known : (w : WorldState) (b : Position) (cost : ℕ) → IsWithoutBound w → IsInFrontier w b cost → (known : Known) × Knows w 0 w.task.goal known
+goal_is_known w b cost (inl knows) opens = knows
+goal_is_known w b cost (inr none) opens = absurd (none b cost opens)

@@ -1,5 +1,5 @@
 -- The laws of the definitions. Each is the contract of a function that does nothing.
-use Rattle.std.specs.Prelude.{ℕ, ◌≡◌, ◌≢◌, ◌≤◌, List, [], ◌∷◌, length, replicate, Contains, Vec, Option, Some, None}
+use Rattle.std.specs.Prelude.{ℕ, ◌≡◌, ◌≢◌, ◌<◌, ◌≤◌, List, [], ◌∷◌, length, replicate, slice_index_or, Contains, Vec, Option, Some, None}
 use Rattle.std.specs.declared.alloc.Global.{Global}
 use Rattle.memory.specs.declared.OutOfMemory.{OutOfMemory}
 use Rattle.board.specs.declared.moves.Move.{Move}
@@ -18,19 +18,35 @@ use Rattle.world_model.specs.declared.steps.Refusal.TheVariants as refusals
 use Rattle.world_model.specs.declared.steps.Step.{Step}
 use Rattle.world_model.specs.declared.steps.Step.TheVariants.{Expand, Grant, Halt}
 use Rattle.world_model.specs.declared.steps.Stop.TheVariants as stops
+use Rattle.search_lists.specs.Lists.{Lists}
+use Rattle.world_model.specs.declared.parts.Known.{Known}
 use Rattle.world_model.specs.Credit.{expansion_count}
+use Rattle.world_model.specs.Frontiers.{IsInFrontier}
 use Rattle.world_model.specs.Openings.{Job, opening}
 use Rattle.world_model.specs.Outcomes.{IsGiven, IsBounded}
 use Rattle.world_model.specs.Steps.{IsRun, Next}
 use Rattle.world_model.specs.Turns.{turn}
-use Rattle.world_model.specs.Worlds.{WorldState}
+use Rattle.world_model.specs.Worlds.{WorldState, Knows}
 use Rattle.hda_run.specs.Alone.{IsRunAlone}
 use Rattle.hda_run.specs.Headline.{IsOfSteps, TellsTruth}
 use Rattle.hda_run.specs.Problems.{Problem, task_in}
-use Rattle.hda_run.specs.Worlds.{world_of, job_of}
+use Rattle.hda_run.specs.Rounds.{IsWithoutBound}
+use Rattle.hda_run.specs.Worlds.{world_of, job_of, WaitsFrom}
 use Rattle.hda_run.specs.declared.parts.Parts.{Parts}
 
 -- ---- one worker alone
+
+-- where no bound is told though a board is open, the goal is known
+abbrev pub WithoutABoundTheGoalIsKnown : Type 0
+WithoutABoundTheGoalIsKnown = (w : WorldState) (b : Position) (cost : ℕ) → IsWithoutBound w → IsInFrontier w b cost → (known : Known) × Knows w 0 w.task.goal known
+
+-- something waits at that f, and nothing below it
+abbrev pub WaitingBeginsThere : Type 0
+WaitingBeginsThere =
+    (lists : Lists) (f : ℕ)
+    → WaitsFrom lists f
+    → (slice_index_or lists.waiting.entries f [] ≢ [])
+    × ((h : ℕ) → h < f → slice_index_or lists.waiting.entries h [] ≡ [])
 
 -- a run by one worker has stopped, and not because a thread could not be started
 abbrev pub RunsAloneStop : Type 0

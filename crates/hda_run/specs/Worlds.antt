@@ -1,6 +1,7 @@
 -- What contracts see of a world.
-use Rattle.std.specs.Prelude.{ℕ, ◌≤◌, All, length, map}
+use Rattle.std.specs.Prelude.{ℕ, ◌≡◌, ◌≢◌, ◌<◌, ◌≤◌, [], All, length, map, slice_index_or}
 use Rattle.board.specs.Positions.{Position}
+use Rattle.search_lists.specs.Lists.{Lists}
 use Rattle.worker_core.specs.Roles.{IsGuided, guide_of}
 use Rattle.worker_core.specs.Workers.{state_of}
 use Rattle.world_model.specs.declared.limits.TheConstants.{WORKER_LIMIT}
@@ -32,6 +33,10 @@ pub record IsLawful {S : Type 0} (owner_of : S → ℕ → Position → ℕ) (pa
   pub sound : IsSound (world_of owner_of parts)
   pub credited : IsCredited (world_of owner_of parts)
   pub guided : AreGuided parts
+
+-- something waits at f, and nothing below it
+abbrev pub WaitsFrom : Lists → ℕ → Type 0
+WaitsFrom lists f = (slice_index_or lists.waiting.entries f [] ≢ []) × ((h : ℕ) → h < f → slice_index_or lists.waiting.entries h [] ≡ [])
 
 -- what n workers do, where boards have these owners, by the spread and the number of workers
 abbrev pub job_of : {S : Type 0} → (S → ℕ → Position → ℕ) → Problem → S → ℕ → Job

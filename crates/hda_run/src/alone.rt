@@ -1,6 +1,7 @@
 //! Jobs that one worker does alone.
 
-ghost use Rattle.std.specs.Prelude.{ℕ, ◌≡◌, ◌≢◌, ◌↔◌, ◌<◌, Ok, IfOk, IfErr, IfNone, IfSome, IsOk, IsTrue, Option, Vec};
+ghost use Rattle.std.specs.Prelude.{ℕ, ◌≡◌, ◌≢◌, ◌↔◌, ◌<◌, All, Ok, IfOk, IfErr, IfNone};
+ghost use Rattle.std.specs.Prelude.{IfSome, IsOk, IsTrue, Option, Vec};
 ghost use Rattle.std.specs.declared.alloc.Global.{Global};
 ghost use Rattle.board.specs.Positions.{Position};
 ghost use Rattle.board.specs.Classes.{SameClass};
@@ -20,7 +21,7 @@ ghost use Rattle.hda_run.specs.Problems.{task_in};
 ghost use Rattle.hda_run.specs.Rounds.{IsLone, Reaches, work_left, Refuses, IsStuck};
 ghost use Rattle.hda_run.specs.Rounds.{IsWithoutBound, Stops};
 ghost use Rattle.hda_run.specs.WholeRuns.{EndsWholeRun};
-ghost use Rattle.hda_run.specs.Worlds.{world_of, job_of};
+ghost use Rattle.hda_run.specs.Worlds.{world_of, job_of, WaitsFrom};
 
 use crate::gates::{Gate, kind_of};
 use crate::job::Job;
@@ -190,6 +191,8 @@ fn bound_of<S: Spread>(world: &World<'_, S>) -> Option<u32>
     ensures bound { IfSome result (NothingBelow world.now.job.rule world.now.job.start
         world.now.job.goal) }
     ensures none { IfNone result (IsWithoutBound (world_of S.owner_of world.now)) }
+    ensures least { IfSome result
+        (λ f. All (λ worker. WaitsFrom worker.lists f) world.now.workers.items) }
 {
     // This call gives what each world keeps.
     let _ = world.workers();

@@ -2,6 +2,7 @@
 
 ghost use Rattle.hda_run.specs.Laws.{RunsAloneStop, QuietRunsHaveNoHalt};
 ghost use Rattle.hda_run.specs.Laws.{HaltsAreDue, BoundsSpendTheLimit};
+ghost use Rattle.hda_run.specs.Laws.{WithoutABoundTheGoalIsKnown, WaitingBeginsThere};
 ghost use Rattle.hda_run.specs.Laws.{OptimalTruthsAgree, BoundTruthsAreBelow};
 ghost use Rattle.hda_run.specs.Laws.{UnsolvableTruthsHaveNoPlan, TrueRowsProve};
 ghost use Rattle.hda_run.specs.Laws.{TrueRowsProveBounds, TrueBoundsHaveProofs};
@@ -16,6 +17,13 @@ pub fn runs_alone_stop()
     ensures quiet { QuietRunsHaveNoHalt }
     ensures due { HaltsAreDue }
     ensures spent { BoundsSpendTheLimit }
+{}
+
+/// Where no bound is shown though a board is open, the goal is known. What waits from an f has
+/// something there, and nothing below it.
+pub fn shown_bounds_are_as_named()
+    ensures none { WithoutABoundTheGoalIsKnown }
+    ensures least { WaitingBeginsThere }
 {}
 
 /// Outcomes of one problem that tell the truth agree, and their rows prove what they say.

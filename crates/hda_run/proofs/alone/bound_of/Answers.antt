@@ -2,7 +2,7 @@ use Rattle.std.proofs.Common.{ap, ◌∙◌}
 use Rattle.board.specs.Keys.{key_of}
 use Rattle.board.specs.Positions.{Position}
 use Rattle.hda_run.specs.Problems.{Problem}
-use Rattle.hda_run.proofs.BoundLemmas.{bound_by_lists, goal_known, looked_up, nothing_waits}
+use Rattle.hda_run.proofs.BoundLemmas.{bound_by_lists, goal_known, least_told, looked_up, nothing_waits}
 use Rattle.hda_run.proofs.alone.bound_of.Goals as goal
 
 pub returns-in-Some-clause-none : goal.returns-in-Some-clause-none
@@ -26,3 +26,6 @@ returns-in-None-clause-bound g c =
 
 pub returns-in-None-clause-none : goal.returns-in-None-clause-none
 returns-in-None-clause-none g c = nothing_waits g.S.Spread.owner_of c.args.world.now c.requires c.worker.result.now c.worker.ensures c.workers.ensures.guided c.lists-lists.result.now c.lists-lists.ensures c.least.result (λ none. rw none at c.least.ensures.least)
+
+pub returns-in-None-clause-least : goal.returns-in-None-clause-least
+returns-in-None-clause-least g c = least_told g.S.Spread.owner_of c.args.world.now c.requires c.worker.result.now c.worker.ensures c.lists-lists.result.now c.lists-lists.ensures c.least.result (λ f some. rw some at c.least.ensures.least)
