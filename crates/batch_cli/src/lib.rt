@@ -25,8 +25,9 @@ pub use command_line::NoRequest;
 pub use drawings::Style;
 pub use endings::Ending;
 pub use faults::BatchFault;
-pub use hda_run::{Free, Gate, Kind};
+pub use hda_run::{Free, Gate, Kind, World};
 pub use outcomes::{Cause, Outcome, SolveFault, Want, Why};
+pub use owners::Spread;
 pub use program::{run_program, run_with_progress};
 pub use replay_runs::{Opener, Run, replay_lines, run_replay};
 pub use reports::{

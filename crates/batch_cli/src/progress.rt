@@ -1,7 +1,8 @@
 //! Progress and figures, where the words ask for them.
 
 use batch_runs::Stats;
-use hda_run::{Gate, Kind};
+use hda_run::{Gate, Kind, World};
+use owners::Spread;
 use setup_runs::Watch;
 
 /// A watch that is passed where progress was asked for, and takes figures where these were.
@@ -16,6 +17,8 @@ pub(crate) struct WhereAsked<'a, W> {
 }
 
 impl<W: Watch> Gate for WhereAsked<'_, W> {
+    ghost is_wanted = { λ it. W.is_wanted it.watch.now };
+
     fn pass(&self, worker: usize, kind: Kind) {
         if self.progress {
             self.watch.pass(worker, kind);
@@ -28,7 +31,7 @@ impl<W: Watch> Gate for WhereAsked<'_, W> {
         }
         self.watch.meet(boards);
         if !self.is_alone && self.watch.wants_bound() {
-            self.watch.show_bound(None);
+            self.watch.show_no_bound();
         }
     }
 
@@ -36,8 +39,8 @@ impl<W: Watch> Gate for WhereAsked<'_, W> {
         self.progress && self.is_alone && self.watch.wants_bound()
     }
 
-    fn show_bound(&self, bound: Option<u32>) {
-        self.watch.show_bound(bound);
+    fn show_bound<S: Spread>(&self, world: &World<'_, S>, bound: Option<u32>) {
+        self.watch.show_bound(world, bound);
     }
 }
 

@@ -22,7 +22,7 @@ use Rattle.worker_core.specs.Workers.{state_of}
 use Rattle.worker_core.proofs.GuideLemmas.{none_below, open_key}
 use Rattle.hda_run.specs.declared.parts.Parts.{Parts}
 use Rattle.hda_run.specs.Problems.{task_in}
-use Rattle.hda_run.specs.Rounds.{IsLone, IsWithoutBound}
+use Rattle.hda_run.specs.Rounds.{IsLone, IsBoundOf, IsWithoutBound}
 use Rattle.hda_run.specs.Worlds.{world_of, AreGuided, WaitsFrom}
 use Rattle.hda_run.proofs.AloneLemmas.{same}
 use Rattle.hda_run.proofs.PartsLemmas.{W, is_worker, is_guided, state_count}
@@ -151,6 +151,11 @@ least_told owner_of parts lone worker is lists kept None waits = tt
 least_told owner_of parts lone worker is lists kept (Some f) waits =
     let one = sym (state_count owner_of parts) ∙ ap (λ (xs : List WorkerState). length xs) lone.is in
     waits_alone parts.workers.items worker one is lists kept f (waits f refl)
+
+-- the bound is what the three lemmas above say of it
+pub is_bound : {S : Type 0} (owner_of : S → ℕ → Position → ℕ) (parts : Parts S) (least : Option ℕ) → IfSome least (NothingBelow parts.job.rule parts.job.start parts.job.goal) → IfNone least (IsWithoutBound (world_of owner_of parts)) → IfSome least (λ f. All (λ (w : W). WaitsFrom w.lists f) parts.workers.items) → IsBoundOf owner_of parts least
+is_bound owner_of parts None below none waits = none
+is_bound owner_of parts (Some f) below none waits = (below, waits)
 
 pub goal_is_known : (w : WorldState) (b : Position) (cost : ℕ) → IsWithoutBound w → IsInFrontier w b cost → (known : Known) × Knows w 0 w.task.goal known
 goal_is_known w b cost (inl knows) opens = knows

@@ -1,5 +1,5 @@
 -- What one worker does alone, round by round.
-use Rattle.std.specs.Prelude.{ℕ, ◌≡◌, ◌⊎◌, ◌+◌, ◌-◌, List, [], ◌∷◌, ◌++◌, Option, Some, None}
+use Rattle.std.specs.Prelude.{ℕ, ◌≡◌, ◌⊎◌, ◌+◌, ◌-◌, List, [], ◌∷◌, ◌++◌, Option, Some, None, All}
 use Rattle.board.specs.Positions.{Position}
 use Rattle.world_model.specs.declared.parts.Known.{Known}
 use Rattle.world_model.specs.declared.steps.Refusal.{Refusal}
@@ -15,7 +15,10 @@ use Rattle.world_model.specs.Workers.{WorkerState}
 use Rattle.world_model.specs.Worlds.{WorldState, Knows}
 use Rattle.hda_run.specs.declared.alone.End.{End}
 use Rattle.hda_run.specs.declared.alone.End.TheVariants.{Quiet, Limit, Memory}
+use Rattle.hda_run.specs.declared.parts.Parts.{Parts}
 use Rattle.hda_run.specs.Alone.{HaltsNowhere, AreLast}
+use Rattle.hda_run.specs.Headline.{NoneIsBelow}
+use Rattle.hda_run.specs.Worlds.{world_of, WaitsFrom}
 
 -- one worker, which holds nothing, has nothing to send, and has a purse of 1; no packet is in a lane, and the run goes on
 pub record IsLone (w : WorldState) : Type 0 where
@@ -39,6 +42,11 @@ pub record Reaches (w w' : WorldState) : Type 0 where
 -- the worker knows the goal, or there is no frontier
 abbrev pub IsWithoutBound : WorldState → Type 0
 IsWithoutBound w = ((known : Known) × Knows w 0 w.task.goal known) ⊎ ((b : Position) (cost : ℕ) → ¬ IsInFrontier w b cost)
+
+-- the least f of what waits, and no plan costs less; None where there is no bound
+abbrev pub IsBoundOf : {S : Type 0} → (S → ℕ → Position → ℕ) → Parts S → Option ℕ → Type 0
+IsBoundOf owner_of parts None = IsWithoutBound (world_of owner_of parts)
+IsBoundOf owner_of parts (Some f) = NoneIsBelow parts.job f × All (λ worker. WaitsFrom worker.lists f) parts.workers.items
 
 -- what may still be granted, and what may still be expanded
 abbrev pub work_left : WorldState → ℕ

@@ -1,11 +1,10 @@
 //! Jobs that one worker does alone.
 
-ghost use Rattle.std.specs.Prelude.{ℕ, ◌≡◌, ◌≢◌, ◌↔◌, ◌<◌, All, Ok, IfOk, IfErr, IfNone};
-ghost use Rattle.std.specs.Prelude.{IfSome, IsOk, IsTrue, Option, Vec};
+ghost use Rattle.std.specs.Prelude.{ℕ, ◌≡◌, ◌≢◌, ◌↔◌, ◌<◌, Ok, IfOk, IfErr};
+ghost use Rattle.std.specs.Prelude.{IsOk, IsTrue, Option, Vec};
 ghost use Rattle.std.specs.declared.alloc.Global.{Global};
 ghost use Rattle.board.specs.Positions.{Position};
 ghost use Rattle.board.specs.Classes.{SameClass};
-ghost use Rattle.board.specs.Plans.{NothingBelow};
 ghost use Rattle.board.specs.declared.moves.Move.{Move};
 ghost use Rattle.outcomes.specs.Outcomes.{Answers};
 ghost use Rattle.outcomes.specs.declared.outcome.Cause.{Cause};
@@ -19,9 +18,9 @@ ghost use Rattle.world_model.specs.Turns.{turn, refusal_in};
 ghost use Rattle.hda_run.specs.Alone.{IsRunAlone, IsFoundAlone, IsByOne};
 ghost use Rattle.hda_run.specs.Problems.{task_in};
 ghost use Rattle.hda_run.specs.Rounds.{IsLone, Reaches, work_left, Refuses, IsStuck};
-ghost use Rattle.hda_run.specs.Rounds.{IsWithoutBound, Stops};
+ghost use Rattle.hda_run.specs.Rounds.{IsBoundOf, Stops};
 ghost use Rattle.hda_run.specs.WholeRuns.{EndsWholeRun};
-ghost use Rattle.hda_run.specs.Worlds.{world_of, job_of, WaitsFrom};
+ghost use Rattle.hda_run.specs.Worlds.{world_of, job_of};
 
 use crate::gates::{Gate, kind_of};
 use crate::job::Job;
@@ -180,7 +179,7 @@ fn show_lists<S: Spread, G: Gate>(world: &World<'_, S>, gate: &G, known: usize)
     let lists = world.worker(0).lists();
     gate.meet(lists.len().saturating_sub(known));
     if gate.wants_bound() {
-        gate.show_bound(bound_of(world));
+        gate.show_bound(world, bound_of(world));
     }
 }
 
@@ -188,11 +187,7 @@ fn show_lists<S: Spread, G: Gate>(world: &World<'_, S>, gate: &G, known: usize)
 // plan may cost less than that, or where no board is open.
 fn bound_of<S: Spread>(world: &World<'_, S>) -> Option<u32>
     requires { IsLone (world_of S.owner_of world.now) }
-    ensures bound { IfSome result (NothingBelow world.now.job.rule world.now.job.start
-        world.now.job.goal) }
-    ensures none { IfNone result (IsWithoutBound (world_of S.owner_of world.now)) }
-    ensures least { IfSome result
-        (λ f. All (λ worker. WaitsFrom worker.lists f) world.now.workers.items) }
+    ensures { IsBoundOf S.owner_of world.now result }
 {
     // This call gives what each world keeps.
     let _ = world.workers();

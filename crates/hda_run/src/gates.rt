@@ -1,8 +1,11 @@
 //! Gates, by which whoever runs a world decides which step comes next.
 
-ghost use Rattle.std.specs.Prelude.{◌≡◌};
+ghost use Rattle.std.specs.Prelude.{◌≡◌, ⊤, IsTrue};
 ghost use Rattle.hda_run.specs.Kinds as kinds;
+ghost use Rattle.hda_run.specs.Rounds.{IsBoundOf};
 
+use crate::world::World;
+use owners::Spread;
 use world_model::Step;
 
 /// What a worker does in a step.
@@ -48,21 +51,29 @@ pub fn kind_of(step: Step) -> Kind
 /// What a worker passes after each step that is accepted, while it holds no lock: a test may hold
 /// it there, to try an order of steps. It is also shown how far the search is.
 pub trait Gate {
+    // A bound is wanted. Whoever knows nothing else of a gate has this from `wants_bound` alone.
+    ghost is_wanted: { Self → Type 0 } = { λ _. ⊤ };
+
     /// Returns when the worker that took the step may go on.
     fn pass(&self, worker: usize, kind: Kind);
 
     /// Is shown, when a search begins, after an expansion and after an item is settled, how many boards
-    /// became known by it.
+    /// became known by it. No contract says that the count is right.
     fn meet(&self, _boards: usize) {}
 
     /// Whether a lower bound is wanted. A worker that searches alone asks after each expansion.
-    fn wants_bound(&self) -> bool {
+    fn wants_bound(&self) -> bool
+        ensures { IsTrue result → is_wanted self.now }
+    {
         false
     }
 
-    /// Is shown a lower bound, where one is wanted: no plan costs less. None where the goal was met,
-    /// or no board is open.
-    fn show_bound(&self, _bound: Option<u32>) {}
+    /// Is shown the bound of a world of one worker, where one is wanted: no plan of its job costs less.
+    /// None where the goal was met, or no board is open.
+    fn show_bound<S: Spread>(&self, _world: &World<'_, S>, _bound: Option<u32>)
+        requires wanted { is_wanted self.now }
+        requires bound { IsBoundOf S.owner_of _world.now _bound }
+    {}
 }
 
 /// A gate that stands open.

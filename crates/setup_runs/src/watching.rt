@@ -3,7 +3,8 @@
 ghost use Rattle.setup_runs.specs.Solving.{AreFiguresOfLine};
 
 use batch_runs::Stats;
-use hda_run::{Gate, Kind};
+use hda_run::{Gate, Kind, World};
+use owners::Spread;
 
 /// A gate that is passed after each step of a search, a clock, and whoever takes the figures of lines.
 /// No contract says what becomes of these.
@@ -14,6 +15,11 @@ pub trait Watch: Gate {
     /// Takes the figures of the line with this id, whose board is answered.
     fn observe(&self, id: &str, stats: &Stats)
         requires { AreFiguresOfLine id.now stats.now };
+
+    /// Is told, where a bound is wanted, that none is known: several workers share the boards.
+    fn show_no_bound(&self)
+        requires { Self.is_wanted self.now }
+    {}
 }
 
 /// A gate alone.
@@ -23,6 +29,8 @@ pub(crate) struct Unwatched<'a, G> {
 }
 
 impl<G: Gate> Gate for Unwatched<'_, G> {
+    ghost is_wanted = { λ it. G.is_wanted it.gate.now };
+
     fn pass(&self, worker: usize, kind: Kind) {
         self.gate.pass(worker, kind);
     }
@@ -35,8 +43,8 @@ impl<G: Gate> Gate for Unwatched<'_, G> {
         self.gate.wants_bound()
     }
 
-    fn show_bound(&self, bound: Option<u32>) {
-        self.gate.show_bound(bound);
+    fn show_bound<S: Spread>(&self, world: &World<'_, S>, bound: Option<u32>) {
+        self.gate.show_bound(world, bound);
     }
 }
 

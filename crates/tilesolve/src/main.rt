@@ -4,7 +4,7 @@
 //! are read from standard input, and what is answered goes to standard output.
 #![tactic(auto)]
 
-use batch_cli::{Ending, Gate, Kind, Stats, Watch, run_with_progress, stats_text};
+use batch_cli::{Ending, Gate, Kind, Spread, Stats, Watch, World, run_with_progress, stats_text};
 use byte_streams::{BufferedSource, ByteSink};
 use std::alloc::Global;
 use std::env;
@@ -54,6 +54,21 @@ impl<R: Eprint + AllocGlobal + Clock> Progress<'_, R> {
             self.is_due.store(true, Ordering::Relaxed);
         }
     }
+
+    // Prints a line of progress, where one is due. Where it can't be written the run goes on.
+    fn print_when_due(&self, bound: Option<u32>) {
+        if !self.is_due.swap(false, Ordering::Relaxed) {
+            return;
+        }
+        let expanded = self.expanded.load(Ordering::Relaxed);
+        let known = self.known.load(Ordering::Relaxed);
+        let _ = match bound {
+            Some(bound) => eprintln!(self.rt;
+                "tilesolve: {expanded} boards expanded, {known} known; no plan costs less than {bound}"
+            ),
+            None => eprintln!(self.rt; "tilesolve: {expanded} boards expanded, {known} known"),
+        };
+    }
 }
 
 impl<R: Eprint + AllocGlobal + Clock> Gate for Progress<'_, R> {
@@ -78,19 +93,8 @@ impl<R: Eprint + AllocGlobal + Clock> Gate for Progress<'_, R> {
         self.is_due.load(Ordering::Relaxed)
     }
 
-    // Where the line can't be written the run goes on.
-    fn show_bound(&self, bound: Option<u32>) {
-        if !self.is_due.swap(false, Ordering::Relaxed) {
-            return;
-        }
-        let expanded = self.expanded.load(Ordering::Relaxed);
-        let known = self.known.load(Ordering::Relaxed);
-        let _ = match bound {
-            Some(bound) => eprintln!(self.rt;
-                "tilesolve: {expanded} boards expanded, {known} known; no plan costs less than {bound}"
-            ),
-            None => eprintln!(self.rt; "tilesolve: {expanded} boards expanded, {known} known"),
-        };
+    fn show_bound<S: Spread>(&self, _world: &World<'_, S>, bound: Option<u32>) {
+        self.print_when_due(bound);
     }
 }
 
@@ -110,6 +114,10 @@ impl<R: Eprint + AllocGlobal + Clock> Watch for Progress<'_, R> {
         if let Ok(text) = stats_text(self.rt.alloc(), id, stats) {
             let _ = eprintln!(self.rt; "{text}");
         }
+    }
+
+    fn show_no_bound(&self) {
+        self.print_when_due(None);
     }
 }
 
