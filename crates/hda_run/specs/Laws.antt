@@ -1,8 +1,9 @@
 -- The laws of the definitions. Each is the contract of a function that does nothing.
-use Rattle.std.specs.Prelude.{ℕ, ◌≡◌, ◌≢◌, ◌<◌, ◌≤◌, List, [], ◌∷◌, length, replicate, slice_index_or, Contains, Vec, Option, Some, None}
+use Rattle.std.specs.Prelude.{ℕ, ◌≡◌, ◌≢◌, ◌<◌, ◌≤◌, List, [], ◌∷◌, length, replicate, slice_index_or, All, Contains, Vec, Option, Some, None}
 use Rattle.std.specs.declared.alloc.Global.{Global}
 use Rattle.memory.specs.declared.OutOfMemory.{OutOfMemory}
 use Rattle.board.specs.declared.moves.Move.{Move}
+use Rattle.board.specs.Plans.{Leads}
 use Rattle.board.specs.Positions.{Position}
 use Rattle.board.specs.Rows.{Proves}
 use Rattle.outcomes.specs.declared.outcome.Cause.{Cause}
@@ -30,7 +31,7 @@ use Rattle.world_model.specs.Worlds.{WorldState, Knows}
 use Rattle.hda_run.specs.Alone.{IsRunAlone}
 use Rattle.hda_run.specs.Headline.{IsOfSteps, TellsTruth}
 use Rattle.hda_run.specs.Problems.{Problem, task_in}
-use Rattle.hda_run.specs.Rounds.{IsWithoutBound}
+use Rattle.hda_run.specs.Rounds.{IsBoundOf, IsWithoutBound}
 use Rattle.hda_run.specs.Worlds.{world_of, job_of, WaitsFrom}
 use Rattle.hda_run.specs.declared.parts.Parts.{Parts}
 
@@ -47,6 +48,14 @@ WaitingBeginsThere =
     → WaitsFrom lists f
     → (slice_index_or lists.waiting.entries f [] ≢ [])
     × ((h : ℕ) → h < f → slice_index_or lists.waiting.entries h [] ≡ [])
+
+-- No plan costs less than the bound of a world, and what waits begins there. Where there is none, the goal is known, or nothing is open.
+abbrev pub BoundsAreOfTheirWorlds : {S : Type 0} → (S → ℕ → Position → ℕ) → Type 0
+BoundsAreOfTheirWorlds {S} owner_of =
+    (parts : Parts S)
+    → ((f : ℕ) (plan : List Move) (cost : ℕ) → IsBoundOf owner_of parts (Some f) → Leads parts.job.rule parts.job.start plan parts.job.goal cost → f ≤ cost)
+    × ((f : ℕ) → IsBoundOf owner_of parts (Some f) → All (λ worker. WaitsFrom worker.lists f) parts.workers.items)
+    × (IsBoundOf owner_of parts None → IsWithoutBound (world_of owner_of parts))
 
 -- a run by one worker has stopped, and not because a thread could not be started
 abbrev pub RunsAloneStop : Type 0

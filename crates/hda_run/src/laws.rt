@@ -2,6 +2,7 @@
 
 ghost use Rattle.hda_run.specs.Laws.{RunsAloneStop, QuietRunsHaveNoHalt};
 ghost use Rattle.hda_run.specs.Laws.{HaltsAreDue, BoundsSpendTheLimit};
+ghost use Rattle.hda_run.specs.Laws.{BoundsAreOfTheirWorlds};
 ghost use Rattle.hda_run.specs.Laws.{WithoutABoundTheGoalIsKnown, WaitingBeginsThere};
 ghost use Rattle.hda_run.specs.Laws.{OptimalTruthsAgree, BoundTruthsAreBelow};
 ghost use Rattle.hda_run.specs.Laws.{UnsolvableTruthsHaveNoPlan, TrueRowsProve};
@@ -19,9 +20,10 @@ pub fn runs_alone_stop()
     ensures spent { BoundsSpendTheLimit }
 {}
 
-/// Where no bound is shown though a board is open, the goal is known. What waits from an f has
-/// something there, and nothing below it.
-pub fn shown_bounds_are_as_named()
+/// No plan costs less than a bound that is shown. Where none is though a board is open, the goal is
+/// known. What waits from an f has something there, and nothing below it.
+pub fn shown_bounds_are_as_named<S: Spread>()
+    ensures world { BoundsAreOfTheirWorlds S.owner_of }
     ensures none { WithoutABoundTheGoalIsKnown }
     ensures least { WaitingBeginsThere }
 {}
