@@ -1,11 +1,9 @@
 //! What both searches for an open successor share: what comes before it, and what is said then.
 
-ghost use Rattle.std.specs.Prelude.{◌≡◌, ◌↔◌, ℕ, IsOk, IsErrOf, OnOk, IfErr, IfSome, IsSome, IsNone};
+ghost use Rattle.std.specs.Prelude.{ℕ, IfSome, IsNone};
 ghost use Rattle.board.specs.declared.moves.Move.{Move};
-ghost use Rattle.board.specs.Plans.{NothingBelow, IsLeast};
-ghost use Rattle.certificate_check.specs.declared.refusals.Refusal.{Refusal};
 ghost use Rattle.certificate_check.specs.Refusals.{AreFit, ItsPlanLeads, IsProvedUpToRows};
-ghost use Rattle.certificate_check.specs.Refusals.{IsProved, IsFirstRefusal, IsFirstOpen, LeavesOpenAt};
+ghost use Rattle.certificate_check.specs.Refusals.{IsJudgedUpToRows, IsVerdict, IsFirstOpen, LeavesOpenAt};
 ghost use Rattle.certificate.specs.Certificates.{IsCertificate};
 
 use crate::groups::find_unfit;
@@ -19,10 +17,8 @@ use lower_bound::laws::sums_are_lower_bounds;
 
 // All that is looked at before the successors of the rows: the first cause of C1 to C6 to refuse.
 pub(crate) fn check_up_to_rows(certificate: &Certificate, bound: &Bound) -> Result<(), Refusal>
-    ensures up_to { OnOk result (IsProvedUpToRows certificate.now bound.now) }
-    ensures refused { IfErr result (IsFirstRefusal certificate.now bound.now) }
+    ensures judged { IsJudgedUpToRows certificate.now bound.now result }
     ensures certificate { IsCertificate certificate.now }
-    ensures shape { OnOk result (bound.now.split.grid ≡ certificate.now.grid) }
 {
     // What holds of every certificate, as that its rows rise, is told by this call.
     let _ = certificate.shape();
@@ -38,10 +34,8 @@ pub(crate) fn check_up_to_rows(certificate: &Certificate, bound: &Bound) -> Resu
 // The same, where the tables are known to be fit: they are not tested.
 pub(crate) fn check_fit_up_to_rows(certificate: &Certificate, bound: &Bound) -> Result<(), Refusal>
     requires fit { AreFit certificate.now bound.now }
-    ensures up_to { OnOk result (IsProvedUpToRows certificate.now bound.now) }
-    ensures refused { IfErr result (IsFirstRefusal certificate.now bound.now) }
+    ensures judged { IsJudgedUpToRows certificate.now bound.now result }
     ensures certificate { IsCertificate certificate.now }
-    ensures shape { OnOk result (bound.now.split.grid ≡ certificate.now.grid) }
 {
     let _ = certificate.shape();
     match check_plan(certificate) {
@@ -55,9 +49,7 @@ pub(crate) fn check_fit_up_to_rows(certificate: &Certificate, bound: &Bound) -> 
 fn check_start(certificate: &Certificate, bound: &Bound) -> Result<(), Refusal>
     requires plan { ItsPlanLeads certificate.now }
     requires fit { AreFit certificate.now bound.now }
-    ensures up_to { OnOk result (IsProvedUpToRows certificate.now bound.now) }
-    ensures refused { IfErr result (IsFirstRefusal certificate.now bound.now) }
-    ensures shape { OnOk result (bound.now.split.grid ≡ certificate.now.grid) }
+    ensures { IsJudgedUpToRows certificate.now bound.now result }
 {
     let _ = certificate.shape();
     if !is_start_proved(certificate, bound) {
@@ -80,15 +72,7 @@ pub(crate) fn conclude(
         IsFirstOpen certificate.now bound.now found.0 found.1) }
     requires none { IsNone first_open → (place : ℕ) (m : Move) →
         ¬ LeavesOpenAt certificate.now bound.now place m }
-    ensures accepted { IsOk result ↔ IsProved certificate.now bound.now }
-    ensures below { OnOk result
-        (NothingBelow certificate.now.costs certificate.now.start certificate.now.goal
-        certificate.now.cost) }
-    ensures least { IsSome certificate.now.plan → OnOk result
-        (IsLeast certificate.now.costs certificate.now.start certificate.now.goal
-        certificate.now.cost) }
-    ensures refused { (refusal : Refusal) →
-        IsErrOf result refusal ↔ IsFirstRefusal certificate.now bound.now refusal }
+    ensures { IsVerdict certificate.now bound.now result }
 {
     // What holds of every certificate and of every bound is told by these calls, and that sums of
     // potentials are lower bounds is the law.

@@ -11,10 +11,8 @@ mod refusals;
 mod rows;
 mod successors;
 
-ghost use Rattle.std.specs.Prelude.{◌≡◌, ◌↔◌, IsOk, IsErrOf, OnOk, IfOk, IsSome};
-ghost use Rattle.board.specs.Plans.{NothingBelow, IsLeast};
-ghost use Rattle.certificate_check.specs.declared.refusals.Refusal.{Refusal};
-ghost use Rattle.certificate_check.specs.Refusals.{AreFit, IsProved, IsFirstRefusal};
+ghost use Rattle.std.specs.Prelude.{IsOk, IfOk};
+ghost use Rattle.certificate_check.specs.Refusals.{AreFit, IsVerdict};
 
 use certificate::Certificate;
 use checking::{check_fit_up_to_rows, check_up_to_rows, conclude};
@@ -47,15 +45,7 @@ use successors::find_open;
 /// The time grows as the sizes of the tables and as the count of rows times its logarithm, and no
 /// memory is taken.
 pub fn check(certificate: &Certificate, bound: &Bound) -> Result<(), Refusal>
-    ensures accepted { IsOk result ↔ IsProved certificate.now bound.now }
-    ensures below { OnOk result
-        (NothingBelow certificate.now.costs certificate.now.start certificate.now.goal
-        certificate.now.cost) }
-    ensures least { IsSome certificate.now.plan → OnOk result
-        (IsLeast certificate.now.costs certificate.now.start certificate.now.goal
-        certificate.now.cost) }
-    ensures refused { (refusal : Refusal) →
-        IsErrOf result refusal ↔ IsFirstRefusal certificate.now bound.now refusal }
+    ensures { IsVerdict certificate.now bound.now result }
 {
     if let Err(refusal) = check_up_to_rows(certificate, bound) {
         return Err(refusal);
@@ -72,16 +62,7 @@ pub fn check_parallel(
     bound: &Bound,
 ) -> Result<Result<(), Refusal>, OutOfMemory>
     ensures answered { IsOk result }
-    ensures accepted { IfOk result
-        (λ answer. IsOk answer ↔ IsProved certificate.now bound.now) }
-    ensures below { IfOk result (λ answer. OnOk answer
-        (NothingBelow certificate.now.costs certificate.now.start certificate.now.goal
-        certificate.now.cost)) }
-    ensures least { IsSome certificate.now.plan → IfOk result (λ answer. OnOk answer
-        (IsLeast certificate.now.costs certificate.now.start certificate.now.goal
-        certificate.now.cost)) }
-    ensures refused { IfOk result (λ answer. (refusal : Refusal) →
-        IsErrOf answer refusal ↔ IsFirstRefusal certificate.now bound.now refusal) }
+    ensures verdict { IfOk result (IsVerdict certificate.now bound.now) }
 {
     if let Err(refusal) = check_up_to_rows(certificate, bound) {
         return Ok(Err(refusal));
@@ -95,15 +76,7 @@ pub fn check_parallel(
 /// it. They are not tested, so the time doesn't grow with their sizes.
 pub fn check_fit(certificate: &Certificate, bound: &Bound) -> Result<(), Refusal>
     requires fit { AreFit certificate.now bound.now }
-    ensures accepted { IsOk result ↔ IsProved certificate.now bound.now }
-    ensures below { OnOk result
-        (NothingBelow certificate.now.costs certificate.now.start certificate.now.goal
-        certificate.now.cost) }
-    ensures least { IsSome certificate.now.plan → OnOk result
-        (IsLeast certificate.now.costs certificate.now.start certificate.now.goal
-        certificate.now.cost) }
-    ensures refused { (refusal : Refusal) →
-        IsErrOf result refusal ↔ IsFirstRefusal certificate.now bound.now refusal }
+    ensures { IsVerdict certificate.now bound.now result }
 {
     if let Err(refusal) = check_fit_up_to_rows(certificate, bound) {
         return Err(refusal);
@@ -120,16 +93,7 @@ pub fn check_fit_parallel(
 ) -> Result<Result<(), Refusal>, OutOfMemory>
     requires fit { AreFit certificate.now bound.now }
     ensures answered { IsOk result }
-    ensures accepted { IfOk result
-        (λ answer. IsOk answer ↔ IsProved certificate.now bound.now) }
-    ensures below { IfOk result (λ answer. OnOk answer
-        (NothingBelow certificate.now.costs certificate.now.start certificate.now.goal
-        certificate.now.cost)) }
-    ensures least { IsSome certificate.now.plan → IfOk result (λ answer. OnOk answer
-        (IsLeast certificate.now.costs certificate.now.start certificate.now.goal
-        certificate.now.cost)) }
-    ensures refused { IfOk result (λ answer. (refusal : Refusal) →
-        IsErrOf answer refusal ↔ IsFirstRefusal certificate.now bound.now refusal) }
+    ensures verdict { IfOk result (IsVerdict certificate.now bound.now) }
 {
     if let Err(refusal) = check_fit_up_to_rows(certificate, bound) {
         return Ok(Err(refusal));

@@ -1,12 +1,9 @@
 use Rattle.std.proofs.Common.{arith}
-use Rattle.certificate_check.proofs.RefusalLemmas.{refusal_not_accepted, refusal_is_first}
+use Rattle.certificate_check.proofs.RefusalLemmas.{refused_verdict}
 use Rattle.certificate_check.proofs.check_fit.Goals as goal
 
-pub returns-in-Err-clause-accepted : goal.returns-in-Err-clause-accepted
-returns-in-Err-clause-accepted c = refusal_not_accepted c.args.certificate.now c.args.bound.now c.in-Err.refusal c.in-Err.ensures.refused
-
-pub returns-in-Err-clause-refused : goal.returns-in-Err-clause-refused
-returns-in-Err-clause-refused c = refusal_is_first c.args.certificate.now c.args.bound.now c.in-Err.refusal c.in-Err.ensures.refused
+pub returns-in-Err : goal.returns-in-Err
+returns-in-Err c = refused_verdict c.args.certificate.now c.args.bound.now c.in-Err.refusal c.in-Err.ensures.judged.refused
 
 pub find_open-requires-clause-before : goal.find_open-requires-clause-before
 find_open-requires-clause-before c = λ place m low high. absurd (omega (arith, high))
