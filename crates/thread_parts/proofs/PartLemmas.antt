@@ -35,7 +35,7 @@ use Rattle.worker_core.specs.Settling.{SettleOrDrop}
 use Rattle.rings.specs.Rings.{SendingEnd, ReceivingEnd, TakesIn, GivesOut, Looks, sent_lanes, received_lanes, left_lanes}
 use Rattle.hda_run.specs.Problems.{Problem, context_in, task_in}
 use Rattle.thread_parts.specs.declared.part.Part.{Part}
-use Rattle.thread_parts.specs.Parts.{IsKept, face_of, part_state, Holds, role_of}
+use Rattle.thread_parts.specs.Parts.{ChangesItsWorker, face_of, Holds, IsKept, part_state, role_of}
 use Rattle.thread_parts.specs.Steps.{SendByRing, DeliverByRing, WithPurse, IsBarred}
 use Rattle.thread_parts.specs.Openings.{with_means}
 use Rattle.std.specs.Vec.{with_item}
@@ -84,9 +84,9 @@ module _ {S C D E K G : Type 0} (owner_of : S → ℕ → Position → ℕ) (n :
     guided_after worker stays =
         subst (λ (x : ContextModel S). StaysGuided x part.worker.lists worker.lists) lent stays part.job.now.start (guide_of (task_in part.job.now)) holds.guided
 
-  -- a part with another worker, which keeps what it should, holds
-  pub holds_with : (worker : Worker C D E K G) → Keeps n (role_of owner_of n part) (with_worker (part_state part) (state_of worker)) → IsGuided (task_in part.job.now) (guide_of (task_in part.job.now)) worker.lists → Holds owner_of n (record part { worker = worker })
-  holds_with worker keeps guided = record { role = holds.role; keeps = keeps; guided = guided }
+  -- a part that has another worker, which keeps what it should
+  pub with_kept : (worker : Worker C D E K G) → Keeps n (role_of owner_of n part) (with_worker (part_state part) (state_of worker)) → IsGuided (task_in part.job.now) (guide_of (task_in part.job.now)) worker.lists → ChangesItsWorker owner_of n part (record part { worker = worker })
+  with_kept worker keeps guided = record { rest = refl; holds = record { role = holds.role; keeps = keeps; guided = guided }; kept = refl }
 
   -- lists that are the same are guided too
   pub same_guided : (worker : Worker C D E K G) → worker.lists ≡ part.worker.lists → IsGuided (task_in part.job.now) (guide_of (task_in part.job.now)) worker.lists

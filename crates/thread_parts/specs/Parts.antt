@@ -2,6 +2,7 @@
 use Rattle.std.specs.Prelude.{ℕ, ◌≡◌, List}
 use Rattle.board.specs.Positions.{Position}
 use Rattle.rings.specs.Rings.{Ring, out_rings, in_rings, sent_lanes, received_lanes}
+use Rattle.thread_model.specs.Changes.{with_worker}
 use Rattle.thread_model.specs.Parts.{PartState, IsRole, Keeps}
 use Rattle.world_model.specs.Workers.{Role}
 use Rattle.worker_core.specs.Expanding.{role_by}
@@ -43,3 +44,14 @@ module _ {S C D E K G : Type 0} where
     pub role : IsRole n (role_of owner_of n part)
     pub keeps : Keeps n (role_of owner_of n part) (part_state part)
     pub guided : IsGuided (task_in part.job.now) (guide_of (task_in part.job.now)) part.worker.lists
+
+  -- a part of n has its face still, and keeps what it kept
+  pub record KeepsPart (owner_of : S → ℕ → Position → ℕ) (n : ℕ) (old new : Part S C D E K G) : Type 0 where
+    pub holds : Holds owner_of n new
+    pub kept : IsKept old new
+
+  -- the same, and nothing but its worker has changed
+  pub record ChangesItsWorker (owner_of : S → ℕ → Position → ℕ) (n : ℕ) (old new : Part S C D E K G) : Type 0 where
+    pub rest : part_state new ≡ with_worker (part_state old) (state_of new.worker)
+    pub holds : Holds owner_of n new
+    pub kept : IsKept old new

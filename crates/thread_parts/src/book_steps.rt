@@ -4,13 +4,12 @@
 ghost use Rattle.std.specs.Prelude.{◌≡◌, ◌≢◌, None, OnOk, OnErr, IfOk, IfErr};
 ghost use Rattle.outcomes.specs.declared.outcome.Want.{Want};
 ghost use Rattle.quiescence.specs.Answers.{rested};
-ghost use Rattle.thread_model.specs.Changes.{with_worker};
 ghost use Rattle.world_model.specs.declared.steps.HaltCause.{HaltCause};
 ghost use Rattle.world_model.specs.BookSteps.{DrawStep, AnnounceStep, GrantStep, RestStep};
 ghost use Rattle.world_model.specs.BookSteps.{HaltStep};
 ghost use Rattle.world_model.specs.Turns.{turn, refusal_in};
 ghost use Rattle.worker_core.specs.Workers.{state_of, with_book};
-ghost use Rattle.thread_parts.specs.Parts.{part_state, role_of, Holds, IsKept};
+ghost use Rattle.thread_parts.specs.Parts.{role_of, Holds, ChangesItsWorker};
 ghost use Rattle.thread_parts.specs.Steps.{WithPurse, IsBarred};
 
 use crate::part::Part;
@@ -27,10 +26,7 @@ impl<'a, S: Spread, C: Tokens> Part<'a, S, C> {
         requires { Holds S.owner_of C.workers self.old }
         ensures step { DrawStep (turn (with_book (state_of self.old.worker) book.old)
             (refusal_in result) (with_book (state_of self.new.worker) book.new)) }
-        ensures rest { part_state self.new
-            ≡ with_worker (part_state self.old) (state_of self.new.worker) }
-        ensures holds { Holds S.owner_of C.workers self.new }
-        ensures kept { IsKept self.old self.new }
+        ensures part { ChangesItsWorker S.owner_of C.workers self.old self.new }
     {
         steps_are_kept();
         if let Err(refusal) = self.look_at(book) {
@@ -47,10 +43,7 @@ impl<'a, S: Spread, C: Tokens> Part<'a, S, C> {
         ensures step { WithPurse (AnnounceStep (role_of S.owner_of C.workers self.old))
             (turn (with_book (state_of self.old.worker) book.old)
             (refusal_in result) (with_book (state_of self.new.worker) book.new)) }
-        ensures rest { part_state self.new
-            ≡ with_worker (part_state self.old) (state_of self.new.worker) }
-        ensures holds { Holds S.owner_of C.workers self.new }
-        ensures kept { IsKept self.old self.new }
+        ensures part { ChangesItsWorker S.owner_of C.workers self.old self.new }
     {
         steps_are_kept();
         if let Err(refusal) = self.look_at(book) {
@@ -69,10 +62,7 @@ impl<'a, S: Spread, C: Tokens> Part<'a, S, C> {
         ensures step { WithPurse (GrantStep (role_of S.owner_of C.workers self.old))
             (turn (with_book (state_of self.old.worker) book.old)
             (refusal_in result) (with_book (state_of self.new.worker) book.new)) }
-        ensures rest { part_state self.new
-            ≡ with_worker (part_state self.old) (state_of self.new.worker) }
-        ensures holds { Holds S.owner_of C.workers self.new }
-        ensures kept { IsKept self.old self.new }
+        ensures part { ChangesItsWorker S.owner_of C.workers self.old self.new }
     {
         steps_are_kept();
         if let Err(refusal) = self.look_at(book) {
@@ -89,10 +79,7 @@ impl<'a, S: Spread, C: Tokens> Part<'a, S, C> {
             (turn (with_book (state_of self.old.worker) book.old)
             (refusal_in result) (with_book (state_of self.new.worker) book.new)) }
         ensures answer { IfOk result (λ answer. answer ≡ rested book.new) }
-        ensures rest { part_state self.new
-            ≡ with_worker (part_state self.old) (state_of self.new.worker) }
-        ensures holds { Holds S.owner_of C.workers self.new }
-        ensures kept { IsKept self.old self.new }
+        ensures part { ChangesItsWorker S.owner_of C.workers self.old self.new }
     {
         steps_are_kept();
         if let Err(refusal) = self.look_at(book) {
@@ -112,10 +99,7 @@ impl<'a, S: Spread, C: Tokens> Part<'a, S, C> {
         ensures step { WithPurse (HaltStep cause)
             (turn (with_book (state_of self.old.worker) book.old)
             (refusal_in result) (with_book (state_of self.new.worker) book.new)) }
-        ensures rest { part_state self.new
-            ≡ with_worker (part_state self.old) (state_of self.new.worker) }
-        ensures holds { Holds S.owner_of C.workers self.new }
-        ensures kept { IsKept self.old self.new }
+        ensures part { ChangesItsWorker S.owner_of C.workers self.old self.new }
     {
         steps_are_kept();
         if let Err(refusal) = self.look_at(book) {

@@ -4,7 +4,7 @@ ghost use Rattle.std.specs.Prelude.{◌≡◌, ◌<◌, [], IsErrOf, slice_index
 ghost use Rattle.rings.specs.Rings.{left_lanes};
 ghost use Rattle.world_model.specs.declared.steps.Refusal.{Refusal};
 ghost use Rattle.world_model.specs.Turns.{turn, refusal_in};
-ghost use Rattle.thread_parts.specs.Parts.{part_state, Holds, IsKept};
+ghost use Rattle.thread_parts.specs.Parts.{part_state, Holds, KeepsPart};
 ghost use Rattle.thread_parts.specs.Steps.{SendByRing, DeliverByRing};
 
 use crate::part::Part;
@@ -21,8 +21,7 @@ impl<'a, S: Spread, C: Tokens> Part<'a, S, C> {
         requires there { to < C.workers }
         ensures step { SendByRing to (turn (part_state self.old) (refusal_in result)
             (part_state self.new)) }
-        ensures holds { Holds S.owner_of C.workers self.new }
-        ensures kept { IsKept self.old self.new }
+        ensures part { KeepsPart S.owner_of C.workers self.old self.new }
     {
         steps_are_kept();
         let lane = &mut self.outs[to];
@@ -39,8 +38,7 @@ impl<'a, S: Spread, C: Tokens> Part<'a, S, C> {
             (part_state self.new)) }
         ensures seen { IsErrOf result Refusal.RingEmpty
             → slice_index_or (left_lanes self.old.ins.items) from [] ≡ [] }
-        ensures holds { Holds S.owner_of C.workers self.new }
-        ensures kept { IsKept self.old self.new }
+        ensures part { KeepsPart S.owner_of C.workers self.old self.new }
     {
         steps_are_kept();
         let lane = &mut self.ins[from];

@@ -1,12 +1,11 @@
 //! The two steps that a worker takes by itself.
 
 ghost use Rattle.std.specs.Prelude.{◌≡◌};
-ghost use Rattle.thread_model.specs.Changes.{with_worker};
 ghost use Rattle.world_model.specs.Turns.{turn, refusal_in};
 ghost use Rattle.world_model.specs.WorkerSteps.{ExpandOnwardStep};
 ghost use Rattle.worker_core.specs.Settling.{SettleOrDrop};
 ghost use Rattle.worker_core.specs.Workers.{state_of};
-ghost use Rattle.thread_parts.specs.Parts.{part_state, role_of, Holds, IsKept};
+ghost use Rattle.thread_parts.specs.Parts.{role_of, Holds, ChangesItsWorker};
 
 use crate::part::Part;
 use message_ledger::Tokens;
@@ -25,10 +24,7 @@ impl<'a, S: Spread, C: Tokens> Part<'a, S, C> {
         requires { Holds S.owner_of C.workers self.old }
         ensures step { ExpandOnwardStep (role_of S.owner_of C.workers self.old)
             (turn (state_of self.old.worker) (refusal_in result) (state_of self.new.worker)) }
-        ensures rest { part_state self.new
-            ≡ with_worker (part_state self.old) (state_of self.new.worker) }
-        ensures holds { Holds S.owner_of C.workers self.new }
-        ensures kept { IsKept self.old self.new }
+        ensures part { ChangesItsWorker S.owner_of C.workers self.old self.new }
     {
         steps_are_kept();
         let workers = self.worker.workers();
@@ -42,10 +38,7 @@ impl<'a, S: Spread, C: Tokens> Part<'a, S, C> {
         requires { Holds S.owner_of C.workers self.old }
         ensures step { SettleOrDrop (role_of S.owner_of C.workers self.old)
             (turn (state_of self.old.worker) (refusal_in result) (state_of self.new.worker)) }
-        ensures rest { part_state self.new
-            ≡ with_worker (part_state self.old) (state_of self.new.worker) }
-        ensures holds { Holds S.owner_of C.workers self.new }
-        ensures kept { IsKept self.old self.new }
+        ensures part { ChangesItsWorker S.owner_of C.workers self.old self.new }
     {
         steps_are_kept();
         let workers = self.worker.workers();

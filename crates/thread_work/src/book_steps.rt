@@ -2,7 +2,7 @@
 
 ghost use Rattle.std.specs.Prelude.{◌≡◌, IsErr};
 ghost use Rattle.outcomes.specs.declared.outcome.Want.{Want};
-ghost use Rattle.thread_parts.specs.Parts.{Holds, IsKept};
+ghost use Rattle.thread_parts.specs.Parts.{Holds, KeepsPart};
 ghost use Rattle.world_model.specs.declared.steps.HaltCause.{HaltCause};
 
 use crate::lane_steps::has_unsent;
@@ -21,8 +21,7 @@ impl<'a, R: Wait, G: Gate, C: Tokens> Site<'a, R, G, C> {
     /// Draws credit, where the purse was too small for a packet. Answers whether there is more.
     pub(crate) fn draw<S: Spread>(&self, part: &mut Part<'_, S, C>) -> bool
         requires { Holds S.owner_of C.workers part.old }
-        ensures holds { Holds S.owner_of C.workers part.new }
-        ensures kept { IsKept part.old part.new }
+        ensures { KeepsPart S.owner_of C.workers part.old part.new }
     {
         let drawn = part.draw(&mut self.book.lock(self.rt));
         if drawn.is_err() {
@@ -36,8 +35,7 @@ impl<'a, R: Wait, G: Gate, C: Tokens> Site<'a, R, G, C> {
     /// the run is halted. Answers what the refusal was.
     pub(crate) fn ask<S: Spread>(&self, part: &mut Part<'_, S, C>) -> Result<(), Refusal>
         requires { Holds S.owner_of C.workers part.old }
-        ensures holds { Holds S.owner_of C.workers part.new }
-        ensures kept { IsKept part.old part.new }
+        ensures { KeepsPart S.owner_of C.workers part.old part.new }
     {
         let granted = part.grant(&mut self.book.lock(self.rt));
         let Err(refusal) = granted else {
@@ -54,8 +52,7 @@ impl<'a, R: Wait, G: Gate, C: Tokens> Site<'a, R, G, C> {
     /// Announces the goal's cost, where this worker knows it below the best cost that it knows of.
     pub(crate) fn tell_news<S: Spread>(&self, part: &mut Part<'_, S, C>)
         requires { Holds S.owner_of C.workers part.old }
-        ensures holds { Holds S.owner_of C.workers part.new }
-        ensures kept { IsKept part.old part.new }
+        ensures { KeepsPart S.owner_of C.workers part.old part.new }
     {
         if !has_news(part) {
             return;
@@ -70,8 +67,7 @@ impl<'a, R: Wait, G: Gate, C: Tokens> Site<'a, R, G, C> {
     /// Rests, where nothing is unsent. Answers whether it came to rest.
     pub(crate) fn rest<S: Spread>(&self, part: &mut Part<'_, S, C>) -> bool
         requires { Holds S.owner_of C.workers part.old }
-        ensures holds { Holds S.owner_of C.workers part.new }
-        ensures kept { IsKept part.old part.new }
+        ensures { KeepsPart S.owner_of C.workers part.old part.new }
     {
         // The book would refuse it, and the lock is left to those that have something to do.
         if has_unsent(part) {
@@ -91,8 +87,7 @@ impl<'a, R: Wait, G: Gate, C: Tokens> Site<'a, R, G, C> {
     /// Halts the run because memory was refused.
     pub(crate) fn halt_for_memory<S: Spread>(&self, part: &mut Part<'_, S, C>, refused: OutOfMemory)
         requires { Holds S.owner_of C.workers part.old }
-        ensures holds { Holds S.owner_of C.workers part.new }
-        ensures kept { IsKept part.old part.new }
+        ensures { KeepsPart S.owner_of C.workers part.old part.new }
     {
         self.halt(part, HaltCause::Memory(Want::Refused(refused)));
     }
@@ -101,8 +96,7 @@ impl<'a, R: Wait, G: Gate, C: Tokens> Site<'a, R, G, C> {
     fn halt<S: Spread>(&self, part: &mut Part<'_, S, C>, cause: HaltCause)
         requires holds { Holds S.owner_of C.workers part.old }
         requires want { (want : Want) → cause ≡ HaltCause.Memory want → C.allows_want want }
-        ensures holds { Holds S.owner_of C.workers part.new }
-        ensures kept { IsKept part.old part.new }
+        ensures { KeepsPart S.owner_of C.workers part.old part.new }
     {
         let halted = part.halt(cause, &mut self.book.lock(self.rt));
         if halted.is_err() {

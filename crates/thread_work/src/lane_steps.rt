@@ -1,7 +1,7 @@
 //! What workers do with packets.
 
 ghost use Rattle.std.specs.Prelude.{◌≡◌, ◌<◌, length};
-ghost use Rattle.thread_parts.specs.Parts.{Holds, IsKept};
+ghost use Rattle.thread_parts.specs.Parts.{Holds, KeepsPart};
 
 use crate::site::Site;
 use hda_run::{Gate, Kind};
@@ -20,8 +20,7 @@ impl<'a, R: Wait, G: Gate, C: Tokens> Site<'a, R, G, C> {
     /// there was one.
     pub(crate) fn receive<S: Spread>(&self, part: &mut Part<'_, S, C>) -> bool
         requires { Holds S.owner_of C.workers part.old }
-        ensures holds { Holds S.owner_of C.workers part.new }
-        ensures kept { IsKept part.old part.new }
+        ensures { KeepsPart S.owner_of C.workers part.old part.new }
     {
         let mut some = false;
         let workers = worker_count(part);
@@ -39,8 +38,7 @@ impl<'a, R: Wait, G: Gate, C: Tokens> Site<'a, R, G, C> {
     // Settles all that is held. Where memory is refused the run is halted.
     fn settle_all<S: Spread>(&self, part: &mut Part<'_, S, C>)
         requires { Holds S.owner_of C.workers part.old }
-        ensures holds { Holds S.owner_of C.workers part.new }
-        ensures kept { IsKept part.old part.new }
+        ensures { KeepsPart S.owner_of C.workers part.old part.new }
     {
         'items: for _ in 0..PACKET_LIMIT {
             let known = part.worker.lists().len();
@@ -58,8 +56,7 @@ impl<'a, R: Wait, G: Gate, C: Tokens> Site<'a, R, G, C> {
     /// Sends all that is unsent. Answers whether a packet went out.
     pub(crate) fn send_all<S: Spread>(&self, part: &mut Part<'_, S, C>) -> bool
         requires { Holds S.owner_of C.workers part.old }
-        ensures holds { Holds S.owner_of C.workers part.new }
-        ensures kept { IsKept part.old part.new }
+        ensures { KeepsPart S.owner_of C.workers part.old part.new }
     {
         self.send_from(part, 1)
     }
@@ -67,8 +64,7 @@ impl<'a, R: Wait, G: Gate, C: Tokens> Site<'a, R, G, C> {
     /// Sends the packets in which a board may lack room. Answers whether one went out.
     pub(crate) fn send_full<S: Spread>(&self, part: &mut Part<'_, S, C>) -> bool
         requires { Holds S.owner_of C.workers part.old }
-        ensures holds { Holds S.owner_of C.workers part.new }
-        ensures kept { IsKept part.old part.new }
+        ensures { KeepsPart S.owner_of C.workers part.old part.new }
     {
         self.send_from(part, NEARLY_FULL)
     }
@@ -76,8 +72,7 @@ impl<'a, R: Wait, G: Gate, C: Tokens> Site<'a, R, G, C> {
     // Sends the packets that have so many items at least. Answers whether one went out.
     fn send_from<S: Spread>(&self, part: &mut Part<'_, S, C>, fewest: usize) -> bool
         requires { Holds S.owner_of C.workers part.old }
-        ensures holds { Holds S.owner_of C.workers part.new }
-        ensures kept { IsKept part.old part.new }
+        ensures { KeepsPart S.owner_of C.workers part.old part.new }
     {
         let mut some = false;
         let workers = worker_count(part);
@@ -97,8 +92,7 @@ impl<'a, R: Wait, G: Gate, C: Tokens> Site<'a, R, G, C> {
     fn send<S: Spread>(&self, part: &mut Part<'_, S, C>, to: usize) -> bool
         requires holds { Holds S.owner_of C.workers part.old }
         requires there { to < C.workers }
-        ensures holds { Holds S.owner_of C.workers part.new }
-        ensures kept { IsKept part.old part.new }
+        ensures { KeepsPart S.owner_of C.workers part.old part.new }
     {
         match self.hand_over(part, to) {
             Ok(()) => true,
@@ -111,8 +105,7 @@ impl<'a, R: Wait, G: Gate, C: Tokens> Site<'a, R, G, C> {
     fn hand_over<S: Spread>(&self, part: &mut Part<'_, S, C>, to: usize) -> Result<(), Refusal>
         requires holds { Holds S.owner_of C.workers part.old }
         requires there { to < C.workers }
-        ensures holds { Holds S.owner_of C.workers part.new }
-        ensures kept { IsKept part.old part.new }
+        ensures { KeepsPart S.owner_of C.workers part.old part.new }
     {
         if let Err(refusal) = part.send(to) {
             return Err(refusal);

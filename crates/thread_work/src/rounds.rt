@@ -1,7 +1,7 @@
 //! What a worker does until the run has stopped.
 
 ghost use Rattle.std.specs.Prelude.{◌≡◌};
-ghost use Rattle.thread_parts.specs.Parts.{Holds, IsKept};
+ghost use Rattle.thread_parts.specs.Parts.{Holds, IsKept, KeepsPart};
 
 use crate::site::Site;
 use hda_run::{Gate, Kind};
@@ -72,8 +72,7 @@ impl<'a, R: Wait, G: Gate, C: Tokens> Site<'a, R, G, C> {
     // Expands boards, as many as a round has at most. Answers whether something was done.
     fn expand_some<S: Spread>(&self, part: &mut Part<'_, S, C>) -> bool
         requires { Holds S.owner_of C.workers part.old }
-        ensures holds { Holds S.owner_of C.workers part.new }
-        ensures kept { IsKept part.old part.new }
+        ensures { KeepsPart S.owner_of C.workers part.old part.new }
     {
         let mut some = false;
         'boards: for _ in 0..EXPANSIONS_IN_A_ROUND {
@@ -100,8 +99,7 @@ impl<'a, R: Wait, G: Gate, C: Tokens> Site<'a, R, G, C> {
     // done.
     fn help<S: Spread>(&self, part: &mut Part<'_, S, C>, refusal: Refusal) -> bool
         requires { Holds S.owner_of C.workers part.old }
-        ensures holds { Holds S.owner_of C.workers part.new }
-        ensures kept { IsKept part.old part.new }
+        ensures { KeepsPart S.owner_of C.workers part.old part.new }
     {
         match refusal {
             Refusal::NothingBelowLimit => self.send_all(part),
@@ -120,8 +118,7 @@ impl<'a, R: Wait, G: Gate, C: Tokens> Site<'a, R, G, C> {
     // something was done.
     fn get_allowance<S: Spread>(&self, part: &mut Part<'_, S, C>) -> bool
         requires { Holds S.owner_of C.workers part.old }
-        ensures holds { Holds S.owner_of C.workers part.new }
-        ensures kept { IsKept part.old part.new }
+        ensures { KeepsPart S.owner_of C.workers part.old part.new }
     {
         match self.ask(part) {
             Err(Refusal::NothingBelowLimit) => self.send_all(part),

@@ -3,7 +3,7 @@ use Rattle.worker_core.specs.Workers.{state_of, with_book}
 use Rattle.world_model.specs.BookSteps.{AnnounceStep}
 use Rattle.world_model.specs.Turns.{refusal_in, turn}
 use Rattle.thread_parts.specs.Parts.{part_state, role_of}
-use Rattle.thread_parts.proofs.PartLemmas.{holds_with, same_guided, unsent_count, unbarred}
+use Rattle.thread_parts.proofs.PartLemmas.{with_kept, same_guided, unsent_count, unbarred}
 use Rattle.thread_parts.proofs.part.Part.announce.Goals as goal
 
 pub returns-clause-step : goal.returns-clause-step
@@ -16,14 +16,14 @@ returns-clause-step g c =
     unbarred (AnnounceStep role) (turn (with_book (state_of old.worker) c.args.book.now) (refusal_in c.announce.result) (with_book (state_of c.announce.new.self) c.announce.new.book))
     c.in_default.ensures.goes_on c.in_default.ensures.purse (c.announce.ensures.step role (record { me = refl; ends = sym c.keyed_goal-goal.ensures.value }) owner)
 
-pub returns-clause-holds : goal.returns-clause-holds
-returns-clause-holds g c =
+pub returns-clause-part : goal.returns-clause-part
+returns-clause-part g c =
     let old = c.args.self.now in
     let n = g.C.Tokens.workers in
     let owner_of = g.S.Spread.owner_of in
     let role = role_of owner_of n old in
     let owner = ap (λ (k : ℕ). owner_of old.owners.now k c.keyed_goal-goal.result.now) (sym (unsent_count owner_of n old c.requires)) in
     let step = c.announce.ensures.step role (record { me = refl; ends = sym c.keyed_goal-goal.ensures.value }) owner in
-    holds_with owner_of n old c.requires c.announce.new.self
+    with_kept owner_of n old c.requires c.announce.new.self
     (c.steps_are_kept.ensures.book n role (part_state old) c.args.book.now c.announce.new.book (refusal_in c.announce.result) (state_of c.announce.new.self) c.requires.role c.requires.keeps c.in_default.ensures.purse (inr (inl step)))
     (same_guided owner_of n old c.requires c.announce.new.self c.announce.ensures.keeps.lists)

@@ -20,8 +20,8 @@ returns-clause-step g c =
     (on_ok_weaker c.deliver.result (λ has. (has.room, receives old from worker end end' here there has)) c.deliver.ensures.given)
     (on_err_weaker c.deliver.result (λ same. (none_received old from worker end end' here same.0 same.1, c.deliver.ensures.step [] [] (at_empty end end' same.0))) c.deliver.ensures.refused)
 
-pub returns-clause-holds : goal.returns-clause-holds
-returns-clause-holds g c =
+pub returns-clause-part : goal.returns-clause-part
+returns-clause-part g c =
     let old = c.args.self.now in
     let n = g.C.Tokens.workers in
     let owner_of = g.S.Spread.owner_of in
@@ -32,18 +32,17 @@ returns-clause-holds g c =
     let count = in_count owner_of n old c.requires.holds in
     let there : from < length old.ins.items = omega (arith, count, c.requires.there) in
     let new = with_in old from worker lane c.deliver.new.lane here in
-    holds_after owner_of n old c.requires.holds new refl refl (elim (answered c.deliver.result c.deliver.ensures.given c.deliver.ensures.refused) [
-      | inl has ↦ c.steps_are_kept.ensures.receive n from (role_of owner_of n old) (part_state old) (part_state new) c.requires.holds.role c.requires.there c.requires.holds.keeps (receives old from worker lane c.deliver.new.lane here there has)
-      | inr same ↦ subst (Keeps n (role_of owner_of n old)) (sym (none_received old from worker lane c.deliver.new.lane here same.0 same.1)) c.requires.holds.keeps
-    ]) c.deliver.ensures.lists
-
-pub returns-clause-kept : goal.returns-clause-kept
-returns-clause-kept g c =
     let ring : c.deliver.new.lane.ring ≡ c.index_mut-lane.result.now.ring = elim (answered c.deliver.result c.deliver.ensures.given c.deliver.ensures.refused) [
       | inl has ↦ has.given.0
       | inr same ↦ same.0.0
     ] in
-    in_kept c.args.self.now c.args.from c.deliver.new.self c.index_mut-lane.result.now c.deliver.new.lane c.index_mut-lane.ensures.value ring
+    record {
+      holds = holds_after owner_of n old c.requires.holds new refl refl (elim (answered c.deliver.result c.deliver.ensures.given c.deliver.ensures.refused) [
+        | inl has ↦ c.steps_are_kept.ensures.receive n from (role_of owner_of n old) (part_state old) (part_state new) c.requires.holds.role c.requires.there c.requires.holds.keeps (receives old from worker lane c.deliver.new.lane here there has)
+        | inr same ↦ subst (Keeps n (role_of owner_of n old)) (sym (none_received old from worker lane c.deliver.new.lane here same.0 same.1)) c.requires.holds.keeps
+      ]) c.deliver.ensures.lists;
+      kept = in_kept c.args.self.now c.args.from c.deliver.new.self c.index_mut-lane.result.now c.deliver.new.lane c.index_mut-lane.ensures.value ring;
+    }
 
 pub returns-clause-seen : goal.returns-clause-seen
 returns-clause-seen g c refused =

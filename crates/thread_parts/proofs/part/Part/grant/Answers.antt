@@ -5,7 +5,7 @@ use Rattle.world_model.specs.BookSteps.{GrantStep}
 use Rattle.world_model.specs.Turns.{refusal_in, turn}
 use Rattle.hda_run.specs.Problems.{task_in}
 use Rattle.thread_parts.specs.Parts.{part_state, role_of}
-use Rattle.thread_parts.proofs.PartLemmas.{holds_with, unbarred}
+use Rattle.thread_parts.proofs.PartLemmas.{with_kept, unbarred}
 use Rattle.thread_parts.proofs.part.Part.grant.Goals as goal
 
 pub returns-clause-step : goal.returns-clause-step
@@ -15,13 +15,13 @@ returns-clause-step g c =
     unbarred (GrantStep role) (turn (with_book (state_of old.worker) c.args.book.now) (refusal_in c.grant.result) (with_book (state_of c.grant.new.self) c.grant.new.book))
     c.in_default.ensures.goes_on c.in_default.ensures.purse (c.grant.ensures.step role (guide_of (task_in old.job.now)) c.requires.guided)
 
-pub returns-clause-holds : goal.returns-clause-holds
-returns-clause-holds g c =
+pub returns-clause-part : goal.returns-clause-part
+returns-clause-part g c =
     let old = c.args.self.now in
     let n = g.C.Tokens.workers in
     let role = role_of g.S.Spread.owner_of n old in
     let task = task_in old.job.now in
     let step = c.grant.ensures.step role (guide_of task) c.requires.guided in
-    holds_with g.S.Spread.owner_of n old c.requires c.grant.new.self
+    with_kept g.S.Spread.owner_of n old c.requires c.grant.new.self
     (c.steps_are_kept.ensures.book n role (part_state old) c.args.book.now c.grant.new.book (refusal_in c.grant.result) (state_of c.grant.new.self) c.requires.role c.requires.keeps c.in_default.ensures.purse (inr (inr (inl step))))
     (c.grant.ensures.keeps.guided task (guide_of task) c.requires.guided)

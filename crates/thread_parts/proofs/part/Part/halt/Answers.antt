@@ -2,13 +2,13 @@ use Rattle.std.proofs.Common.{inr}
 use Rattle.worker_core.specs.Workers.{state_of}
 use Rattle.world_model.specs.Turns.{refusal_in}
 use Rattle.thread_parts.specs.Parts.{part_state, role_of}
-use Rattle.thread_parts.proofs.PartLemmas.{holds_with, same_guided}
+use Rattle.thread_parts.proofs.PartLemmas.{with_kept, same_guided}
 use Rattle.thread_parts.proofs.part.Part.halt.Goals as goal
 
-pub returns-clause-holds : goal.returns-clause-holds
-returns-clause-holds g c =
+pub returns-clause-part : goal.returns-clause-part
+returns-clause-part g c =
     let old = c.args.self.now in
     let n = g.C.Tokens.workers in
-    holds_with g.S.Spread.owner_of n old c.requires.holds c.halt.new.self
+    with_kept g.S.Spread.owner_of n old c.requires.holds c.halt.new.self
     (c.steps_are_kept.ensures.book n (role_of g.S.Spread.owner_of n old) (part_state old) c.args.book.now c.halt.new.book (refusal_in c.halt.result) (state_of c.halt.new.self) c.requires.holds.role c.requires.holds.keeps c.in_default.ensures.purse (inr (inr (inr (inr (c.args.cause, c.halt.ensures.step))))))
     (same_guided g.S.Spread.owner_of n old c.requires.holds c.halt.new.self c.halt.ensures.keeps.lists)

@@ -20,8 +20,8 @@ returns-clause-step g c =
     (on_ok_weaker c.send.result (λ has. sends old to worker end end' here there has) c.send.ensures.sent)
     (on_err_weaker c.send.result (λ same. (none_sent old to worker end end' here same.0 same.1, c.send.ensures.step full_lane full_lane (at_full end end' same.0))) c.send.ensures.refused)
 
-pub returns-clause-holds : goal.returns-clause-holds
-returns-clause-holds g c =
+pub returns-clause-part : goal.returns-clause-part
+returns-clause-part g c =
     let old = c.args.self.now in
     let n = g.C.Tokens.workers in
     let owner_of = g.S.Spread.owner_of in
@@ -32,15 +32,14 @@ returns-clause-holds g c =
     let count = out_count owner_of n old c.requires.holds in
     let there : to < length old.outs.items = omega (arith, count, c.requires.there) in
     let new = with_out old to worker lane c.send.new.lane here in
-    holds_after owner_of n old c.requires.holds new refl refl (elim (answered c.send.result c.send.ensures.sent c.send.ensures.refused) [
-      | inl has ↦ c.steps_are_kept.ensures.send n to (role_of owner_of n old) (part_state old) (part_state new) c.requires.holds.role c.requires.there c.requires.holds.keeps (sends old to worker lane c.send.new.lane here there has)
-      | inr same ↦ subst (Keeps n (role_of owner_of n old)) (sym (none_sent old to worker lane c.send.new.lane here same.0 same.1)) c.requires.holds.keeps
-    ]) c.send.ensures.lists
-
-pub returns-clause-kept : goal.returns-clause-kept
-returns-clause-kept g c =
     let ring : c.send.new.lane.ring ≡ c.index_mut-lane.result.now.ring = elim (answered c.send.result c.send.ensures.sent c.send.ensures.refused) [
       | inl has ↦ ap (λ (e : SendingEnd). e.ring) has.taken
       | inr same ↦ ap (λ (e : SendingEnd). e.ring) same.0
     ] in
-    out_kept c.args.self.now c.args.to c.send.new.self c.index_mut-lane.result.now c.send.new.lane c.index_mut-lane.ensures.value ring
+    record {
+      holds = holds_after owner_of n old c.requires.holds new refl refl (elim (answered c.send.result c.send.ensures.sent c.send.ensures.refused) [
+        | inl has ↦ c.steps_are_kept.ensures.send n to (role_of owner_of n old) (part_state old) (part_state new) c.requires.holds.role c.requires.there c.requires.holds.keeps (sends old to worker lane c.send.new.lane here there has)
+        | inr same ↦ subst (Keeps n (role_of owner_of n old)) (sym (none_sent old to worker lane c.send.new.lane here same.0 same.1)) c.requires.holds.keeps
+      ]) c.send.ensures.lists;
+      kept = out_kept c.args.self.now c.args.to c.send.new.self c.index_mut-lane.result.now c.send.new.lane c.index_mut-lane.ensures.value ring;
+    }
