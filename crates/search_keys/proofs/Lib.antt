@@ -1,0 +1,2 @@
+pub mod SearchKeyLemmas
+pub mod ZeroLemmas

@@ -1,0 +1,3 @@
+pub mod SearchKeys
+pub mod Storage
+pub mod Laws

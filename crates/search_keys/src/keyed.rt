@@ -1,0 +1,206 @@
+//! Boards known by their search keys.
+
+ghost use Rattle.std.specs.Prelude.{ℕ, ◌≡◌, ◌<◌, ◌≤◌, ◌↔◌, Some, IsTrue, slice_index, take, length};
+ghost use Rattle.board.specs.declared.moves.Move.{Move};
+ghost use Rattle.board.specs.Grids.{cell_count};
+ghost use Rattle.board.specs.Positions.{Position, IsBoard, blank_of, cell_of};
+ghost use Rattle.board.specs.Neighbours.{neighbour};
+ghost use Rattle.board.specs.Moves.{blank_exchange};
+ghost use Rattle.search_keys.specs.SearchKeys.{search_key, key_base, HasSearchKey};
+
+use crate::digits::{
+    long_digit, long_exchanged, long_place, short_digit, short_exchanged, short_place,
+};
+use board::{Board, Shape};
+use pattern_index::cells_of;
+use std::marker::Model;
+
+/// A board as its search key, which has the cell of each number as a digit, the blank's lowest.
+#[derive(Clone, Copy, Debug)]
+pub struct KeyedBoard {
+    shape: Shape,
+    key: u128,
+}
+
+impl Model for KeyedBoard {
+    ghost use Rattle.board.specs.Positions.{Position};
+
+    ghost Value = { Position };
+
+    ghost use Rattle.search_keys.specs.Storage.{board_in, storage_of, IsKeyed};
+    ghost use Rattle.search_keys.specs.Storage.{storage_of-board_in};
+
+    ghost view = { board_in };
+
+    ghost invariant = { IsKeyed };
+
+    ghost inverse = { storage_of };
+
+    ghost inverse_ok = { storage_of-board_in };
+}
+
+/// What is known of a board after a move.
+#[derive(Clone, Copy, Debug)]
+pub struct Slid {
+    /// Its search key.
+    pub key: u128,
+    /// The tile that is moved, to where the blank was.
+    pub tile: u8,
+}
+
+impl KeyedBoard {
+    /// A board by its search key.
+    pub fn new(board: &Board) -> Self
+        ensures { result ≡ board.now }
+    {
+        KeyedBoard {
+            shape: board.shape(),
+            key: search_key_of(board),
+        }
+    }
+
+    /// The board of this shape with this search key, which is known to be a board's.
+    pub fn of_key(shape: Shape, key: u128) -> Self
+        requires { (b : Position) × HasSearchKey shape key b }
+        ensures { HasSearchKey shape key result }
+    {
+        KeyedBoard { shape, key }
+    }
+
+    /// Its shape.
+    pub fn shape(&self) -> Shape
+        ensures value { result ≡ self.now.grid }
+        ensures board { IsBoard self.now }
+    {
+        self.shape
+    }
+
+    /// Its search key.
+    pub fn key(&self) -> u128
+        ensures value { result ≡ search_key self.now }
+        ensures board { IsBoard self.now }
+    {
+        self.key
+    }
+
+    /// The cell of the blank.
+    pub fn blank(&self) -> usize
+        ensures value { result ≡ blank_of self.now }
+        ensures within { result < cell_count self.now.grid }
+        ensures board { IsBoard self.now }
+    {
+        if is_short(self.shape) {
+            return short_digit(self.key as u64, 0) as usize;
+        }
+        long_digit(self.key, 0) as usize
+    }
+
+    /// The cell on which a number stands.
+    pub fn cell(&self, number: u8) -> usize
+        requires { number < cell_count self.now.grid }
+        ensures value { result ≡ cell_of self.now number }
+        ensures within { result < cell_count self.now.grid }
+        ensures board { IsBoard self.now }
+    {
+        let place = number as usize;
+        if is_short(self.shape) {
+            return short_digit(self.key as u64, place) as usize;
+        }
+        long_digit(self.key, place) as usize
+    }
+
+    /// The number that stands on a cell, 0 for the blank.
+    pub fn number_on(&self, cell: usize) -> u8
+        requires { cell < cell_count self.now.grid }
+        ensures value { result ≡ slice_index self.now.tiles cell }
+        ensures within { result < cell_count self.now.grid }
+        ensures cell { cell_of self.now result ≡ cell }
+        ensures board { IsBoard self.now }
+    {
+        if is_short(self.shape) {
+            return short_place(self.key as u64, cell as u64);
+        }
+        long_place(self.key, cell as u128)
+    }
+
+    /// The search key of the board after the blank goes to a cell beside it, and the tile that is
+    /// moved from there.
+    pub fn slide(&self, to: usize) -> Slid
+        requires { (m : Move) × (neighbour self.now.grid m (blank_of self.now) ≡ Some to) }
+        ensures key { result.key ≡ search_key (blank_exchange self.now to) }
+        ensures board { IsBoard (blank_exchange self.now to) }
+        ensures tile { result.tile ≡ slice_index self.now.tiles to }
+        ensures some { 0 < result.tile }
+        ensures low { result.tile < cell_count self.now.grid }
+    {
+        let blank = self.blank();
+        let tile = self.number_on(to);
+        let place = tile as usize;
+        if is_short(self.shape) {
+            let key = short_exchanged(self.key as u64, place, blank as u64, to as u64);
+            return Slid {
+                key: key as u128,
+                tile,
+            };
+        }
+        let key = long_exchanged(self.key, place, blank as u128, to as u128);
+        Slid { key, tile }
+    }
+
+    /// The board itself.
+    pub fn board(&self) -> Board
+        ensures value { result ≡ self.now }
+        ensures board { IsBoard self.now }
+    {
+        let shape = self.shape();
+        let tiles = self.tiles();
+        Board::from_tiles(shape, &tiles[..shape.cells()]).unwrap()
+    }
+
+    // The numbers on the cells, and zeros behind them.
+    fn tiles(&self) -> [u8; 25]
+        ensures tiles { take (cell_count self.now.grid) result ≡ self.now.tiles }
+        ensures all { length result ≡ 25 }
+    {
+        let mut tiles = [0; 25];
+        let count = self.shape().cells();
+        'cells: for cell in 0..count {
+            tiles[cell] = self.number_on(cell);
+        }
+        tiles
+    }
+}
+
+// Whether a digit has four bits.
+fn is_short(shape: Shape) -> bool
+    ensures { IsTrue result ↔ (cell_count shape ≤ 16) }
+{
+    shape.cells() <= 16
+}
+
+// The base of the digits.
+fn base_of(shape: Shape) -> u128
+    ensures { result ≡ key_base shape }
+{
+    if is_short(shape) {
+        return 16;
+    }
+    32
+}
+
+// The search key of a board, from its last number on.
+fn search_key_of(board: &Board) -> u128
+    ensures value { result ≡ search_key board.now }
+    ensures board { IsBoard board.now }
+{
+    let shape = board.shape();
+    let base = base_of(shape);
+    let cells = cells_of(board);
+    let mut number = shape.cells();
+    let mut key = 0;
+    'numbers: while number > 0 {
+        number -= 1;
+        key = key * base + cells[number] as u128;
+    }
+    key
+}
