@@ -1,8 +1,8 @@
 -- Search keys: that a board and its key tell one another, how large a key is, and which digits a move exchanges.
-use Rattle.std.proofs.Common.{Some, ◌≡◌, ◌≢◌, ℕ, zero, suc, ◌+◌, ◌-◌, ◌*◌, ◌/◌, ◌%◌, ◌^◌, ◌<◌, ◌≤◌, Bool, true, false, cond, eqb, List, [], ◌∷◌, ◌++◌, length, map, take, drop, set, get_or, refl, sym, ap, ◌∙◌, subst, ⊎_elim, arith}
+use Rattle.std.proofs.Common.{Some, ◌≡◌, ◌≢◌, ℕ, zero, suc, ◌+◌, ◌*◌, ◌/◌, ◌%◌, ◌^◌, ◌<◌, ◌≤◌, Bool, true, false, cond, eqb, List, [], ◌∷◌, ◌++◌, length, map, take, drop, set, get_or, refl, sym, ap, ◌∙◌, subst, ⊎_elim, arith}
 use Rattle.std.specs.Prelude.{All, AllPairs, nat_le, slice_index}
 use Rattle.std.specs.List.{range_with_len}
-use Rattle.std.proofs.Math.Nat.{pow-le-pow_right, mul_comm, mul-le-mul_left, pow-succ', pow-zero, one-le-pow}
+use Rattle.std.proofs.Math.Nat.{pow-le-pow_right, mul_comm, pow-suc, pow-succ', pow-zero, div-one, div-div-eq-div-mul}
 use Rattle.std.proofs.lemmas.Bool.{false≢true, cases_eq, cases_lt, cond-true, cond-false, eq-eqb, ne_eqb}
 use Rattle.std.proofs.lemmas.Bool.Decides.{nat_tests}
 use Rattle.std.proofs.lemmas.Grind.{same_number_lists}
@@ -22,7 +22,7 @@ use Rattle.board.proofs.NeighbourLemmas.{cells_above, neighbour_lies}
 use Rattle.board.proofs.StepLemmas.{blank_stands, tile_above, tile_below}
 use Rattle.pattern_index.specs.Sparse.{sparse_of, digits_in}
 use Rattle.pattern_index.proofs.RankLemmas.{Below}
-use Rattle.pattern_index.proofs.SparseLemmas.{sparse_below, digits_back, digits_none, digits_on}
+use Rattle.pattern_index.proofs.SparseLemmas.{sparse_below, digits_back}
 use Rattle.search_keys.specs.SearchKeys.{digit_bits, key_base, cells_by_number, search_key, HasSearchKey, IsFirstDigit}
 use Rattle.search_keys.specs.Storage.{turned, board_in, IsKeyed}
 use Rattle.search_keys.specs.declared.keyed.KeyedBoard.TheInside.{Inside}
@@ -373,6 +373,18 @@ module _ (inside : Inside) (b : Position) (keyed : IsKeyed inside) (is : board_i
   pub long_cell : 16 < cell_count inside.shape → (number : ℕ) → number < cell_count b.grid → inside.key / 32 ^ number % 32 ≡ cell_of b number
   long_cell many number low = subst (λ (n : ℕ). inside.key / n ^ number % n ≡ cell_of b number) (long_here many) (stored_cell number low)
 
+  pub digits_read : cell_count b.grid ≤ 16 → (first n : ℕ) → first + n ≤ cell_count b.grid → inside.key / 16 ^ first % 16 ^ n ≡ sparse_of 16 (map (cell_of b) (range_with_len first n))
+  digits_read few first n within =
+      sym
+      (subst (λ (m : ℕ). sparse_of m (map (cell_of b) (range_with_len first n)) ≡ inside.key / m ^ first % m ^ n) (short_base b.grid few)
+      (subst (λ (k : ℕ). sparse_of (key_base b.grid) (map (cell_of b) (range_with_len first n)) ≡ k / key_base b.grid ^ first % key_base b.grid ^ n) stored_key (group_digits b first n stored_board within)))
+
+  pub few_here : cell_count inside.shape ≤ 16 → cell_count b.grid ≤ 16
+  few_here few = subst (λ (g : Grid). cell_count g ≤ 16) stored_grid few
+
+  pub few_stored : cell_count b.grid ≤ 16 → cell_count inside.shape ≤ 16
+  few_stored few = subst (λ (g : Grid). cell_count g ≤ 16) (sym stored_grid) few
+
   pub cell_within : (number cell : ℕ) → number < cell_count b.grid → cell ≡ cell_of b number → cell < cell_count b.grid
   cell_within number cell low at = subst (λ (k : ℕ). k < cell_count b.grid) (sym at) (has_cell b stored_board number low).0
 
@@ -451,32 +463,64 @@ pub many_cells : (n : ℕ) (short : Bool) → ((short ≡ true → n ≤ 16) × 
 many_cells n short decides no' =
     ⊎_elim (λ (many : 16 < n). many) (λ (few : n ≤ 16). absurd (false≢true (sym no' ∙ decides.1 few))) (cases_lt 16 n)
 
--- ---- the loop that makes a search key
+-- ---- the loops that put digits together
 
-module _ (b : Position) (board : IsBoard b) where
-  -- no number passes the whole key
-  some_low : (i : ℕ) → sparse_of (key_base b.grid) (drop i (cells_by_number b)) ≤ search_key b
-  some_low i =
-      let split = digits_split (key_base b.grid) i (cells_by_number b) in
-      let one = one-le-pow i (key_base b.grid) (base_some b.grid) in
-      let times : sparse_of (key_base b.grid) (drop i (cells_by_number b)) * 1 ≤ sparse_of (key_base b.grid) (drop i (cells_by_number b)) * key_base b.grid ^ i = mul-le-mul_left (sparse_of (key_base b.grid) (drop i (cells_by_number b))) one in
-      omega (arith, split, times)
+-- the digits from a place on make a number below the base to the power of how many there may be
+pub number_low : (n most place : ℕ) (digits : List ℕ) → 0 < n → length digits ≤ most → All (λ digit. digit < n) digits → sparse_of n (drop place digits) < n ^ most
+number_low n most place digits some few low =
+    let part = sparse_below n (drop place digits) (below_drop n place digits (recursion_from_All (λ digit. digit < n) digits low)) in
+    let long = length-drop place digits in
+    let wide : n ^ length (drop place digits) ≤ n ^ most = pow-le-pow_right {n = n} some {j = most} (omega (arith, long, few)) in
+    omega (arith, part, wide)
 
-  pub key_begins : (n : ℕ) → n ≡ cell_count b.grid → 0 ≡ sparse_of (key_base b.grid) (drop n (cells_by_number b))
-  key_begins n is = digits_none (key_base b.grid) (cells_by_number b) ∙ ap (λ (k : ℕ). sparse_of (key_base b.grid) (drop k (cells_by_number b))) (length-cells b ∙ sym is)
+-- the cells of the numbers are the first ones of a list that has the cell of each
+pub cells_taken : (b : Position) (cells : List ℕ) (n : ℕ) → IsBoard b → length cells ≡ 25 → n ≡ cell_count b.grid → ((number : ℕ) → number < cell_count b.grid → slice_index cells number ≡ cell_of b number) → take n cells ≡ cells_by_number b
+cells_taken b cells n board all is are =
+    let taken = length-take n cells in
+    let few = few_cells b.grid board.sides in
+    let long = length-cells b in
+    same_number_lists (take n cells) (cells_by_number b)
+    (omega (arith, taken, few, long, all, is))
+    (λ k k_in.
+    let low : k < n = omega (arith, length-take n cells, k_in) in
+    let under : k < cell_count b.grid = omega (arith, low, is) in
+    get_or-take n cells k 0 low ∙ are k under ∙ sym (cell_at b k under))
 
-  module _ (n number key cell : ℕ) (some : 0 < number) (within : number ≤ cell_count b.grid) (based : n ≡ key_base b.grid) (is : key ≡ sparse_of (key_base b.grid) (drop number (cells_by_number b))) (at : number - 1 < cell_count b.grid → cell ≡ cell_of b (number - 1)) where
-    pub key_more : key * n + cell ≡ sparse_of (key_base b.grid) (drop (number - 1) (cells_by_number b))
-    key_more =
-        let low : number - 1 < cell_count b.grid = omega arith in
-        let here : cell ≡ slice_index (cells_by_number b) (number - 1) = at low ∙ sym (cell_at b (number - 1) low) in
-        (λ i. key * based i + here i) ∙ digits_on (key_base b.grid) (cells_by_number b) number key some (omega (arith, length-cells b)) is
+-- they are digits of a base that is that of the key
+pub cells_low : (b : Position) (digits : List ℕ) (n : ℕ) → IsBoard b → key_base b.grid ≡ n → digits ≡ cells_by_number b → All (λ digit. digit < n) digits
+cells_low b digits n board based is =
+    subst (λ (xs : List ℕ). All (λ digit. digit < n) xs) (sym is)
+    (λ k d low. let under = cells_in_range b board k d low in let high = base_high b.grid board.sides in omega (arith, under, high, based))
 
-    pub key_low : key * n + cell < 2 ^ 125
-    key_low = let more = key_more in let low = some_low (number - 1) in let fits = long_fits b board in omega (arith, more, low, fits)
+pub key_made : (b : Position) (digits : List ℕ) (n : ℕ) → key_base b.grid ≡ n → digits ≡ cells_by_number b → sparse_of n digits ≡ search_key b
+key_made b digits n based is = λ i. sparse_of (sym based i) (is i)
 
 pub new_key : (inside : Inside) (b : Position) → IsBoard b → inside.shape ≡ b.grid → inside.key ≡ search_key b → HasSearchKey inside.shape inside.key b
 new_key inside b board sides is = record { board = board; sides = sym sides; packed = sym is }
+
+-- ---- the loops that write digits
+
+-- one digit more is written
+pub written_more : (n key place rest : ℕ) (digits : List ℕ) → place < length digits → rest ≡ key / n ^ place → ((k : ℕ) → k < place → slice_index digits k ≡ key / n ^ k % n) → (k : ℕ) → k < place + 1 → slice_index (set digits place (rest % n)) k ≡ key / n ^ k % n
+written_more n key place rest digits within is are k low =
+    ⊎_elim
+    (λ (same : k ≡ place).
+    ap (λ (j : ℕ). slice_index (set digits place (rest % n)) j) same
+    ∙ get_or-set_same digits place (rest % n) 0 within
+    ∙ ap (λ (x : ℕ). x % n) is
+    ∙ ap (λ (j : ℕ). key / n ^ j % n) (sym same))
+    (λ (other : k ≢ place). get_or-set_other digits place k (rest % n) 0 other ∙ are k (omega (arith, low, other)))
+    (cases_eq k place)
+
+-- and what is left then
+pub left_more : (n key place rest : ℕ) → rest ≡ key / n ^ place → rest / n ≡ key / n ^ (place + 1)
+left_more n key place rest is =
+    let next : place + 1 ≡ suc place = omega arith in
+    ap (λ (x : ℕ). x / n) is ∙ div-div-eq-div-mul key (n ^ place) n ∙ ap (λ (p : ℕ). key / p) (sym (pow-suc n place)) ∙ ap (λ (k : ℕ). key / n ^ k) (sym next)
+
+-- all is left at first
+pub left_all : (n key : ℕ) → key ≡ key / n ^ 0
+left_all n key = sym (ap (λ (p : ℕ). key / p) (pow-zero n) ∙ div-one key)
 
 -- ---- the loop that writes the tiles
 

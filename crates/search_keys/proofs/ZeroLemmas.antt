@@ -3,7 +3,7 @@ use Rattle.std.proofs.Common.{◌≡◌, ◌≢◌, ℕ, zero, suc, ◌+◌, ◌
 use Rattle.std.specs.Int.{bit_at}
 use lib.Bits.{bit_and, bit_xor, and_shr, and_mod, xor_shr, xor_mod, xor_lt, xor_self, xor_add_and, and_le_l, and_le_r, shifted_half, shifted_even}
 use lib.Count.{count_trailing_zeros, under}
-use Rattle.std.proofs.Math.Nat.{mul_assoc, mul-le-mul_left, mul-one, pow-suc, mod-eq_of_lt}
+use Rattle.std.proofs.Math.Nat.{mul_assoc, mul-le-mul_left, mul-one, pow-suc, pow-le-pow_right, mod-eq_of_lt}
 use Rattle.std.proofs.lemmas.Bool.{cases_eq, cases_lt}
 use Rattle.std.proofs.lemmas.Nat.{pow-add, pow_pos, shr-shr, div-mul-add, mod-mul-add, div-add-mod', mod_below}
 use Rattle.search_keys.specs.SearchKeys.{IsFirstDigit}
@@ -29,6 +29,19 @@ short_read key place = ap (λ (n : ℕ). key / n % 16) (four_bits place)
 
 pub long_read : (key place : ℕ) → key / 2 ^ (5 * place) % 32 ≡ key / 32 ^ place % 32
 long_read key place = ap (λ (n : ℕ). key / n % 32) (five_bits place)
+
+-- how many numbers there are of a few digits
+part_size : (count : ℕ) → count < 16 → 1 * 16 ^ count % 18446744073709551616 ≡ 16 ^ count
+part_size count few =
+    let most : 16 ^ count ≤ 16 ^ 15 = pow-le-pow_right {n = 16} (omega arith) {j = 15} (omega (arith, few)) in
+    let one : 1 * 16 ^ count ≡ 16 ^ count = omega arith in
+    mod-eq_of_lt (omega (arith, most, one)) ∙ one
+
+-- and some that follow one another
+pub short_part : (key first count : ℕ) → count < 16 → key / 2 ^ (4 * first) % (1 * 2 ^ (4 * count) % 18446744073709551616) ≡ key / 16 ^ first % 16 ^ count
+short_part key first count few =
+    (λ i. key / four_bits first i % (1 * four_bits count i % 18446744073709551616))
+    ∙ ap (λ (n : ℕ). key / 16 ^ first % n) (part_size count few)
 
 -- and one that is put there
 pub short_put : (digit place : ℕ) → digit * 16 ^ place < 2 ^ 64 → digit * 2 ^ (4 * place) % 18446744073709551616 ≡ digit * 16 ^ place

@@ -1,6 +1,8 @@
-//! Digits of four and of five bits: one read, two exchanged, and the first that is a given one.
+//! Digits of four and of five bits: put together, read, two exchanged, and the first that is a given
+//! one.
 
-ghost use Rattle.std.specs.Prelude.{ℕ, ◌≡◌, ◌+◌, ◌*◌, ◌/◌, ◌%◌, ◌^◌, ◌<◌, ◌≤◌};
+ghost use Rattle.std.specs.Prelude.{ℕ, ◌≡◌, ◌+◌, ◌*◌, ◌/◌, ◌%◌, ◌^◌, ◌<◌, ◌≤◌, All, length, slice_index};
+ghost use Rattle.pattern_index.specs.Sparse.{sparse_of};
 ghost use Rattle.search_keys.specs.SearchKeys.{IsFirstDigit};
 
 // A 1 as each of 16 digits of four bits, and the highest bit of each.
@@ -13,6 +15,59 @@ const LONG_ONES: u128 = 0x1084210842108421084210842108421;
 
 const LONG_HIGHS: u128 = 0x10842108421084210842108421084210;
 
+/// The number that has these digits of four bits, the first as the lowest.
+pub(crate) fn short_number(digits: &[u8]) -> u64
+    requires few { length digits.now ≤ 16 }
+    requires low { All (λ digit. digit < 16) digits.now }
+    ensures { result ≡ sparse_of 16 digits.now }
+{
+    let mut number = 0;
+    let mut place = digits.len();
+    'places: while place > 0 {
+        place -= 1;
+        number = number * 16 + digits[place] as u64;
+    }
+    number
+}
+
+/// The number that has these digits of five bits, the first as the lowest.
+pub(crate) fn long_number(digits: &[u8]) -> u128
+    requires few { length digits.now ≤ 25 }
+    requires low { All (λ digit. digit < 32) digits.now }
+    ensures { result ≡ sparse_of 32 digits.now }
+{
+    let mut number = 0;
+    let mut place = digits.len();
+    'places: while place > 0 {
+        place -= 1;
+        number = number * 32 + digits[place] as u128;
+    }
+    number
+}
+
+/// Writes the digits of a key of four bits a digit, the lowest first.
+pub(crate) fn write_short(key: u64, digits: &mut [u8; 25])
+    ensures { (place : ℕ) → place < 16 → slice_index digits.new place ≡ key / 16 ^ place % 16 }
+{
+    // A loop whose length is known is unrolled.
+    let mut rest = key;
+    'places: for place in 0..16 {
+        digits[place] = (rest % 16) as u8;
+        rest /= 16;
+    }
+}
+
+/// Writes the digits of a key of five bits a digit, the lowest first.
+pub(crate) fn write_long(key: u128, digits: &mut [u8; 25])
+    ensures { (place : ℕ) → place < 25 → slice_index digits.new place ≡ key / 32 ^ place % 32 }
+{
+    let mut rest = key;
+    'places: for place in 0..25 {
+        digits[place] = (rest % 32) as u8;
+        rest /= 32;
+    }
+}
+
 /// The digit at a place of a key of four bits a digit.
 #[tactic(auto, using(crate::proofs::ZeroLemmas::short_read))]
 pub(crate) fn short_digit(key: u64, place: usize) -> u8
@@ -20,6 +75,16 @@ pub(crate) fn short_digit(key: u64, place: usize) -> u8
     ensures { result ≡ key / 16 ^ place % 16 }
 {
     ((key >> (4 * place as u32)) % 16) as u8
+}
+
+/// The digits at some places that follow one another, as one number.
+#[tactic(auto, using(crate::proofs::ZeroLemmas::short_part))]
+pub(crate) fn short_digits(key: u64, first: usize, count: usize) -> usize
+    requires first { first < 16 }
+    requires few { count < 16 }
+    ensures { result ≡ key / 16 ^ first % 16 ^ count }
+{
+    ((key >> (4 * first as u32)) % (1 << (4 * count as u32))) as usize
 }
 
 /// The digit at a place of a key of five bits a digit.

@@ -1,15 +1,19 @@
 //! Boards known by their search keys.
 
-ghost use Rattle.std.specs.Prelude.{ℕ, ◌≡◌, ◌<◌, ◌≤◌, ◌↔◌, Some, IsTrue, slice_index, take, length};
+ghost use Rattle.std.specs.Prelude.{ℕ, ◌≡◌, ◌+◌, ◌<◌, ◌≤◌, ◌↔◌, Some, IsTrue};
+ghost use Rattle.std.specs.Prelude.{slice_index, take, length, map};
+ghost use Rattle.std.specs.List.{range_with_len};
 ghost use Rattle.board.specs.declared.moves.Move.{Move};
 ghost use Rattle.board.specs.Grids.{cell_count};
 ghost use Rattle.board.specs.Positions.{Position, IsBoard, blank_of, cell_of};
 ghost use Rattle.board.specs.Neighbours.{neighbour};
 ghost use Rattle.board.specs.Moves.{blank_exchange};
-ghost use Rattle.search_keys.specs.SearchKeys.{search_key, key_base, HasSearchKey};
+ghost use Rattle.pattern_index.specs.Sparse.{sparse_of};
+ghost use Rattle.search_keys.specs.SearchKeys.{search_key, HasSearchKey};
 
 use crate::digits::{
-    long_digit, long_exchanged, long_place, short_digit, short_exchanged, short_place,
+    long_digit, long_exchanged, long_number, long_place, short_digit, short_digits,
+    short_exchanged, short_number, short_place, write_long, write_short,
 };
 use board::{Board, Shape};
 use pattern_index::cells_of;
@@ -109,6 +113,34 @@ impl KeyedBoard {
         long_digit(self.key, place) as usize
     }
 
+    /// The cell of each number, by the number.
+    pub fn cells(&self) -> [u8; 25]
+        ensures board { IsBoard self.now }
+        ensures few { cell_count self.now.grid ≤ 25 }
+        ensures cells { (number : ℕ) → number < cell_count self.now.grid
+            → slice_index result number ≡ cell_of self.now number }
+    {
+        let mut cells = [0; 25];
+        if is_short(self.shape) {
+            write_short(self.key as u64, &mut cells);
+            return cells;
+        }
+        write_long(self.key, &mut cells);
+        cells
+    }
+
+    /// The cells of numbers that follow one another, as digits of one number: `count` of them from
+    /// `first` on, that one's cell as the lowest digit. It is for boards of at most 16 cells.
+    pub fn digits(&self, first: usize, count: usize) -> usize
+        requires short { cell_count self.now.grid ≤ 16 }
+        requires some { 0 < count }
+        requires few { count < 16 }
+        requires within { first + count ≤ cell_count self.now.grid }
+        ensures { result ≡ sparse_of 16 (map (cell_of self.now) (range_with_len first count)) }
+    {
+        short_digits(self.key as u64, first, count)
+    }
+
     /// The number that stands on a cell, 0 for the blank.
     pub fn number_on(&self, cell: usize) -> u8
         requires { cell < cell_count self.now.grid }
@@ -178,29 +210,16 @@ fn is_short(shape: Shape) -> bool
     shape.cells() <= 16
 }
 
-// The base of the digits.
-fn base_of(shape: Shape) -> u128
-    ensures { result ≡ key_base shape }
-{
-    if is_short(shape) {
-        return 16;
-    }
-    32
-}
-
-// The search key of a board, from its last number on.
+// The search key of a board.
 fn search_key_of(board: &Board) -> u128
     ensures value { result ≡ search_key board.now }
     ensures board { IsBoard board.now }
 {
     let shape = board.shape();
-    let base = base_of(shape);
     let cells = cells_of(board);
-    let mut number = shape.cells();
-    let mut key = 0;
-    'numbers: while number > 0 {
-        number -= 1;
-        key = key * base + cells[number] as u128;
+    let digits = &cells[..shape.cells()];
+    if is_short(shape) {
+        return short_number(digits) as u128;
     }
-    key
+    long_number(digits)
 }

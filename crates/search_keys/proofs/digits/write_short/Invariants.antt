@@ -1,0 +1,11 @@
+use Rattle.std.proofs.Common.{ℕ, ◌≡◌, ◌<◌, ◌/◌, ◌%◌, ◌^◌, length}
+use Rattle.std.specs.Prelude.{slice_index}
+use Rattle.search_keys.proofs.digits.write_short.Given as goal
+
+-- the digits before the place are written, and those from it on are left
+abbrev pub invariant-places : goal.invariant-places
+invariant-places l = record {
+  all : length l.digits ≡ 25;
+  rest : l.rest ≡ l.key / 16 ^ l.place;
+  are : (k : ℕ) → k < l.place → slice_index l.digits k ≡ l.key / 16 ^ k % 16;
+}
