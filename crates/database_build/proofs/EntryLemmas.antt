@@ -142,6 +142,10 @@ module _ (table : Lookup) (g : Selection) (entries : Entries) (is : record { sel
       subst (λ (t : Lookup). (rank : ℕ) → slice_index t.values rank ≤ NO_VALUE) is
       (subst (λ (e : Entries). (rank : ℕ) → slice_index (values_in g e) rank ≤ NO_VALUE) (sym kept) (by_rank_high g (slice_index words.items) high))
 
+  -- the slot of a view of the table is that of one of the group
+  pub slot_there : (v : Sight) (slot : ℕ) → slot_in table.selection.grid v ≡ slot → slot ≡ slot_in g.grid v
+  slot_there v slot at = sym at ∙ sym (ap (λ (t : Lookup). slot_in t.selection.grid v) is)
+
   module _ (v : Sight) (view : IsView table.selection.grid table.selection.tiles v) (slot : ℕ) (there : slot ≡ slot_in g.grid v) where
     -- a view of the table is one of the group, and has a slot
     of_group : IsView g.grid g.tiles v
@@ -149,6 +153,19 @@ module _ (table : Lookup) (g : Selection) (entries : Entries) (is : record { sel
 
     within : slot < slot_count_of g
     within = let low = slot_below g v of_group in omega (arith, low, there)
+
+    -- something stands there
+    pub bytes_within : (bytes : Vec ℕ Global) → entries ≡ Bytes bytes → slot < length bytes.items
+    bytes_within bytes kept =
+        let all : length bytes.items ≡ slot_count_of g = subst (HasEntries g) kept has in
+        let low = within in
+        omega (arith, low, all)
+
+    pub words_within : (words : Vec ℕ Global) → entries ≡ Words words → slot < length words.items
+    words_within words kept =
+        let all : length words.items ≡ slot_count_of g = subst (HasEntries g) kept has in
+        let low = within in
+        omega (arith, low, all)
 
     -- what is read of bytes is the view's value
     pub byte_read : (bytes : Vec ℕ Global) (byte value : ℕ) → entries ≡ Bytes bytes → byte ≡ get_or bytes.items slot byte → value ≡ widened byte → value ≡ value_in table v

@@ -1,8 +1,9 @@
 //! Tables: a number for each view of a group.
 
-ghost use Rattle.std.specs.Prelude.{ℕ, ◌≡◌, ◌≢◌, ◌↔◌, ◌<◌, ◌≤◌, length, slice_index, IsOk, IsErrOf, IfOk};
-ghost use Rattle.pattern_index.specs.Views.{IsView, view_at, exchanged};
+ghost use Rattle.std.specs.Prelude.{ℕ, ◌≡◌, ◌≢◌, ◌↔◌, ◌<◌, ◌≤◌, length, slice_index, IsOk, IsErrOf, IfOk, IfSome};
+ghost use Rattle.pattern_index.specs.Views.{IsView, Sight, view_at, exchanged};
 ghost use Rattle.pattern_index.specs.Selections.{size_of};
+ghost use Rattle.pattern_index.specs.Sparse.{slot_in};
 ghost use Rattle.database_build.specs.Entries.{HasEntries, values_in, widened};
 ghost use Rattle.database_build.specs.Tables.{value_in};
 ghost use Rattle.database_build.specs.declared.faults.TableFault.{TableFault};
@@ -129,6 +130,31 @@ impl Table {
                 let (before, after) = self.group.slots_at(cells, tile);
                 (words[before], words[after])
             }
+        }
+    }
+
+    /// The value of the views with a slot, found with one read. None where it keeps its values by
+    /// rank: `value` tells it then.
+    pub fn slot_value(&self, slot: usize) -> Option<u16>
+        requires { (v : Sight) × IsView self.now.selection.grid self.now.selection.tiles v
+            × (slot_in self.now.selection.grid v ≡ slot) }
+        ensures { IfSome result (λ value. (v : Sight)
+            → IsView self.now.selection.grid self.now.selection.tiles v
+            → slot_in self.now.selection.grid v ≡ slot → value ≡ value_in self.now v) }
+    {
+        match &self.entries {
+            Entries::Ranked(_) => None,
+            Entries::Bytes(bytes) => Some(widened(bytes[slot])),
+            Entries::Words(words) => Some(words[slot]),
+        }
+    }
+
+    /// Whether it keeps its values by slot.
+    pub fn is_by_slot(&self) -> bool {
+        match &self.entries {
+            Entries::Ranked(_) => false,
+            Entries::Bytes(_) => true,
+            Entries::Words(_) => true,
         }
     }
 
