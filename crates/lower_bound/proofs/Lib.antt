@@ -1,2 +1,3 @@
 pub mod PartLemmas
+pub mod RunLemmas
 pub mod SlideLemmas

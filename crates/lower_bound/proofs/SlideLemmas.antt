@@ -21,7 +21,7 @@ use Rattle.board.proofs.StepLemmas.{blank_stands, tile_above, tile_below}
 use Rattle.board.proofs.TileLemmas.{across, cell_is, has_cell}
 use Rattle.pattern_index.proofs.StorageLemmas.{looked_up}
 use Rattle.pattern_index.specs.Selections.{Selection, IsGroup, IsSelection, IsTile}
-use Rattle.pattern_index.specs.Sparse.{sparse_in, stride_of}
+use Rattle.pattern_index.specs.Sparse.{sparse_in, sparse_of, stride_of}
 use Rattle.pattern_index.proofs.GroupLemmas.{groups_small, cells_high}
 use Rattle.pattern_index.proofs.RankLemmas.{below_in, differ_from_pairs}
 use Rattle.pattern_index.proofs.PlaceLemmas.{place_listing}
@@ -36,7 +36,7 @@ use Rattle.lower_bound.specs.Bounds.{Part, sum_of}
 use Rattle.lower_bound.specs.ByTile.{AreGroupsByTile, IsGroupWith}
 use Rattle.lower_bound.specs.Folded.{AreFoldsOf, part_folded, value_by}
 use Rattle.lower_bound.specs.Laws.{ATileHasOneGroup, MovesChangeOneValue}
-use Rattle.lower_bound.specs.Slides.{AreCellsOf, HasCells, IsSlide, SeesBoth, SeesView}
+use Rattle.lower_bound.specs.Slides.{AreCellsOf, HasCells, IsMoveOf, IsSlide, SeesBoth, SeesView}
 use Rattle.lower_bound.specs.Tables.{AreConsistent, AreTablesOf, AreWhole, IsTables, Tables, part_of, parts_of}
 use Rattle.lower_bound.proofs.PartLemmas.{all_folded_parts, each_fold, each_lookup, folded_each, moves_one, value_stays, whole_each, whole_parts}
 
@@ -100,7 +100,7 @@ unmapped {X = X} P made xs all k d k_in =
     let count : length (map made xs) ≡ length xs = length-map xs made in
     subst P (get_or-map made xs k d (made d) k_in) (all k (made d) (omega (arith, count, k_in)))
 
-few_cells : (grid : Grid) → IsShape grid → cell_count grid ≤ 25
+pub few_cells : (grid : Grid) → IsShape grid → cell_count grid ≤ 25
 few_cells grid sides = mul-le grid.rows grid.cols 5 5 sides.rows_high sides.cols_high
 
 -- ---- which group has a tile
@@ -146,8 +146,8 @@ has_one_group groups places tile are low =
 
 -- ---- the sum after a tile went to the blank's cell
 
--- items with a group each, of which no two share a tile
-module _ {X : Type 0} (selection : X → Selection) (groups : List Selection) (xs : List X) (of : map selection xs ≡ groups) (f g : X → ℕ) (tile : ℕ) (others : All (λ x. ¬ Contains (selection x).tiles tile → f x ≡ g x) xs) where
+-- items with a group each
+module _ {X : Type 0} (selection : X → Selection) (groups : List Selection) (xs : List X) (of : map selection xs ≡ groups) where
   count : length xs ≡ length groups
   count = sym (length-map xs selection) ∙ ap length of
 
@@ -160,34 +160,39 @@ module _ {X : Type 0} (selection : X → Selection) (groups : List Selection) (x
       subst (λ (s : Selection). ShareNoTile (selection (get_or xs i d)).tiles s.tiles) (group_at j d j_in)
       (subst (λ (s : Selection). ShareNoTile s.tiles (get_or groups j (selection d)).tiles) (group_at i d (omega (arith, lt, j_in))) (apart i j (selection d) lt (omega (arith, j_in, count))))
 
+  -- the one at a tile's place has it
+  pub has_tile : (tile i : ℕ) (d : X) → IsGroupWith groups tile i → i < length xs → Contains (selection (get_or xs i d)).tiles tile
+  has_tile tile i d with i_in = let count = count in subst (λ (s : Selection). Contains s.tiles tile) (group_at i d i_in) (with.some (omega (arith, i_in, count)) (selection d))
+
+-- no two of which share a tile
+module _ {X : Type 0} (selection : X → Selection) (groups : List Selection) (xs : List X) (of : map selection xs ≡ groups) (f g : X → ℕ) (tile : ℕ) (others : All (λ x. ¬ Contains (selection x).tiles tile → f x ≡ g x) xs) where
   -- where one has the tile, its value alone changes
   pub changed : AreApart groups → (i : ℕ) (d : X) → IsGroupWith groups tile i → i < length xs → sum_by f xs + g (get_or xs i d) ≡ sum_by g xs + f (get_or xs i d)
   changed apart i d with i_in =
-      let count = count in
-      let has : Contains (selection (get_or xs i d)).tiles tile = subst (λ (s : Selection). Contains s.tiles tile) (group_at i d i_in) (with.some (omega (arith, i_in, count)) (selection d)) in
+      let has = has_tile selection groups xs of tile i d with i_in in
       one_changed f g xs i d i_in (λ j e j_in ne. others j e j_in
       (λ within.
       let within' : Contains (selection (get_or xs j d)).tiles tile = subst (λ (x : X). Contains (selection x).tiles tile) (get_or_default xs j e d j_in) within in
       ⊎_elim
-      (λ (lt : j < i). apart_too apart j i d lt i_in tile within' has)
-      (λ (gt : i < j). apart_too apart i j d gt j_in tile has within')
+      (λ (lt : j < i). apart_too selection groups xs of apart j i d lt i_in tile within' has)
+      (λ (gt : i < j). apart_too selection groups xs of apart i j d gt j_in tile has within')
       (one_before j i ne)))
 
   -- where none has it, no value does
   pub unchanged : (i : ℕ) → IsGroupWith groups tile i → length xs ≤ i → sum_by f xs ≡ sum_by g xs
   unchanged i with past =
-      let count = count in
+      let count = count selection groups xs of in
       all_same f g xs (recursion_from_All (λ (x : X). f x ≡ g x) xs
-      (λ k d k_in. others k d k_in (λ within. with.none (omega (arith, past, count)) k (selection d) (omega (arith, k_in, count)) (subst (λ (s : Selection). Contains s.tiles tile) (sym (group_at k d k_in)) within))))
+      (λ k d k_in. others k d k_in (λ within. with.none (omega (arith, past, count)) k (selection d) (omega (arith, k_in, count)) (subst (λ (s : Selection). Contains s.tiles tile) (sym (group_at selection groups xs of k d k_in)) within))))
 
 -- ---- what groups see by the cell of each number
 
 module _ (tables : Tables) (is : IsTables tables) (cells : List ℕ) (b : Position) (has : HasCells tables.split.grid cells b) where
-  groups : All (λ g. IsGroup b.grid g.tiles) tables.split.groups
-  groups k d k_in = subst (λ (grid : Grid). IsGroup grid (get_or tables.split.groups k d).tiles) (is.partition.of_grid k d k_in ∙ sym has.sides) (is.partition.groups k d k_in).group
+  pub board_groups : All (λ g. IsGroup b.grid g.tiles) tables.split.groups
+  board_groups k d k_in = subst (λ (grid : Grid). IsGroup grid (get_or tables.split.groups k d).tiles) (is.partition.of_grid k d k_in ∙ sym has.sides) (is.partition.groups k d k_in).group
 
   -- what a group sees of the board
-  seen_at : (tiles : List ℕ) → IsGroup b.grid tiles → view_at tiles cells ≡ view_of tiles b
+  pub seen_at : (tiles : List ℕ) → IsGroup b.grid tiles → view_at tiles cells ≡ view_of tiles b
   seen_at tiles group =
       let low = recursion_from_All (λ tile. tile < cell_count b.grid) tiles (All-weaker (λ tile. IsTile b.grid tile) (λ tile. tile < cell_count b.grid) (λ tile h. h.1) tiles group.tiles) in
       let some = cells_above b.grid has.board.sides in
@@ -197,7 +202,7 @@ module _ (tables : Tables) (is : IsTables tables) (cells : List ℕ) (b : Positi
   pub sees : All (SeesView cells) tables.split.groups
   sees k d k_in =
       let g = get_or tables.split.groups k d in
-      let group = groups k d k_in in
+      let group = board_groups k d k_in in
       subst (λ (grid : Grid). IsView grid g.tiles (view_at g.tiles cells)) (has.sides ∙ sym (is.partition.of_grid k d k_in))
       (subst (λ (v : Sight). IsView b.grid g.tiles v) (sym (seen_at g.tiles group)) (board_view g.tiles b has.board group))
 
@@ -205,9 +210,9 @@ module _ (tables : Tables) (is : IsTables tables) (cells : List ℕ) (b : Positi
   part_groups =
       ⊎_elim
       (λ (whole : AreTablesOf tables.split.groups tables.lookups × AreWhole tables).
-      subst (λ (ps : List Part). All (λ part. IsGroup b.grid part.tiles) ps) (sym (whole_parts tables whole.1)) (All-map (λ (part : Part). IsGroup b.grid part.tiles) part_of tables.lookups (each_lookup (λ g. IsGroup b.grid g.tiles) tables is groups)))
+      subst (λ (ps : List Part). All (λ part. IsGroup b.grid part.tiles) ps) (sym (whole_parts tables whole.1)) (All-map (λ (part : Part). IsGroup b.grid part.tiles) part_of tables.lookups (each_lookup (λ g. IsGroup b.grid g.tiles) tables is board_groups)))
       (λ (folded : AreFoldsOf tables.split.groups tables.folds × (tables.lookups ≡ [])).
-      subst (λ (ps : List Part). All (λ part. IsGroup b.grid part.tiles) ps) (sym (all_folded_parts tables folded.1)) (All-map (λ (part : Part). IsGroup b.grid part.tiles) part_folded tables.folds (each_fold (λ g. IsGroup b.grid g.tiles) tables is groups)))
+      subst (λ (ps : List Part). All (λ part. IsGroup b.grid part.tiles) ps) (sym (all_folded_parts tables folded.1)) (All-map (λ (part : Part). IsGroup b.grid part.tiles) part_folded tables.folds (each_fold (λ g. IsGroup b.grid g.tiles) tables is board_groups)))
       is.one_each
 
   -- and what its part says is the value of the view
@@ -405,49 +410,70 @@ one_value_changes tables rule b m b' c is consistent board same moves =
     tiles_after : (tiles : List ℕ) → All (IsTile b.grid) tiles → AllByRecursion (IsTile b'.grid) tiles
     tiles_after tiles all = recursion_from_All (IsTile b'.grid) tiles (subst (λ (g : Grid). All (IsTile g) tiles) (sym (ap (λ (x : Position). x.grid) moves.after)) all)
 
+-- ---- the board to which a move leads
+
+module _ (tile : ℕ) (b b' : Position) (board : IsBoard b) (move : IsMoveOf tile b b') where
+  cell_low : move.moves.cell < cell_count b.grid
+  cell_low = cell_below b.grid move.direction (blank_of b) move.moves.cell move.moves.towards
+
+  blank_at : blank_of b' ≡ move.moves.cell
+  blank_at = ap blank_of move.moves.after ∙ blank_after b board move.moves.cell cell_low
+
+  tile_at : get_or b.tiles move.moves.cell 0 ≡ tile
+  tile_at = ap (λ k. get_or b.tiles k 0) (sym blank_at) ∙ sym move.moved
+
+  pub tile_low : tile < cell_count b.grid
+  tile_low = subst (λ (t : ℕ). t < cell_count b.grid) tile_at (tile_below b move.moves.cell board cell_low)
+
+  pub tile_small : tile < 25
+  tile_small = let few = few_cells b.grid board.sides in let low = tile_low in omega (arith, few, low)
+
+  -- the blank is where the tile was
+  pub blank_there : blank_of b' ≡ cell_of b tile
+  blank_there =
+      let all = board.one_each in
+      let low = cell_low in
+      blank_at ∙ sym (cell_is b board.different move.moves.cell tile (omega (arith, all, low)) tile_at)
+
+  pub moved_board : IsBoard b'
+  moved_board = subst IsBoard (sym move.moves.after) (exchange_board b (blank_of b) move.moves.cell board (blank_stands b board).0 cell_low)
+
+  pub moved_sides : b'.grid ≡ b.grid
+  moved_sides = ap (λ (p : Position). p.grid) move.moves.after
+
+  -- its cells are those before, with the blank's and the tile's exchanged
+  pub moved_cells : (cells : List ℕ) → AreCellsOf b cells → AreCellsOf b' (exchanged cells tile)
+  moved_cells cells listed =
+      let other = other_cell b.grid move.direction (blank_of b) move.moves.cell move.moves.towards in
+      subst (λ (p : Position). AreCellsOf p (exchanged cells tile)) (sym move.moves.after)
+      (subst (λ (t : ℕ). AreCellsOf (blank_exchange b move.moves.cell) (exchanged cells t)) tile_at (cells_exchanged b cells move.moves.cell board listed cell_low other))
+
 module _ (tables : Tables) (is : IsTables tables) (cells : List ℕ) (tile : ℕ) (b b' : Position) (slide : IsSlide tables.split.grid cells tile b b') where
-  below : slide.moves.cell < cell_count b.grid
-  below = cell_below b.grid slide.direction (blank_of b) slide.moves.cell slide.moves.towards
-
-  blank_at : blank_of b' ≡ slide.moves.cell
-  blank_at = ap blank_of slide.moves.after ∙ blank_after b slide.before.board slide.moves.cell below
-
   -- the cells after it are those of the board to which it leads
   pub cells_there : HasCells tables.split.grid (exchanged cells tile) b'
-  cells_there =
-      let board = slide.before.board in
-      let moved : get_or b.tiles slide.moves.cell 0 ≡ tile = ap (λ k. get_or b.tiles k 0) (sym blank_at) ∙ sym slide.moved in
-      let other = other_cell b.grid slide.direction (blank_of b) slide.moves.cell slide.moves.towards in
-      subst (HasCells tables.split.grid (exchanged cells tile)) (sym slide.moves.after) (record {
-        board = exchange_board b (blank_of b) slide.moves.cell board (blank_stands b board).0 below;
-        sides = slide.before.sides;
-        listed = subst (λ (t : ℕ). AreCellsOf (blank_exchange b slide.moves.cell) (exchanged cells t)) moved (cells_exchanged b cells slide.moves.cell board slide.before.listed below other);
-      })
-
-  tile_small : tile < 25
-  tile_small =
-      let few = few_cells b.grid slide.before.board.sides in
-      let low = tile_below b slide.moves.cell slide.before.board below in
-      let moved : get_or b.tiles slide.moves.cell 0 ≡ tile = ap (λ k. get_or b.tiles k 0) (sym blank_at) ∙ sym slide.moved in
-      omega (arith, few, low, moved)
+  cells_there = record {
+    board = moved_board tile b b' slide.before.board slide.move;
+    sides = moved_sides tile b b' slide.before.board slide.move ∙ slide.before.sides;
+    listed = moved_cells tile b b' slide.before.board slide.move cells slide.before.listed;
+  }
 
   pub exchange_of : AreConsistent tables → IsExchange tables cells tile
   exchange_of consistent =
-      let stay = one_value_changes tables slide.rule b slide.direction b' slide.cost is consistent slide.before.board slide.before.sides slide.moves in
+      let stay = one_value_changes tables slide.move.rule b slide.move.direction b' slide.move.cost is consistent slide.before.board slide.before.sides slide.move.moves in
       let there = cells_there in
       record {
-        low = tile_small;
+        low = tile_small tile b b' slide.before.board slide.move;
         before = sees tables is cells b slide.before;
         after = sees tables is (exchanged cells tile) b' there;
         others = λ k d k_in without.
             says tables is cells b slide.before k d k_in
-            ∙ stay k d k_in (λ within. without (subst (Contains (get_or (parts_of tables) k d).tiles) (sym slide.moved) within))
+            ∙ stay k d k_in (λ within. without (subst (Contains (get_or (parts_of tables) k d).tiles) (sym slide.move.moved) within))
             ∙ sym (says tables is (exchanged cells tile) b' there k d k_in);
       }
 
 -- ---- what an exchange makes of a sparse place
 
-module _ (g : Selection) (selection : IsSelection g) (cells : List ℕ) (tile : ℕ) (all : length cells ≡ 25) (low : tile < 25) (view : IsView g.grid g.tiles (view_at g.tiles cells)) where
+module _ (cells : List ℕ) (tile : ℕ) (all : length cells ≡ 25) (low : tile < 25) where
   others : (number : ℕ) → 0 < number → number ≢ tile → slice_index (exchanged cells tile) number ≡ slice_index cells number
   others number some other =
       get_or-set_other (set cells 0 (slice_index cells tile)) tile number (slice_index cells 0) 0 other
@@ -456,11 +482,16 @@ module _ (g : Selection) (selection : IsSelection g) (cells : List ℕ) (tile : 
   here : slice_index (exchanged cells tile) tile ≡ slice_index cells 0
   here = get_or-set_same (set cells 0 (slice_index cells tile)) tile (slice_index cells 0) 0 (let long = length-set cells 0 (slice_index cells tile) in omega (arith, long, all, low))
 
-  -- what it was and what it is
+  -- the number that the cells of a group's tiles are digits of, before and after
+  pub next_sparse : (n : ℕ) (g : Selection) → IsSelection g → sparse_of n (map (slice_index (exchanged cells tile)) g.tiles) + slice_index cells tile * stride_of n g.tiles tile ≡ sparse_of n (map (slice_index cells) g.tiles) + slice_index cells 0 * stride_of n g.tiles tile
+  next_sparse n g selection =
+      moved n tile cells (exchanged cells tile) others g.tiles (recursion_from_All (λ t. 0 < t) g.tiles (λ k d k_in. (selection.group.tiles k d k_in).0)) (differ_from_pairs g.tiles selection.group.different)
+      ∙ ap (λ c. sparse_of n (map (slice_index cells) g.tiles) + c * stride_of n g.tiles tile) here
+
+module _ (g : Selection) (selection : IsSelection g) (cells : List ℕ) (tile : ℕ) (all : length cells ≡ 25) (low : tile < 25) (view : IsView g.grid g.tiles (view_at g.tiles cells)) where
+  -- what a sparse place was and what it is
   pub next_place : sparse_in g.grid (view_at g.tiles (exchanged cells tile)) + slice_index cells tile * stride_of (cell_count g.grid) g.tiles tile ≡ sparse_in g.grid (view_at g.tiles cells) + slice_index cells 0 * stride_of (cell_count g.grid) g.tiles tile
-  next_place =
-      moved (cell_count g.grid) tile cells (exchanged cells tile) others g.tiles (recursion_from_All (λ t. 0 < t) g.tiles (λ k d k_in. (selection.group.tiles k d k_in).0)) (differ_from_pairs g.tiles selection.group.different)
-      ∙ ap (λ c. sparse_in g.grid (view_at g.tiles cells) + c * stride_of (cell_count g.grid) g.tiles tile) here
+  next_place = next_sparse cells tile all low (cell_count g.grid) g selection
 
   pub place_low : sparse_in g.grid (view_at g.tiles cells) ≤ 3814697265625
   place_low =

@@ -1,4 +1,4 @@
--- What tables say by the cell of each number, before a tile goes to the blank's cell and after it.
+-- What tables say before a tile goes to the blank's cell and after it.
 use Rattle.std.specs.Prelude.{ℕ, ◌≡◌, ◌⊎◌, ◌≤◌, ◌<◌, List, length, slice_index}
 use Rattle.board.specs.CostRules.{CostRule}
 use Rattle.board.specs.Grids.{Grid, cell_count}
@@ -24,14 +24,18 @@ pub record HasCells (grid : Grid) (cells : List ℕ) (b : Position) : Type 0 whe
   pub sides : b.grid ≡ grid
   pub listed : AreCellsOf b cells
 
--- a move leads from the board with these cells to another, and this is the tile that it moves
-pub record IsSlide (grid : Grid) (cells : List ℕ) (tile : ℕ) (b b' : Position) : Type 0 where
-  pub before : HasCells grid cells b
+-- a move leads from one board to another, and this is the tile that it moves
+pub record IsMoveOf (tile : ℕ) (b b' : Position) : Type 0 where
   pub rule : CostRule
   pub direction : Move
   pub cost : ℕ
   pub moves : Moves rule b direction b' cost
   pub moved : tile ≡ slice_index b.tiles (blank_of b')
+
+-- a move of this tile leads from the board with these cells to another
+pub record IsSlide (grid : Grid) (cells : List ℕ) (tile : ℕ) (b b' : Position) : Type 0 where
+  pub before : HasCells grid cells b
+  pub move : IsMoveOf tile b b'
 
 -- what a group sees is a view
 abbrev pub SeesView : List ℕ → Selection → Type 0

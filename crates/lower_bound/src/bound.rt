@@ -1,7 +1,7 @@
 //! Tables for the groups of a partition, whole or folded, whose values are added.
 
 ghost use Rattle.std.specs.Prelude.{◌≡◌, ◌↔◌, ◌+◌, ◌*◌, ◌<◌, ◌≤◌, [], length, slice_get, All, Some, sum_by};
-ghost use Rattle.std.specs.Prelude.{IsTrue, IsOk, IsErrOf, IfOk, MatchOption, Ok};
+ghost use Rattle.std.specs.Prelude.{IsTrue, IsOk, IsErrOf, IfOk, IfSome, MatchOption, Ok};
 ghost use Rattle.board.specs.Positions.{Position};
 ghost use Rattle.board.specs.CostRules.{CostRule};
 ghost use Rattle.board.specs.Plans.{NothingBelow};
@@ -13,15 +13,19 @@ ghost use Rattle.lower_bound.specs.Folded.{AreFoldsOf, AreFolded, IsBefore, valu
 ghost use Rattle.lower_bound.specs.Tables.{IsTables, AreTablesOf, AreConsistent, ArePotentials, AreWhole};
 ghost use Rattle.lower_bound.specs.Tables.{parts_of};
 ghost use Rattle.lower_bound.specs.Lists.{AreListed, IsFoldedBound};
-ghost use Rattle.lower_bound.specs.Slides.{HasCells, IsSlide};
+ghost use Rattle.lower_bound.specs.Runs.{HasSum};
+ghost use Rattle.lower_bound.specs.Slides.{HasCells, IsMoveOf, IsSlide};
 
 use crate::by_tile::find_groups_by_tile;
 use crate::parts::{MOST_GROUPS, Parts};
+use crate::reading::{Reading, told_by_digits};
+use crate::runs::{are_by_slot, has_runs};
 use crate::slides::{folded_after, sum_folded as sum_folded_at, sum_whole, whole_after};
 use board::Board;
 use database_build::{Folded, NO_VALUE, Table, TableFault, fold};
 use memory::{OutOfMemory, push, with_capacity};
 use pattern_index::{Group, Partition};
+use search_keys::KeyedBoard;
 use std::alloc::Global;
 use std::marker::Model;
 
@@ -35,6 +39,8 @@ pub struct Bound {
     held: Held,
     // Of each number that may be a tile the place of the group that has it.
     by_tile: [usize; 25],
+    // Whether its tables are read by digits of search keys.
+    by_digits: bool,
 }
 
 // The tables that a bound holds.
@@ -57,13 +63,16 @@ impl Model for Bound {
     ghost use Rattle.lower_bound.specs.Tables.{Tables, IsTables};
     ghost use Rattle.lower_bound.specs.Held.{tables_in};
     ghost use Rattle.lower_bound.specs.ByTile.{AreGroupsByTile};
+    ghost use Rattle.lower_bound.specs.Runs.{HasRuns};
+    ghost use Rattle.std.specs.Prelude.{IsTrue};
 
     ghost Value = { Tables };
 
     ghost view = { λ b. tables_in b.partition b.held };
 
     ghost invariant = { λ b. IsTables (tables_in b.partition b.held)
-        × AreGroupsByTile b.partition.groups b.by_tile };
+        × AreGroupsByTile b.partition.groups b.by_tile
+        × (IsTrue b.by_digits → HasRuns b.partition) };
 }
 
 impl Bound {
@@ -80,10 +89,12 @@ impl Bound {
             return Err(TableFault::WrongCount);
         }
         let by_tile = find_groups_by_tile(partition.groups());
+        let by_digits = has_runs(&partition) && are_by_slot(&tables);
         Ok(Bound {
             partition,
             held: Held::Whole(tables),
             by_tile,
+            by_digits,
         })
     }
 
@@ -103,6 +114,7 @@ impl Bound {
             partition,
             held: Held::Folded(folds),
             by_tile,
+            by_digits: false,
         })
     }
 
@@ -119,6 +131,7 @@ impl Bound {
             partition,
             held,
             by_tile,
+            by_digits: _,
         } = self;
         let folds = match held {
             Held::Whole(tables) => fold_all(alloc, tables)?,
@@ -128,6 +141,7 @@ impl Bound {
             partition,
             held: Held::Folded(folds),
             by_tile,
+            by_digits: false,
         })
     }
 
@@ -194,6 +208,65 @@ impl Bound {
                 folded_after(&folds[place], sum, cells, tile)
             }
         }
+    }
+
+    /// What its tables read of a board.
+    pub fn read(&self, board: &KeyedBoard) -> Reading
+        ensures { result ≡ board.now }
+    {
+        if self.by_digits {
+            return Reading::by_digits(board);
+        }
+        Reading::by_cells(board)
+    }
+
+    /// The sum of the board to which a move of a tile leads, by the sum of the board before it and
+    /// what is read of that: as `sum_after`, which reads its cells.
+    pub fn sum_after_move(&self, sum: u32, reading: &Reading, tile: u8) -> u32
+        requires consistent { AreConsistent self.now }
+        requires moved { (b' : Position) × IsMoveOf tile reading.now b' }
+        requires sum { HasSum self.now reading.now sum }
+        requires low { sum ≤ GREATEST_SUM }
+        ensures value { (b' : Position) → IsMoveOf tile reading.now b'
+            → result ≡ sum_of (parts_of self.now) b' }
+        ensures high { result ≤ sum + NO_VALUE }
+    {
+        if let Some(cells) = reading.cells() {
+            return self.sum_after(sum, cells, tile);
+        }
+        let board = reading.board();
+        if let Some(after) = self.sum_by_digits(sum, board, tile) {
+            return after;
+        }
+        self.sum_after(sum, &board.cells(), tile)
+    }
+
+    // The same by digits of the board's search key. None where these do not tell it.
+    fn sum_by_digits(&self, sum: u32, board: &KeyedBoard, tile: u8) -> Option<u32>
+        requires consistent { AreConsistent self.now }
+        requires moved { (b' : Position) × IsMoveOf tile board.now b' }
+        requires sum { HasSum self.now board.now sum }
+        requires low { sum ≤ GREATEST_SUM }
+        ensures value { IfSome result (λ after. (b' : Position) → IsMoveOf tile board.now b'
+            → after ≡ sum_of (parts_of self.now) b') }
+        ensures high { IfSome result (λ after. after ≤ sum + NO_VALUE) }
+    {
+        // That it is a board is told by this call.
+        let _ = board.shape();
+        if !self.by_digits {
+            return None;
+        }
+        let Held::Whole(tables) = &self.held else {
+            return None;
+        };
+        let group = self.by_tile[tile as usize];
+        if group >= tables.len() {
+            return Some(sum);
+        }
+        let Some(told) = told_by_digits(&tables[group], board, tile) else {
+            return None;
+        };
+        Some(sum - u32::from(told.0) + u32::from(told.1))
     }
 
     /// The values of a board by folded tables, one for each group.

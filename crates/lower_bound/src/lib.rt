@@ -7,9 +7,12 @@ mod by_tile;
 mod faults;
 pub mod laws;
 mod parts;
+mod reading;
+mod runs;
 mod slides;
 
 pub use bound::{Bound, GREATEST_SUM, TableList};
 pub use database_build::{TableFault, is_potential};
 pub use faults::PatternFault;
 pub use parts::Parts;
+pub use reading::Reading;

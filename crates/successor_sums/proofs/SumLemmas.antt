@@ -171,10 +171,6 @@ of_entries {A = A} P four all = (one U four.up refl, one L four.left refl, one R
         let place = found four m x is in
         subst (λ (e : Move × A). P e.1) (place.2 (m, x)) (all place.0 (m, x) place.1)
 
--- and the other way round
-pub at_entries : {A : Type 0} (P : A → Type 0) (four : FourOf A) → OfFour P four → (j : ℕ) (d : Move × A) → j < length (entries_of four) → P (get_or (entries_of four) j d).1
-at_entries {A = A} P four is j d low = All-from_recursion (λ (e : Move × A). P e.1) (entries_of four) (all_four (λ (e : Move × A). P e.1) four is.0 is.1 is.2 is.3) j d low
-
 -- ---- one entry more
 
 pub before_end : {A : Type 0} (xs : List A) (x : A) (j : ℕ) (d : A) → j < length xs → get_or (xs ++ x ∷ []) j d ≡ get_or xs j d
@@ -316,11 +312,13 @@ module _ (tables : Tables) (inside : Unpacked) (b : Position) (unpacked : IsUnpa
       let has = has_cells tables inside b unpacked is same in
       record {
         before = has;
-        rule = rule;
-        direction = m;
-        cost = weight_of rule (slice_index b.tiles at.to);
-        moves = record { cell = at.to; towards = (neighbour_lies b.grid m (blank_of b) at.to (blank_stands b has.board).0).0 at.found; after = refl; cost = refl };
-        moved = at.tile ∙ sym (ap (slice_index b.tiles) at.blank);
+        move = record {
+          rule = rule;
+          direction = m;
+          cost = weight_of rule (slice_index b.tiles at.to);
+          moves = record { cell = at.to; towards = (neighbour_lies b.grid m (blank_of b) at.to (blank_stands b has.board).0).0 at.found; after = refl; cost = refl };
+          moved = at.tile ∙ sym (ap (slice_index b.tiles) at.blank);
+        };
       }
 
   -- and it has its cells

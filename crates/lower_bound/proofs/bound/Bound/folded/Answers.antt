@@ -1,4 +1,5 @@
 use Rattle.std.proofs.Common.{rules, ◌≡◌, map, refl, ap, ◌∙◌, subst, inr, Vec, Global}
+use Rattle.std.proofs.lemmas.Bool.{false≢true}
 use Rattle.database_build.specs.Folds.{Fold}
 use Rattle.lower_bound.specs.Folded.{AreFoldsOf}
 use Rattle.lower_bound.specs.Tables.{IsTables}
@@ -10,7 +11,7 @@ use Rattle.lower_bound.proofs.bound.Bound.folded.Goals as goal
 use Rattle.lower_bound.proofs.bound.Bound.folded.Goals.{in-Whole+in_ok-folds-in-Whole, in-Folded}
 
 pub invariant_of-result : goal.invariant_of-result
-invariant_of-result c = (is_tables, c.self.invariant.1)
+invariant_of-result c = (is_tables, c.self.invariant.1, λ none. absurd (false≢true none))
   where
     there : (held : Held) → c.self.inside.held ≡ held → IsTables (tables_in c.self.inside.partition held)
     there held is = subst (λ (h : Held). IsTables (tables_in c.self.inside.partition h)) is c.self.invariant.0
