@@ -8,7 +8,7 @@ use Rattle.std.proofs.lemmas.List.Elements.{All-append}
 use Rattle.memory.specs.declared.OutOfMemory.{OutOfMemory}
 use Rattle.board.specs.Positions.{Position}
 use Rattle.board.specs.declared.moves.Move.{Move}
-use Rattle.board.specs.Keys.{key_of}
+use Rattle.search_keys.specs.SearchKeys.{search_key}
 use Rattle.outcomes.specs.Outcomes.{Task}
 use Rattle.outcomes.specs.declared.outcome.Want.TheVariants.{Refused}
 use Rattle.world_model.specs.declared.steps.Refusal.{Refusal}
@@ -377,7 +377,7 @@ module _ (w : WorldState) (lone : IsLone w) where
       let x' : WorkerState = record x { best = Some cost } in
       let book' : BookState = record w.book { best = Some cost } in
       let is : w' ≡ changed w 0 x' book' w.lanes = eq ∙ ap (λ (at : AtBook). changed w 0 at.worker at.book w.lanes) out.1 in
-      let known_once : (k k' : Known) → fin.get x.known (key_of w.task.goal) ≡ Some k → fin.get x.known (key_of w.task.goal) ≡ Some k' → k ≡ k' = λ k k' h h'. let both : Some k ≡ Some k' = sym h ∙ h' in search both in
+      let known_once : (k k' : Known) → fin.get x.known (search_key w.task.goal) ≡ Some k → fin.get x.known (search_key w.task.goal) ≡ Some k' → k ≡ k' = λ k k' h h'. let both : Some k ≡ Some k' = sym h ∙ h' in search both in
       let better : (c : ℕ) → KnowsGoalAt w.task x c → IsNotBelow (Some c) (Some cost) = λ c knows.
       let one : knows.0.cost ≡ may.knows.0.cost = ap (λ (k : Known). k.cost) (known_once knows.0 may.knows.0 knows.1 may.knows.1) in
       let here = knows.2 in

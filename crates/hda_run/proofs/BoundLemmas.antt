@@ -3,7 +3,7 @@ use Rattle.std.proofs.Common.{◌≡◌, ℕ, zero, suc, ◌+◌, ◌<◌, ◌�
 use Rattle.std.specs.Prelude.{All, sum_by, slice_get, slice_index_or, IfSome, IfNone}
 use Rattle.std.specs.FinMap as fin
 use Rattle.std.proofs.lemmas.Option.{none-some, slice_get_within}
-use Rattle.board.specs.Keys.{key_of}
+use Rattle.search_keys.specs.SearchKeys.{search_key}
 use Rattle.board.specs.Plans.{NothingBelow}
 use Rattle.board.specs.Positions.{Position}
 use Rattle.board.specs.Rows.{IsLowerBound}
@@ -71,7 +71,7 @@ module _ (w : WorldState) (lone : IsLone w) where
   open_at b cost (inr has) = absurd (none_under_way has.0 has.1 has.2)
 
   -- where the worker doesn't know the goal, no plan undercuts what none of its open boards is below
-  none_undercuts : (n : ℕ) → IsSound w → IsLowerBound w.task.rule w.task.sum w.task.goal → HasNothingBelow w.task lone.worker n → fin.get lone.worker.known (key_of w.task.goal) ≡ None → NothingBelow w.task.rule w.task.start w.task.goal n
+  none_undercuts : (n : ℕ) → IsSound w → IsLowerBound w.task.rule w.task.sum w.task.goal → HasNothingBelow w.task lone.worker n → fin.get lone.worker.known (search_key w.task.goal) ≡ None → NothingBelow w.task.rule w.task.start w.task.goal n
   none_undercuts n sound lower none unknown = frontier_bounds w lone.shaped sound lower n low far
     where
       low : (b : Position) (cost : ℕ) → IsInFrontier w b cost → n ≤ cost + w.task.sum b
@@ -83,7 +83,7 @@ module _ (w : WorldState) (lone : IsLone w) where
 
       far : (known : Known) → Knows w (w.owner w.task.goal) w.task.goal known → n ≤ known.cost
       far known knows =
-          let there = subst (λ (x : WorkerState). fin.get x.known (key_of w.task.goal) ≡ Some known) (sym (is_one (w.owner w.task.goal) knows.worker knows.is)) knows.knows in
+          let there = subst (λ (x : WorkerState). fin.get x.known (search_key w.task.goal) ≡ Some known) (sym (is_one (w.owner w.task.goal) knows.worker knows.is)) knows.knows in
           absurd (none-some known (sym unknown ∙ there))
 
 module _ {S : Type 0} (owner_of : S → ℕ → Position → ℕ) (parts : Parts S) (lone : IsLone (world_of owner_of parts)) where
@@ -102,11 +102,11 @@ module _ {S : Type 0} (owner_of : S → ℕ → Position → ℕ) (parts : Parts
     alone = same (world_of owner_of parts) lone (state_of worker) there
 
     -- what the worker's lists say of the goal, by its key
-    pub looked_up : (lists : Lists) (key : ℕ) (got : Option Known) → lists ≡ worker.lists → key ≡ key_of parts.job.goal → got ≡ fin.get lists.closed.known key → fin.get worker.lists.closed.known (key_of parts.job.goal) ≡ got
+    pub looked_up : (lists : Lists) (key : ℕ) (got : Option Known) → lists ≡ worker.lists → key ≡ search_key parts.job.goal → got ≡ fin.get lists.closed.known key → fin.get worker.lists.closed.known (search_key parts.job.goal) ≡ got
     looked_up lists key got same_lists same_key read = (λ t. fin.get (sym same_lists t).closed.known (sym same_key t)) ∙ sym read
 
     -- what no open board is below, by the worker's lists
-    pub bound_by_lists : IsSound (world_of owner_of parts) → AreGuided parts → IsLowerBound parts.job.rule (task_in parts.job).sum parts.job.goal → fin.get worker.lists.closed.known (key_of parts.job.goal) ≡ None → (lists : Lists) → lists ≡ worker.lists → (least : Option ℕ) → IfSome least (λ n. (guide : Guide) → IsInOrder guide lists → NoneBelow guide lists.closed n) → IfSome least (NothingBelow parts.job.rule parts.job.start parts.job.goal)
+    pub bound_by_lists : IsSound (world_of owner_of parts) → AreGuided parts → IsLowerBound parts.job.rule (task_in parts.job).sum parts.job.goal → fin.get worker.lists.closed.known (search_key parts.job.goal) ≡ None → (lists : Lists) → lists ≡ worker.lists → (least : Option ℕ) → IfSome least (λ n. (guide : Guide) → IsInOrder guide lists → NoneBelow guide lists.closed n) → IfSome least (NothingBelow parts.job.rule parts.job.start parts.job.goal)
     bound_by_lists sound guided lower unknown lists same_lists None none = none
     bound_by_lists sound guided lower unknown lists same_lists (Some n) none =
         let task = task_in parts.job in
@@ -114,7 +114,7 @@ module _ {S : Type 0} (owner_of : S → ℕ → Position → ℕ) (parts : Parts
         let here : NoneBelow (guide_of task) worker.lists.closed n = subst (λ (l : Lists). (guide : Guide) → IsInOrder guide l → NoneBelow guide l.closed n) same_lists none (guide_of task) is.order in
         let low = none_below task (guide_of task) worker.lists (state_of worker) refl is n here in
         none_undercuts (world_of owner_of parts) lone n sound lower (subst (λ (x : WorkerState). HasNothingBelow task x n) (sym alone) low)
-        (subst (λ (x : WorkerState). fin.get x.known (key_of task.goal) ≡ None) (sym alone) unknown)
+        (subst (λ (x : WorkerState). fin.get x.known (search_key task.goal) ≡ None) (sym alone) unknown)
 
     -- and where nothing waits
     pub nothing_waits : AreGuided parts → (lists : Lists) → lists ≡ worker.lists → (least : Option ℕ) → (least ≡ None → NothingWaitsIn lists) → IfNone least (IsWithoutBound (world_of owner_of parts))
@@ -127,12 +127,12 @@ module _ {S : Type 0} (owner_of : S → ℕ → Position → ℕ) (parts : Parts
             let is = is_guided owner_of parts 0 worker some_worker at guided in
             let has = open_at (world_of owner_of parts) lone b cost here in
             let opens = subst (λ (x : WorkerState). IsOpen task x b has.0) alone has.1 in
-            let waits = is.order.waits (key_of b) has.0 (open_key task (guide_of task) worker.lists (state_of worker) refl is b has.0 opens) in
+            let waits = is.order.waits (search_key b) has.0 (open_key task (guide_of task) worker.lists (state_of worker) refl is b has.0 opens) in
             let none = subst NothingWaitsIn same_lists (lowest refl) in
             none_in_empty _ _ (none _) waits.2
 
     -- and where the goal is known
-    pub goal_known : (known : Known) → fin.get worker.lists.closed.known (key_of parts.job.goal) ≡ Some known → IsWithoutBound (world_of owner_of parts)
+    pub goal_known : (known : Known) → fin.get worker.lists.closed.known (search_key parts.job.goal) ≡ Some known → IsWithoutBound (world_of owner_of parts)
     goal_known known knows = inl (known, record { worker = state_of worker; is = there; board = (lone.shaped.task.goal, refl); knows = knows })
 
 -- ---- at which f the one worker's boards wait

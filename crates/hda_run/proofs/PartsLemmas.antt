@@ -8,7 +8,7 @@ use Rattle.std.proofs.lemmas.Bool.{cases_lt, true≢false}
 use Rattle.std.proofs.lemmas.List.{map-set, length-map, length-set, map-append, length-replicate, replicate-append-replicate}
 use Rattle.std.proofs.lemmas.List.Elements.{All-set, All-append}
 use Rattle.std.specs.Ordering.{nat_cmp}
-use Rattle.board.specs.Keys.{key_of}
+use Rattle.search_keys.specs.SearchKeys.{search_key}
 use Rattle.board.specs.Positions.{Position}
 use Rattle.board.specs.declared.moves.Move.{Move}
 use Rattle.owners.specs.Owners.{AreWorkers}
@@ -159,7 +159,7 @@ module _ {S : Type 0} (owner_of : S → ℕ → Position → ℕ) (parts : Parts
         some.2,
         some.4.board.0,
         some.3,
-        ap (λ (w : WorkerState). fin.get w.known (key_of before)) (sym it) ∙ some.4.knows,
+        ap (λ (w : WorkerState). fin.get w.known (search_key before)) (sym it) ∙ some.4.knows,
         some.5,
       ))
       (sound.reached me b known here)
@@ -270,10 +270,10 @@ abbrev unknown : Knowledge
 unknown = fin.empty
 
 -- the start is all that is known after it was met
-met : (task : Task) (item : Item) → item.cost ≡ 0 → item.board ≡ task.start → relaxation unknown item ≡ fin.insert unknown (key_of task.start) (record { cost = 0; expanded = false; via = item.via })
+met : (task : Task) (item : Item) → item.cost ≡ 0 → item.board ≡ task.start → relaxation unknown item ≡ fin.insert unknown (search_key task.start) (record { cost = 0; expanded = false; via = item.via })
 met task item free board =
-    ap (λ (found : Option Known). if is_news found item.cost then fin.insert unknown (key_of item.board) (record { cost = item.cost; expanded = false; via = item.via }) else unknown) (fin.get-empty nat_cmp (key_of item.board))
-    ∙ (λ t. fin.insert unknown (key_of (board t)) (record { cost = free t; expanded = false; via = item.via }))
+    ap (λ (found : Option Known). if is_news found item.cost then fin.insert unknown (search_key item.board) (record { cost = item.cost; expanded = false; via = item.via }) else unknown) (fin.get-empty nat_cmp (search_key item.board))
+    ∙ (λ t. fin.insert unknown (search_key (board t)) (record { cost = free t; expanded = false; via = item.via }))
 
 -- so it is the worker that begins
 pub first_is : (n : ℕ) (task : Task) (worker state : WorkerState) (item : Item) → item.cost ≡ 0 → item.board ≡ task.start → worker ≡ record (idle_worker n) { purse = 1 } → state ≡ record worker { known = relaxation worker.known item } → state ≡ first_worker n task item.via

@@ -51,7 +51,7 @@ pub fn kind_of(step: Step) -> Kind
 /// What a worker passes after each step that is accepted, while it holds no lock: a test may hold
 /// it there, to try an order of steps. It is also shown how far the search is.
 pub trait Gate {
-    // A bound is wanted. Whoever knows nothing else of a gate has this from `wants_bound` alone.
+    // A bound is wanted: for any gate this follows from `wants_bound` alone.
     ghost is_wanted: { Self → Type 0 } = { λ _. ⊤ };
 
     /// Returns when the worker that took the step may go on.

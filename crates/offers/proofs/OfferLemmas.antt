@@ -1,142 +1,109 @@
--- A successor, as an offer.
+-- What the moves from a board offer.
 use Rattle.std.proofs.Common.{◌≡◌, ℕ, zero, suc, ◌+◌, ◌<◌, List, [], ◌∷◌, length, get_or, drop, Option, Some, None, refl, ap, ◌∙◌, arith, ⊎_elim, true, false, slice_index, subst, sym}
 use Rattle.std.specs.Prelude.{IfSome, sum_by, option_map}
 use Rattle.std.proofs.lemmas.Bool.{cases_Bool, cond-true, cond-false}
 use Rattle.board.specs.declared.moves.Move.{Move}
 use Rattle.board.specs.declared.moves.Move.TheVariants.{U, L, R, D}
-use Rattle.board.specs.CostRules.{CostRule}
-use Rattle.board.specs.Grids.{cell_count}
+use Rattle.board.specs.CostRules.{CostRule, weight_of}
+use Rattle.board.specs.Grids.{Grid, cell_count}
 use Rattle.board.specs.Neighbours.{LiesTowards, neighbour}
-use Rattle.board.specs.Moves.{successor, successor_at, blank_exchange}
+use Rattle.board.specs.Moves.{successor_at, blank_exchange}
 use Rattle.board.specs.Positions.{Position, IsBoard, blank_of}
-use Rattle.board.proofs.MoveLemmas.{blank_after, cell_below, exchange_board, other_cell}
+use Rattle.board.proofs.MoveLemmas.{blank_after, cell_below, exchange_board}
 use Rattle.board.proofs.NeighbourLemmas.{neighbour_lies}
-use Rattle.board.proofs.StepLemmas.{blank_stands, tile_above}
-use Rattle.board.specs.Keys.{HasKey}
-use Rattle.owners.specs.Slides.{IsSlide, IsMoved}
+use Rattle.board.proofs.StepLemmas.{blank_stands}
+use Rattle.search_keys.specs.SearchKeys.{search_key}
+use Rattle.owners.specs.Slides.{IsMoved}
 use Rattle.world_model.specs.declared.parts.Item.{Item}
-use Rattle.lower_bound.specs.Bounds.{Part, sum_of}
-use Rattle.successor_sums.specs.declared.unpacked.Successor.{Successor}
+use Rattle.lower_bound.specs.Slides.{IsMoveOf}
 use Rattle.successor_sums.specs.ByMoves.{FourOf, OfFour, before, entries_of, of_move}
-use Rattle.successor_sums.specs.Unpacked.{told_of, is_left_out, but, successors_but}
-use Rattle.successor_sums.proofs.SumLemmas.{absent_too, found, kept_by, of_four_by}
+use Rattle.successor_sums.specs.Unpacked.{is_left_out, but}
+use Rattle.successor_sums.proofs.SumLemmas.{absent_too, exits_of, found, led_by, of_four_by}
 use Rattle.offers.specs.declared.offer.Offer.{Offer}
-use Rattle.offers.specs.Offers.{Offers, item_by, moved_by, AreOffered, IsOffered}
+use Rattle.offers.specs.Offers.{Offers, item_by, AreOffered, IsOffered}
 use Rattle.std.proofs.lemmas.List.{drop_more}
 use Rattle.std.proofs.lemmas.List.Sums.{sum_by-cons, sum_by-drop_more}
 use Rattle.offers.specs.Room.{go, goes}
 
--- to a successor a tile slides onto the blank's cell, and that leads to the successor's key
-moved_of : (rule : CostRule) (parts : List Part) (b : Position) (m : Move) (blank from : ℕ) (next : Successor) → IsBoard b → blank ≡ blank_of b → neighbour b.grid m (blank_of b) ≡ Some from → next ≡ told_of parts b (successor_at rule b from) → IsMoved b (moved_by b next blank)
-moved_of rule parts b m blank from next board is found same =
-    let lies : LiesTowards b.grid m (blank_of b) from = (neighbour_lies b.grid m (blank_of b) from (blank_stands b board).0).0 found in
-    let within : from < cell_count b.grid = cell_below b.grid m (blank_of b) from lies in
-    let at : blank_of (blank_exchange b from) ≡ from = blank_after b board from within in
-    let cell : next.cell ≡ from = ap (λ (s : Successor). s.cell) same ∙ at in
-    let tile : next.tile ≡ slice_index b.tiles from = ap (λ (s : Successor). s.tile) same ∙ ap (slice_index b.tiles) at in
-    let above = tile_above b from board within (other_cell b.grid m (blank_of b) from lies) in
-    let slide : IsSlide b.grid b (moved_by b next blank).slide = record {
+-- ---- one move, which takes the blank to a cell beside it
+module _ (b : Position) (m : Move) (to : ℕ) (board : IsBoard b) (beside : neighbour b.grid m (blank_of b) ≡ Some to) where
+  lies : LiesTowards b.grid m (blank_of b) to
+  lies = (neighbour_lies b.grid m (blank_of b) to (blank_stands b board).0).0 beside
+
+  pub below : to < cell_count b.grid
+  below = cell_below b.grid m (blank_of b) to lies
+
+  pub board_after : IsBoard (blank_exchange b to)
+  board_after = exchange_board b (blank_of b) to board (blank_stands b board).0 below
+
+  -- it moves the tile on that cell
+  pub is_move : (rule : CostRule) (tile : ℕ) → tile ≡ slice_index b.tiles to → IsMoveOf tile b (blank_exchange b to)
+  is_move rule tile is = record {
+    rule = rule;
+    direction = m;
+    cost = weight_of rule (slice_index b.tiles to);
+    moves = record { cell = to; towards = lies; after = refl; cost = refl };
+    moved = is ∙ sym (ap (slice_index b.tiles) (blank_after b board to below));
+  }
+
+  -- which slides onto the blank's cell
+  pub is_moved : (shape : Grid) (blank tile key : ℕ) → shape ≡ b.grid → blank ≡ blank_of b → tile ≡ slice_index b.tiles to → 0 < tile → key ≡ search_key (blank_exchange b to) → IsMoved b (record { shape = shape; key = key; slide = record { tile = tile; from = to; to = blank } })
+  is_moved shape blank tile key sides at is some packed = record {
+    slide = record {
       board = board;
-      sides = refl;
-      within = subst (λ (k : ℕ). k < cell_count b.grid) (sym cell) within;
-      tile = ap (slice_index b.tiles) cell ∙ sym tile;
-      some = subst (λ (t : ℕ). 0 < t) (sym tile) above;
-      blank = sym is;
-    } in
-    record {
-      slide = slide;
-      key = subst (λ (k : ℕ). HasKey b.grid next.key (blank_exchange b k)) (sym cell) (record {
-        board = exchange_board b (blank_of b) from board (blank_stands b board).0 within;
-        sides = refl;
-        packed = ap (λ (s : Successor). s.key) (sym same);
-      });
-    }
+      sides = sym sides;
+      within = subst (λ (g : Grid). to < cell_count g) (sym sides) below;
+      tile = sym is;
+      some = some;
+      blank = sym at;
+    };
+    key = record { board = board_after; sides = sym sides; packed = sym packed };
+  }
 
-moves_by : (rule : CostRule) (parts : List Part) (b : Position) (m : Move) (blank : ℕ) (to : Option ℕ) (next : Option Successor) → IsBoard b → blank ≡ blank_of b → neighbour b.grid m (blank_of b) ≡ to → next ≡ option_map (told_of parts b) (option_map (successor_at rule b) to) → IfSome next (λ s. IsMoved b (moved_by b s blank))
-moves_by rule parts b m blank to None board is found same = tt
-moves_by rule parts b m blank None (Some next) board is found same = absurd (none same)
+  -- an offer of the board to which it leads
+  pub is_offered : (rule : CostRule) (cost : ℕ) (sum owner : Position → ℕ) (offer : Offer) → offer.key ≡ search_key (blank_exchange b to) → offer.cost ≡ cost + weight_of rule (slice_index b.tiles to) → offer.f ≡ cost + weight_of rule (slice_index b.tiles to) + sum (blank_exchange b to) → offer.owner ≡ owner (blank_exchange b to) → IsOffered sum owner (item_by rule b cost m) (Some offer)
+  is_offered rule cost sum owner offer key reached f owned = rw beside (record { key = key; cost = reached; adds = f; owned = owned })
+
+-- ---- all moves
+
+-- the item of a move by the cell to which the blank goes
+abbrev item_at : CostRule → Position → ℕ → Move → Option ℕ → Option Item
+item_at rule b cost m to = option_map (λ next. record { board = next.0; cost = cost + next.1; via = m }) (option_map (successor_at rule b) to)
+
+-- what the moves offer that lead to a cell, and no other does, is what they offer but for the move that is left out
+pub all_offered : (rule : CostRule) (left_out : Option Move) (b : Position) (cost : ℕ) (sum owner : Position → ℕ) (exits : FourOf ℕ) (offers : Offers) → exits ≡ exits_of left_out b → length (entries_of offers) ≡ length (entries_of exits) → ((j : ℕ) (d : Move × Offer) (e : Move × ℕ) → j < length (entries_of exits) → (get_or (entries_of offers) j d).0 ≡ (get_or (entries_of exits) j e).0) → ((j : ℕ) (d : Move × Offer) → j < length (entries_of exits) → IsOffered sum owner (item_by rule b cost (get_or (entries_of offers) j d).0) (Some (get_or (entries_of offers) j d).1)) → AreOffered sum owner (but left_out (item_by rule b cost)) offers
+all_offered rule left_out b cost sum owner exits offers is all moves offered = record { up = one U; left = one L; right = one R; down = one D }
   where
-    none : {s : Successor} → ◌≡◌ {A = Option Successor} (Some s) None → ⊥
-    none e = cc
-moves_by rule parts b m blank (Some from) (Some next) board is found same = moved_of rule parts b m blank from next board is found cc
-
--- so it is by each move that has a successor
-pub moves_at : (rule : CostRule) (parts : List Part) (left_out : Option Move) (successors : FourOf Successor) (b : Position) (blank : ℕ) → IsBoard b → blank ≡ blank_of b → successors ≡ successors_but left_out rule parts b → (i : ℕ) (e : Move × Successor) → i < length (entries_of successors) → IsMoved b (moved_by b (get_or (entries_of successors) i e).1 blank)
-moves_at rule parts left_out successors b blank board at is i e low =
-    let m = (get_or (entries_of successors) i e).0 in
-    let made = kept_by left_out (λ k. option_map (told_of parts b) (successor rule b k)) successors is i e low in
-    moves_by rule parts b m blank (neighbour b.grid m (blank_of b)) (Some (get_or (entries_of successors) i e).1) board at refl (sym made.1)
-
-module _ (rule : CostRule) (parts : List Part) (b : Position) (cost : ℕ) (m : Move) where
-  -- where the blank stays on the board there is a successor
-  none_there : (from : ℕ) → neighbour b.grid m (blank_of b) ≡ Some from → None ≡ option_map (told_of parts b) (successor rule b m) → ⊥
-  none_there from found none =
-      let e : None ≡ Some (told_of parts b (successor_at rule b from)) = none ∙ ap (λ (o : Option ℕ). option_map (told_of parts b) (option_map (successor_at rule b) o)) found in
-      cc
-
-  -- of no successor there is no item
-  pub none_offered : (owner : Position → ℕ) (to : Option ℕ) → neighbour b.grid m (blank_of b) ≡ to → None ≡ option_map (told_of parts b) (successor rule b m) → IsOffered (sum_of parts) owner (item_by rule b cost m) None
-  none_offered owner None none is = rw none tt
-  none_offered owner (Some from) found is = absurd (none_there from found is)
-
-  -- a successor is offered
-  is_offered : (owner : Position → ℕ) (from : ℕ) (next : Successor) (offer : Offer) → neighbour b.grid m (blank_of b) ≡ Some from → Some next ≡ option_map (told_of parts b) (successor rule b m) → offer.key ≡ next.key → offer.cost ≡ cost + next.cost → offer.f ≡ cost + next.cost + next.sum → offer.owner ≡ owner (blank_exchange b from) → IsOffered (sum_of parts) owner (item_by rule b cost m) (Some offer)
-  is_offered owner from next offer found is key reached f owned =
-      let e : Some next ≡ Some (told_of parts b (successor_at rule b from)) = is ∙ ap (λ (o : Option ℕ). option_map (told_of parts b) (option_map (successor_at rule b) o)) found in
-      let same : next ≡ told_of parts b (successor_at rule b from) = cc in
-      rw found (record {
-        key = key ∙ ap (λ (s : Successor). s.key) same;
-        cost = reached ∙ ap (λ (s : Successor). cost + s.cost) same;
-        adds = f ∙ ap (λ (s : Successor). cost + s.cost + s.sum) same;
-        owned = owned;
-      })
-
-  -- a successor is offered, to the owner of the board with the blank on the cell that it names
-  pub next_offered : (owner : Position → ℕ) (to : Option ℕ) (next : Successor) (offer : Offer) → IsBoard b → neighbour b.grid m (blank_of b) ≡ to → Some next ≡ option_map (told_of parts b) (successor rule b m) → offer.key ≡ next.key → offer.cost ≡ cost + next.cost → offer.f ≡ cost + next.cost + next.sum → offer.owner ≡ owner (blank_exchange b next.cell) → IsOffered (sum_of parts) owner (item_by rule b cost m) (Some offer)
-  next_offered owner None next offer board found is key reached f owned = absurd (none (is ∙ ap (λ (o : Option ℕ). option_map (told_of parts b) (option_map (successor_at rule b) o)) found))
-    where
-      none : {s : Successor} → ◌≡◌ {A = Option Successor} (Some s) None → ⊥
-      none e = cc
-  next_offered owner (Some from) next offer board found is key reached f owned =
-      let e : Some next ≡ Some (told_of parts b (successor_at rule b from)) = is ∙ ap (λ (o : Option ℕ). option_map (told_of parts b) (option_map (successor_at rule b) o)) found in
-      let same : next ≡ told_of parts b (successor_at rule b from) = cc in
-      let lies : LiesTowards b.grid m (blank_of b) from = (neighbour_lies b.grid m (blank_of b) from (blank_stands b board).0).0 found in
-      let cell : next.cell ≡ from = ap (λ (s : Successor). s.cell) same ∙ blank_after b board from (cell_below b.grid m (blank_of b) from lies) in
-      is_offered owner from next offer found is key reached f (owned ∙ ap (λ (k : ℕ). owner (blank_exchange b k)) cell)
-
--- what the moves offer that have a successor, and no other does, is what they offer but for the move that is left out
-pub all_offered : (rule : CostRule) (parts : List Part) (left_out : Option Move) (b : Position) (cost : ℕ) (owner : Position → ℕ) (successors : FourOf Successor) (offers : Offers) → successors ≡ successors_but left_out rule parts b → length (entries_of offers) ≡ length (entries_of successors) → ((j : ℕ) (d : Move × Offer) (e : Move × Successor) → j < length (entries_of successors) → (get_or (entries_of offers) j d).0 ≡ (get_or (entries_of successors) j e).0) → ((j : ℕ) (d : Move × Offer) → j < length (entries_of successors) → IsOffered (sum_of parts) owner (item_by rule b cost (get_or (entries_of offers) j d).0) (Some (get_or (entries_of offers) j d).1)) → AreOffered (sum_of parts) owner (but left_out (item_by rule b cost)) offers
-all_offered rule parts left_out b cost owner successors offers is all moves offered = record { up = one U; left = one L; right = one R; down = one D }
-  where
-    nothing : IsOffered (sum_of parts) owner None None
+    nothing : IsOffered sum owner None None
     nothing = tt
 
-    none : (m : Move) → of_move successors m ≡ None → IsOffered (sum_of parts) owner (but left_out (item_by rule b cost) m) None
+    none : (m : Move) → of_move exits m ≡ None → IsOffered sum owner (but left_out (item_by rule b cost) m) None
     none m absent =
-        let at : but left_out (λ k. option_map (told_of parts b) (successor rule b k)) m ≡ None = sym (of_four_by (but left_out (λ k. option_map (told_of parts b) (successor rule b k))) m) ∙ ap (λ (four : FourOf Successor). of_move four m) (sym is) ∙ absent in
+        let at : but left_out (λ k. neighbour b.grid k (blank_of b)) m ≡ None = sym (of_four_by (but left_out (λ k. neighbour b.grid k (blank_of b))) m) ∙ ap (λ (four : FourOf ℕ). of_move four m) (sym is) ∙ absent in
         ⊎_elim
-        (λ (out : is_left_out left_out m ≡ true). subst (λ (item : Option Item). IsOffered (sum_of parts) owner item None) (sym (cond-true _ _ _ out)) nothing)
+        (λ (out : is_left_out left_out m ≡ true). subst (λ (item : Option Item). IsOffered sum owner item None) (sym (cond-true _ _ _ out)) nothing)
         (λ (stays : is_left_out left_out m ≡ false).
-        subst (λ (item : Option Item). IsOffered (sum_of parts) owner item None) (sym (cond-false _ _ _ stays))
-        (none_offered rule parts b cost m owner (neighbour b.grid m (blank_of b)) refl (sym at ∙ cond-false _ _ _ stays)))
+        let off : neighbour b.grid m (blank_of b) ≡ None = sym (cond-false _ _ _ stays) ∙ at in
+        let no_item : None ≡ item_by rule b cost m = ap (item_at rule b cost m) (sym off) in
+        subst (λ (item : Option Item). IsOffered sum owner item None) (no_item ∙ sym (cond-false _ _ _ stays)) nothing)
         (cases_Bool (is_left_out left_out m))
 
-    by : (m : Move) (o : Option Offer) → of_move offers m ≡ o → IsOffered (sum_of parts) owner (but left_out (item_by rule b cost) m) o
-    by m None absent = none m (absent_too successors offers all moves m absent)
+    by : (m : Move) (o : Option Offer) → of_move offers m ≡ o → IsOffered sum owner (but left_out (item_by rule b cost) m) o
+    by m None absent = none m (absent_too exits offers all moves m absent)
     by m (Some offer) at =
         let place = found offers m offer at in
         let there = place.2 (m, offer) in
         let low = place.1 in
-        let within : place.0 < length (entries_of successors) = omega (arith, low, all) in
-        let here : IsOffered (sum_of parts) owner (item_by rule b cost m) (Some offer) = subst (λ (e : Move × Offer). IsOffered (sum_of parts) owner (item_by rule b cost e.0) (Some e.1)) there (offered place.0 (m, offer) within) in
-        subst (λ (item : Option Item). IsOffered (sum_of parts) owner item (Some offer)) (sym (cond-false _ _ _ (stays place.0 within (λ e. sym (moves place.0 (m, offer) e within) ∙ ap (λ (x : Move × Offer). x.0) there)))) here
+        let within : place.0 < length (entries_of exits) = omega (arith, low, all) in
+        let here : IsOffered sum owner (item_by rule b cost m) (Some offer) = subst (λ (e : Move × Offer). IsOffered sum owner (item_by rule b cost e.0) (Some e.1)) there (offered place.0 (m, offer) within) in
+        subst (λ (item : Option Item). IsOffered sum owner item (Some offer)) (sym (cond-false _ _ _ (stays place.0 within (λ e. sym (moves place.0 (m, offer) e within) ∙ ap (λ (x : Move × Offer). x.0) there)))) here
       where
-        stays : (j : ℕ) → j < length (entries_of successors) → ((e : Move × Successor) → (get_or (entries_of successors) j e).0 ≡ m) → is_left_out left_out m ≡ false
+        stays : (j : ℕ) → j < length (entries_of exits) → ((e : Move × ℕ) → (get_or (entries_of exits) j e).0 ≡ m) → is_left_out left_out m ≡ false
         stays j within same =
-            let e : Move × Successor = (m, record { key = 0; tile = 0; cell = 0; cost = 0; sum = 0 }) in
-            subst (λ (k : Move). is_left_out left_out k ≡ false) (same e) (kept_by left_out (λ k. option_map (told_of parts b) (successor rule b k)) successors is j e within).0
+            let e : Move × ℕ = (m, 0) in
+            subst (λ (k : Move). is_left_out left_out k ≡ false) (same e) (led_by left_out b exits is j e within).0
 
-    one : (m : Move) → IsOffered (sum_of parts) owner (but left_out (item_by rule b cost) m) (of_move offers m)
+    one : (m : Move) → IsOffered sum owner (but left_out (item_by rule b cost) m) (of_move offers m)
     one m = by m (of_move offers m) refl
 
 -- ---- Entries of four options: what is said of each, and sums over them.

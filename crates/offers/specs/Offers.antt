@@ -4,15 +4,13 @@ use Rattle.board.specs.declared.moves.Move.{Move}
 use Rattle.board.specs.declared.moves.Move.TheVariants.{U, L, R, D}
 use Rattle.board.specs.CostRules.{CostRule}
 use Rattle.board.specs.Grids.{Grid}
-use Rattle.board.specs.Keys.{key_of, HasKey}
 use Rattle.board.specs.Moves.{successor}
 use Rattle.board.specs.Positions.{Position}
+use Rattle.search_keys.specs.SearchKeys.{search_key, HasSearchKey}
 use Rattle.world_model.specs.declared.parts.Item.{Item}
 use Rattle.lower_bound.specs.declared.bound.TheConstants.{GREATEST_SUM}
 use Rattle.offers.specs.declared.offer.Offer.{Offer}
-use Rattle.owners.specs.declared.spread.Moved.{Moved}
 use Rattle.successor_sums.specs.ByMoves.{FourOf}
-use Rattle.successor_sums.specs.declared.unpacked.Successor.{Successor}
 
 -- what the four moves from a board offer: nothing where the blank would leave the board, and by a move that is left out
 abbrev pub Offers : Type 0
@@ -22,13 +20,9 @@ Offers = FourOf Offer
 abbrev pub item_by : CostRule → Position → ℕ → Move → Option Item
 item_by rule b cost m = option_map (λ next. record { board = next.0; cost = cost + next.1; via = m }) (successor rule b m)
 
--- the slide that leads from a board with the blank on this cell to a successor, and the successor's key
-abbrev pub moved_by : Position → Successor → ℕ → Moved
-moved_by b next blank = record { shape = b.grid; key = next.key; slide = record { tile = next.tile; from = next.cell; to = blank } }
-
--- the offer is of this item: it has the key of its board, its cost, its cost plus sum, and its owner
+-- the offer is of this item: it has the search key of its board, its cost, its cost plus sum, and its owner
 pub record IsOfferOf (sum owner : Position → ℕ) (item : Item) (offer : Offer) : Type 0 where
-  pub key : offer.key ≡ key_of item.board
+  pub key : offer.key ≡ search_key item.board
   pub cost : offer.cost ≡ item.cost
   pub adds : offer.f ≡ item.cost + sum item.board
   pub owned : offer.owner ≡ owner item.board
@@ -51,9 +45,9 @@ pub record AreOffered (sum owner : Position → ℕ) (items : Move → Option It
 abbrev pub OfEach : (Offer → Type 0) → Offers → Type 0
 OfEach P offers = IfSome offers.up P × IfSome offers.left P × IfSome offers.right P × IfSome offers.down P
 
--- what is offered from a board at this cost has the key of a board of its sides, no cost plus sum above what one move more can make it,
+-- what is offered from a board at this cost has the search key of a board of its sides, no cost plus sum above what one move more can make it,
 -- and one of so many owners
 pub record IsWithin (grid : Grid) (cost workers : ℕ) (offer : Offer) : Type 0 where
-  pub board : (b : Position) × HasKey grid offer.key b
+  pub board : (b : Position) × HasSearchKey grid offer.key b
   pub low : offer.f ≤ cost + 255 + GREATEST_SUM
   pub owned : offer.owner < workers

@@ -2,12 +2,11 @@
 use Rattle.std.specs.Prelude.{ℕ, ◌≡◌, ◌<◌, ◌≤◌, ◌==◌, if◌then◌else◌, Option}
 use Rattle.board.specs.declared.costs.TheConstants.{GREATEST_EXPANDED_COST}
 use Rattle.board.specs.CostRules.{CostRule}
-use Rattle.board.specs.Positions.{Position}
+use Rattle.board.specs.Positions.{Position, IsBoard}
 use Rattle.lower_bound.specs.Bounds.{sum_of}
 use Rattle.lower_bound.specs.Tables.{Tables, AreConsistent, parts_of}
 use Rattle.offers.specs.declared.offer.OwnersBy.{OwnersBy}
 use Rattle.offers.specs.declared.offer.OwnersBy.TheVariants.{OneWorker, Spread}
-use Rattle.offers.specs.declared.offer.Shared.{Shared}
 
 -- a board whose moves are offered, what it costs to reach it, and its sum
 pub record OriginModel : Type 0 where
@@ -42,8 +41,13 @@ pub record Fits {S : Type 0} (terms : TermsModel S) (origin : OriginModel) : Typ
 abbrev pub owners_by : (Position → Option ℕ) → ℕ → Position → OwnersBy
 owners_by hash_of n b = if n == 1 then OneWorker else Spread (hash_of b)
 
--- what the offers of a board have in common: a cost that a board that is expanded may have, and how owners among some workers are found
-pub record IsShared (hash_of : Position → Option ℕ) (b : Position) (shared : Shared) : Type 0 where
-  pub cost : shared.cost ≤ GREATEST_EXPANDED_COST
-  pub owners_by : shared.owners_by ≡ owners_by hash_of shared.workers b
-  pub some : 0 < shared.workers
+-- so the owners of this board's successors are found
+abbrev pub AreFoundBy : {S : Type 0} → (S → Position → Option ℕ) → TermsModel S → Position → OwnersBy → Type 0
+AreFoundBy hash_of terms b by = by ≡ owners_by (hash_of terms.owners) terms.workers b
+
+-- what the offers of a board have in common: it fits the search, it is what the tables read, and so its successors' owners are found
+pub record IsReadFor {S : Type 0} (hash_of : S → Position → Option ℕ) (terms : TermsModel S) (origin : OriginModel) (reading : Position) (by : OwnersBy) : Type 0 where
+  pub board : IsBoard origin.board
+  pub fits : Fits terms origin
+  pub read : reading ≡ origin.board
+  pub found : AreFoundBy hash_of terms origin.board by

@@ -1,23 +1,24 @@
 //! Successors of a board, as they go to their owners.
 
-ghost use Rattle.std.specs.Prelude.{◌≡◌, ◌<◌, ◌≤◌, List, Some, option_map};
-ghost use Rattle.board.specs.CostRules.{CostRule};
-ghost use Rattle.board.specs.Keys.{HasKey};
-ghost use Rattle.board.specs.Moves.{successor as successor_by};
-ghost use Rattle.board.specs.Positions.{Position};
-ghost use Rattle.lower_bound.specs.Bounds.{Part, sum_of};
-ghost use Rattle.lower_bound.specs.Tables.{parts_of};
+ghost use Rattle.std.specs.Prelude.{◌≡◌, ◌<◌, Some};
 ghost use Rattle.board.specs.declared.moves.Move.{Move};
-ghost use Rattle.successor_sums.specs.Unpacked.{FitsGrid, told_of, but};
+ghost use Rattle.board.specs.Neighbours.{neighbour};
+ghost use Rattle.board.specs.Positions.{Position, blank_of};
+ghost use Rattle.lower_bound.specs.Bounds.{sum_of};
+ghost use Rattle.lower_bound.specs.Tables.{parts_of};
+ghost use Rattle.search_keys.specs.SearchKeys.{HasSearchKey};
+ghost use Rattle.successor_sums.specs.Unpacked.{but};
 ghost use Rattle.owners.specs.Slides.{IsMoved};
-ghost use Rattle.offers.specs.Offers.{item_by, moved_by, IsOffered, AreOffered, OfEach};
+ghost use Rattle.offers.specs.Offers.{item_by, IsOffered, AreOffered, OfEach};
 ghost use Rattle.offers.specs.Offers.{IsWithin};
-ghost use Rattle.offers.specs.Terms.{Fits, IsShared, owners_by};
+ghost use Rattle.offers.specs.Terms.{AreFoundBy, Fits, IsReadFor, owners_by};
 
 use crate::terms::{Origin, Terms};
 use board::Move;
+use lower_bound::Reading;
 use owners::{Moved, Slide, Spread};
-use successor_sums::{ByMoves, Successor, UnpackedBoard, no_successors};
+use search_keys::KeyedBoard;
+use successor_sums::{ByMoves, find_exits};
 
 /// What a move from a board offers: a successor, by its key. (The move itself stands beside it in
 /// `ByMoves`: with it bytes would be unused, which are copied one by one.)
@@ -56,18 +57,6 @@ enum OwnersBy {
     Spread(Option<u64>),
 }
 
-// What the offers of a board have in common.
-#[derive(Clone, Copy)]
-struct Shared {
-    // What it costs to reach the board.
-    cost: u32,
-    // How the owners of its successors are found.
-    owners_by: OwnersBy,
-    // The cell of its blank.
-    blank: usize,
-    workers: usize,
-}
-
 /// Writes what the moves from a board offer, except a move that is left out, if any is.
 pub fn offers_of<S: Spread>(
     origin: &Origin<'_>,
@@ -82,79 +71,76 @@ pub fn offers_of<S: Spread>(
     ensures within { OfEach
         (IsWithin origin.now.board.grid origin.now.cost terms.now.workers) offers.new }
 {
-    let unpacked = origin.unpacked;
-    let owners = terms.owners;
-    let mut successors = no_successors();
-    let sum = Some(origin.sum);
-    unpacked.successors_but(left_out, sum, terms.weights, terms.bound, &mut successors);
-    let shared = Shared {
-        cost: origin.cost,
-        owners_by: owners_by(unpacked, owners, terms.workers),
-        blank: unpacked.blank(),
-        workers: terms.workers,
-    };
+    let board = origin.board;
+    let mut exits = ByMoves::nothing(0);
+    find_exits(board.shape(), board.blank(), left_out, &mut exits);
+    let reading = terms.bound.read(board);
+    let owners_by = owners_by(board, terms.owners, terms.workers);
     offers.clear();
-    'successors: for place in 0..successors.len() {
-        let (direction, successor) = successors.entry(place);
-        let offer = offer_by(unpacked, owners, shared, &successor);
+    'exits: for place in 0..exits.len() {
+        let (direction, to) = exits.entry(place);
+        let offer = offer_by(origin, terms, &reading, owners_by, to);
         offers.put_if(direction, offer, true);
     }
 }
 
 // How the owners of a board's successors are found.
-fn owners_by<S: Spread>(unpacked: &UnpackedBoard, owners: &S, workers: usize) -> OwnersBy
-    ensures { result ≡ owners_by (S.hash_of owners.now) workers unpacked.now }
+fn owners_by<S: Spread>(board: &KeyedBoard, owners: &S, workers: usize) -> OwnersBy
+    ensures { result ≡ owners_by (S.hash_of owners.now) workers board.now }
 {
     if workers == 1 {
         return OwnersBy::OneWorker;
     }
-    OwnersBy::Spread(owners.hash(&unpacked.board()))
+    OwnersBy::Spread(owners.hash(&board.board()))
 }
 
-// What the move to a successor offers.
+// What is offered by the move that takes the blank to a cell.
 fn offer_by<S: Spread>(
-    unpacked: &UnpackedBoard,
-    owners: &S,
-    shared: Shared,
-    successor: &Successor,
+    origin: &Origin<'_>,
+    terms: &Terms<'_, S>,
+    reading: &Reading,
+    owners_by: OwnersBy,
+    to: usize,
 ) -> Offer
-    requires shared { IsShared (S.hash_of owners.now) unpacked.now shared }
-    requires moved { IsMoved unpacked.now (moved_by unpacked.now successor.now shared.blank) }
-    requires fits { FitsGrid unpacked.now.grid successor.now }
-    ensures within { IsWithin unpacked.now.grid shared.cost shared.workers result }
-    ensures offered { (rule : CostRule) (parts : List Part) (m : Move)
-        → option_map (told_of parts unpacked.now) (successor_by rule unpacked.now m)
-        ≡ Some successor.now
-        → IsOffered (sum_of parts) (S.owner_of owners.now shared.workers)
-        (item_by rule unpacked.now shared.cost m) (Some result) }
+    requires read { IsReadFor S.hash_of terms.now origin.now reading.now owners_by }
+    requires beside { (m : Move)
+        × (neighbour origin.now.board.grid m (blank_of origin.now.board) ≡ Some to) }
+    ensures offered { (m : Move)
+        → neighbour origin.now.board.grid m (blank_of origin.now.board) ≡ Some to
+        → IsOffered (sum_of (parts_of terms.now.tables))
+        (S.owner_of terms.now.owners terms.now.workers)
+        (item_by terms.now.rule origin.now.board origin.now.cost m) (Some result) }
+    ensures within { IsWithin origin.now.board.grid origin.now.cost terms.now.workers result }
 {
+    let slid = origin.board.slide(to);
+    let cost = origin.cost + terms.weights.of(slid.tile);
+    let sum = terms.bound.sum_after_move(origin.sum, reading, slid.tile);
     let moved = Moved {
-        shape: unpacked.shape(),
-        key: successor.key,
+        shape: origin.board.shape(),
+        key: slid.key,
         slide: Slide {
-            tile: successor.tile as u8,
-            from: successor.cell as usize,
-            to: shared.blank,
+            tile: slid.tile,
+            from: to,
+            to: origin.board.blank(),
         },
     };
-    let reached = shared.cost + successor.cost;
     Offer {
-        key: successor.key,
-        cost: reached,
-        f: reached + successor.sum,
-        owner: owner_after(owners, shared, moved),
+        key: slid.key,
+        cost,
+        f: cost + sum,
+        owner: owner_after(terms, owners_by, moved),
     }
 }
 
 // The owner of the board after a slide.
-fn owner_after<S: Spread>(owners: &S, shared: Shared, moved: Moved) -> usize
-    requires { (b : Position) × IsMoved b moved × IsShared (S.hash_of owners.now) b shared }
-    ensures value { (b : Position) → HasKey moved.shape moved.key b
-        → result ≡ S.owner_of owners.now shared.workers b }
-    ensures within { result < shared.workers }
+fn owner_after<S: Spread>(terms: &Terms<'_, S>, owners_by: OwnersBy, moved: Moved) -> usize
+    requires { (b : Position) × IsMoved b moved × AreFoundBy S.hash_of terms.now b owners_by }
+    ensures value { (b : Position) → HasSearchKey moved.shape moved.key b
+        → result ≡ S.owner_of terms.now.owners terms.now.workers b }
+    ensures within { result < terms.now.workers }
 {
-    match shared.owners_by {
+    match owners_by {
         OwnersBy::OneWorker => 0,
-        OwnersBy::Spread(hash) => owners.owner_after(hash, moved, shared.workers),
+        OwnersBy::Spread(hash) => terms.owners.owner_after(hash, moved, terms.workers),
     }
 }

@@ -3,14 +3,14 @@
 use board::Weights;
 use lower_bound::Bound;
 use owners::Spread;
+use search_keys::KeyedBoard;
 use std::marker::Model;
-use successor_sums::UnpackedBoard;
 
 /// A board whose moves are offered. Neither its cost nor its sum is above the greatest cost of a
 /// board that is expanded.
 #[derive(Drop)]
 pub struct Origin<'a> {
-    pub unpacked: &'a UnpackedBoard,
+    pub board: &'a KeyedBoard,
     /// What it costs to reach it.
     pub cost: u32,
     /// Its sum, by the tables of the search.
@@ -36,10 +36,10 @@ impl<'a> Model for Origin<'a> {
 
     ghost Value = { OriginModel };
 
-    ghost view = { λ o. record { board = o.unpacked.now; cost = o.cost; sum = o.sum } };
+    ghost view = { λ o. record { board = o.board.now; cost = o.cost; sum = o.sum } };
 
     ghost invariant = { λ o. IsOrigin (record {
-      board = o.unpacked.now;
+      board = o.board.now;
       cost = o.cost;
       sum = o.sum;
     }) };

@@ -1,9 +1,9 @@
 -- A tile that moves onto the blank's cell, and the board to which that leads.
 use Rattle.std.specs.Prelude.{◌≡◌, ◌<◌, slice_index}
 use Rattle.board.specs.Grids.{Grid, cell_count}
-use Rattle.board.specs.Keys.{HasKey}
 use Rattle.board.specs.Moves.{blank_exchange}
 use Rattle.board.specs.Positions.{Position, IsBoard, blank_of}
+use Rattle.search_keys.specs.SearchKeys.{HasSearchKey}
 use Rattle.owners.specs.declared.spread.Moved.{Moved}
 use Rattle.owners.specs.declared.spread.Slide.{Slide}
 
@@ -16,7 +16,7 @@ pub record IsSlide (grid : Grid) (b : Position) (slide : Slide) : Type 0 where
   pub some : 0 < slide.tile
   pub blank : blank_of b ≡ slide.to
 
--- the slide leads from this board to the one with the key
+-- the slide leads from this board to the one with the search key
 pub record IsMoved (b : Position) (moved : Moved) : Type 0 where
   pub slide : IsSlide moved.shape b moved.slide
-  pub key : HasKey moved.shape moved.key (blank_exchange b moved.slide.from)
+  pub key : HasSearchKey moved.shape moved.key (blank_exchange b moved.slide.from)

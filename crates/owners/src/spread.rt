@@ -1,12 +1,13 @@
 //! Ways to divide boards among workers.
 
 ghost use Rattle.std.specs.Prelude.{◌≡◌, ◌<◌, ◌%◌, ◌==◌, ℕ, Option, None};
-ghost use Rattle.board.specs.Keys.{HasKey};
 ghost use Rattle.board.specs.Positions.{Position};
+ghost use Rattle.search_keys.specs.SearchKeys.{HasSearchKey};
 ghost use Rattle.owners.specs.Owners.{AreWorkers};
 ghost use Rattle.owners.specs.Slides.{IsMoved};
 
 use board::{Board, Shape};
+use search_keys::KeyedBoard;
 
 /// A tile that moves onto the blank's cell.
 #[derive(Clone, Copy, Debug)]
@@ -22,7 +23,7 @@ pub struct Slide {
 #[derive(Clone, Copy, Debug)]
 pub struct Moved {
     pub shape: Shape,
-    /// The key of the board after the slide.
+    /// The search key of the board after the slide.
     pub key: u128,
     pub slide: Slide,
 }
@@ -55,11 +56,12 @@ pub trait Spread {
     fn owner_after(&self, hash: Option<u64>, moved: Moved, workers: usize) -> usize
         requires some { 0 < workers }
         requires moved { (b : Position) × IsMoved b moved × (hash ≡ hash_of self.now b) }
-        ensures { (b : Position) → HasKey moved.shape moved.key b
+        ensures { (b : Position) → HasSearchKey moved.shape moved.key b
             → result ≡ owner_of self.now workers b }
     {
         let _ = hash;
-        self.owner(&Board::of_key(moved.shape, moved.key), workers)
+        let board = KeyedBoard::of_key(moved.shape, moved.key).board();
+        self.owner(&board, workers)
     }
 
     /// Each board's owner is one of the workers.

@@ -13,14 +13,9 @@ use crate::by_moves::{ByMoves, MOVES};
 use crate::unpacked::Successor;
 use board::{Move, Shape};
 
-// Finds the cells to which the blank can go from a cell, but for one move that is left out, if any
-// is. (Exits that are handed back would be copied, right behind the writes of their single bytes.)
-pub(crate) fn find_exits(
-    shape: Shape,
-    blank: usize,
-    left_out: Option<Move>,
-    exits: &mut ByMoves<usize>,
-)
+/// Finds the cells to which the blank can go from a cell, except by a move that is left out, if any
+/// is. (Exits that are handed back would be copied, right behind the writes of their single bytes.)
+pub fn find_exits(shape: Shape, blank: usize, left_out: Option<Move>, exits: &mut ByMoves<usize>)
     requires { blank < cell_count shape }
     ensures { exits.new ≡ four_by (but left_out (λ m. neighbour shape m blank)) }
 {

@@ -9,4 +9,5 @@ mod exits;
 mod unpacked;
 
 pub use by_moves::{ByMoves, MOVES};
+pub use exits::find_exits;
 pub use unpacked::{Successor, UnpackedBoard, no_successors};

@@ -21,6 +21,7 @@ use incumbent::Best;
 use message_ledger::{Counting, Tokens};
 use owners::Spread;
 use quiescence::Book;
+use search_keys::KeyedBoard;
 use thread_parts::Search;
 use worker_core::Worker;
 use world_model::{GREATEST_GRANT, Known, Stop};
@@ -126,7 +127,7 @@ fn known_of<C: Counting, S: Spread>(
     ensures { result ≡ known_in (S.owner_of owners.now) (states_of workers.now) board.now }
 {
     let owner = owners.owner(board, workers.len());
-    workers[owner].lists().get(board.key())
+    workers[owner].lists().get(KeyedBoard::new(board).key())
 }
 
 // Whether no worker has a board on its open list with a cost plus sum below a limit.

@@ -8,7 +8,7 @@ use Rattle.std.proofs.lemmas.List.Elements.{All-replicate, Contains-append_left,
 use Rattle.std.specs.Prelude.{Contains, slice_get, slice_set, unwrap_or, All}
 use Rattle.board.specs.declared.moves.Move.{Move}
 use Rattle.board.specs.Positions.{Position}
-use Rattle.board.specs.Keys.{key_of}
+use Rattle.search_keys.specs.SearchKeys.{search_key}
 use Rattle.outcomes.specs.Outcomes.{Task}
 use Rattle.world_model.specs.declared.parts.Item.{Item}
 use Rattle.world_model.specs.declared.parts.Known.{Known}
@@ -17,7 +17,7 @@ use Rattle.world_model.specs.Openings.{first_worker, idle_worker}
 use Rattle.world_model.specs.Shapes.{IsPacketFor, IsShapedWorker, IsItemFor}
 use Rattle.world_model.specs.Workers.{IsIdle, IsTaskBoard, KnowsAs, Role, WorkerState, Lane, Packet, packet_for}
 use Rattle.world_model.specs.Costs.{limit_of}
-use Rattle.world_model.proofs.ChangeLemmas.{at_replicate, none_in, none_in_empty, get_inserted, same_key, with_insert, get_set_same, get_set_other, at_set, some_in, get_below, is_empty}
+use Rattle.world_model.proofs.ChangeLemmas.{at_replicate, none_in, none_in_empty, get_inserted, same_search_key, with_insert, get_set_same, get_set_other, at_set, some_in, get_below, is_empty}
 use Rattle.world_model.specs.declared.limits.TheConstants.{PACKET_LIMIT, CREDIT_DRAWN}
 use Rattle.world_model.proofs.ShapeKept.{shaped_same, shaped_sent, some_unsent}
 use Rattle.world_model.specs.declared.steps.HaltCause.{HaltCause}
@@ -53,7 +53,7 @@ module _ (n : ℕ) (role : Role) (is : IsRole n role) where
     none_unsent to item has = none_in_empty has.0 item (at_replicate n to [] has.0 has.1) has.2
 
     -- where the table has at most the start, as its own, at 0 and not expanded
-    module _ (only : (key : ℕ) (known : Known) → map.get table key ≡ Some known → (key ≡ key_of role.task.start) × (role.owner role.task.start ≡ role.me) × (known.cost ≡ 0) × (known.expanded ≡ false)) where
+    module _ (only : (key : ℕ) (known : Known) → map.get table key ≡ Some known → (key ≡ search_key role.task.start) × (role.owner role.task.start ≡ role.me) × (known.cost ≡ 0) × (known.expanded ≡ false)) where
       beginner_shaped : IsShapedWorker n role beginner
       beginner_shaped = record {
         known = λ key known at. let h = only key known at in (role.task.start, start_board, sym h.0, h.1, omega (arith, h.2));
@@ -63,7 +63,7 @@ module _ (n : ℕ) (role : Role) (is : IsRole n role) where
       }
 
       known_start : (b : Position) (known : Known) → IsTaskBoard role.task b → KnowsAs beginner b known → (b ≡ role.task.start) × (known.cost ≡ 0)
-      known_start b known board knows = let h = only (key_of b) known knows in (same_key role.task b role.task.start board start_board h.0, h.2)
+      known_start b known board knows = let h = only (search_key b) known knows in (same_search_key role.task b role.task.start board start_board h.0, h.2)
 
       opening_keeps : (role.owner role.task.start ≡ role.me → KnowsAtMost beginner role.task.start 0) → (purse ≡ 0 → IsIdle role.task beginner (limit_of None) None) → Keeps n role (opening_part n beginner)
       opening_keeps start idle = record {
@@ -72,12 +72,12 @@ module _ (n : ℕ) (role : Role) (is : IsRole n role) where
         ends = (length-replicate n [], length-replicate n []);
         sent = λ to lane at packet has. absurd (none_in_empty lane packet (at_replicate n to [] lane at) has);
         start = start;
-        successors = λ b known board knows closed m b' c moves. absurd (true≢false (sym closed ∙ (only (key_of b) known knows).3));
+        successors = λ b known board knows closed m b' c moves. absurd (true≢false (sym closed ∙ (only (search_key b) known knows).3));
         origins = λ b known board knows. inl (inl (known_start b known board knows));
         made = λ to item has. absurd (⊎_elim (λ (unsent : HasUnsent beginner to item). none_unsent to item unsent) (λ (went : WasSent (opening_part n beginner) to item). none_among n to item went) has);
         held = λ item has. absurd (none_in item has);
         arrived = λ item came mine. absurd (none_among n came.0 item came.1);
-        goal_kept = λ known knows. (only (key_of role.task.goal) known knows).3;
+        goal_kept = λ known knows. (only (search_key role.task.goal) known knows).3;
         resting = idle;
       }
 
@@ -87,17 +87,17 @@ module _ (n : ℕ) (role : Role) (is : IsRole n role) where
     at_start = record { cost = 0; expanded = false; via = via }
 
     abbrev start_table : Knowledge
-    start_table = map.insert map.empty (key_of role.task.start) at_start
+    start_table = map.insert map.empty (search_key role.task.start) at_start
 
-    first_knows : (key : ℕ) (known : Known) → map.get start_table key ≡ Some known → (key ≡ key_of role.task.start) × (role.owner role.task.start ≡ role.me) × (known.cost ≡ 0) × (known.expanded ≡ false)
+    first_knows : (key : ℕ) (known : Known) → map.get start_table key ≡ Some known → (key ≡ search_key role.task.start) × (role.owner role.task.start ≡ role.me) × (known.cost ≡ 0) × (known.expanded ≡ false)
     first_knows key known at =
         ⊎_elim
         (λ same. let none : ◌≡◌ {A = Option Known} None (Some known) = sym (map.get-empty nat_cmp key) ∙ sym same ∙ at in cc)
         (λ new. let e : Some known ≡ Some at_start = sym at ∙ new.1 in let e' : known ≡ at_start = cc in (new.0, own, ap (λ (k : Known). k.cost) e', ap (λ (k : Known). k.expanded) e'))
-        (with_insert map.empty (key_of role.task.start) key at_start)
+        (with_insert map.empty (search_key role.task.start) key at_start)
 
     first_keeps : Keeps n role (opening_part n (first_worker n role.task via))
-    first_keeps = opening_keeps start_table 1 first_knows (λ mine. (at_start, get_inserted map.empty (key_of role.task.start) at_start, omega arith)) (λ empty. absurd (omega arith))
+    first_keeps = opening_keeps start_table 1 first_knows (λ mine. (at_start, get_inserted map.empty (search_key role.task.start) at_start, omega arith)) (λ empty. absurd (omega arith))
 
   -- and the others
   module _ (other : role.owner role.task.start ≢ role.me) where
@@ -108,8 +108,8 @@ module _ (n : ℕ) (role : Role) (is : IsRole n role) where
     idle_rests = record {
       holds_nothing = refl;
       sends_nothing = All-replicate (λ packet. packet ≡ []) n [] refl;
-      no_board = λ b known at. absurd (idle_knows (key_of b) known at.knows);
-      no_better_goal = λ cost at. absurd (idle_knows (key_of role.task.goal) at.0 at.1);
+      no_board = λ b known at. absurd (idle_knows (search_key b) known at.knows);
+      no_better_goal = λ cost at. absurd (idle_knows (search_key role.task.goal) at.0 at.1);
     }
 
     idle_keeps : Keeps n role (opening_part n (idle_worker n))

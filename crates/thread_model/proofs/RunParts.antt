@@ -6,7 +6,7 @@ use Rattle.std.proofs.lemmas.List.{append_assoc, length-map, length-set, map-set
 use Rattle.std.proofs.lemmas.Option.{slice_get_within}
 use Rattle.std.specs.FinMap as finite
 use Rattle.std.proofs.lemmas.List.Elements.{Contains-push}
-use Rattle.board.specs.Keys.{key_of}
+use Rattle.search_keys.specs.SearchKeys.{search_key}
 use Rattle.world_model.specs.Books.{BookState}
 use Rattle.world_model.specs.Shapes.{IsShaped}
 use Rattle.world_model.specs.Steps.{with_lane, IsRun, Next, OnBook, from_to}
@@ -302,14 +302,14 @@ nothing_foreign shared parts lanes i part are at front last held =
 same_kept : (n : ℕ) (role : Role) (part : PartState) (worker : WorkerState) → IsRole n role → Keeps n role part → IsSame part.worker worker → (worker.purse ≡ 0 → IsIdle role.task worker (limit_of worker.best) worker.best) → Keeps n role (with_worker part worker)
 same_kept n role part worker is keeps same resting = worker_kept role part worker
     (record {
-      lower = λ b known knows. (known, ap (λ (k : Knowledge). finite.get k (key_of b)) same.known ∙ knows, omega arith);
+      lower = λ b known knows. (known, ap (λ (k : Knowledge). finite.get k (search_key b)) same.known ∙ knows, omega arith);
       unsent = λ to item has. (has.0, ap (λ (xs : List Packet). slice_get xs to) same.unsent ∙ has.1, has.2);
     })
     n is keeps
     (record {
       shaped = shaped_same n role (record part.worker { held = [] }) keeps.shaped (record worker { held = [] }) same.known refl same.unsent;
       few_held = subst (λ (xs : List Item). length xs ≤ PACKET_LIMIT) (sym same.held) keeps.few_held;
-      known = λ b known board knows. inl (ap (λ (k : Knowledge). finite.get k (key_of b)) (sym same.known) ∙ knows);
+      known = λ b known board knows. inl (ap (λ (k : Knowledge). finite.get k (search_key b)) (sym same.known) ∙ knows);
       items = λ to item has. inl (has.0, ap (λ (xs : List Packet). slice_get xs to) (sym same.unsent) ∙ has.1, has.2);
       held = λ item has. subst (λ (xs : List Item). Contains xs item) same.held has;
       settled = λ item has mine. inr (subst (λ (xs : List Item). Contains xs item) (sym same.held) has);

@@ -12,7 +12,7 @@ use Rattle.board.specs.Neighbours.{opposite}
 use Rattle.board.specs.Positions.{IsBoard, Position}
 use Rattle.board.proofs.MoveLemmas.{taken_back}
 use Rattle.board.proofs.NeighbourLemmas.{successor_moves}
-use Rattle.board.specs.Keys.{key_of}
+use Rattle.search_keys.specs.SearchKeys.{search_key}
 use Rattle.board.specs.declared.costs.TheConstants.{GREATEST_EXPANDED_COST}
 use Rattle.world_model.specs.declared.limits.TheConstants.{PACKET_LIMIT}
 use Rattle.world_model.specs.declared.parts.Item.{Item}
@@ -26,7 +26,7 @@ use Rattle.world_model.specs.Turns.{turn}
 use Rattle.world_model.specs.WorkerSteps.{ExpandStepBy, IsOverfull}
 use Rattle.world_model.proofs.ExpandLemmas.{Among, HasSlots, all_known, all_lower, all_there, all_unsent, all_put, all_back, all_held, all_rest, offered_by, offers_but, offered_board_by}
 use Rattle.world_model.proofs.ShapeKept.{expanded_low, shaped_expanded_by, slots, shaped_delivered, shaped_settled}
-use Rattle.world_model.proofs.ChangeLemmas.{known_owned, entry, same_key, with_insert, none_in_empty, cons_cases, none_in, lowered_by, lowered_there}
+use Rattle.world_model.proofs.ChangeLemmas.{known_owned, entry, same_search_key, with_insert, none_in_empty, cons_cases, none_in, lowered_by, lowered_there}
 use Rattle.world_model.proofs.StepCases.{IsLeft, ExpandsBy, expand_cases_by, Settles, settle_cases}
 use Rattle.world_model.specs.Knowledge.{relaxation}
 use Rattle.thread_model.specs.Parts.{PartState, HasUnsent, WasSent, KnowsAtMost, IsSeenTo, LeadsBack, IsMade, HasOrigin, HasCome, IsRole, Keeps, KnowsBefore}
@@ -167,13 +167,13 @@ module _ (n : ℕ) (role : Role) (part : PartState) (is : IsRole n role) (keeps 
       let e : Some old ≡ Some known = sym at ∙ ap (map.get part.worker.known) new.0 ∙ open_at.knows in
       let as_known : old ≡ known = cc in
       (record known { expanded = true }, new.1, omega (arith, ap (λ (k : Known). k.cost) as_known)))
-      (with_insert part.worker.known (key_of b) key (record known { expanded = true }))
+      (with_insert part.worker.known (search_key b) key (record known { expanded = true }))
 
   lower : (x : Position) (old : Known) → KnowsAs part.worker x old → KnowsAtMost done x old.cost
   unfolding done offers marked
   lower x old knows =
-      let mid = marked_lower (key_of x) old knows in
-      let end = all_lower role offers marked (key_of x) mid.0 mid.1 in
+      let mid = marked_lower (search_key x) old knows in
+      let end = all_lower role offers marked (search_key x) mid.0 mid.1 in
       (end.0, end.1, omega (arith, mid.2, end.2))
 
   remembers : Remembers part.worker done
@@ -228,7 +228,7 @@ module _ (n : ℕ) (role : Role) (part : PartState) (is : IsRole n role) (keeps 
 
   -- what is known after: what was known, the board itself, or an own offer
   IsNew : ℕ → Known → Type 0
-  IsNew key now = ((key ≡ key_of b) × (now ≡ record known { expanded = true })) ⊎ ((offer : Item) × Among offers offer × (key ≡ key_of offer.board) × (now ≡ entry offer))
+  IsNew key now = ((key ≡ search_key b) × (now ≡ record known { expanded = true })) ⊎ ((offer : Item) × Among offers offer × (key ≡ search_key offer.board) × (now ≡ entry offer))
 
   done_before : (key : ℕ) (now : Known) → map.get done.known key ≡ Some now → (map.get part.worker.known key ≡ Some now) ⊎ IsNew key now
   unfolding done offers marked IsNew
@@ -237,7 +237,7 @@ module _ (n : ℕ) (role : Role) (part : PartState) (is : IsRole n role) (keeps 
       (λ same.
       ⊎_elim (λ same'. inl (sym same' ∙ sym same ∙ at))
       (λ new. let e : Some now ≡ Some (record known { expanded = true }) = sym at ∙ same ∙ new.1 in inr (inl (new.0, cc)))
-      (with_insert part.worker.known (key_of b) key (record known { expanded = true })))
+      (with_insert part.worker.known (search_key b) key (record known { expanded = true })))
       (λ new. let e : Some now ≡ Some (entry new.0) = sym at ∙ new.4 in inr (inr (new.0, new.1, new.3, cc)))
       (all_known role offers marked key)
 
@@ -250,17 +250,17 @@ module _ (n : ℕ) (role : Role) (part : PartState) (is : IsRole n role) (keeps 
   offer_founded : (offer : Item) → Among offers offer → IsFounded role (with_worker part done) offer.board (entry offer)
   offer_founded offer among = record { origin = inl (offer_made offer among); closed = λ closed. absurd (true≢false (sym closed)) }
 
-  new_founded : (x : Position) (now : Known) → IsTaskBoard role.task x → IsNew (key_of x) now → IsFounded role (with_worker part done) x now
+  new_founded : (x : Position) (now : Known) → IsTaskBoard role.task x → IsNew (search_key x) now → IsFounded role (with_worker part done) x now
   unfolding IsNew
   new_founded x now board (inl (same, new)) =
-      let here = same_key role.task x b board open_at.board same in
+      let here = same_search_key role.task x b board open_at.board same in
       subst (λ (y : Position × Known). IsFounded role (with_worker part done) y.0 y.1) (λ t. (sym here t, sym new t)) board_founded
   new_founded x now board (inr (offer, among, same, new)) =
-      let here = same_key role.task x offer.board board (board_of offer among) same in
+      let here = same_search_key role.task x offer.board board (board_of offer among) same in
       subst (λ (y : Position × Known). IsFounded role (with_worker part done) y.0 y.1) (λ t. (sym here t, sym new t)) (offer_founded offer among)
 
   founded : (x : Position) (now : Known) → IsTaskBoard role.task x → KnowsAs done x now → KnowsAs part.worker x now ⊎ IsFounded role (with_worker part done) x now
-  founded x now board knows = ⊎_elim (λ old. inl old) (λ (new : IsNew (key_of x) now). inr (new_founded x now board new)) (done_before (key_of x) now knows)
+  founded x now board knows = ⊎_elim (λ old. inl old) (λ (new : IsNew (search_key x) now). inr (new_founded x now board new)) (done_before (search_key x) now knows)
 
   items : (to : ℕ) (item : Item) → HasUnsent done to item → HasUnsent part.worker to item ⊎ IsMade role done item.board item.cost item.via
   unfolding done offers marked
@@ -360,7 +360,7 @@ module _ (n : ℕ) (role : Role) (part : PartState) (is : IsRole n role) (keeps 
     unfolding settled
     settled_lower b known knows =
         ⊎_elim (λ same. (known, same ∙ knows, omega arith)) (λ new. (entry last, new.1, new.2 known knows))
-        (lowered_by (map.get part.worker.known (key_of last.board)) part.worker.known last refl (key_of b))
+        (lowered_by (map.get part.worker.known (search_key last.board)) part.worker.known last refl (search_key b))
 
     last_founded : IsFounded role (with_worker part settled) last.board (entry last)
     last_founded = record { origin = inr (last, keeps.held last last_held, refl, refl, refl); closed = λ closed. absurd (true≢false (sym closed)) }
@@ -372,13 +372,13 @@ module _ (n : ℕ) (role : Role) (part : PartState) (is : IsRole n role) (keeps 
         (λ new.
         let e : Some known ≡ Some (entry last) = sym knows ∙ new.1 in
         let as_last : known ≡ entry last = cc in
-        let there = same_key role.task b last.board board mine.0 new.0 in
+        let there = same_search_key role.task b last.board board mine.0 new.0 in
         inr (subst (λ (x : Position × Known). IsFounded role (with_worker part settled) x.0 x.1) (λ t. (sym there t, sym as_last t)) last_founded))
-        (lowered_by (map.get part.worker.known (key_of last.board)) part.worker.known last refl (key_of b))
+        (lowered_by (map.get part.worker.known (search_key last.board)) part.worker.known last refl (search_key b))
 
     last_known : KnowsAtMost settled last.board last.cost
     unfolding settled
-    last_known = lowered_there (map.get part.worker.known (key_of last.board)) part.worker.known last refl
+    last_known = lowered_there (map.get part.worker.known (search_key last.board)) part.worker.known last refl
 
     settled_kept : Keeps n role (with_worker part (record part.worker { held = front; known = relaxation part.worker.known last }))
     unfolding settled

@@ -6,7 +6,7 @@ use Rattle.std.specs.Ordering.{nat_cmp}
 use Rattle.std.proofs.lemmas.Bool.Decides.{eqb_tells}
 use Rattle.board.specs.Positions.{Position}
 use Rattle.board.specs.declared.moves.Move.{Move}
-use Rattle.board.specs.Keys.{key_of}
+use Rattle.search_keys.specs.SearchKeys.{search_key}
 use Rattle.owners.specs.Owners.{AreWorkers}
 use Rattle.outcomes.specs.Outcomes.{Task}
 use Rattle.world_model.specs.declared.limits.TheConstants.{LANE_LIMIT, WORKER_LIMIT}
@@ -133,10 +133,10 @@ abbrev unknown : Knowledge
 unknown = map.empty
 
 -- the start is all that is known after it was met
-met : (task : Task) (item : Item) → item.cost ≡ 0 → item.board ≡ task.start → relaxation unknown item ≡ map.insert unknown (key_of task.start) (record { cost = 0; expanded = false; via = item.via })
+met : (task : Task) (item : Item) → item.cost ≡ 0 → item.board ≡ task.start → relaxation unknown item ≡ map.insert unknown (search_key task.start) (record { cost = 0; expanded = false; via = item.via })
 met task item free board =
-    ap (λ (found : Option Known). if is_news found item.cost then map.insert unknown (key_of item.board) (record { cost = item.cost; expanded = false; via = item.via }) else unknown) (map.get-empty nat_cmp (key_of item.board))
-    ∙ (λ t. map.insert unknown (key_of (board t)) (record { cost = free t; expanded = false; via = item.via }))
+    ap (λ (found : Option Known). if is_news found item.cost then map.insert unknown (search_key item.board) (record { cost = item.cost; expanded = false; via = item.via }) else unknown) (map.get-empty nat_cmp (search_key item.board))
+    ∙ (λ t. map.insert unknown (search_key (board t)) (record { cost = free t; expanded = false; via = item.via }))
 
 -- so it is the worker that begins
 pub first_is : (n : ℕ) (task : Task) (purse : ℕ) (allowance : Spending) (worker state : WorkerState) (item : Item) → item.cost ≡ 0 → item.board ≡ task.start → worker ≡ with_means purse allowance (idle_worker n) → state ≡ record worker { known = relaxation worker.known item } → state ≡ with_means purse allowance (first_worker n task item.via)

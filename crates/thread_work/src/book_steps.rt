@@ -110,7 +110,7 @@ impl<'a, R: Wait, G: Gate, C: Tokens> Site<'a, R, G, C> {
 // Whether a worker knows the goal at a cost below its copy of the best one. Only the goal's owner
 // ever does.
 fn has_news<S: Spread, C: Tokens>(part: &Part<'_, S, C>) -> bool {
-    let Some(known) = part.worker.lists().get(part.job.goal().key()) else {
+    let Some(known) = part.worker.lists().get(part.job.keyed_goal().key()) else {
         return false;
     };
     match part.worker.best().cost() {

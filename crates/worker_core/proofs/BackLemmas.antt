@@ -8,7 +8,7 @@ use Rattle.std.proofs.lemmas.Option.{slice_get-get_or, get_or_from_slice_get, sl
 use Rattle.board.specs.declared.moves.Move.{Move}
 use Rattle.board.specs.declared.moves.Move.TheVariants.{U, L, R, D}
 use Rattle.board.specs.Equality.{move_eq, moves_Decide}
-use Rattle.board.specs.Keys.{key_of, HasKey}
+use Rattle.search_keys.specs.SearchKeys.{search_key, HasSearchKey}
 use Rattle.board.specs.Moves.{Moves, successor}
 use Rattle.board.specs.Neighbours.{opposite}
 use Rattle.board.specs.Positions.{Position, IsBoard}
@@ -65,11 +65,11 @@ module _ (role : Role) (b : Position) (cost : ℕ) (back : Move) (before : Posit
 
   -- the worker knows the board at no more than it is met at
   abbrev IsLow : WorkerState → Type 0
-  IsLow w = (old : Known) × (map.get w.known (key_of before) ≡ Some old) × (old.cost ≤ cost + c)
+  IsLow w = (old : Known) × (map.get w.known (search_key before) ≡ Some old) × (old.cost ≤ cost + c)
 
-  no_news : (known : Knowledge) (old : Known) → map.get known (key_of before) ≡ Some old → old.cost ≤ cost + c → relaxation known item_back ≡ known
+  no_news : (known : Knowledge) (old : Known) → map.get known (search_key before) ≡ Some old → old.cost ≤ cost + c → relaxation known item_back ≡ known
   no_news known old at low =
-      let is : is_news (map.get known (key_of before)) (cost + c) ≡ false = ap (λ (o : Option Known). is_news o (cost + c)) at ∙ le-ltb (cost + c) old.cost low in
+      let is : is_news (map.get known (search_key before)) (cost + c) ≡ false = ap (λ (o : Option Known). is_news o (cost + c)) at ∙ le-ltb (cost + c) old.cost low in
       cond-false _ _ _ is
 
   -- so it changes nothing
@@ -83,7 +83,7 @@ module _ (role : Role) (b : Position) (cost : ℕ) (back : Move) (before : Posit
   stays_low : (w : WorkerState) (item : Option Item) → IsLow w → IsLow (taken role w item)
   stays_low w None low = low
   stays_low w (Some other) low =
-      let now = all_lower role (other ∷ []) w (key_of before) low.0 low.1 in
+      let now = all_lower role (other ∷ []) w (search_key before) low.0 low.1 in
       let le = low.2 in
       let le' = now.2 in
       (now.0, now.1, omega (arith, le, le'))
@@ -118,7 +118,7 @@ low_closed worker b known key c first at low =
     ⊎_elim
     (λ same. (first, same ∙ at, low))
     (λ new. (record known { expanded = true }, new.1, omega arith))
-    (with_insert worker.known (key_of b) key (record known { expanded = true }))
+    (with_insert worker.known (search_key b) key (record known { expanded = true }))
 
 -- three moves are left
 three_taken : (role : Role) (worker : WorkerState) (items : Move → Option Item) (x y z : Move) → fold (with_successor role) worker (filter_map items (x ∷ y ∷ z ∷ [])) ≡ taken role (taken role (taken role worker (items x)) (items y)) (items z)
@@ -140,7 +140,7 @@ in_four_but : (role : Role) (worker : WorkerState) (b : Position) (known : Known
 in_four_but role worker b known None none = in_four role worker b known
 in_four_but role worker b known (Some back) (before, c, first, leads, own, knows, low) =
     in_four role worker b known
-    ∙ four_same role b known.cost back before c leads own (with_closure worker b known) (low_closed worker b known (key_of before) c first knows low)
+    ∙ four_same role b known.cost back before c leads own (with_closure worker b known) (low_closed worker b known (search_key before) c first knows low)
 
 -- ---- the move back
 
@@ -314,10 +314,10 @@ pub record IsChosen (role : Role) (worker : WorkerState) (b : Position) (known :
   pub offered : AreOffered role.task.sum role.owner (but left_out (item_by role.task.rule b known.cost)) offers
   pub within : OfEach (IsWithin role.task.goal.grid known.cost workers) offers
 
-pub chosen : (task : Task) (guide : Guide) (lists : Lists) (is : IsGuided task guide lists) (worker : WorkerState) (same : lists.closed.known ≡ worker.known) (owner_among : ℕ → Position → ℕ) (n workers me : ℕ) (all : n ≡ workers) (limit : ℕ) (limit_is : limit ≡ limit_of worker.best) (next : Next) (first : IsLeastOpen guide lists.closed next) (below : next.f < limit) (b : Position) (grid : Grid) (sides : grid ≡ task.goal.grid) (has : HasKey grid next.key b) (successors : Successors) (left_out : Option Move) (back : (known : Known) → known.cost ≡ next.cost → known.via ≡ next.via → left_out ≡ left_out_by successors known) (offers : Offers) (offered : AreOffered task.sum (λ p. owner_among n p) (but left_out (item_by task.rule b next.cost)) offers) (within : OfEach (IsWithin b.grid next.cost n) offers) → IsChosen (role_by task owner_among workers me) worker b first.opens.0 successors left_out offers workers
+pub chosen : (task : Task) (guide : Guide) (lists : Lists) (is : IsGuided task guide lists) (worker : WorkerState) (same : lists.closed.known ≡ worker.known) (owner_among : ℕ → Position → ℕ) (n workers me : ℕ) (all : n ≡ workers) (limit : ℕ) (limit_is : limit ≡ limit_of worker.best) (next : Next) (first : IsLeastOpen guide lists.closed next) (below : next.f < limit) (b : Position) (grid : Grid) (sides : grid ≡ task.goal.grid) (has : HasSearchKey grid next.key b) (successors : Successors) (left_out : Option Move) (back : (known : Known) → known.cost ≡ next.cost → known.via ≡ next.via → left_out ≡ left_out_by successors known) (offers : Offers) (offered : AreOffered task.sum (λ p. owner_among n p) (but left_out (item_by task.rule b next.cost)) offers) (within : OfEach (IsWithin b.grid next.cost n) offers) → IsChosen (role_by task owner_among workers me) worker b first.opens.0 successors left_out offers workers
 chosen task guide lists is worker same owner_among n workers me all limit limit_is next first below b grid sides has successors left_out back offers offered within = record {
   waits = λ none. some_below task guide lists worker same is limit next first below (subst (HasNothingBelow task worker) (sym limit_is) none);
-  at = is_next task guide lists worker same is next first b (subst (λ (g : Grid). HasKey g next.key b) sides has);
+  at = is_next task guide lists worker same is next first b (subst (λ (g : Grid). HasSearchKey g next.key b) sides has);
   left_out_is = back first.opens.0 first.opens.2 first.opens.3;
   offered = subst (λ (x : ℕ × ℕ). AreOffered task.sum (λ p. owner_among x.0 p) (but left_out (item_by task.rule b x.1)) offers) (λ t. (all t, sym first.opens.2 t)) offered;
   within = subst (λ (x : Grid × (ℕ × ℕ)). OfEach (IsWithin x.0 x.1.0 x.1.1) offers) (λ t. ((has.sides ∙ sides) t, (sym first.opens.2 t, all t))) within;
@@ -335,10 +335,10 @@ cost_low guide closed next limit best first below is =
     at_most (Some cost) = omega arith
 
 -- what its cost leaves of its cost plus sum is its sum
-pub sum_there : (task : Task) (guide : Guide) (lists : Lists) → IsGuided task guide lists → (next : Next) → IsLeastOpen guide lists.closed next → (b : Position) (grid : Grid) → grid ≡ task.goal.grid → HasKey grid next.key b → next.f - next.cost ≡ task.sum b
+pub sum_there : (task : Task) (guide : Guide) (lists : Lists) → IsGuided task guide lists → (next : Next) → IsLeastOpen guide lists.closed next → (b : Position) (grid : Grid) → grid ≡ task.goal.grid → HasSearchKey grid next.key b → next.f - next.cost ≡ task.sum b
 sum_there task guide lists is next first b grid sides has =
     let sum = is.guides.sums b (has.board, has.sides ∙ sides) in
-    let key : guide.sum (key_of b) ≡ guide.sum next.key = ap guide.sum has.packed in
+    let key : guide.sum (search_key b) ≡ guide.sum next.key = ap guide.sum has.packed in
     omega (arith, first.adds, sum, key)
 
 -- and no more than a board costs that is expanded

@@ -8,9 +8,9 @@ use Rattle.std.specs.FinMap as map
 use Rattle.std.specs.List.{cons_option}
 use Rattle.board.specs.declared.moves.Move.{Move}
 use Rattle.board.specs.Grids.{Grid}
-use Rattle.board.specs.Keys.{key_of, HasKey}
+use Rattle.search_keys.specs.SearchKeys.{search_key, HasSearchKey}
 use Rattle.board.specs.Positions.{Position, IsBoard}
-use Rattle.board.proofs.KeyLemmas.{same_board}
+use Rattle.search_keys.proofs.SearchKeyLemmas.{one_board as same_board}
 use Rattle.board.specs.declared.moves.Move.TheVariants.{U, L, R, D}
 use Rattle.board.specs.declared.costs.TheConstants.{GREATEST_EXPANDED_COST}
 use Rattle.board.specs.CostRules.{CostRule}
@@ -153,7 +153,7 @@ module _ (me : ℕ) (grid : Grid) (lists : Lists) (unsent : List Packet) (rest :
 -- ---- what becomes of the worker
 
 module _ (role : Role) (worker : WorkerState) (sum : Position → ℕ) (item : Item) (offer : Offer) (is : IsOfferOf sum role.owner item offer) where
-  other_taken : (via : Move) → item.via ≡ via → (b : Position) → HasKey item.board.grid offer.key b → IsBoard item.board → offer.owner ≢ role.me → record worker { unsent = put worker.unsent offer.owner (record { board = b; cost = offer.cost; via = via }) } ≡ with_successor role worker item
+  other_taken : (via : Move) → item.via ≡ via → (b : Position) → HasSearchKey item.board.grid offer.key b → IsBoard item.board → offer.owner ≢ role.me → record worker { unsent = put worker.unsent offer.owner (record { board = b; cost = offer.cost; via = via }) } ≡ with_successor role worker item
   other_taken via last b has board other =
       let same : b ≡ item.board = same_board b item.board has.board board has.sides (has.packed ∙ is.key) in
       (λ t. record worker { unsent = put worker.unsent (is.owned t) (record { board = same t; cost = is.cost t; via = sym last t }) })
@@ -161,27 +161,27 @@ module _ (role : Role) (worker : WorkerState) (sum : Position → ℕ) (item : I
       ∙ sym (cond-false _ _ _ (ne_eqb (role.owner item.board) role.me (λ own. other (is.owned ∙ own))))
 
 -- the same, where an offer is there
-pub other_option : (role : Role) (worker : WorkerState) (sum : Position → ℕ) (item : Option Item) (offer : Offer) → IsOffered sum role.owner item (Some offer) → (grid : Grid) → IfSome item (λ i. IsBoard i.board × (i.board.grid ≡ grid)) → (via : Move) → IfSome item (λ i. i.via ≡ via) → (b : Position) → HasKey grid offer.key b → offer.owner ≢ role.me → (unsent' : List Packet) → unsent' ≡ put worker.unsent offer.owner (record { board = b; cost = offer.cost; via = via }) → record worker { unsent = unsent' } ≡ taken role worker item
+pub other_option : (role : Role) (worker : WorkerState) (sum : Position → ℕ) (item : Option Item) (offer : Offer) → IsOffered sum role.owner item (Some offer) → (grid : Grid) → IfSome item (λ i. IsBoard i.board × (i.board.grid ≡ grid)) → (via : Move) → IfSome item (λ i. i.via ≡ via) → (b : Position) → HasSearchKey grid offer.key b → offer.owner ≢ role.me → (unsent' : List Packet) → unsent' ≡ put worker.unsent offer.owner (record { board = b; cost = offer.cost; via = via }) → record worker { unsent = unsent' } ≡ taken role worker item
 other_option role worker sum None offer is grid board via last b has other unsent' at = absurd is
 other_option role worker sum (Some item) offer is grid board via last b has other unsent' at =
     ap (λ (unsent : List Packet). record worker { unsent = unsent }) at
-    ∙ other_taken role worker sum item offer is via last b (subst (λ (g : Grid). HasKey g offer.key b) (sym board.1) has) board.0 other
+    ∙ other_taken role worker sum item offer is via last b (subst (λ (g : Grid). HasSearchKey g offer.key b) (sym board.1) has) board.0 other
 
 -- ---- what the lists are led by
 
 abbrev got : ℕ → Knowledge → Option Known
 got key m = map.get m key
 
-module _ (task : Task) (known : Knowledge) (all : (key : ℕ) (k : Known) → map.get known key ≡ Some k → (b : Position) × IsTaskBoard task b × (key_of b ≡ key)) (key : ℕ) (here : (b : Position) × IsTaskBoard task b × (key_of b ≡ key)) where
+module _ (task : Task) (known : Knowledge) (all : (key : ℕ) (k : Known) → map.get known key ≡ Some k → (b : Position) × IsTaskBoard task b × (search_key b ≡ key)) (key : ℕ) (here : (b : Position) × IsTaskBoard task b × (search_key b ≡ key)) where
   -- all known keys are those of boards, with one more
-  inserted_boards : (v : Known) (q : ℕ) (k : Known) → map.get (map.insert known key v) q ≡ Some k → (b : Position) × IsTaskBoard task b × (key_of b ≡ q)
+  inserted_boards : (v : Known) (q : ℕ) (k : Known) → map.get (map.insert known key v) q ≡ Some k → (b : Position) × IsTaskBoard task b × (search_key b ≡ q)
   inserted_boards v q k at =
       ⊎_elim
       (λ as_before. all q k (sym as_before ∙ at))
       (λ new. (here.0, here.1, here.2 ∙ sym new.0))
       (with_insert known key q v)
 
-  pub relaxed_boards : (cost : ℕ) (via : Move) (q : ℕ) (k : Known) → map.get (relaxation_at known key cost via) q ≡ Some k → (b : Position) × IsTaskBoard task b × (key_of b ≡ q)
+  pub relaxed_boards : (cost : ℕ) (via : Move) (q : ℕ) (k : Known) → map.get (relaxation_at known key cost via) q ≡ Some k → (b : Position) × IsTaskBoard task b × (search_key b ≡ q)
   relaxed_boards cost via q k at =
       ⊎_elim
       (λ (news : is_news (map.get known key) cost ≡ true). inserted_boards (record { cost = cost; expanded = false; via = via }) q k (sym (ap (got q) (cond-true _ _ _ news)) ∙ at))
@@ -190,7 +190,7 @@ module _ (task : Task) (known : Knowledge) (all : (key : ℕ) (k : Known) → ma
 
 module _ (task : Task) (guide : Guide) (lists lists' : Lists) (is : IsGuided task guide lists) where
   -- where a board was relaxed
-  guided_relaxed : (key cost : ℕ) (via : Move) → (b : Position) → HasKey task.goal.grid key b → lists'.closed ≡ table_relaxation lists.closed key cost via → IsInOrder guide lists' → IsGuided task guide lists'
+  guided_relaxed : (key cost : ℕ) (via : Move) → (b : Position) → HasSearchKey task.goal.grid key b → lists'.closed ≡ table_relaxation lists.closed key cost via → IsInOrder guide lists' → IsGuided task guide lists'
   guided_relaxed key cost via b has relaxed order = record {
     guides = is.guides;
     order = order;
@@ -198,7 +198,7 @@ module _ (task : Task) (guide : Guide) (lists lists' : Lists) (is : IsGuided tas
   }
 
   -- where an own board was met, that adds up
-  pub guided_met : (offer : Offer) (via : Move) (met : Met) → met ≡ record { key = offer.key; cost = offer.cost; via = via; f = offer.f } → AddsUpBy guide offer → (b : Position) → HasKey task.goal.grid offer.key b → lists'.closed ≡ table_relaxation lists.closed met.key met.cost met.via → (AddsUp guide met → IsInOrder guide lists → IsInOrder guide lists') → IsGuided task guide lists'
+  pub guided_met : (offer : Offer) (via : Move) (met : Met) → met ≡ record { key = offer.key; cost = offer.cost; via = via; f = offer.f } → AddsUpBy guide offer → (b : Position) → HasSearchKey task.goal.grid offer.key b → lists'.closed ≡ table_relaxation lists.closed met.key met.cost met.via → (AddsUp guide met → IsInOrder guide lists → IsInOrder guide lists') → IsGuided task guide lists'
   guided_met offer via met same adds b has relaxed order =
       let adds_up : AddsUp guide met = subst (λ (m : Met). AddsUp guide m) (sym same) (record { adds = adds.0; within = adds.1 }) in
       guided_relaxed offer.key offer.cost via b has (relaxed ∙ ap (λ (m : Met). table_relaxation lists.closed m.key m.cost m.via) same) (order adds_up is.order)
@@ -295,7 +295,7 @@ module _ (offers : Offers) where
   pub ready_entries : (me : ℕ) (grid : Grid) (lists : Lists) (unsent : List Packet) → IsReady me grid (stock lists unsent) (in_turn offers) → IsReady me grid (stock lists unsent) (offered_in (entries_of offers))
   ready_entries me grid lists unsent ready = record {
     there = entries_all (λ offer. offer.owner < length unsent) ready.there;
-    keys = entries_all (λ offer. (b : Position) × HasKey grid offer.key b) ready.keys;
+    keys = entries_all (λ offer. (b : Position) × HasSearchKey grid offer.key b) ready.keys;
     boards = let few = entries_few in let places = ready.boards in omega (arith, few, places);
     places =
         entries_all (λ offer. offer.owner ≡ me → length (offered_in (entries_of offers)) ≤ places_at lists.waiting offer.f)
@@ -449,7 +449,7 @@ ready_closed me grid lists lists' unsent offers key closed places ready =
     ready_with_room me grid lists unsent offers lists' (omega (arith, room)) places ready
 
 -- what is spent of an allowance is left no longer
-pub one_spent : (worker : WorkerState) (b : Position) (known : Known) (granted left left' : ℕ) (lists' : Lists) (lists : Lists) (key : ℕ) → worker.known ≡ lists.closed.known → worker.allowance ≡ left → worker.expansions ≡ granted - left → left' + 1 ≡ left → left ≤ granted → key_of b ≡ key → map.get lists.closed.known (key_of b) ≡ Some known → lists'.closed ≡ table_closure lists.closed key (map.get lists.closed.known key) → record worker { known = lists'.closed.known; allowance = left'; expansions = granted - left' } ≡ with_closure worker b known
+pub one_spent : (worker : WorkerState) (b : Position) (known : Known) (granted left left' : ℕ) (lists' : Lists) (lists : Lists) (key : ℕ) → worker.known ≡ lists.closed.known → worker.allowance ≡ left → worker.expansions ≡ granted - left → left' + 1 ≡ left → left ≤ granted → search_key b ≡ key → map.get lists.closed.known (search_key b) ≡ Some known → lists'.closed ≡ table_closure lists.closed key (map.get lists.closed.known key) → record worker { known = lists'.closed.known; allowance = left'; expansions = granted - left' } ≡ with_closure worker b known
 one_spent worker b known granted left left' lists' lists key knows allowed made spent few packed at closed =
     let found : map.get lists.closed.known key ≡ Some known = ap (map.get lists.closed.known) (sym packed) ∙ at in
     let now = ap (λ (t : Table). t.known) (closed ∙ ap (table_closure lists.closed key) found) in
@@ -471,8 +471,8 @@ ready_for me grid cost n lists unsent offers room within all boards places = rec
     owned : (offer : Option Offer) → IfSome offer (IsWithin grid cost n) → IfSome offer (λ some. some.owner < length unsent)
     owned offer is = if_some (IsWithin grid cost n) (λ some. some.owner < length unsent) (λ some in_it. subst (λ (k : ℕ). some.owner < k) (sym all) in_it.owned) offer is
 
-    keyed : (offer : Option Offer) → IfSome offer (IsWithin grid cost n) → IfSome offer (λ some. (b : Position) × HasKey grid some.key b)
-    keyed offer is = if_some (IsWithin grid cost n) (λ some. (b : Position) × HasKey grid some.key b) (λ some in_it. in_it.board) offer is
+    keyed : (offer : Option Offer) → IfSome offer (IsWithin grid cost n) → IfSome offer (λ some. (b : Position) × HasSearchKey grid some.key b)
+    keyed offer is = if_some (IsWithin grid cost n) (λ some. (b : Position) × HasSearchKey grid some.key b) (λ some in_it. in_it.board) offer is
 
 -- ---- how the lists stand to the task
 
@@ -509,7 +509,7 @@ restarted start start' goal rule tables guide lists is = record {
 }
 
 -- a board that is open by its key, and least, is next
-pub is_next : (task : Task) (guide : Guide) (lists : Lists) (worker : WorkerState) (same : lists.closed.known ≡ worker.known) (is : IsGuided task guide lists) (next : Next) (first : IsLeastOpen guide lists.closed next) (b : Position) → HasKey task.goal.grid next.key b → IsNext task worker b first.opens.0
+pub is_next : (task : Task) (guide : Guide) (lists : Lists) (worker : WorkerState) (same : lists.closed.known ≡ worker.known) (is : IsGuided task guide lists) (next : Next) (first : IsLeastOpen guide lists.closed next) (b : Position) → HasSearchKey task.goal.grid next.key b → IsNext task worker b first.opens.0
 is_next task guide lists worker same is next first b has =
     let known = first.opens.0 in
     let at = first.opens.1 in
@@ -517,7 +517,7 @@ is_next task guide lists worker same is next first b has =
       board = (has.board, has.sides);
       knows = (λ t. map.get (sym same t) (has.packed t)) ∙ at.knows;
       unexpanded = at.unexpanded;
-      no_goal = λ e. at.no_goal (sym has.packed ∙ ap key_of e ∙ sym is.guides.ends);
+      no_goal = λ e. at.no_goal (sym has.packed ∙ ap search_key e ∙ sym is.guides.ends);
     } in
     let adds = first.adds in
     let cost = first.opens.2 in

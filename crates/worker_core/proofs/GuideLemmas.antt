@@ -8,9 +8,9 @@ use Rattle.std.proofs.lemmas.List.Elements.{Contains-push}
 use Rattle.std.proofs.lemmas.Option.{none-some, slice_get_within}
 use Rattle.arrayvec.specs.ArrayVec.{ArrayVec}
 use Rattle.memory.specs.declared.OutOfMemory.{OutOfMemory}
-use Rattle.board.specs.Keys.{key_of}
+use Rattle.search_keys.specs.SearchKeys.{search_key}
 use Rattle.board.specs.Positions.{Position}
-use Rattle.board.proofs.KeyLemmas.{same_board}
+use Rattle.search_keys.proofs.SearchKeyLemmas.{one_board as same_board}
 use Rattle.outcomes.specs.Outcomes.{Task}
 use Rattle.world_model.specs.declared.parts.Item.{Item}
 use Rattle.world_model.specs.Workers.{Packet, WorkerState, IsOpen, HasNothingBelow, IsFloor, Role}
@@ -91,33 +91,33 @@ rest_left i floor x y fault call = passed_over _ _ _ _ call (λ some. passed_ove
 
 module _ (task : Task) (guide : Guide) (lists : Lists) (worker : WorkerState) (same : lists.closed.known ≡ worker.known) (is : IsGuided task guide lists) where
   -- an open board is open by its key, at the same cost plus sum
-  pub open_key : (b : Position) (known : Known) → IsOpen task worker b known → orders.IsOpen guide lists.closed (key_of b) known
+  pub open_key : (b : Position) (known : Known) → IsOpen task worker b known → orders.IsOpen guide lists.closed (search_key b) known
   open_key b known at = record {
-    knows = ap (λ m. map.get m (key_of b)) same ∙ at.knows;
+    knows = ap (λ m. map.get m (search_key b)) same ∙ at.knows;
     unexpanded = at.unexpanded;
     no_goal = λ e. at.no_goal (same_board b task.goal at.board.0 is.guides.board at.board.1 (e ∙ is.guides.ends));
   }
 
-  pub same_sum : (b : Position) (known : Known) → IsOpen task worker b known → known.cost + guide.sum (key_of b) ≡ known.cost + task.sum b
+  pub same_sum : (b : Position) (known : Known) → IsOpen task worker b known → known.cost + guide.sum (search_key b) ≡ known.cost + task.sum b
   same_sum b known at = ap (λ (n : ℕ). known.cost + n) (is.guides.sums b at.board)
 
   -- and the other way round
-  pub open_board : (key : ℕ) (known : Known) → orders.IsOpen guide lists.closed key known → (b : Position) × IsOpen task worker b known × (key_of b ≡ key)
+  pub open_board : (key : ℕ) (known : Known) → orders.IsOpen guide lists.closed key known → (b : Position) × IsOpen task worker b known × (search_key b ≡ key)
   open_board key known at =
       let found = is.boards key known at.knows in (
         found.0,
         record {
           board = found.1;
-          knows = ap (λ m. map.get m (key_of found.0)) (sym same) ∙ ap (map.get lists.closed.known) found.2 ∙ at.knows;
+          knows = ap (λ m. map.get m (search_key found.0)) (sym same) ∙ ap (map.get lists.closed.known) found.2 ∙ at.knows;
           unexpanded = at.unexpanded;
-          no_goal = λ e. at.no_goal (sym found.2 ∙ ap key_of e ∙ sym is.guides.ends);
+          no_goal = λ e. at.no_goal (sym found.2 ∙ ap search_key e ∙ sym is.guides.ends);
         },
         found.2,
       )
 
   pub none_below : (n : ℕ) → NoneBelow guide lists.closed n → HasNothingBelow task worker n
   none_below n none b known at =
-      let le = none (key_of b) known (open_key b known at) in
+      let le = none (search_key b) known (open_key b known at) in
       let e = same_sum b known at in
       omega (arith, le, e)
 
@@ -126,14 +126,14 @@ module _ (task : Task) (guide : Guide) (lists : Lists) (worker : WorkerState) (s
       let board = open_board next.key first.opens.0 first.opens.1 in
       let le = none board.0 first.opens.0 board.1 in
       let e = same_sum board.0 first.opens.0 board.1 in
-      let key : guide.sum (key_of board.0) ≡ guide.sum next.key = ap guide.sum board.2 in
+      let key : guide.sum (search_key board.0) ≡ guide.sum next.key = ap guide.sum board.2 in
       let cost = first.opens.2 in
       let adds = first.adds in
       omega (arith, lt, le, e, key, cost, adds)
 
   -- an open board of this cost plus sum, by its key and by itself
   key_at : (f : ℕ) → ((b : Position) × (known : Known) × IsOpen task worker b known × (known.cost + task.sum b ≡ f)) → (key : ℕ) × (known : Known) × orders.IsOpen guide lists.closed key known × (known.cost + guide.sum key ≡ f)
-  key_at f at = (key_of at.0, at.1, open_key at.0 at.1 at.2, same_sum at.0 at.1 at.2 ∙ at.3)
+  key_at f at = (search_key at.0, at.1, open_key at.0 at.1 at.2, same_sum at.0 at.1 at.2 ∙ at.3)
 
   board_at : (f : ℕ) → ((key : ℕ) × (known : Known) × orders.IsOpen guide lists.closed key known × (known.cost + guide.sum key ≡ f)) → (b : Position) × (known : Known) × IsOpen task worker b known × (known.cost + task.sum b ≡ f)
   board_at f at =

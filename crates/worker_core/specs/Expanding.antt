@@ -3,7 +3,7 @@ use Rattle.std.specs.Prelude.{⊤, ℕ, ◌≡◌, ◌≢◌, ◌⊎◌, ◌+◌
 use Rattle.board.specs.declared.moves.Move.{Move}
 use Rattle.board.specs.declared.moves.Move.TheVariants.{U, L, R, D}
 use Rattle.board.specs.Grids.{Grid}
-use Rattle.board.specs.Keys.{HasKey}
+use Rattle.search_keys.specs.SearchKeys.{HasSearchKey}
 use Rattle.board.specs.Positions.{Position}
 use Rattle.open_buckets.specs.declared.open.TheConstants.{GREATEST_F}
 use Rattle.open_buckets.specs.OpenLists.{places_at}
@@ -82,7 +82,7 @@ stock lists unsent = record { lists = lists; unsent = unsent }
 -- offers have keys of boards of the grid.
 pub record IsReady (me : ℕ) (grid : Grid) (into : Stock) (offers : List (Option Offer)) : Type 0 where
   pub there : OfAll (λ offer. offer.owner < length into.unsent) offers
-  pub keys : OfAll (λ offer. (b : Position) × HasKey grid offer.key b) offers
+  pub keys : OfAll (λ offer. (b : Position) × HasSearchKey grid offer.key b) offers
   pub boards : length offers ≤ into.lists.closed.room
   pub places : OfAll (λ offer. offer.owner ≡ me → length offers ≤ places_at into.lists.waiting offer.f) offers
   pub room : (to : ℕ) → to < length into.unsent → length (slice_index_or into.unsent to []) + all_go me to offers ≤ PACKET_LIMIT

@@ -2,11 +2,12 @@
 use Rattle.std.specs.Prelude.{ℕ, ◌≡◌, ◌<◌, ◌≤◌, ◌+◌, Some}
 use Rattle.std.specs.FinMap as map
 use Rattle.board.specs.CostRules.{CostRule}
-use Rattle.board.specs.Digits.{digits_of}
 use Rattle.board.specs.Grids.{cell_count}
-use Rattle.board.specs.Keys.{key_of}
 use Rattle.board.specs.Moves.{Moves}
 use Rattle.board.specs.Positions.{Position, IsBoard}
+use Rattle.pattern_index.specs.Sparse.{digits_in}
+use Rattle.search_keys.specs.SearchKeys.{key_base, search_key}
+use Rattle.search_keys.specs.Storage.{turned}
 use Rattle.outcomes.specs.Outcomes.{Task}
 use Rattle.lower_bound.specs.Bounds.{sum_of}
 use Rattle.lower_bound.specs.Tables.{Tables, parts_of}
@@ -26,30 +27,30 @@ pub record IsRoleOf (number : ℕ) (goal : Position) (role : Role) : Type 0 wher
 abbrev pub task_of : Position → Position → CostRule → Tables → Task
 task_of start goal rule tables = record { start = start; goal = goal; rule = rule; sum = sum_of (parts_of tables) }
 
--- the guide leads to the task's goal: it has the sum of each board of the task under the board's key
+-- the guide leads to the task's goal: it has the sum of each board of the task under the board's search key
 pub record IsGuideOf (task : Task) (guide : Guide) : Type 0 where
-  pub ends : guide.goal ≡ key_of task.goal
+  pub ends : guide.goal ≡ search_key task.goal
   pub board : IsBoard task.goal
-  pub sums : (b : Position) → IsTaskBoard task b → guide.sum (key_of b) ≡ task.sum b
+  pub sums : (b : Position) → IsTaskBoard task b → guide.sum (search_key b) ≡ task.sum b
 
--- A guide of a task: the sum of the board of which a key has the digits.
+-- A guide of a task: the sum of the board of which a search key has the digits.
 abbrev pub guide_of : Task → Guide
-guide_of task = record { sum = λ key. task.sum (record { grid = task.goal.grid; tiles = digits_of (cell_count task.goal.grid) key }); goal = key_of task.goal }
+guide_of task = record { sum = λ key. task.sum (turned (record { grid = task.goal.grid; tiles = digits_in (key_base task.goal.grid) (cell_count task.goal.grid) key })); goal = search_key task.goal }
 
 -- it leads to the task's goal
 abbrev pub TasksHaveGuides : Type 0
 TasksHaveGuides = (task : Task) → IsBoard task.goal → IsGuideOf task (guide_of task)
 
--- each known key is that of a board of the task
+-- each known key is the search key of a board of the task
 abbrev pub AreTaskBoards : Task → Table → Type 0
-AreTaskBoards task closed = (key : ℕ) (known : Known) → map.get closed.known key ≡ Some known → (b : Position) × IsTaskBoard task b × (key_of b ≡ key)
+AreTaskBoards task closed = (key : ℕ) (known : Known) → map.get closed.known key ≡ Some known → (b : Position) × IsTaskBoard task b × (search_key b ≡ key)
 
 -- Each board of the rule's sides that is known at a cost above 0 was reached from a known one: the board before its last move, which
 -- is cheaper by the move's cost at least.
 abbrev pub WereReached : CostRule → Knowledge → Type 0
 WereReached rule knowledge =
-    (b : Position) (known : Known) → IsBoard b → b.grid ≡ rule.grid → map.get knowledge (key_of b) ≡ Some known → 0 < known.cost
-    → (before : Position) × (c : ℕ) × (first : Known) × IsBoard before × Moves rule before known.via b c × (map.get knowledge (key_of before) ≡ Some first) × (first.cost + c ≤ known.cost)
+    (b : Position) (known : Known) → IsBoard b → b.grid ≡ rule.grid → map.get knowledge (search_key b) ≡ Some known → 0 < known.cost
+    → (before : Position) × (c : ℕ) × (first : Known) × IsBoard before × Moves rule before known.via b c × (map.get knowledge (search_key before) ≡ Some first) × (first.cost + c ≤ known.cost)
 
 -- by this guide the lists are in order, and what they know is boards of the task
 pub record IsGuided (task : Task) (guide : Guide) (lists : Lists) : Type 0 where

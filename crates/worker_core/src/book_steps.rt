@@ -2,7 +2,7 @@
 
 ghost use Rattle.std.specs.Prelude.{◌≡◌, ◌<◌, ◌+◌, length, IsTrue, IsFalse, IfOk, Some};
 ghost use Rattle.std.specs.FinMap as map;
-ghost use Rattle.board.specs.Keys.{key_of};
+ghost use Rattle.search_keys.specs.SearchKeys.{search_key};
 ghost use Rattle.outcomes.specs.declared.outcome.Want.{Want};
 ghost use Rattle.outcomes.specs.Outcomes.{Task};
 ghost use Rattle.world_model.specs.declared.steps.HaltCause.{HaltCause};
@@ -157,10 +157,10 @@ impl<C: Counting> Worker<C> {
     // Whether the goal is known at a cost below the best one.
     fn knows_better(&self, goal: &Goal, best: Best) -> bool
         ensures yes { IsTrue result → (known : Known)
-            × (map.get self.now.lists.closed.known (key_of goal.now) ≡ Some known)
+            × (map.get self.now.lists.closed.known (search_key goal.now) ≡ Some known)
             × (¬ IsNotBelow (Some known.cost) best) }
         ensures no { IsFalse result → (known : Known)
-            → map.get self.now.lists.closed.known (key_of goal.now) ≡ Some known
+            → map.get self.now.lists.closed.known (search_key goal.now) ≡ Some known
             → IsNotBelow (Some known.cost) best }
     {
         let Some(known) = self.lists.get(goal.key()) else {

@@ -3,7 +3,7 @@
 ghost use Rattle.std.specs.Prelude.{ℕ, ◌≡◌, ◌<◌, ◌≤◌, ◌+◌, length, IfSome, OnOk, OnErr};
 ghost use Rattle.std.specs.Prelude.{◌≢◌, Option};
 ghost use Rattle.std.specs.FinMap as map;
-ghost use Rattle.board.specs.Keys.{key_of};
+ghost use Rattle.search_keys.specs.SearchKeys.{search_key};
 ghost use Rattle.board.specs.Positions.{Position, IsBoard};
 ghost use Rattle.closed_table.specs.Tables.{table_closure};
 ghost use Rattle.open_buckets.specs.OpenLists.{places_at};
@@ -31,9 +31,10 @@ use memory::OutOfMemory;
 use message_ledger::{Allowance, Counting};
 use offers::{Offer, Origin, Terms, has_room, no_offers, offers_of};
 use owners::Spread;
+use search_keys::KeyedBoard;
 use search_lists::{Next, SearchLists};
 use std::alloc::Global;
-use successor_sums::{ByMoves, MOVES, UnpackedBoard};
+use successor_sums::{ByMoves, MOVES};
 use world_model::Refusal;
 
 /// The successors of a board that an expansion takes.
@@ -71,9 +72,9 @@ impl<C: Counting> Worker<C> {
         if self.allowance.left() == 0 {
             return Err(Refusal::NoAllowance);
         }
-        let unpacked = UnpackedBoard::of_key(context.goal.shape(), next.key);
+        let board = KeyedBoard::of_key(context.goal.shape(), next.key);
         let origin = Origin {
-            unpacked: &unpacked,
+            board: &board,
             cost: next.cost,
             sum: next.f - next.cost,
         };
@@ -116,7 +117,7 @@ impl<C: Counting> Worker<C> {
         ensures state { (role : Role) (sum : Position → ℕ) (b : Position) (known : Known)
             (left_out : Option Move) → role.me ≡ context.now.me → IsBoard b
             → b.grid ≡ context.now.goal.grid
-            → key_of b ≡ next.key → KnowsAs (state_of self.old) b known
+            → search_key b ≡ next.key → KnowsAs (state_of self.old) b known
             → AreOffered sum role.owner (but left_out (item_by role.task.rule b known.cost)) offers.now
             → state_of self.new
             ≡ expansion_by (moves_but left_out) role (state_of self.old) b known }

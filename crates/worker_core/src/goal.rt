@@ -1,13 +1,14 @@
 //! The goal of a run.
 
 ghost use Rattle.std.specs.Prelude.{◌≡◌};
-ghost use Rattle.board.specs.Keys.{key_of};
+ghost use Rattle.search_keys.specs.SearchKeys.{search_key};
 ghost use Rattle.board.specs.Positions.{IsBoard};
 
 use board::{Board, Shape};
+use search_keys::KeyedBoard;
 use std::marker::Model;
 
-/// A goal with its key, by which it is known among the boards that are met.
+/// A goal with its search key, by which it is known among the boards that are met.
 #[derive(Debug, Drop)]
 pub struct Goal {
     board: Board,
@@ -16,14 +17,14 @@ pub struct Goal {
 
 impl Model for Goal {
     ghost use Rattle.std.specs.Prelude.{◌≡◌};
-    ghost use Rattle.board.specs.Keys.{key_of};
+    ghost use Rattle.search_keys.specs.SearchKeys.{search_key};
     ghost use Rattle.board.specs.Positions.{Position};
 
     ghost Value = { Position };
 
     ghost view = { λ g. g.board };
 
-    ghost invariant = { λ g. key_of g.board ≡ g.key };
+    ghost invariant = { λ g. search_key g.board ≡ g.key };
 }
 
 impl Goal {
@@ -33,7 +34,7 @@ impl Goal {
     {
         Goal {
             board: *board,
-            key: board.key(),
+            key: KeyedBoard::new(board).key(),
         }
     }
 
@@ -52,9 +53,9 @@ impl Goal {
         self.board.shape()
     }
 
-    /// Its key, as `Board::key` answers it.
+    /// Its search key.
     pub fn key(&self) -> u128
-        ensures value { result ≡ key_of self.now }
+        ensures value { result ≡ search_key self.now }
         ensures board { IsBoard self.now }
     {
         let _ = self.board.shape();

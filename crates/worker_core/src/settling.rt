@@ -20,9 +20,9 @@ use board::GREATEST_COST;
 use memory::OutOfMemory;
 use message_ledger::Counting;
 use owners::Spread;
+use search_keys::KeyedBoard;
 use search_lists::{Met, SearchLists};
 use std::alloc::Global;
-use successor_sums::UnpackedBoard;
 use world_model::{Item, Refusal};
 
 impl<C: Counting> Worker<C> {
@@ -103,7 +103,8 @@ fn relax_item<S: Spread>(
     ensures err { OnErr result (lists.new.closed.known ≡ lists.old.closed.known) }
     ensures lists { StayInOrder context.now lists.old lists.new }
 {
-    let key = item.board.key();
+    let board = KeyedBoard::new(&item.board);
+    let key = board.key();
     if !brings_news(lists, key, item.cost) {
         return Ok(());
     }
@@ -111,7 +112,7 @@ fn relax_item<S: Spread>(
         key,
         cost: item.cost,
         via: item.via,
-        f: item.cost + UnpackedBoard::new(&item.board).sum(context.bound),
+        f: item.cost + context.bound.sum_at(&board.cells()),
     };
     make_place(lists, alloc, met.f)?;
     lists.relax(context.goal.key(), met);

@@ -17,10 +17,11 @@ ghost use Rattle.worker_core.specs.Workers.{state_of, packets_of};
 use crate::context::Context;
 use crate::packets::Items;
 use crate::worker::Worker;
-use board::{Board, Move};
+use board::Move;
 use message_ledger::Counting;
 use offers::Offer;
 use owners::Spread;
+use search_keys::KeyedBoard;
 use search_lists::Met;
 use world_model::Item;
 
@@ -50,7 +51,7 @@ impl<C: Counting> Worker<C> {
             return;
         }
         let item = Item {
-            board: Board::of_key(context.goal.shape(), offer.key),
+            board: KeyedBoard::of_key(context.goal.shape(), offer.key).board(),
             cost: offer.cost,
             via,
         };

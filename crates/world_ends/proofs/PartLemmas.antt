@@ -8,12 +8,12 @@ use Rattle.std.proofs.Math.Seq.{take-suc}
 use Rattle.board.specs.Positions.{Position, IsBoard}
 use Rattle.board.specs.Grids.{Grid}
 use Rattle.board.specs.Moves.{Moves}
-use Rattle.board.specs.Keys.{key_of}
 use Rattle.board.specs.declared.moves.Move.{Move}
 use Rattle.board.specs.Neighbours.{opposite}
 use Rattle.board.specs.Equality.{position_eq, position_eq-laws, positions_Decide}
 use Rattle.board.specs.CostRules.{CostRule}
 use Rattle.board.proofs.MoveLemmas.{taken_back}
+use Rattle.search_keys.specs.SearchKeys.{search_key}
 use Rattle.outcomes.specs.Outcomes.{Task}
 use Rattle.world_model.specs.declared.parts.Item.{Item}
 use Rattle.world_model.specs.Costs.{lesser, IsLeastWith}
@@ -229,7 +229,7 @@ module _ (task : Task) (owner_among : ℕ → Position → ℕ) (states : List W
   some_workers = let e = ap length parts.works in omega (arith, e, parts.shaped.count.0)
 
   -- what the owner knows
-  pub known_at_owner : (b : Position) (known : Known) (o : Option WorkerState) → slice_get states (owner_among (length states) b) ≡ o → IsTaskBoard task b → known_by o (key_of b) ≡ Some known → Knows w (w.owner b) b known
+  pub known_at_owner : (b : Position) (known : Known) (o : Option WorkerState) → slice_get states (owner_among (length states) b) ≡ o → IsTaskBoard task b → known_by o (search_key b) ≡ Some known → Knows w (w.owner b) b known
   known_at_owner b known None at is found = absurd (none-some known found)
   known_at_owner b known (Some worker) at is found = record {
     worker = worker;
@@ -244,7 +244,7 @@ module _ (task : Task) (owner_among : ℕ → Position → ℕ) (states : List W
   pub known_from : (b : Position) (known : Known) → Knows w (w.owner b) b known → known_in owner_among states b ≡ Some known
   known_from b known knows =
       let at : slice_get states (owner_among (length states) b) ≡ Some knows.worker = ap (slice_get states) (sym (parts.owns b)) ∙ worker_from (w.owner b) knows.worker knows.is in
-      ap (λ (o : Option WorkerState). known_by o (key_of b)) at ∙ knows.knows
+      ap (λ (o : Option WorkerState). known_by o (search_key b)) at ∙ knows.knows
 
   -- a board that isn't the start has its predecessor
   pub before_is : (b : Position) (known : Known) → IsTaskBoard task b → known_in owner_among states b ≡ Some known → b ≢ task.start → (before : Position) × (c : ℕ) × (there : Known) × IsBefore task owner_among states b known before c there
@@ -352,6 +352,14 @@ stepped_back rule b via back answer before c undone moves board moved = (moves b
 
 pub some_is : (answer : Option (Position × ℕ)) (found moved : Position × ℕ) → answer ≡ Some found → answer ≡ Some moved → found ≡ moved
 some_is answer found moved is is' = ap (λ (o : Option (Position × ℕ)). unwrap_or o found) (sym is ∙ is')
+
+-- what is found of that board, where this is known of the moved one
+pub found_before : (at : Position → Option Known) (answer : Option Known) (found moved : Position × ℕ) (known : Known) → answer ≡ at found.0 → found ≡ moved → at moved.0 ≡ Some known → answer ≡ Some known
+found_before at answer found moved known is same knows = is ∙ ap (λ (p : Position × ℕ). at p.0) same ∙ knows
+
+-- and by what the answer has
+pub known_by_answer : (answer before : Option Known) (known : Known) → answer ≡ before → answer ≡ Some known → before ≡ Some known
+known_by_answer answer before known is some = sym is ∙ some
 
 -- last moves lead on from the board before
 pub traced_more : (task : Task) (owner_among : ℕ → Position → ℕ) (states : List WorkerState) (before b : Position) (c : ℕ) (here : Known) (plan : List Move) → IsTaskBoard task b → known_in owner_among states b ≡ Some here → Moves task.rule before here.via b c → ((w : WorldState) → HasParts task owner_among states w → IsByLastMoves w b plan task.goal) → (w : WorldState) → HasParts task owner_among states w → IsByLastMoves w before (here.via ∷ plan) task.goal

@@ -1,6 +1,6 @@
 -- Rows of what workers know.
 use Rattle.std.proofs.Common.{◌≡◌, ◌≢◌, ◌⊎◌, ℕ, suc, ◌+◌, ◌<◌, ◌≤◌, List, [], ◌∷◌, ◌++◌, length, get_or, take, Option, Some, refl, sym, ap, ◌∙◌, subst, inl, inr, ⊎_elim, arith}
-use Rattle.std.specs.Prelude.{All, AllPairs, Contains, ◌↔◌, slice_get, map as each_of, unwrap_or, nat_eq}
+use Rattle.std.specs.Prelude.{All, AllPairs, Contains, ◌↔◌, slice_get, slice_index, map as each_of, unwrap_or, nat_eq}
 use Rattle.std.specs.Cmp.{unsigned_Decides, decided}
 use Rattle.std.specs.FinMap as map
 use Rattle.std.specs.List.Sorted.{IsPermutation, IsNonDecreasingBy}
@@ -17,12 +17,15 @@ use Rattle.board.specs.Grids.{Grid}
 use Rattle.board.specs.Positions.{Position, IsBoard}
 use Rattle.board.specs.Keys.{HasKey, key_of}
 use Rattle.board.proofs.KeyLemmas.{same_board}
+use Rattle.search_keys.specs.SearchKeys.{search_key, HasSearchKey}
+use Rattle.search_keys.proofs.SearchKeyLemmas.{one_board}
 use Rattle.outcomes.specs.Outcomes.{Task}
 use Rattle.closed_table.specs.Tables.{Table, IsTable}
 use Rattle.world_model.specs.declared.parts.Known.{Known}
 use Rattle.world_model.specs.Workers.{WorkerState, IsTaskBoard}
 use Rattle.world_model.specs.Worlds.{WorldState}
 use Rattle.world_model.specs.Outcomes.{AreRowsBelow, AreRowsFor, IsKnownBelow}
+use Rattle.world_model.proofs.ChangeLemmas.{knows_owned}
 use Rattle.world_ends.specs.declared.rows.KeyedRow.{KeyedRow}
 use Rattle.world_ends.specs.Parts.{HasParts}
 use Rattle.world_ends.specs.Rows.{IsRowIn, AreApart, IsOfBoards, AreElsewhere, AreKeyedRows, AreBoardsOf, keyed}
@@ -42,7 +45,7 @@ same_by_key grid key b b' has has' = same_board b b' has.board has'.board (has.s
 
 -- a row of a board at one of the first places
 abbrev pub IsRowUpTo : Task → ℕ → Table → ℕ → KeyedRow → Type 0
-IsRowUpTo task k closed n row = (place : ℕ) × (place < n) × (slice_get closed.keys place ≡ Some row.key) × IsRowIn task k closed.known row
+IsRowUpTo task k closed n row = (place : ℕ) × (place < n) × (in' : IsRowIn task k closed.known row) × (slice_get closed.keys place ≡ Some (search_key in'.b))
 
 -- the rows of the boards at the first places, beside old ones
 pub record AreRowsUpTo (task : Task) (k : ℕ) (closed : Table) (old : List KeyedRow) (n : ℕ) (rows : List KeyedRow) : Type 0 where
@@ -63,22 +66,40 @@ two_places closed is i j key lt first second =
     let at' : get_or closed.keys j 0 ≡ key = get_or_from_slice_get closed.keys j key 0 second in
     apart i j 0 lt (slice_get_within closed.keys j key second) (at ∙ sym at')
 
-module _ (task : Task) (k : ℕ) (closed : Table) (is : IsTable closed) (old : List KeyedRow) (elsewhere : AreElsewhere old closed.known) (n : ℕ) (rows : List KeyedRow) (are : AreRowsUpTo task k closed old n rows) (row : KeyedRow) (known : Known) (at : slice_get closed.keys n ≡ Some row.key) (knows : map.get closed.known row.key ≡ Some known) (cost : known.cost ≡ row.cost) (b : Position) (has : HasKey task.goal.grid row.key b) where
+-- the search key at a place is that of a board, of which this is known
+pub record IsAt (grid : Grid) (closed : Table) (n : ℕ) (b : Position) (known : Known) : Type 0 where
+  pub board : IsBoard b
+  pub sides : b.grid ≡ grid
+  pub at : slice_get closed.keys n ≡ Some (search_key b)
+  pub knows : map.get closed.known (search_key b) ≡ Some known
+
+-- it is so where the key is read at that place, and the board from the key
+pub read_at : (grid : Grid) (closed : Table) (n key : ℕ) (b : Position) (known : Known) → n < length closed.keys → key ≡ slice_index closed.keys n → map.get closed.known key ≡ Some known → HasSearchKey grid key b → IsAt grid closed n b known
+read_at grid closed n key b known within is knows has = record {
+  board = has.board;
+  sides = has.sides;
+  at = slice_get-get_or closed.keys n 0 within ∙ ap (λ (x : ℕ). Some x) (sym is ∙ sym has.packed);
+  knows = ap (map.get closed.known) has.packed ∙ knows;
+}
+
+module _ (task : Task) (k : ℕ) (closed : Table) (is : IsTable closed) (old : List KeyedRow) (elsewhere : AreElsewhere task.goal.grid old closed.known) (n : ℕ) (rows : List KeyedRow) (are : AreRowsUpTo task k closed old n rows) (b : Position) (known : Known) (here : IsAt task.goal.grid closed n b known) where
   still : (r : KeyedRow) → Contains old r ⊎ IsRowUpTo task k closed n r → Contains old r ⊎ IsRowUpTo task k closed (n + 1) r
   still r (inl there) = inl there
   still r (inr up) = inr (up.0, omega (arith, up.1), up.2, up.3)
 
-  -- a row at this place is this one
-  same_row : (r : KeyedRow) → slice_get closed.keys n ≡ Some r.key → IsRowIn task k closed.known r → (row ≡ r) × (r.cost + task.sum b < k)
-  same_row r at' in' =
-      let key : row.key ≡ r.key = number_of_some row.key r.key (sym at ∙ at') in
-      let same : known ≡ in'.known = known_of_some known in'.known (sym knows ∙ ap (map.get closed.known) key ∙ in'.knows) in
-      let paid : row.cost ≡ r.cost = sym cost ∙ ap (λ (x : Known). x.cost) same ∙ in'.at in
-      let board : b ≡ in'.b = same_by_key task.goal.grid row.key b in'.b has (subst (λ (x : ℕ). HasKey task.goal.grid x in'.b) (sym key) in'.has) in
-      ((λ i. record { key = key i; cost = paid i }), subst (λ (x : Position). r.cost + task.sum x < k) (sym board) in'.low)
+  -- a row of the board at this place is this one's
+  same_row : (r : KeyedRow) (in' : IsRowIn task k closed.known r) → slice_get closed.keys n ≡ Some (search_key in'.b) → (keyed (b, known.cost) ≡ r) × (known.cost + task.sum b < k)
+  same_row r in' at' =
+      let found : search_key b ≡ search_key in'.b = number_of_some (search_key b) (search_key in'.b) (sym here.at ∙ at') in
+      let board : b ≡ in'.b = one_board b in'.b here.board in'.has.board (here.sides ∙ sym in'.has.sides) found in
+      let same : known ≡ in'.known = known_of_some known in'.known (sym here.knows ∙ ap (map.get closed.known) found ∙ in'.knows) in
+      let key : key_of b ≡ r.key = ap key_of board ∙ in'.has.packed in
+      let paid : known.cost ≡ r.cost = ap (λ (x : Known). x.cost) same ∙ in'.at in
+      let low : r.cost + task.sum b < k = subst (λ (x : Position). r.cost + task.sum x < k) (sym board) in'.low in
+      ((λ i. record { key = key i; cost = paid i }), subst (λ (n : ℕ). n + task.sum b < k) (sym paid) low)
 
   -- a board at k or above adds no row
-  pub row_left_out : k ≤ row.cost + task.sum b → AreRowsUpTo task k closed old (n + 1) rows
+  pub row_left_out : k ≤ known.cost + task.sum b → AreRowsUpTo task k closed old (n + 1) rows
   row_left_out high = record {
     apart = are.apart;
     each = λ r. (
@@ -90,52 +111,57 @@ module _ (task : Task) (k : ℕ) (closed : Table) (is : IsTable closed) (old : L
           (λ (lt : up.0 < n). (are.each r).1 (inr (up.0, lt, up.2, up.3)))
           (λ (ge : n ≤ up.0).
           let e : up.0 ≡ n = omega (arith, ge, up.1) in
-          let same = same_row r (ap (slice_get closed.keys) (sym e) ∙ up.2) up.3 in
-          let paid = ap (λ (x : KeyedRow). x.cost) same.0 in
-          absurd (omega (arith, high, paid, same.1)))
+          let same = same_row r up.2 (ap (slice_get closed.keys) (sym e) ∙ up.3) in
+          absurd (omega (arith, high, same.1)))
           (cases_lt up.0 n))
           there),
     );
   }
 
   -- another row has another key
-  other_key : (r : KeyedRow) → Contains old r ⊎ IsRowUpTo task k closed n r → r.key ≢ row.key
-  other_key r (inl there) e = elsewhere r known there (ap (map.get closed.known) e ∙ knows)
-  other_key r (inr up) e = two_places closed is up.0 n row.key up.1 (up.2 ∙ ap (λ (x : ℕ). Some x) e) at
+  other_key : (r : KeyedRow) → Contains old r ⊎ IsRowUpTo task k closed n r → r.key ≢ key_of b
+  other_key r (inl there) e = elsewhere r b known there (record { board = here.board; sides = here.sides; packed = sym e }) here.knows
+  other_key r (inr up) e =
+      let same : up.2.b ≡ b = same_by_key task.goal.grid r.key up.2.b b up.2.has (record { board = here.board; sides = here.sides; packed = sym e }) in
+      two_places closed is up.0 n (search_key b) up.1 (up.3 ∙ ap (λ (x : Position). Some (search_key x)) same) here.at
 
   -- one below k adds its row
-  pub row_added : row.cost + task.sum b < k → AreRowsUpTo task k closed old (n + 1) (rows ++ row ∷ [])
-  row_added low = record {
-    apart = all_pairs_push (λ (r later : KeyedRow). r.key ≢ later.key) rows row are.apart (λ i d within. other_key (get_or rows i d) ((are.each (get_or rows i d)).0 (Contains-get_or rows i d within)));
-    each = λ r. (
-      (λ there. ⊎_elim
-          (λ (before : Contains rows r). still r ((are.each r).0 before))
-          (λ (new : row ≡ r). inr (subst (λ (x : KeyedRow). IsRowUpTo task k closed (n + 1) x) new (n, omega arith, at, record { b = b; has = has; known = known; knows = knows; at = cost; low = low })))
-          (Contains-push_cases rows row r there)),
-      (λ there. ⊎_elim
-          (λ (before : Contains old r). Contains-append_left rows (row ∷ []) r ((are.each r).1 (inl before)))
-          (λ (up : IsRowUpTo task k closed (n + 1) r).
-          ⊎_elim
-          (λ (lt : up.0 < n). Contains-append_left rows (row ∷ []) r ((are.each r).1 (inr (up.0, lt, up.2, up.3))))
-          (λ (ge : n ≤ up.0).
-          let e : up.0 ≡ n = omega (arith, ge, up.1) in
-          let same = same_row r (ap (slice_get closed.keys) (sym e) ∙ up.2) up.3 in
-          subst (λ (x : KeyedRow). Contains (rows ++ row ∷ []) x) same.0 (Contains-push rows row))
-          (cases_lt up.0 n))
-          there),
-    );
-  }
+  pub row_added : known.cost + task.sum b < k → AreRowsUpTo task k closed old (n + 1) (rows ++ keyed (b, known.cost) ∷ [])
+  row_added low =
+      let row : KeyedRow = keyed (b, known.cost) in
+      let has : HasKey task.goal.grid row.key b = record { board = here.board; sides = here.sides; packed = refl } in
+      let in' : IsRowIn task k closed.known row = record { b = b; has = has; known = known; knows = here.knows; at = refl; low = low } in
+      record {
+        apart = all_pairs_push (λ (r later : KeyedRow). r.key ≢ later.key) rows row are.apart (λ i d within. other_key (get_or rows i d) ((are.each (get_or rows i d)).0 (Contains-get_or rows i d within)));
+        each = λ r. (
+          (λ there. ⊎_elim
+              (λ (before : Contains rows r). still r ((are.each r).0 before))
+              (λ (new : row ≡ r). inr (subst (λ (x : KeyedRow). IsRowUpTo task k closed (n + 1) x) new (n, omega arith, in', here.at)))
+              (Contains-push_cases rows row r there)),
+          (λ there. ⊎_elim
+              (λ (before : Contains old r). Contains-append_left rows (row ∷ []) r ((are.each r).1 (inl before)))
+              (λ (up : IsRowUpTo task k closed (n + 1) r).
+              ⊎_elim
+              (λ (lt : up.0 < n). Contains-append_left rows (row ∷ []) r ((are.each r).1 (inr (up.0, lt, up.2, up.3))))
+              (λ (ge : n ≤ up.0).
+              let e : up.0 ≡ n = omega (arith, ge, up.1) in
+              let same = same_row r up.2 (ap (slice_get closed.keys) (sym e) ∙ up.3) in
+              subst (λ (x : KeyedRow). Contains (rows ++ row ∷ []) x) same.0 (Contains-push rows row))
+              (cases_lt up.0 n))
+              there),
+        );
+      }
 
 -- all boards of a worker
 pub all_rows_in : (task : Task) (k : ℕ) (closed : Table) → IsTable closed → (old rows : List KeyedRow) → AreRowsUpTo task k closed old (length closed.keys) rows → (row : KeyedRow) → Contains rows row ↔ (Contains old row ⊎ IsRowIn task k closed.known row)
 all_rows_in task k closed is old rows are row = (
-  (λ there. ⊎_elim (λ (before : Contains old row). inl before) (λ (up : IsRowUpTo task k closed (length closed.keys) row). inr up.3) ((are.each row).0 there)),
+  (λ there. ⊎_elim (λ (before : Contains old row). inl before) (λ (up : IsRowUpTo task k closed (length closed.keys) row). inr up.2) ((are.each row).0 there)),
   (λ there. ⊎_elim
       (λ (before : Contains old row). (are.each row).1 (inl before))
       (λ (in' : IsRowIn task k closed.known row).
-      let listed : Contains closed.keys row.key = (is.each row.key).1 (rw in'.knows refl) in
-      let at : slice_get closed.keys listed.0 ≡ Some row.key = slice_get-get_or closed.keys listed.0 row.key listed.1 ∙ ap (λ (x : ℕ). Some x) listed.2 in
-      (are.each row).1 (inr (listed.0, listed.1, at, in')))
+      let listed : Contains closed.keys (search_key in'.b) = (is.each (search_key in'.b)).1 (rw in'.knows refl) in
+      let at : slice_get closed.keys listed.0 ≡ Some (search_key in'.b) = slice_get-get_or closed.keys listed.0 (search_key in'.b) listed.1 ∙ ap (λ (x : ℕ). Some x) listed.2 in
+      (are.each row).1 (inr (listed.0, listed.1, in', at)))
       there),
 )
 
@@ -188,26 +214,30 @@ rows_of_all task k states rows are = record {
 }
 
 module _ (task : Task) (owner_among : ℕ → Position → ℕ) (states : List WorkerState) (w : WorldState) (parts : HasParts task owner_among states w) where
-  -- what a worker knows is boards that it owns
-  owned : (i : ℕ) (worker : WorkerState) → slice_get states i ≡ Some worker → (key : ℕ) (known : Known) → map.get worker.known key ≡ Some known → (b : Position) × HasKey task.goal.grid key b × (w.owner b ≡ i)
-  owned i worker at key known knows =
-      let has = (parts.shaped.workers i worker (worker_at task owner_among states w parts i worker at)).known key known knows in
-      (has.0, record { board = has.1.0; sides = has.1.1 ∙ ap (λ (t : Task). t.goal.grid) parts.asks; packed = has.2 }, has.3)
-
+  -- what a worker knows is boards of the task
   pub boards_are : (i : ℕ) (worker : WorkerState) → slice_get states i ≡ Some worker → IsOfBoards task.goal.grid worker.known
   boards_are i worker at key known knows =
       let has = (parts.shaped.workers i worker (worker_at task owner_among states w parts i worker at)).known key known knows in
-      let board = owned i worker at key known knows in
-      ((board.0, board.1), has.4)
+      ((has.0, record { board = has.1.0; sides = has.1.1 ∙ ap (λ (t : Task). t.goal.grid) parts.asks; packed = has.2 }), has.4)
+
+  -- and it owns each
+  owned : (i : ℕ) (worker : WorkerState) (b : Position) (known : Known) → slice_get states i ≡ Some worker → IsTaskBoard task b → map.get worker.known (search_key b) ≡ Some known → w.owner b ≡ i
+  owned i worker b known at board knows = (knows_owned w parts.shaped i b known (record {
+    worker = worker;
+    is = worker_at task owner_among states w parts i worker at;
+    board = task_board task owner_among states w parts b board;
+    knows = knows;
+  })).0
 
   -- the rows of other workers are elsewhere
-  pub rows_elsewhere : (k n : ℕ) (worker : WorkerState) (rows : List KeyedRow) → slice_get states n ≡ Some worker → AreRowsOfFirst task k states n rows → AreElsewhere rows worker.known
-  rows_elsewhere k n worker rows at are row known there knows =
+  pub rows_elsewhere : (k n : ℕ) (worker : WorkerState) (rows : List KeyedRow) → slice_get states n ≡ Some worker → AreRowsOfFirst task k states n rows → AreElsewhere task.goal.grid rows worker.known
+  rows_elsewhere k n worker rows at are row b known there has knows =
       let up = (are.each row).0 there in
-      let here = owned n worker at row.key known knows in
-      let other = owned up.0 up.1 up.3 row.key up.4.known up.4.knows in
-      let same : here.0 ≡ other.0 = same_by_key task.goal.grid row.key here.0 other.0 here.1 other.1 in
-      let e : n ≡ up.0 = sym here.2 ∙ ap w.owner same ∙ other.2 in
+      let in' : IsRowIn task k up.1.known row = up.4 in
+      let same : b ≡ in'.b = same_by_key task.goal.grid row.key b in'.b has in'.has in
+      let here : w.owner b ≡ n = owned n worker b known at (has.board, has.sides) knows in
+      let other : w.owner in'.b ≡ up.0 = owned up.0 up.1 in'.b in'.known up.3 (in'.has.board, in'.has.sides) in'.knows in
+      let e : n ≡ up.0 = sym here ∙ ap w.owner same ∙ other in
       omega (arith, e, up.2)
 
 -- ---- in order of key
@@ -295,7 +325,7 @@ module _ (task : Task) (owner_among : ℕ → Position → ℕ) (states : List W
           worker = up.1;
           is = worker_at task owner_among states w parts up.0 up.1 up.2;
           board = task_board task owner_among states w parts b board;
-          knows = in'.knows;
+          knows = subst (λ (x : Position). map.get up.1.known (search_key x) ≡ Some in'.known) same in'.knows;
         },
         in'.at,
         subst (λ (t : Task). cost + t.sum b < k) (sym parts.asks) (subst (λ (x : Position). cost + task.sum x < k) same in'.low),

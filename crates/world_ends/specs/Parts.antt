@@ -2,7 +2,7 @@
 use Rattle.std.specs.Prelude.{ℕ, ◌≡◌, List, length, map as each_of, All, Option, None, Some, slice_get}
 use Rattle.std.specs.FinMap as map
 use Rattle.board.specs.Positions.{Position}
-use Rattle.board.specs.Keys.{key_of}
+use Rattle.search_keys.specs.SearchKeys.{search_key}
 use Rattle.outcomes.specs.Outcomes.{Task}
 use Rattle.search_lists.specs.Orders.{Guide}
 use Rattle.world_model.specs.declared.parts.Known.{Known}
@@ -51,11 +51,11 @@ pub record IsSeen {C D S K G : Type 0} (asked : Asked) (owner_among : ℕ → Po
   pub lanes : IsLowestInLanes w snapshot.lanes
   pub stop : w.book.stop ≡ snapshot.stop
 
--- what a worker, if there is one, knows of the board with this key
+-- what a worker, if there is one, knows of the board with this search key
 abbrev pub known_by : Option WorkerState → ℕ → Option Known
 known_by None key = None
 known_by (Some worker) key = map.get worker.known key
 
 -- what a board's owner knows of it
 abbrev pub known_in : (ℕ → Position → ℕ) → List WorkerState → Position → Option Known
-known_in owner_among states b = known_by (slice_get states (owner_among (length states) b)) (key_of b)
+known_in owner_among states b = known_by (slice_get states (owner_among (length states) b)) (search_key b)

@@ -5,6 +5,7 @@ use Rattle.board.specs.declared.costs.TheConstants.{GREATEST_COST}
 use Rattle.board.specs.Grids.{Grid}
 use Rattle.board.specs.Positions.{Position, IsBoard}
 use Rattle.board.specs.Keys.{HasKey, key_of}
+use Rattle.search_keys.specs.SearchKeys.{search_key, HasSearchKey}
 use Rattle.world_model.specs.declared.parts.Known.{Known}
 use Rattle.world_model.specs.Knowledge.{Knowledge}
 use Rattle.world_model.specs.Workers.{WorkerState}
@@ -16,7 +17,7 @@ pub record IsRowIn (task : Task) (k : ℕ) (knowledge : Knowledge) (row : KeyedR
   pub b : Position
   pub has : HasKey task.goal.grid row.key b
   pub known : Known
-  pub knows : map.get knowledge row.key ≡ Some known
+  pub knows : map.get knowledge (search_key b) ≡ Some known
   pub at : known.cost ≡ row.cost
   pub low : row.cost + task.sum b < k
 
@@ -24,13 +25,14 @@ pub record IsRowIn (task : Task) (k : ℕ) (knowledge : Knowledge) (row : KeyedR
 abbrev pub AreApart : List KeyedRow → Type 0
 AreApart rows = AllPairs (λ row later. row.key ≢ later.key) rows
 
--- each key is that of a board of the grid, which is known at a cost of at most `GREATEST_COST`
+-- each key is the search key of a board of the grid, which is known at a cost of at most `GREATEST_COST`
 abbrev pub IsOfBoards : Grid → Knowledge → Type 0
-IsOfBoards grid knowledge = (key : ℕ) (known : Known) → map.get knowledge key ≡ Some known → ((b : Position) × HasKey grid key b) × (known.cost ≤ GREATEST_COST)
+IsOfBoards grid knowledge = (key : ℕ) (known : Known) → map.get knowledge key ≡ Some known → ((b : Position) × HasSearchKey grid key b) × (known.cost ≤ GREATEST_COST)
 
--- no row has the key of a board that is known here
-abbrev pub AreElsewhere : List KeyedRow → Knowledge → Type 0
-AreElsewhere rows knowledge = (row : KeyedRow) (known : Known) → Contains rows row → map.get knowledge row.key ≢ Some known
+-- no row has the key of a board of the grid that is known here
+abbrev pub AreElsewhere : Grid → List KeyedRow → Knowledge → Type 0
+AreElsewhere grid rows knowledge =
+    (row : KeyedRow) (b : Position) (known : Known) → Contains rows row → HasKey grid row.key b → map.get knowledge (search_key b) ≢ Some known
 
 -- the rows of what each of these workers knows
 pub record AreKeyedRows (task : Task) (k : ℕ) (states : List WorkerState) (rows : List KeyedRow) : Type 0 where

@@ -12,6 +12,7 @@ use board::{Board, Move};
 use memory::{OutOfMemory, push};
 use message_ledger::Counting;
 use owners::Spread;
+use search_keys::KeyedBoard;
 use std::alloc::Global;
 use worker_core::Worker;
 use world_model::Known;
@@ -38,7 +39,7 @@ pub(crate) fn known_of<C: Counting, S: Spread>(
     ensures { result ≡ known_in (S.owner_of owners.now) (states_of workers.now) board.now }
 {
     let owner = owner_among(owners, board, workers.len());
-    workers[owner].lists().get(board.key())
+    workers[owner].lists().get(KeyedBoard::new(board).key())
 }
 
 // The plan by which the goal was reached, followed back by last moves, and its cost.

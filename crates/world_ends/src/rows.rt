@@ -11,18 +11,19 @@ ghost use Rattle.world_model.specs.Outcomes.{AreRowsFor};
 ghost use Rattle.world_model.specs.Worlds.{WorldState};
 ghost use Rattle.world_ends.specs.Parts.{task_in, states_of, HasParts};
 ghost use Rattle.world_ends.specs.Rows.{IsRowIn, AreApart, IsOfBoards, AreElsewhere};
-ghost use Rattle.world_ends.specs.Rows.{AreKeyedRows, AreBoardsOf};
+ghost use Rattle.world_ends.specs.Rows.{AreKeyedRows, AreBoardsOf, keyed};
 ghost use Rattle.world_ends.specs.declared.rows.KeyedRow.{KeyedRow};
 
 use crate::asked::Asked;
 use board::{Board, Shape};
 use memory::{OutOfMemory, push};
 use message_ledger::Counting;
+use search_keys::KeyedBoard;
 use search_lists::SearchLists;
 use std::alloc::Global;
 use worker_core::Worker;
 
-// A row by its board's key: by that rows are sorted.
+// A row by the key of its board's tiles, by which rows are sorted.
 #[derive(Clone, Copy, Debug)]
 struct KeyedRow {
     key: u128,
@@ -84,7 +85,8 @@ fn add_rows(
     requires sides { asked.now.bound.now.split.grid ≡ asked.now.goal.grid }
     requires boards { IsOfBoards asked.now.goal.grid lists.now.closed.known }
     requires apart { AreApart rows.old.items }
-    requires elsewhere { AreElsewhere rows.old.items lists.now.closed.known }
+    requires elsewhere { AreElsewhere asked.now.goal.grid rows.old.items
+        lists.now.closed.known }
     ensures apart { OnOk result (AreApart rows.new.items) }
     ensures each { OnOk result ((row : KeyedRow) → Contains rows.new.items row
         ↔ (Contains rows.old.items row
@@ -92,33 +94,33 @@ fn add_rows(
 {
     'boards: for place in 0..lists.len() {
         let (key, known) = lists.at(place);
-        let row = KeyedRow {
-            key,
-            cost: known.cost,
-        };
-        add_row(rows, asked, row, cost)?;
+        let board = KeyedBoard::of_key(asked.goal.shape(), key).board();
+        add_row(rows, asked, &board, known.cost, cost)?;
     }
     Ok(())
 }
 
-// Adds a row, where its cost plus the sum of its board is below a cost.
+// Adds the row of a board that is known at a cost, where that plus the board's sum is below a limit.
 fn add_row(
     rows: &mut Vec<KeyedRow>,
     asked: &Asked<'_>,
-    row: KeyedRow,
+    board: &Board,
     cost: u32,
+    limit: u32,
 ) -> Result<(), OutOfMemory>
     requires sides { asked.now.bound.now.split.grid ≡ asked.now.goal.grid }
-    requires board { (b : Position) × HasKey asked.now.goal.grid row.key b }
-    requires low { row.cost ≤ GREATEST_COST }
-    ensures { OnOk result ((b : Position) × HasKey asked.now.goal.grid row.key b
-        × (row.cost + sum_of (parts_of asked.now.bound.now) b < cost
-        → rows.new.items ≡ rows.old.items ++ row ∷ [])
-        × (cost ≤ row.cost + sum_of (parts_of asked.now.bound.now) b
-        → rows.new.items ≡ rows.old.items)) }
+    requires board { board.now.grid ≡ asked.now.goal.grid }
+    requires low { cost ≤ GREATEST_COST }
+    ensures low { OnOk result (cost + sum_of (parts_of asked.now.bound.now) board.now < limit
+        → rows.new.items ≡ rows.old.items ++ keyed (board.now, cost) ∷ []) }
+    ensures high { OnOk result (limit ≤ cost + sum_of (parts_of asked.now.bound.now) board.now
+        → rows.new.items ≡ rows.old.items) }
 {
-    let board = Board::of_key(asked.goal.shape(), row.key);
-    if row.cost + asked.bound.of(&board) < cost {
+    if cost + asked.bound.of(board) < limit {
+        let row = KeyedRow {
+            key: board.key(),
+            cost,
+        };
         push(rows, row)?;
     }
     Ok(())

@@ -5,7 +5,7 @@ use Rattle.std.specs.FinMap as map
 use Rattle.std.proofs.lemmas.Bool.{cases_eq, cases_lt, cases_Bool, cond-true, cond-false, eqb-true}
 use Rattle.std.proofs.lemmas.List.{length-append}
 use Rattle.board.specs.Positions.{Position}
-use Rattle.board.specs.Keys.{key_of}
+use Rattle.search_keys.specs.SearchKeys.{search_key}
 use Rattle.outcomes.specs.Outcomes.{Task}
 use Rattle.world_model.specs.BookSteps.{AtBook, MayGoOn, AnnounceStep, DrawStep, GrantStep, HaltStep, MayAnnounce, RestStep, after_call, at_book, refusal_of}
 use Rattle.world_model.specs.Books.{BookState, grant_of, stop_of, with_rest, HasMoreToGrant}
@@ -95,7 +95,7 @@ idle_stable task worker limit best not = record {
 
 -- what may be expanded, of a worker that knows the same
 open_same : (task : Task) (worker worker' : WorkerState) → worker'.known ≡ worker.known → (b : Position) (known : Known) → IsOpen task worker' b known → IsOpen task worker b known
-open_same task worker worker' same b known at = record { board = at.board; knows = ap (λ m. map.get m (key_of b)) (sym same) ∙ at.knows; unexpanded = at.unexpanded; no_goal = at.no_goal }
+open_same task worker worker' same b known at = record { board = at.board; knows = ap (λ m. map.get m (search_key b)) (sym same) ∙ at.knows; unexpanded = at.unexpanded; no_goal = at.no_goal }
 
 not_running : (book : BookState) (stop : Stop) → IsRunning book → book.stop ≡ Some stop → ⊥
 not_running book stop runs e = runs (λ none. cc)
@@ -154,26 +154,26 @@ module _ (role : Role) (worker : WorkerState) (book : BookState) (funded : IsFun
       let some : worker.allowance ≢ 0 = step.left in
       subst (λ x. KeepsCredit role worker book 0 x book 0) (sym step.is)
       (keeps_own (expansion role worker step.board step.known) 0 0 rest.3
-      (λ old knows. let mid = marked_lower old knows in let end = all_lower role items marked (key_of role.task.goal) mid.0 mid.1 in (end.0, end.1, omega (arith, mid.2, end.2)))
+      (λ old knows. let mid = marked_lower old knows in let end = all_lower role items marked (search_key role.task.goal) mid.0 mid.1 in (end.0, end.1, omega (arith, mid.2, end.2)))
       (λ z. step.busy ((funded.mine.idle (sym rest.0 ∙ z)).no_board))
       (omega (arith, rest.1))
       (omega (arith, rest.1, rest.2))
       (omega (arith, rest.0)))
     where
-      marked_lower : (old : Known) → map.get worker.known (key_of role.task.goal) ≡ Some old → (now : Known) × (map.get (with_closure worker step.board step.known).known (key_of role.task.goal) ≡ Some now) × (now.cost ≤ old.cost)
+      marked_lower : (old : Known) → map.get worker.known (search_key role.task.goal) ≡ Some old → (now : Known) × (map.get (with_closure worker step.board step.known).known (search_key role.task.goal) ≡ Some now) × (now.cost ≤ old.cost)
       marked_lower old knows =
           ⊎_elim (λ same. (old, same ∙ knows, omega arith))
           (λ new.
           let e : Some old ≡ Some step.known = sym knows ∙ ap (map.get worker.known) new.0 ∙ step.next.opens.knows in
           let e' : old ≡ step.known = cc in
           (record step.known { expanded = true }, new.1, omega (arith, ap (λ (k : Known). k.cost) e')))
-          (with_insert worker.known (key_of step.board) (key_of role.task.goal) (record step.known { expanded = true }))
+          (with_insert worker.known (search_key step.board) (search_key role.task.goal) (record step.known { expanded = true }))
 
   pub settle_credit : (worker' : WorkerState) → Settles worker worker' → KeepsCredit role worker book 0 worker' book 0
   settle_credit worker' step =
       subst (λ x. KeepsCredit role worker book 0 x book 0) (sym step.is)
       (keeps_own (record worker { held = step.front; known = relaxation worker.known step.last }) 0 0 refl
-      (λ old knows. ⊎_elim (λ same. (old, same ∙ knows, omega arith)) (λ n. (entry step.last, n.1, n.2 old knows)) (lowered_by (map.get worker.known (key_of step.last.board)) worker.known step.last refl (key_of role.task.goal)))
+      (λ old knows. ⊎_elim (λ same. (old, same ∙ knows, omega arith)) (λ n. (entry step.last, n.1, n.2 old knows)) (lowered_by (map.get worker.known (search_key step.last.board)) worker.known step.last refl (search_key role.task.goal)))
       (λ z. not_held ((funded.mine.idle z).holds_nothing)) (omega arith) refl refl)
     where
       not_held : worker.held ≡ [] → ⊥

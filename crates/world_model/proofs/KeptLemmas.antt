@@ -10,7 +10,7 @@ use Rattle.std.proofs.lemmas.List.Elements.{Contains-push}
 use Rattle.memory.specs.declared.OutOfMemory.{OutOfMemory}
 use Rattle.board.specs.declared.moves.Move.{Move}
 use Rattle.board.specs.Positions.{Position}
-use Rattle.board.specs.Keys.{key_of}
+use Rattle.search_keys.specs.SearchKeys.{search_key}
 use Rattle.outcomes.specs.declared.outcome.Cause.{Cause}
 use Rattle.outcomes.specs.declared.outcome.Cause.TheVariants.{Limit as ForLimit, Memory as ForMemory, Start as ForStart, Cost as ForCost, Cut as ForCut}
 use Rattle.outcomes.specs.declared.outcome.Want.{Want}
@@ -288,13 +288,13 @@ plans_within = (
 relax_zero : (known : Knowledge) (item : Item) (key : ℕ) (old : Known) → map.get known key ≡ Some old → old.cost ≡ 0 → map.get (relaxation known item) key ≡ Some old
 relax_zero known item key old at zero =
     ⊎_elim
-    (λ (news : is_news (map.get known (key_of item.board)) item.cost ≡ true).
+    (λ (news : is_news (map.get known (search_key item.board)) item.cost ≡ true).
     ap (λ (k : Knowledge). map.get k key) (cond-true _ _ _ news)
     ∙ ⊎_elim (λ same. same ∙ at)
     (λ new. let there : is_news (Some old) item.cost ≡ true = sym (ap (λ (o : Option Known). is_news o item.cost) (ap (map.get known) (sym new.0) ∙ at)) ∙ news in let lt = ltb-true item.cost old.cost there in absurd (omega arith))
-    (with_insert known (key_of item.board) key (entry item)))
-    (λ (old_news : is_news (map.get known (key_of item.board)) item.cost ≡ false). ap (λ (k : Knowledge). map.get k key) (cond-false _ _ _ old_news) ∙ at)
-    (cases_Bool (is_news (map.get known (key_of item.board)) item.cost))
+    (with_insert known (search_key item.board) key (entry item)))
+    (λ (old_news : is_news (map.get known (search_key item.board)) item.cost ≡ false). ap (λ (k : Knowledge). map.get k key) (cond-false _ _ _ old_news) ∙ at)
+    (cases_Bool (is_news (map.get known (search_key item.board)) item.cost))
 
 -- and so does an expansion's fold
 fold_zero : (role : Role) (items : List Item) (x : WorkerState) (key : ℕ) (old : Known) → map.get x.known key ≡ Some old → old.cost ≡ 0 → map.get (fold (with_successor role) x items).known key ≡ Some old
@@ -336,24 +336,24 @@ begun_by w i worker is new book lanes keeps begun =
 expand_keeps : (w : WorldState) (i : ℕ) (worker : WorkerState) (b : Position) (known : Known) → KnowsAs worker b known → HasStart w worker → HasStart w (expansion (role_of w i) worker b known)
 expand_keeps w i worker b known knows has =
     ⊎_elim
-    (λ same. (has.0, fold_zero (role_of w i) (successor_items w.task.rule b known.cost) (with_closure worker b known) (key_of w.task.start) has.0 (same ∙ has.1) has.3, has.2, has.3))
+    (λ same. (has.0, fold_zero (role_of w i) (successor_items w.task.rule b known.cost) (with_closure worker b known) (search_key w.task.start) has.0 (same ∙ has.1) has.3, has.2, has.3))
     (λ new.
-    let e = same_known worker.known (key_of w.task.start) has.0 known has.1 (ap (map.get worker.known) new.0 ∙ knows) in
+    let e = same_known worker.known (search_key w.task.start) has.0 known has.1 (ap (map.get worker.known) new.0 ∙ knows) in
     let zero : known.cost ≡ 0 = sym (ap (λ (k : Known). k.cost) e) ∙ has.3 in
-    (record known { expanded = true }, fold_zero (role_of w i) (successor_items w.task.rule b known.cost) (with_closure worker b known) (key_of w.task.start) (record known { expanded = true }) new.1 zero, refl, zero))
-    (with_insert worker.known (key_of b) (key_of w.task.start) (record known { expanded = true }))
+    (record known { expanded = true }, fold_zero (role_of w i) (successor_items w.task.rule b known.cost) (with_closure worker b known) (search_key w.task.start) (record known { expanded = true }) new.1 zero, refl, zero))
+    (with_insert worker.known (search_key b) (search_key w.task.start) (record known { expanded = true }))
 
 -- the expansion of the start
 expand_begins : (w : WorldState) (i : ℕ) (worker : WorkerState) (known : Known) → known.cost ≡ 0 → HasStart w (expansion (role_of w i) worker w.task.start known)
 expand_begins w i worker known zero = (
   record known { expanded = true },
-  fold_zero (role_of w i) (successor_items w.task.rule w.task.start known.cost) (with_closure worker w.task.start known) (key_of w.task.start) (record known { expanded = true }) (get_inserted worker.known (key_of w.task.start) (record known { expanded = true })) zero,
+  fold_zero (role_of w i) (successor_items w.task.rule w.task.start known.cost) (with_closure worker w.task.start known) (search_key w.task.start) (record known { expanded = true }) (get_inserted worker.known (search_key w.task.start) (record known { expanded = true })) zero,
   refl,
   zero,
 )
 
 same_start : (w : WorldState) (worker new : WorkerState) → new.known ≡ worker.known → HasStart w worker → HasStart w new
-same_start w worker new same has = (has.0, ap (λ (k : Knowledge). map.get k (key_of w.task.start)) same ∙ has.1, has.2, has.3)
+same_start w worker new same has = (has.0, ap (λ (k : Knowledge). map.get k (search_key w.task.start)) same ∙ has.1, has.2, has.3)
 
 first_of : (packet : Packet) → ¬ (packet ≡ []) → (item : Item) × Contains packet item
 first_of [] some = absurd (some refl)
@@ -390,7 +390,7 @@ accepts_begun (Settle i) w w' shaped sound (inl fresh) step =
 accepts_begun (Settle i) w w' shaped sound (inr begun) step =
     subst HasBegunOrNot (sym step.is)
     (inr (begun_by w i step.worker step.at step.new w.book w.lanes
-    (λ has. subst (HasStart w) (sym step.change.is) (has.0, relax_zero step.worker.known step.change.last (key_of w.task.start) has.0 has.1 has.3, has.2, has.3))
+    (λ has. subst (HasStart w) (sym step.change.is) (has.0, relax_zero step.worker.known step.change.last (search_key w.task.start) has.0 has.1 has.3, has.2, has.3))
     begun))
 accepts_begun (Send i j) w w' shaped sound (inl fresh) step =
     let item = first_of (packet_for step.worker j) step.change.some in

@@ -16,6 +16,7 @@ use Rattle.board.specs.Keys.{key_of}
 use Rattle.board.specs.declared.costs.TheConstants.{GREATEST_COST, GREATEST_EXPANDED_COST}
 use Rattle.board.specs.Grids.{cell_count}
 use Rattle.board.proofs.KeyLemmas.{key_of-lt}
+use Rattle.search_keys.specs.SearchKeys.{search_key}
 use Rattle.outcomes.specs.Outcomes.{Answers, AllowsCause, AllowsWhy, AreRowsOf, HasProof, IsAboveSums, IsBestPlan, IsTrueBound, best_of}
 use Rattle.outcomes.specs.declared.outcome.Cause.{Cause}
 use Rattle.outcomes.specs.declared.outcome.Outcome.{Outcome}
@@ -432,7 +433,7 @@ module _ (w : WorldState) (shaped : IsShaped w) (k : ℕ) where
   same_cost b x y knows knows' =
       let worker : Some knows.worker ≡ Some knows'.worker = sym knows.is ∙ knows'.is in
       let worker' : knows.worker ≡ knows'.worker = cc in
-      ap (λ (z : Known). z.cost) (same_known knows.worker.known (key_of b) x y knows.knows (ap (λ (v : WorkerState). map.get v.known (key_of b)) worker' ∙ knows'.knows))
+      ap (λ (z : Known). z.cost) (same_known knows.worker.known (search_key b) x y knows.knows (ap (λ (v : WorkerState). map.get v.known (search_key b)) worker' ∙ knows'.knows))
 
   -- a board of one key is known at one cost
   same_row : (row other : Row) → IsKnownBelow w k row.0 row.1 → IsKnownBelow w k other.0 other.1 → key_of row.0 ≡ key_of other.0 → row ≡ other

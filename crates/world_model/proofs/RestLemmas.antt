@@ -6,7 +6,7 @@ use Rattle.std.proofs.lemmas.Bool.{cases_lt}
 use Rattle.std.proofs.lemmas.List.Elements.{All-set}
 use Rattle.memory.specs.declared.OutOfMemory.{OutOfMemory}
 use Rattle.board.specs.Positions.{Position}
-use Rattle.board.specs.Keys.{key_of}
+use Rattle.search_keys.specs.SearchKeys.{search_key}
 use Rattle.outcomes.specs.Outcomes.{Task}
 use Rattle.world_model.specs.declared.parts.Item.{Item}
 use Rattle.world_model.specs.declared.parts.Known.{Known}
@@ -26,7 +26,7 @@ use Rattle.world_model.specs.Turns.{Turn, turn}
 use Rattle.world_model.specs.WorkerSteps.{AtLane, DeliverStep, ExpandStep, SendStep, SettleStep}
 use Rattle.world_model.specs.Workers.{HasNothingBelow, IsFloor, IsNext, IsOpen, KnowsAs, Lane, Role, WorkerState}
 use Rattle.world_model.specs.Worlds.{IsLane, IsWorker, WorldState, role_of}
-use Rattle.world_model.proofs.ChangeLemmas.{all_from_places, at_replicate, get_set_other, get_set_same, set_same, entry, same_key, same_known, with_insert, changed, lane_after, lane_before}
+use Rattle.world_model.proofs.ChangeLemmas.{all_from_places, at_replicate, get_set_other, get_set_same, set_same, entry, same_search_key, same_known, with_insert, changed, lane_after, lane_before}
 use Rattle.world_model.proofs.ExpandLemmas.{all_known}
 use Rattle.world_model.proofs.CreditLemmas.{limit_falls, lower_best, not_below_stable}
 use Rattle.world_model.proofs.StepCases.{Accepts, Announces, BookChange, Cases, Draws, Expands, Grants, Halts, LaneChange, OwnChange, Rests, expand_cases, next_cases}
@@ -160,8 +160,8 @@ module _ (role : Role) (x : WorkerState) (b : Position) (before after : Known) (
   abbrev Least : Option Refusal → Type 0
   Least answer = IsNext role.task x b before × (before.cost + role.task.sum b < limit_of x.best) × (answer ≡ None)
 
-  open_then : map.get x.known (key_of b) ≡ Some after → ⊥
-  open_then at = let same = same_known x.known (key_of b) before after opens.knows at in let e : true ≡ false = sym closed ∙ sym (ap (λ (k : Known). k.expanded) same) ∙ opens.unexpanded in cc
+  open_then : map.get x.known (search_key b) ≡ Some after → ⊥
+  open_then at = let same = same_known x.known (search_key b) before after opens.knows at in let e : true ≡ false = sym closed ∙ sym (ap (λ (k : Known). k.expanded) same) ∙ opens.unexpanded in cc
 
   offered_then : (offer : Item) → Some after ≡ Some (entry offer) → ⊥
   offered_then offer at = let same : after ≡ entry offer = cc in let e : true ≡ false = sym closed ∙ ap (λ (k : Known). k.expanded) same in cc
@@ -169,31 +169,31 @@ module _ (role : Role) (x : WorkerState) (b : Position) (before after : Known) (
   below_limit : (f : ℕ) → HasNothingBelow role.task x f → ¬ HasNothingBelow role.task x (limit_of x.best) → f < limit_of x.best
   below_limit f least busy = ⊎_elim (λ (lt : f < limit_of x.best). lt) (λ (le : limit_of x.best ≤ f). absurd (busy (λ c known at. let h = least c known at in omega arith))) (cases_lt f (limit_of x.best))
 
-  picked : (c : Position) (known : Known) → IsNext role.task x c known → ¬ HasNothingBelow role.task x (limit_of x.best) → key_of b ≡ key_of c → IsNext role.task x b before × (before.cost + role.task.sum b < limit_of x.best)
+  picked : (c : Position) (known : Known) → IsNext role.task x c known → ¬ HasNothingBelow role.task x (limit_of x.best) → search_key b ≡ search_key c → IsNext role.task x b before × (before.cost + role.task.sum b < limit_of x.best)
   picked c known next busy same =
-      let board : b ≡ c = same_key role.task b c opens.board next.opens.board same in
-      let e : known ≡ before = same_known x.known (key_of b) known before (subst (λ (p : Position). map.get x.known (key_of p) ≡ Some known) (sym board) next.opens.knows) opens.knows in
+      let board : b ≡ c = same_search_key role.task b c opens.board next.opens.board same in
+      let e : known ≡ before = same_known x.known (search_key b) known before (subst (λ (p : Position). map.get x.known (search_key p) ≡ Some known) (sym board) next.opens.knows) opens.knows in
       let mine : IsNext role.task x b before = subst (λ (q : Position × Known). IsNext role.task x q.0 q.1) (λ t. (sym board t, e t)) next in
       (mine, below_limit (before.cost + role.task.sum b) mine.least busy)
 
   expanded_then : (y : WorkerState) (answer : Option Refusal) → answer ≡ None → Expands role x y → KnowsAs y b after → Least answer
   expanded_then y answer none step at =
       let offers = successor_items role.task.rule step.board step.known.cost in
-      let there : map.get (expansion role x step.board step.known).known (key_of b) ≡ Some after = subst (λ (z : WorkerState). map.get z.known (key_of b) ≡ Some after) step.is at in
+      let there : map.get (expansion role x step.board step.known).known (search_key b) ≡ Some after = subst (λ (z : WorkerState). map.get z.known (search_key b) ≡ Some after) step.is at in
       ⊎_elim
       (λ same.
       ⊎_elim
       (λ same'. absurd (open_then (sym same' ∙ sym same ∙ there)))
       (λ new. let p = picked step.board step.known step.next step.busy new.0 in (p.0, p.1, none))
-      (with_insert x.known (key_of step.board) (key_of b) (record step.known { expanded = true })))
+      (with_insert x.known (search_key step.board) (search_key b) (record step.known { expanded = true })))
       (λ new. absurd (offered_then new.0 (sym there ∙ new.4)))
-      (all_known role offers (with_closure x step.board step.known) (key_of b))
+      (all_known role offers (with_closure x step.board step.known) (search_key b))
 
 pub least_expanded : LeastIsExpanded
 least_expanded role it b before after step opens at closed = split (expand_cases role it step)
   where
     split : Cases it (Expands role it.before it.after) → IsNext role.task it.before b before × (before.cost + role.task.sum b < limit_of it.before.best) × (it.answer ≡ None)
-    split (inl out) = absurd (open_then role it.before b before after opens closed (subst (λ (z : WorkerState). map.get z.known (key_of b) ≡ Some after) out.1.1 at))
+    split (inl out) = absurd (open_then role it.before b before after opens closed (subst (λ (z : WorkerState). map.get z.known (search_key b) ≡ Some after) out.1.1 at))
     split (inr done) = expanded_then role it.before b before after opens closed it.after it.answer done.0 done.1 at
 
 -- what is left of workers and floors

@@ -11,6 +11,7 @@ use Rattle.std.proofs.lemmas.List.Elements.{Contains-append_left, Contains-appen
 use Rattle.std.proofs.lemmas.List.Kept.{AllPairs-cons}
 use Rattle.board.specs.Keys.{key_of}
 use Rattle.board.specs.Positions.{Position}
+use Rattle.search_keys.specs.SearchKeys.{search_key}
 use Rattle.outcomes.specs.Outcomes.{Task}
 use Rattle.world_model.specs.declared.parts.Known.{Known}
 use Rattle.world_model.specs.Knowledge.{Knowledge}
@@ -18,7 +19,7 @@ use Rattle.world_model.specs.Outcomes.{AreRowsFor, IsKnownBelow}
 use Rattle.world_model.specs.Shapes.{IsShaped, IsShapedWorker}
 use Rattle.world_model.specs.Workers.{IsTaskBoard, KnowsAs, WorkerState}
 use Rattle.world_model.specs.Worlds.{IsWorker, Knows, WorldState, role_of}
-use Rattle.world_model.proofs.ChangeLemmas.{cons_cases, get_below, head_in, later_in, none_in, knows_owned, same_key, same_known}
+use Rattle.world_model.proofs.ChangeLemmas.{cons_cases, get_below, head_in, later_in, none_in, knows_owned, same_key, same_known, same_search_key}
 
 -- a list of just the elements with P
 record Listed {X : Type 0} (P : X → Type 0) : Type 0 where
@@ -217,7 +218,7 @@ entry_of m key known at =
 record IsRowAt (task : Task) (worker : WorkerState) (k key : ℕ) (row : Row) : Type 0 where
   known : Known
   board : IsTaskBoard task row.0
-  keyed : key_of row.0 ≡ key
+  keyed : search_key row.0 ≡ key
   knows : map.get worker.known key ≡ Some known
   cost : known.cost ≡ row.1
   below : row.1 + task.sum row.0 < k
@@ -233,7 +234,7 @@ module _ (n k : ℕ) (w : WorldState) (i : ℕ) (worker : WorkerState) (shaped :
   one_row key (Some known) some =
       let own = shaped.known key known some in
       let same : (row : Row) → IsRowAt w.task worker k key row → (own.0, known.cost) ≡ row = λ row is.
-      let board : own.0 ≡ row.0 = same_key w.task own.0 row.0 own.1 is.board (own.2 ∙ sym is.keyed) in
+      let board : own.0 ≡ row.0 = same_search_key w.task own.0 row.0 own.1 is.board (own.2 ∙ sym is.keyed) in
       let both = same_known worker.known key known is.known some is.knows in
       let cost : known.cost ≡ row.1 = ap (λ (x : Known). x.cost) both ∙ is.cost in
       λ t. (board t, cost t) in
@@ -252,7 +253,7 @@ module _ (n k : ℕ) (w : WorldState) (i : ℕ) (worker : WorkerState) (shaped :
   to_entry : IsWorker w i worker → (row : Row) → IsRowOf w k i row → (e : ℕ × Known) × Contains (map.entries worker.known) e × IsRowAt w.task worker k e.0 row
   to_entry is row (known, knows, cost, below) =
       let same : knows.worker ≡ worker = cc (knows.is, is) in
-      let e = entry_of worker.known (key_of row.0) known (subst (λ (x : WorkerState). KnowsAs x row.0 known) same knows.knows) in
+      let e = entry_of worker.known (search_key row.0) known (subst (λ (x : WorkerState). KnowsAs x row.0 known) same knows.knows) in
       (e.0, e.1, record { known = known; board = knows.board; keyed = e.3; knows = e.2; cost = cost; below = below })
 
   worker_rows : IsWorker w i worker → Listed (IsRowOf w k i)
@@ -278,8 +279,8 @@ module _ (w : WorldState) (k : ℕ) (shaped : IsShaped w) where
       let board : other.0 ≡ row.0 = same_key w.task other.0 row.0 has'.2.board has.2.board (sym same) in
       let owner : has'.0 ≡ has.0 = sym (knows_owned w shaped has'.0 other.0 has'.1 has'.2).0 ∙ ap w.owner board ∙ (knows_owned w shaped has.0 row.0 has.1 has.2).0 in
       let worker : has'.2.worker ≡ has.2.worker = cc (has'.2.is, has.2.is, ap (slice_get w.workers) owner) in
-      let known : has'.1 ≡ has.1 = same_known has.2.worker.known (key_of row.0) has'.1 has.1
-      (subst (λ (x : WorkerState). map.get x.known (key_of row.0) ≡ Some has'.1) worker (ap (map.get has'.2.worker.known) same ∙ has'.2.knows))
+      let known : has'.1 ≡ has.1 = same_known has.2.worker.known (search_key row.0) has'.1 has.1
+      (subst (λ (x : WorkerState). map.get x.known (search_key row.0) ≡ Some has'.1) worker (ap (map.get has'.2.worker.known) (ap search_key (sym board)) ∙ has'.2.knows))
       has.2.knows in
       let cost : other.1 ≡ row.1 = sym has'.3 ∙ ap (λ (x : Known). x.cost) known ∙ has.3 in
       λ t. (board t, cost t)

@@ -8,6 +8,7 @@ use Rattle.std.proofs.lemmas.List.Kept.{AllPairs-cons}
 use Rattle.board.specs.Grids.{Grid}
 use Rattle.board.specs.Keys.{key_of}
 use Rattle.board.specs.Positions.{Position, IsBoard}
+use Rattle.search_keys.specs.SearchKeys.{search_key}
 use Rattle.outcomes.specs.Outcomes.{Task}
 use Rattle.world_model.specs.declared.parts.Known.{Known}
 use Rattle.world_model.specs.Outcomes.{AreRowsBelow, AreRowsFor, IsKnownBelow}
@@ -176,7 +177,7 @@ module _ (task : Task) (owner : Position → ℕ) (goal : IsBoard task.goal) (s 
   known_row : (b : Position) (cost : ℕ) → IsKnownBelow w k b cost → In (all_rows task k s) (b, cost)
   known_row b cost (i, known, knows, same, low) =
       let x = small_worker task owner goal s boards i knows.worker knows.is in
-      let looked : look_up x.0.entries (key_of b) ≡ Some known = sym (found x.0.entries (key_of b)) ∙ ap (λ (y : WorkerState). map.get y.known (key_of b)) (sym x.2) ∙ knows.knows in
+      let looked : look_up x.0.entries (search_key b) ≡ Some known = sym (found x.0.entries (search_key b)) ∙ ap (λ (y : WorkerState). map.get y.known (search_key b)) (sym x.2) ∙ knows.knows in
       let listed = current_complete task x.0.entries (boards_at task s.workers i x.0 boards x.1) b known knows.board looked in
       let lt : known.cost + task.sum b < k = omega (arith, same, low) in
       let row = row_in task k (current x.0.entries x.0.entries) (b, known) listed (lt-ltb (known.cost + task.sum b) k lt) in

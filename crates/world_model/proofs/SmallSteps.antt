@@ -4,7 +4,7 @@ use Rattle.std.specs.Prelude.{All, Any, if◌then◌else◌, ◌==◌, ◌&&◌,
 use Rattle.std.proofs.lemmas.Bool.{cases_Bool, eqb-true, eqb-false, ltb-true, ltb-false}
 use Rattle.std.proofs.lemmas.List.Elements.{All-cons}
 use Rattle.board.specs.Positions.{Position, IsBoard}
-use Rattle.board.specs.Keys.{key_of}
+use Rattle.search_keys.specs.SearchKeys.{search_key}
 use Rattle.outcomes.specs.Outcomes.{Task}
 use Rattle.world_model.specs.declared.limits.TheConstants.{CREDIT_DRAWN, PACKET_LIMIT, LANE_LIMIT}
 use Rattle.world_model.specs.declared.parts.Item.{Item}
@@ -129,7 +129,7 @@ no_better None best = true
 no_better (Some k) best = is_not_below (Some k.cost) best
 
 abbrev pub is_idle : Task → Small → ℕ → Option ℕ → Bool
-is_idle task s limit best = (is_nil s.held && all_nil s.unsent) && (nothing_below task (the_least task s) limit && no_better (look_up s.entries (key_of task.goal)) best)
+is_idle task s limit best = (is_nil s.held && all_nil s.unsent) && (nothing_below task (the_least task s) limit && no_better (look_up s.entries (search_key task.goal)) best)
 
 module _ (task : Task) (goal : IsBoard task.goal) (s : Small) (boards : AreBoards task s.entries) where
   below_tests_at : (o : Option (Position × Known)) → IsLeastIn task (open_list task s) o → (limit : ℕ) → Tests (nothing_below task o limit) (HasNothingBelow task (worker_of s) limit)
@@ -155,22 +155,22 @@ module _ (task : Task) (goal : IsBoard task.goal) (s : Small) (boards : AreBoard
   pub floor_is : IsFloor task (worker_of s) (floor_cost task (the_least task s))
   floor_is = floor_at (the_least task s) (least_is task (open_list task s))
 
-  better_at : (o : Option Known) → look_up s.entries (key_of task.goal) ≡ o → (best : Option ℕ) → Tests (no_better o best) ((cost : ℕ) → KnowsGoalAt task (worker_of s) cost → IsNotBelow (Some cost) best)
-  better_at None is best = (λ e cost at. let none : ◌≡◌ {A = Option Known} None (Some at.0) = sym is ∙ sym (found s.entries (key_of task.goal)) ∙ at.1 in absurd (cc), λ e. absurd (cc))
+  better_at : (o : Option Known) → look_up s.entries (search_key task.goal) ≡ o → (best : Option ℕ) → Tests (no_better o best) ((cost : ℕ) → KnowsGoalAt task (worker_of s) cost → IsNotBelow (Some cost) best)
+  better_at None is best = (λ e cost at. let none : ◌≡◌ {A = Option Known} None (Some at.0) = sym is ∙ sym (found s.entries (search_key task.goal)) ∙ at.1 in absurd (cc), λ e. absurd (cc))
   better_at (Some k) is best =
       let t = not_below_tests (Some k.cost) best in (
         λ e cost at.
-            let same : Some k ≡ Some at.0 = sym is ∙ sym (found s.entries (key_of task.goal)) ∙ at.1 in
+            let same : Some k ≡ Some at.0 = sym is ∙ sym (found s.entries (search_key task.goal)) ∙ at.1 in
             let same' : k ≡ at.0 = cc in
             subst (λ n. IsNotBelow (Some n) best) (ap (λ (x : Known). x.cost) same' ∙ at.2) (t.0 e),
-        λ e all. t.1 e (all k.cost (k, found s.entries (key_of task.goal) ∙ is, refl)),
+        λ e all. t.1 e (all k.cost (k, found s.entries (search_key task.goal) ∙ is, refl)),
       )
 
   pub idle_tests : (limit : ℕ) (best : Option ℕ) → Tests (is_idle task s limit best) (IsIdle task (worker_of s) limit best)
   idle_tests limit best =
       let lists = and_tests (is_nil s.held) (all_nil s.unsent) (s.held ≡ []) (All (λ packet. packet ≡ []) s.unsent) (nil_tests s.held) (all_nil_tests s.unsent) in
-      let boards' = and_tests (nothing_below task (the_least task s) limit) (no_better (look_up s.entries (key_of task.goal)) best) (HasNothingBelow task (worker_of s) limit) ((cost : ℕ) → KnowsGoalAt task (worker_of s) cost → IsNotBelow (Some cost) best) (below_tests limit) (better_at (look_up s.entries (key_of task.goal)) refl best) in
-      let all = and_tests (is_nil s.held && all_nil s.unsent) (nothing_below task (the_least task s) limit && no_better (look_up s.entries (key_of task.goal)) best) ((s.held ≡ []) × All (λ packet. packet ≡ []) s.unsent) (HasNothingBelow task (worker_of s) limit × ((cost : ℕ) → KnowsGoalAt task (worker_of s) cost → IsNotBelow (Some cost) best)) lists boards' in (
+      let boards' = and_tests (nothing_below task (the_least task s) limit) (no_better (look_up s.entries (search_key task.goal)) best) (HasNothingBelow task (worker_of s) limit) ((cost : ℕ) → KnowsGoalAt task (worker_of s) cost → IsNotBelow (Some cost) best) (below_tests limit) (better_at (look_up s.entries (search_key task.goal)) refl best) in
+      let all = and_tests (is_nil s.held && all_nil s.unsent) (nothing_below task (the_least task s) limit && no_better (look_up s.entries (search_key task.goal)) best) ((s.held ≡ []) × All (λ packet. packet ≡ []) s.unsent) (HasNothingBelow task (worker_of s) limit × ((cost : ℕ) → KnowsGoalAt task (worker_of s) cost → IsNotBelow (Some cost) best)) lists boards' in (
         λ e. let h = all.0 e in record { holds_nothing = h.0.0; sends_nothing = h.0.1; no_board = h.1.0; no_better_goal = h.1.1 },
         λ e idle. all.1 e ((idle.holds_nothing, idle.sends_nothing), (idle.no_board, idle.no_better_goal)),
       )
@@ -346,24 +346,24 @@ not_lower (Some k) best = is_not_below (Some k.cost) best
 
 abbrev pub small_announce : Role → Small → BookState → BookDone
 small_announce role s book =
-    announce_by role s book (is_there book.stop) (role.owner role.task.goal == role.me) (look_up s.entries (key_of role.task.goal)) (not_lower (look_up s.entries (key_of role.task.goal)) book.best)
+    announce_by role s book (is_there book.stop) (role.owner role.task.goal == role.me) (look_up s.entries (search_key role.task.goal)) (not_lower (look_up s.entries (search_key role.task.goal)) book.best)
 
 module _ (role : Role) (s : Small) (book : BookState) where
   abbrev Cost : Option Known → Type 0
-  Cost o = look_up s.entries (key_of role.task.goal) ≡ o
+  Cost o = look_up s.entries (search_key role.task.goal) ≡ o
 
   cost_is : (k : Known) → Cost (Some k) → (cost : ℕ) → KnowsGoalAt role.task (worker_of s) cost → k.cost ≡ cost
-  cost_is k is cost at = let same : Some k ≡ Some at.0 = sym is ∙ sym (found s.entries (key_of role.task.goal)) ∙ at.1 in let same' : k ≡ at.0 = cc in ap (λ (x : Known). x.cost) same' ∙ at.2
+  cost_is k is cost at = let same : Some k ≡ Some at.0 = sym is ∙ sym (found s.entries (search_key role.task.goal)) ∙ at.1 in let same' : k ≡ at.0 = cc in ap (λ (x : Known). x.cost) same' ∙ at.2
 
   announce_at : (x y : Bool) (o : Option Known) → Cost o → Tests x (book.stop ≢ None) → Tests y (role.owner role.task.goal ≡ role.me) → (z : Bool) → ((k : Known) → o ≡ Some k → Tests z (IsNotBelow (Some k.cost) book.best)) → AnnounceStep role (book_turn s book (announce_by role s book x y o z))
   announce_at true y o is tx ty z tz = inl (tx.0 refl, (refl, refl))
   announce_at false false o is tx ty z tz = inr (tx.1 refl, inl ((λ cost may. ty.1 refl may.own), (refl, refl)))
   announce_at false true None is tx ty z tz =
-      inr (tx.1 refl, inl ((λ cost may. let none : ◌≡◌ {A = Option Known} None (Some may.knows.0) = sym is ∙ sym (found s.entries (key_of role.task.goal)) ∙ may.knows.1 in cc), (refl, refl)))
+      inr (tx.1 refl, inl ((λ cost may. let none : ◌≡◌ {A = Option Known} None (Some may.knows.0) = sym is ∙ sym (found s.entries (search_key role.task.goal)) ∙ may.knows.1 in cc), (refl, refl)))
   announce_at false true (Some k) is tx ty true tz =
       inr (tx.1 refl, inl ((λ cost may. may.lower (subst (λ n. IsNotBelow (Some n) book.best) (cost_is k is cost may.knows) ((tz k refl).0 refl))), (refl, refl)))
   announce_at false true (Some k) is tx ty false tz =
-      let may : MayAnnounce role (beside s book) k.cost = record { own = ty.0 refl; knows = (k, found s.entries (key_of role.task.goal) ∙ is, refl); lower = (tz k refl).1 refl } in
+      let may : MayAnnounce role (beside s book) k.cost = record { own = ty.0 refl; knows = (k, found s.entries (search_key role.task.goal) ∙ is, refl); lower = (tz k refl).1 refl } in
       inr (tx.1 refl, inr ((λ none. none k.cost may), (k.cost, may, (refl, refl))))
 
   lower_tests : (o : Option Known) (k : Known) → o ≡ Some k → Tests (not_lower o book.best) (IsNotBelow (Some k.cost) book.best)
@@ -371,7 +371,7 @@ module _ (role : Role) (s : Small) (book : BookState) where
   lower_tests (Some known) k e = let e' : known ≡ k = cc in subst (λ (x : Known). Tests (is_not_below (Some known.cost) book.best) (IsNotBelow (Some x.cost) book.best)) e' (not_below_tests (Some known.cost) book.best)
 
   pub announce_is : AnnounceStep role (book_turn s book (small_announce role s book))
-  announce_is = announce_at _ _ (look_up s.entries (key_of role.task.goal)) refl (there_tests book.stop) (eq_tests (role.owner role.task.goal) role.me) _ (lower_tests (look_up s.entries (key_of role.task.goal)))
+  announce_is = announce_at _ _ (look_up s.entries (search_key role.task.goal)) refl (there_tests book.stop) (eq_tests (role.owner role.task.goal) role.me) _ (lower_tests (look_up s.entries (search_key role.task.goal)))
 
 abbrev pub grant_by : Small → BookState → Bool → Bool → Bool → Bool → BookDone
 grant_by s book true x y z = (Some Stopped, (s, book))

@@ -5,8 +5,8 @@ use Rattle.std.proofs.lemmas.Bool.{cases_lt, eqb-true, eqb-false}
 use Rattle.std.proofs.lemmas.Option.{slice_get-map, slice_get_within}
 use Rattle.std.proofs.lemmas.List.Elements.{Contains-push}
 use Rattle.std.specs.FinMap as entries
-use Rattle.board.specs.Keys.{key_of}
 use Rattle.board.specs.Positions.{Position, IsBoard}
+use Rattle.search_keys.specs.SearchKeys.{search_key}
 use Rattle.outcomes.specs.Outcomes.{Task}
 use Rattle.world_model.specs.declared.parts.Item.{Item}
 use Rattle.world_model.specs.declared.parts.Known.{Known}
@@ -116,14 +116,14 @@ module _ (task : Task) (owner : Position → ℕ) where
   worker_is s i x at = slice_get-map worker_of s.workers i ∙ ap (option_map worker_of) at
 
   -- what a worker has among its entries it knows
-  pub known_in : (s : SmallWorld) (i : ℕ) (x : Small) (b : Position) (known : Known) → slice_get s.workers i ≡ Some x → IsTaskBoard task b → look_up x.entries (key_of b) ≡ Some known → Knows (world_of s) i b known
-  known_in s i x b known at board is = record { worker = worker_of x; is = worker_is s i x at; board = board; knows = found x.entries (key_of b) ∙ is }
+  pub known_in : (s : SmallWorld) (i : ℕ) (x : Small) (b : Position) (known : Known) → slice_get s.workers i ≡ Some x → IsTaskBoard task b → look_up x.entries (search_key b) ≡ Some known → Knows (world_of s) i b known
+  known_in s i x b known at board is = record { worker = worker_of x; is = worker_is s i x at; board = board; knows = found x.entries (search_key b) ∙ is }
 
   -- the same of the first worker, computed
-  pub known_first : (s : SmallWorld) (b : Position) (known : Known) → look_first s.workers (key_of b) ≡ Some known → IsTaskBoard task b → Knows (world_of s) 0 b known
+  pub known_first : (s : SmallWorld) (b : Position) (known : Known) → look_first s.workers (search_key b) ≡ Some known → IsTaskBoard task b → Knows (world_of s) 0 b known
   known_first s b known is board = first s.workers refl is
     where
-      first : (workers : List Small) → s.workers ≡ workers → look_first workers (key_of b) ≡ Some known → Knows (world_of s) 0 b known
+      first : (workers : List Small) → s.workers ≡ workers → look_first workers (search_key b) ≡ Some known → Knows (world_of s) 0 b known
       first [] same none = absurd (cc)
       first (x ∷ xs) same there = known_in s 0 x b known (ap (λ (ws : List Small). slice_get ws 0) same) board there
 
@@ -403,7 +403,7 @@ module _ (task : Task) (owner : Position → ℕ) (goal : IsBoard task.goal) (s 
   open_in b cost has =
       let knows = has.2 in
       let x = small_worker has.0 knows.worker knows.is in
-      let opens : IsOpen task (worker_of x.0) b has.1 = record { board = knows.board; knows = ap (λ (y : WorkerState). map_get y (key_of b)) (sym x.2) ∙ knows.knows; unexpanded = has.3; no_goal = has.4 } in
+      let opens : IsOpen task (worker_of x.0) b has.1 = record { board = knows.board; knows = ap (λ (y : WorkerState). map_get y (search_key b)) (sym x.2) ∙ knows.knows; unexpanded = has.3; no_goal = has.4 } in
       let listed = open_listed task goal x.0 (boards_at task s.workers has.0 x.0 boards x.1) b has.1 opens in
       let there = gather_in (open_list task) s.workers x.0 (b, has.1) (in_place s.workers has.0 x.0 x.1) listed in
       subst (λ n. In (all_costs task s) (n + task.sum b)) has.5
@@ -486,27 +486,27 @@ module _ (task : Task) (owner : Position → ℕ) (goal : IsBoard task.goal) (s 
   -- the cost at which the goal is known
   abbrev pub goal_cost : Option Small → Option ℕ
   goal_cost None = None
-  goal_cost (Some x) = option_map (λ (k : Known). k.cost) (look_up x.entries (key_of task.goal))
+  goal_cost (Some x) = option_map (λ (k : Known). k.cost) (look_up x.entries (search_key task.goal))
 
-  reached_at : (x : Small) → slice_get s.workers (owner task.goal) ≡ Some x → (o : Option Known) → look_up x.entries (key_of task.goal) ≡ o → IsReached w (option_map (λ (k : Known). k.cost) o)
+  reached_at : (x : Small) → slice_get s.workers (owner task.goal) ≡ Some x → (o : Option Known) → look_up x.entries (search_key task.goal) ≡ o → IsReached w (option_map (λ (k : Known). k.cost) o)
   reached_at x at None none = λ n has.
       let knows = has.1 in
       let y = small_worker (owner task.goal) knows.worker knows.is in
       let same : Some x ≡ Some y.0 = sym at ∙ y.1 in
       let same' : x ≡ y.0 = cc in
-      let got : ◌≡◌ {A = Option Known} None (Some has.0) = sym none ∙ sym (found x.entries (key_of task.goal)) ∙ ap (λ (z : Small). map_get (worker_of z) (key_of task.goal)) same' ∙ ap (λ (z : WorkerState). map_get z (key_of task.goal)) (sym y.2) ∙ knows.knows in
+      let got : ◌≡◌ {A = Option Known} None (Some has.0) = sym none ∙ sym (found x.entries (search_key task.goal)) ∙ ap (λ (z : Small). map_get (worker_of z) (search_key task.goal)) same' ∙ ap (λ (z : WorkerState). map_get z (search_key task.goal)) (sym y.2) ∙ knows.knows in
       cc
   reached_at x at (Some k) is = (
-    (k, record { worker = worker_of x; is = worker_is task owner s (owner task.goal) x at; board = (goal, refl); knows = found x.entries (key_of task.goal) ∙ is }, refl),
+    (k, record { worker = worker_of x; is = worker_is task owner s (owner task.goal) x at; board = (goal, refl); knows = found x.entries (search_key task.goal) ∙ is }, refl),
     λ m has.
         let knows = has.1 in
         let y = small_worker (owner task.goal) knows.worker knows.is in
         let same : Some x ≡ Some y.0 = sym at ∙ y.1 in
         let same' : x ≡ y.0 = cc in
-        let got : Some k ≡ Some has.0 = sym is ∙ sym (found x.entries (key_of task.goal)) ∙ ap (λ (z : Small). map_get (worker_of z) (key_of task.goal)) same' ∙ ap (λ (z : WorkerState). map_get z (key_of task.goal)) (sym y.2) ∙ knows.knows in
+        let got : Some k ≡ Some has.0 = sym is ∙ sym (found x.entries (search_key task.goal)) ∙ ap (λ (z : Small). map_get (worker_of z) (search_key task.goal)) same' ∙ ap (λ (z : WorkerState). map_get z (search_key task.goal)) (sym y.2) ∙ knows.knows in
         let got' : k ≡ has.0 = cc in
         omega (arith, ap (λ (z : Known). z.cost) got', has.2),
   )
 
-  pub reached_is : (x : Small) → slice_get s.workers (owner task.goal) ≡ Some x → IsReached w (option_map (λ (k : Known). k.cost) (look_up x.entries (key_of task.goal)))
-  reached_is x at = reached_at x at (look_up x.entries (key_of task.goal)) refl
+  pub reached_is : (x : Small) → slice_get s.workers (owner task.goal) ≡ Some x → IsReached w (option_map (λ (k : Known). k.cost) (look_up x.entries (search_key task.goal)))
+  reached_is x at = reached_at x at (look_up x.entries (search_key task.goal)) refl

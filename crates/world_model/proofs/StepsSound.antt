@@ -7,7 +7,7 @@ use Rattle.std.proofs.lemmas.List.Elements.{Contains-push, Contains-push_cases, 
 use Rattle.board.specs.declared.moves.Move.{Move}
 use Rattle.board.specs.Positions.{Position}
 use Rattle.board.specs.Moves.{Moves}
-use Rattle.board.specs.Keys.{key_of}
+use Rattle.search_keys.specs.SearchKeys.{search_key}
 use Rattle.world_model.specs.declared.parts.Item.{Item}
 use Rattle.world_model.specs.declared.parts.Known.{Known}
 use Rattle.world_model.specs.Expansions.{expansion, successor_items, with_closure, with_successor}
@@ -23,7 +23,7 @@ use Rattle.world_model.specs.declared.steps.Step.TheVariants.{Expand, Settle, Se
 use Rattle.world_model.specs.BookSteps.{AtBook}
 use Rattle.world_model.specs.Turns.{Turn}
 use Rattle.world_model.specs.WorkerSteps.{AtLane}
-use Rattle.world_model.proofs.ChangeLemmas.{entry, same_key, with_insert, knows_owned, moved_task_board, changed, worker_there, lane_there, get_set_other, at_set, none_in_empty, head_in, later_in, cons_cases, is_empty}
+use Rattle.world_model.proofs.ChangeLemmas.{entry, same_search_key, with_insert, knows_owned, moved_task_board, changed, worker_there, lane_there, get_set_other, at_set, none_in_empty, head_in, later_in, cons_cases, is_empty}
 use Rattle.world_model.proofs.ShapeKept.{slots, some_unsent}
 use Rattle.world_model.proofs.ChangeLemmas as change
 use Rattle.world_model.proofs.SoundLemmas.{Remembers, predecessor_kept, sound_kept, moved_sound, settle_sound}
@@ -78,15 +78,15 @@ module _ (w : WorldState) (shaped : IsShaped w) (sound : IsSound w) (i : ℕ) (w
       let e : Some old ≡ Some known = sym at ∙ ap (map.get worker.known) new.0 ∙ open_at.knows in
       let e' : old ≡ known = cc in
       (record known { expanded = true }, new.1, omega (arith, ap (λ (k : Known). k.cost) e')))
-      (with_insert worker.known (key_of b) key (record known { expanded = true }))
+      (with_insert worker.known (search_key b) key (record known { expanded = true }))
 
   done_lower : (j : ℕ) (x : Position) (old : Known) → Knows w j x old → (now : Known) × Knows after j x now × (now.cost ≤ old.cost)
   unfolding after done offers marked
   done_lower j x old knows =
       ⊎_elim
       (λ (h : (j ≡ i) × (knows.worker ≡ worker) × IsWorker after j done).
-      let mid = marked_lower (key_of x) old (ap (λ (y : WorkerState). map.get y.known (key_of x)) (sym h.1) ∙ knows.knows) in
-      let end = all_lower (role_of w i) offers marked (key_of x) mid.0 mid.1 in
+      let mid = marked_lower (search_key x) old (ap (λ (y : WorkerState). map.get y.known (search_key x)) (sym h.1) ∙ knows.knows) in
+      let end = all_lower (role_of w i) offers marked (search_key x) mid.0 mid.1 in
       (end.0, record { worker = done; is = h.2; board = knows.board; knows = end.1 }, omega (arith, mid.2, end.2)))
       (λ (h : (j ≢ i) × IsWorker after j knows.worker). (old, record { worker = knows.worker; is = h.1; board = knows.board; knows = knows.knows }, omega arith))
       (worker_before j knows.worker knows.is)
@@ -172,14 +172,14 @@ module _ (w : WorldState) (shaped : IsShaped w) (sound : IsSound w) (i : ℕ) (w
   offer_before to offer (inr (inr has)) = inl (inr (inr (has.0, has.1, lane_before has.0 to has.1 has.2, has.3)))
 
   -- what is known after: what was known, the board itself, or an own offer
-  done_before : (key : ℕ) (now : Known) → map.get done.known key ≡ Some now → (map.get worker.known key ≡ Some now) ⊎ ((key ≡ key_of b) × (now ≡ record known { expanded = true })) ⊎ ((offer : Item) × Among offers offer × (w.owner offer.board ≡ i) × (key ≡ key_of offer.board) × (now ≡ entry offer))
+  done_before : (key : ℕ) (now : Known) → map.get done.known key ≡ Some now → (map.get worker.known key ≡ Some now) ⊎ ((key ≡ search_key b) × (now ≡ record known { expanded = true })) ⊎ ((offer : Item) × Among offers offer × (w.owner offer.board ≡ i) × (key ≡ search_key offer.board) × (now ≡ entry offer))
   unfolding done offers marked
   done_before key now at =
       ⊎_elim
       (λ same.
       ⊎_elim (λ same'. inl (sym same' ∙ sym same ∙ at))
       (λ new. let e : Some now ≡ Some (record known { expanded = true }) = sym at ∙ same ∙ new.1 in inr (inl (new.0, cc)))
-      (with_insert worker.known (key_of b) key (record known { expanded = true })))
+      (with_insert worker.known (search_key b) key (record known { expanded = true })))
       (λ new. let e : Some now ≡ Some (entry new.0) = sym at ∙ new.4 in inr (inr (new.0, new.1, new.2, new.3, cc)))
       (all_known (role_of w i) offers marked key)
 
@@ -200,19 +200,19 @@ module _ (w : WorldState) (shaped : IsShaped w) (sound : IsSound w) (i : ℕ) (w
   known_after j x now knows =
       ⊎_elim
       (λ (h : (j ≡ i) × (knows.worker ≡ done)).
-      let got : map.get done.known (key_of x) ≡ Some now = ap (λ (y : WorkerState). map.get y.known (key_of x)) (sym h.1) ∙ knows.knows in
+      let got : map.get done.known (search_key x) ≡ Some now = ap (λ (y : WorkerState). map.get y.known (search_key x)) (sym h.1) ∙ knows.knows in
       ⊎_elim
-      (λ (old : map.get worker.known (key_of x) ≡ Some now). inl (record { worker = worker; is = ap (slice_get w.workers) h.0 ∙ is; board = knows.board; knows = old }))
-      (λ (new : ((key_of x ≡ key_of b) × (now ≡ record known { expanded = true })) ⊎ ((offer : Item) × Among offers offer × (w.owner offer.board ≡ i) × (key_of x ≡ key_of offer.board) × (now ≡ entry offer))).
+      (λ (old : map.get worker.known (search_key x) ≡ Some now). inl (record { worker = worker; is = ap (slice_get w.workers) h.0 ∙ is; board = knows.board; knows = old }))
+      (λ (new : ((search_key x ≡ search_key b) × (now ≡ record known { expanded = true })) ⊎ ((offer : Item) × Among offers offer × (w.owner offer.board ≡ i) × (search_key x ≡ search_key offer.board) × (now ≡ entry offer))).
       ⊎_elim
-      (λ (own_board : (key_of x ≡ key_of b) × (now ≡ record known { expanded = true })).
-      let e = same_key w.task x b knows.board open_at.board own_board.0 in
+      (λ (own_board : (search_key x ≡ search_key b) × (now ≡ record known { expanded = true })).
+      let e = same_search_key w.task x b knows.board open_at.board own_board.0 in
       inr (subst (λ (y : ℕ × Position × Known). IsNew y.0 y.1 y.2) (λ t. (sym h.0 t, sym e t, sym own_board.1 t)) new_marked))
-      (λ (from : (offer : Item) × Among offers offer × (w.owner offer.board ≡ i) × (key_of x ≡ key_of offer.board) × (now ≡ entry offer)).
-      let e = same_key w.task x from.0.board knows.board (board_of from.0 from.1) from.3 in
+      (λ (from : (offer : Item) × Among offers offer × (w.owner offer.board ≡ i) × (search_key x ≡ search_key offer.board) × (now ≡ entry offer)).
+      let e = same_search_key w.task x from.0.board knows.board (board_of from.0 from.1) from.3 in
       inr (subst (λ (y : ℕ × Position × Known). IsNew y.0 y.1 y.2) (λ t. (sym h.0 t, sym e t, sym from.4 t)) (new_offer from.0 from.1 from.2)))
       new)
-      (done_before (key_of x) now got))
+      (done_before (search_key x) now got))
       (λ (h : (j ≢ i) × IsWorker w j knows.worker). inl (record { worker = knows.worker; is = h.1; board = knows.board; knows = knows.knows }))
       (worker_after j knows.worker knows.is)
 

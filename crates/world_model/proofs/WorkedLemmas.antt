@@ -15,7 +15,8 @@ use Rattle.board.specs.Grids.{Grid, IsShape, cell_count}
 use Rattle.board.specs.Positions.{Position, IsBoard, blank_of, goal_of}
 use Rattle.board.specs.CostRules.{IsCostRule, unit_rule}
 use Rattle.board.specs.Worked.{grid_of, two_by_two, two_by_three}
-use Rattle.board.specs.Keys.{key_of}
+use Rattle.pattern_index.specs.Sparse.{sparse_of}
+use Rattle.search_keys.specs.SearchKeys.{search_key}
 use Rattle.world_model.specs.Frontiers.{IsLowest, IsReached}
 use Rattle.world_model.specs.Knowledge.{Knowledge, is_news, relaxation_at}
 use Rattle.world_model.specs.Openings.{IsJob, Job, opening}
@@ -136,7 +137,7 @@ module _ (job : Job) (is : IsJob job) (same : world_of job.task job.owner (small
   pub lowest_by : IsLowest (world_of job.task job.owner end_by) (least_number (all_costs job.task end_by))
   lowest_by = lowest_is job.task job.owner is.task.goal end_by run_by.1
 
-  pub reached_by : (x : Small) → slice_get end_by.workers (job.owner job.task.goal) ≡ Some x → IsReached (world_of job.task job.owner end_by) (option_map (λ (k : Known). k.cost) (look_up x.entries (key_of job.task.goal)))
+  pub reached_by : (x : Small) → slice_get end_by.workers (job.owner job.task.goal) ≡ Some x → IsReached (world_of job.task job.owner end_by) (option_map (λ (k : Known). k.cost) (look_up x.entries (search_key job.task.goal)))
   reached_by x at = reached_is job.task job.owner is.task.goal end_by run_by.1 x at
 
   -- the rows of its end below k, by test
@@ -160,7 +161,7 @@ module _ (steps : List Step) where
   pub one_lowest : IsLowest (world_of one_move.task one_move.owner one_end) (least_number (all_costs one_move.task one_end))
   one_lowest = lowest_by one_move one_move_is refl one_boards steps
 
-  pub one_reached : (x : Small) → slice_get one_end.workers 0 ≡ Some x → IsReached (world_of one_move.task one_move.owner one_end) (option_map (λ (k : Known). k.cost) (look_up x.entries (key_of one_move.task.goal)))
+  pub one_reached : (x : Small) → slice_get one_end.workers 0 ≡ Some x → IsReached (world_of one_move.task one_move.owner one_end) (option_map (λ (k : Known). k.cost) (look_up x.entries (search_key one_move.task.goal)))
   one_reached x at = reached_by one_move one_move_is refl one_boards steps x at
 
   -- the start is the one row below 1, by test
@@ -171,6 +172,7 @@ abbrev sent_steps : List Step
 sent_steps = Grant 1 ∷ Expand 1 ∷ Send 1 0 ∷ Draw 1 ∷ Send 1 0 ∷ []
 
 pub cut_given : CutIsGiven
+unfolding sparse_of
 cut_given rows listed = (
   world_of one_move.task one_move.owner (one_end sent_steps),
   (one_run sent_steps).0,
@@ -178,6 +180,7 @@ cut_given rows listed = (
 )
 
 pub halt_given : HaltIsGiven
+unfolding sparse_of
 halt_given want rows listed =
     let steps : List Step = Grant 1 ∷ Halt 1 Limit ∷ Halt 0 (Memory want) ∷ Rest 1 ∷ [] in (
       world_of one_move.task one_move.owner (one_end steps),
@@ -189,6 +192,7 @@ abbrev refused_steps : List Step
 refused_steps = Settle 0 ∷ Deliver 0 1 ∷ Rest 0 ∷ Draw 0 ∷ Grant 0 ∷ Expand 0 ∷ Expand 1 ∷ Announce 1 ∷ Announce 0 ∷ Send 0 1 ∷ Send 0 0 ∷ Halt 2 Limit ∷ Rest 1 ∷ []
 
 pub refusals_given : RefusalsAreGiven
+unfolding sparse_of
 refusals_given rows listed = (
   world_of one_move.task one_move.owner (one_end refused_steps),
   (one_run refused_steps).0,
@@ -201,6 +205,7 @@ way_steps =
     ++ (Rest 0 ∷ Rest 1 ∷ Grant 1 ∷ Deliver 1 0 ∷ Deliver 0 1 ∷ Deliver 0 1 ∷ Announce 0 ∷ Rest 0 ∷ Settle 0 ∷ Rest 0 ∷ Announce 0 ∷ Announce 0 ∷ Halt 0 Start ∷ Draw 0 ∷ [])
 
 pub way_given : RefusalsOnTheWayAreGiven
+unfolding sparse_of
 way_given = (world_of one_move.task one_move.owner (one_end way_steps), (one_run way_steps).0)
 
 -- what is known at a key after a relaxation there
@@ -229,6 +234,7 @@ abbrev pub all_world : WorldState
 all_world = world_of one_move.task one_move.owner all_end
 
 pub plan_given : PlanIsGiven
+unfolding sparse_of
 plan_given plan rows moves listed = (
   all_world,
   (one_run all_steps).0,
@@ -283,6 +289,7 @@ abbrev far_rows : List Row
 far_rows = (two_by_three (0 ∷ 1 ∷ 2 ∷ 3 ∷ 4 ∷ 5 ∷ []), 0) ∷ (two_by_three (1 ∷ 0 ∷ 2 ∷ 3 ∷ 4 ∷ 5 ∷ []), 1) ∷ (two_by_three (3 ∷ 1 ∷ 2 ∷ 0 ∷ 4 ∷ 5 ∷ []), 1) ∷ []
 
 pub again_given : BoardIsExpandedAgain
+unfolding sparse_of
 again_given rows listed = (
   world_of far_goal.task far_goal.owner far_end,
   (run_by far_goal far_goal_is refl far_boards far_steps).0,
@@ -305,6 +312,7 @@ abbrev limit_steps : List Step
 limit_steps = Grant 1 ∷ Halt 1 Limit ∷ Expand 1 ∷ Expand 1 ∷ Grant 1 ∷ Halt 1 Limit ∷ []
 
 pub limit_given : LimitIsGiven
+unfolding sparse_of
 limit_given rows listed = (
   world_of limited_move.task limited_move.owner (end_of limited_move.task limited_move.owner limit_steps (small_opening limited_move)),
   (run_by limited_move limited_is refl one_boards limit_steps).0,
@@ -360,6 +368,7 @@ abbrev small_expands : ℕ → ℕ → Option ℕ → Small
 small_expands allowance count best = record (small_with start_entries 1) { unsent = replicate count (goal_at 2) ∷ [] ∷ []; allowance = allowance; best = best }
 
 pub full_packets : FullPacketsRefuse
+unfolding sparse_of
 full_packets = (
   expand_is starter one_move_is.task.goal (small_expands 1 PACKET_LIMIT None) start_there,
   expand_is starter one_move_is.task.goal (small_expands 1 (PACKET_LIMIT - 1) None) start_there,
@@ -383,6 +392,7 @@ abbrev left_item : Item
 left_item = record { board = two_by_three (0 ∷ 1 ∷ 2 ∷ 3 ∷ 4 ∷ 5 ∷ []); cost = 5; via = L }
 
 pub in_order : SuccessorsAreInOrder
+unfolding sparse_of
 in_order = (
   expand_is three_role three_goal (small_three (replicate 29 left_item)) ((three_start, refl), tt),
   expand_is three_role three_goal (small_three (replicate 30 left_item)) ((three_start, refl), tt),
@@ -395,6 +405,7 @@ goal_there : AreBoards one_move.task small_goal.entries
 goal_there = ((one_move_is.task.goal, refl), tt)
 
 pub lower_goals : LowerGoalsAreAnnounced
+unfolding sparse_of
 lower_goals = (
   announce_is finisher small_goal (book_best 4 None),
   announce_is finisher small_goal (book_best 3 None),
@@ -403,6 +414,7 @@ lower_goals = (
 )
 
 pub whole_grants : GrantsAreWhole
+unfolding sparse_of
 whole_grants = (
   grant_is starter one_move_is.task.goal (small_expands 0 0 None) start_there (book_best 9 None),
   grant_is starter one_move_is.task.goal (small_expands 0 0 None) start_there (book_with 1 GREATEST_GRANT None),
@@ -419,6 +431,7 @@ rest_there : AreBoards one_move.task (small_rests 0).entries
 rest_there = ((one_move_is.task.start, refl), tt)
 
 pub kept_floors : FloorsAreKept
+unfolding sparse_of
 kept_floors = (
   rest_is starter one_move_is.task.goal (small_rests 3) rest_there (book_rested 5 (Some 8) None None),
   rest_is starter one_move_is.task.goal (small_rests 5) rest_there (book_rested 5 (Some 8) None None),

@@ -11,8 +11,9 @@ use Rattle.board.specs.Positions.{Position, blank_of, goal_of}
 use Rattle.board.specs.CostRules.{CostRule}
 use Rattle.board.specs.Moves.{Moves}
 use Rattle.board.specs.Plans.{Leads}
-use Rattle.board.specs.Keys.{key_of}
 use Rattle.board.specs.Worked.{grid_of, two_by_two}
+use Rattle.pattern_index.specs.Sparse.{sparse_of}
+use Rattle.search_keys.specs.SearchKeys.{search_key}
 use Rattle.world_model.specs.declared.parts.Known.{Known}
 use Rattle.world_model.specs.declared.steps.HaltCause.TheVariants.{Start}
 use Rattle.world_model.specs.declared.steps.Step.{Step}
@@ -44,12 +45,15 @@ abbrev half_small : SmallWorld
 half_small = one_end first_steps
 
 half_run : IsRun (opening one_move U) first_half halfway
+unfolding sparse_of
 half_run = (one_run first_steps).0
 
 pub worlds_reached : WorldsAreReached
+unfolding sparse_of
 worlds_reached = (half_run, (run_is one_move.task one_move.owner one_move_is.task second_steps half_small (runs_sound one_move U first_half halfway one_move_is half_run).0 (one_run first_steps).1).0)
 
 pub memory_given : MemoryIsGiven
+unfolding sparse_of
 memory_given refused = (
   (
     all_world,
@@ -64,6 +68,7 @@ memory_given refused = (
 )
 
 pub start_given : StartIsGiven
+unfolding sparse_of
 start_given rows listed =
     let steps : List Step = Halt 0 Start ∷ [] in (
       world_of one_move.task one_move.owner (one_end steps),
@@ -87,6 +92,7 @@ abbrev empty_steps : List Step
 empty_steps = Grant 0 ∷ Rest 0 ∷ Announce 0 ∷ Rest 0 ∷ []
 
 pub empty_given : EmptyPlanIsGiven
+unfolding sparse_of
 empty_given plan rows moves listed =
     let boards : AllBoards empty_job.task (small_opening empty_job).workers = (((empty_is.task.start, refl), tt), tt) in (
       world_of empty_job.task empty_job.owner (end_of empty_job.task empty_job.owner empty_steps (small_opening empty_job)),
@@ -161,7 +167,7 @@ half_board : IsTaskBoard two_moves.task (two_by_two 1 3 0 2)
 half_board = (board_is (two_by_two 1 3 0 2) two_shape refl refl refl, refl)
 
 -- the world in which a job of these two moves ends, traced
-traced_at : (job : Job) (s : SmallWorld) → job.task.rule ≡ two_moves.task.rule → job.task.goal ≡ two_moves.task.goal → look_first s.workers (key_of (two_by_two 1 3 0 2)) ≡ Some (known_as 1 true L) → look_first s.workers (key_of (two_by_two 0 3 1 2)) ≡ Some (known_as 2 false U) → job.owner (two_by_two 1 3 0 2) ≡ 0 → job.owner (two_by_two 0 3 1 2) ≡ 0 → (moves : List Move) → moves ≡ L ∷ U ∷ [] → IsByLastMoves (world_of job.task job.owner s) (two_by_two 1 3 2 0) moves (two_by_two 0 3 1 2)
+traced_at : (job : Job) (s : SmallWorld) → job.task.rule ≡ two_moves.task.rule → job.task.goal ≡ two_moves.task.goal → look_first s.workers (search_key (two_by_two 1 3 0 2)) ≡ Some (known_as 1 true L) → look_first s.workers (search_key (two_by_two 0 3 1 2)) ≡ Some (known_as 2 false U) → job.owner (two_by_two 1 3 0 2) ≡ 0 → job.owner (two_by_two 0 3 1 2) ≡ 0 → (moves : List Move) → moves ≡ L ∷ U ∷ [] → IsByLastMoves (world_of job.task job.owner s) (two_by_two 1 3 2 0) moves (two_by_two 0 3 1 2)
 traced_at job s rule goal first second own own' moves is =
     let sides = ap (λ (b : Position). b.grid) (sym goal) in
     let w = world_of job.task job.owner s in
@@ -171,6 +177,7 @@ traced_at job s rule goal first second own own' moves is =
     (subst (λ (i : ℕ). Knows w i (two_by_two 0 3 1 2) (known_as 2 false U)) (sym own') (known_first job.task job.owner s (two_by_two 0 3 1 2) (known_as 2 false U) second (two_is.task.goal, sides))))
 
 pub above_given : PlanAboveIsGiven
+unfolding sparse_of
 above_given plan rows moves listed = (
   world_of two_moves.task two_moves.owner (end_of two_moves.task two_moves.owner two_expansions (small_opening two_moves)),
   (run_by two_moves two_is refl two_boards two_expansions).0,
@@ -198,6 +205,7 @@ known_boards : AllBoards known_start.task (small_opening known_start).workers
 known_boards = (((two_is.task.start, refl), tt), tt)
 
 pub no_rows_given : NoRowsAreGiven
+unfolding sparse_of
 no_rows_given plan rows moves listed = (
   world_of known_start.task known_start.owner (end_of known_start.task known_start.owner two_expansions (small_opening known_start)),
   (run_by known_start known_is refl known_boards two_expansions).0,
@@ -229,6 +237,7 @@ abbrev lost_steps : List Step
 lost_steps = Grant 0 ∷ replicate 12 (Expand 0) ++ Expand 0 ∷ Rest 0 ∷ []
 
 pub unsolvable_given : UnsolvableIsGiven
+unfolding sparse_of
 unsolvable_given = (
   world_of lost.task lost.owner (end_of lost.task lost.owner lost_steps (small_opening lost)),
   (run_by lost lost_is refl lost_boards lost_steps).0,
@@ -257,6 +266,7 @@ abbrev low_steps : List Step
 low_steps = Rest 0 ∷ Grant 0 ∷ []
 
 pub cost_given : CostIsGiven
+unfolding sparse_of
 cost_given rows listed = (
   (
     world_of (far_start high_sum).task (far_start high_sum).owner (end_of (far_start high_sum).task (far_start high_sum).owner high_steps (small_opening (far_start high_sum))),
@@ -299,6 +309,7 @@ abbrev three_rows : List Row
 three_rows = (two_by_two 1 0 2 3, 1) ∷ (two_by_two 1 3 0 2, 1) ∷ (two_by_two 1 3 2 0, 0) ∷ []
 
 pub three_given : ThreeRowsAreGiven
+unfolding sparse_of
 three_given plan rows moves listed = (
   three_world,
   three_run.0,
@@ -324,11 +335,11 @@ starter_opening = first_worker 2 one_move.task U
 
 -- the start is known in the opening world, and is open there
 opening_unbegun : (stop : Option Stop) → ¬ HasBegun (record (opening one_move U) { book = record (opening one_move U).book { stop = stop } })
-opening_unbegun stop (zero, known, knows, expanded) = let e : finisher_opening ≡ knows.worker = cc (knows.is) in let at = ap (λ (x : WorkerState). map.get x.known (key_of one_move.task.start)) e ∙ knows.knows in let none : ◌≡◌ {A = Option Known} None (Some known) = sym (map.get-empty nat_cmp (key_of one_move.task.start)) ∙ at in cc
+opening_unbegun stop (zero, known, knows, expanded) = let e : finisher_opening ≡ knows.worker = cc (knows.is) in let at = ap (λ (x : WorkerState). map.get x.known (search_key one_move.task.start)) e ∙ knows.knows in let none : ◌≡◌ {A = Option Known} None (Some known) = sym (map.get-empty nat_cmp (search_key one_move.task.start)) ∙ at in cc
 opening_unbegun stop (suc zero, known, knows, expanded) =
     let e : starter_opening ≡ knows.worker = cc (knows.is) in
-    let at = ap (λ (x : WorkerState). map.get x.known (key_of one_move.task.start)) e ∙ knows.knows in
-    let some : Some (known_as 0 false U) ≡ Some known = sym (get_inserted map.empty (key_of one_move.task.start) (known_as 0 false U)) ∙ at in
+    let at = ap (λ (x : WorkerState). map.get x.known (search_key one_move.task.start)) e ∙ knows.knows in
+    let some : Some (known_as 0 false U) ≡ Some known = sym (get_inserted map.empty (search_key one_move.task.start) (known_as 0 false U)) ∙ at in
     let same : known_as 0 false U ≡ known = cc in
     let wrong : true ≡ false = sym expanded ∙ sym (ap (λ (k : Known). k.expanded) same) in
     cc

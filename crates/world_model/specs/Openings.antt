@@ -3,7 +3,7 @@ use Rattle.std.specs.Prelude.{ℕ, ◌≤◌, ◌<◌, false, [], None, replicat
 use Rattle.std.specs.FinMap as map
 use Rattle.board.specs.declared.moves.Move.{Move}
 use Rattle.board.specs.Positions.{Position}
-use Rattle.board.specs.Keys.{key_of}
+use Rattle.search_keys.specs.SearchKeys.{search_key}
 use Rattle.outcomes.specs.Outcomes.{Task}
 use Rattle.world_model.specs.declared.limits.TheConstants.{WORKER_LIMIT}
 use Rattle.world_model.specs.Workers.{WorkerState}
@@ -31,7 +31,7 @@ idle_worker n = record { known = map.empty; held = []; unsent = replicate n []; 
 -- one of n workers, which knows the start at 0, with any last move, and has a purse of 1
 abbrev pub first_worker : ℕ → Task → Move → WorkerState
 first_worker n task via =
-    record (idle_worker n) { known = map.insert map.empty (key_of task.start) (record { cost = 0; expanded = false; via = via }); purse = 1 }
+    record (idle_worker n) { known = map.insert map.empty (search_key task.start) (record { cost = 0; expanded = false; via = via }); purse = 1 }
 
 -- the opening world: the start's owner knows the start, and there is nothing else
 abbrev pub opening : Job → Move → WorldState

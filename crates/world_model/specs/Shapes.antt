@@ -4,7 +4,7 @@ use Rattle.std.specs.FinMap as map
 use Rattle.board.specs.declared.costs.TheConstants.{GREATEST_COST}
 use Rattle.board.specs.Positions.{Position, IsBoard}
 use Rattle.board.specs.CostRules.{IsCostRule}
-use Rattle.board.specs.Keys.{key_of}
+use Rattle.search_keys.specs.SearchKeys.{search_key}
 use Rattle.outcomes.specs.Outcomes.{Task}
 use Rattle.world_model.specs.declared.limits.TheConstants.{WORKER_LIMIT, PACKET_LIMIT, LANE_LIMIT}
 use Rattle.world_model.specs.declared.parts.Item.{Item}
@@ -31,7 +31,7 @@ pub record IsPacketFor (task : Task) (owner : Position → ℕ) (to : ℕ) (pack
 
 -- one of n workers: each key that it knows is that of a board of the task that it owns, and it has a packet for each worker
 pub record IsShapedWorker (n : ℕ) (role : Role) (worker : WorkerState) : Type 0 where
-  pub known : (key : ℕ) (known : Known) → map.get worker.known key ≡ Some known → (b : Position) × IsTaskBoard role.task b × (key_of b ≡ key) × (role.owner b ≡ role.me) × (known.cost ≤ GREATEST_COST)
+  pub known : (key : ℕ) (known : Known) → map.get worker.known key ≡ Some known → (b : Position) × IsTaskBoard role.task b × (search_key b ≡ key) × (role.owner b ≡ role.me) × (known.cost ≤ GREATEST_COST)
   pub held : IsPacketFor role.task role.owner role.me worker.held
   pub lists : length worker.unsent ≡ n
   pub unsent : (to : ℕ) (packet : Packet) → slice_get worker.unsent to ≡ Some packet → IsPacketFor role.task role.owner to packet

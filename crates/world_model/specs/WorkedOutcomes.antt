@@ -9,6 +9,7 @@ use Rattle.board.specs.declared.moves.Move.TheVariants.{U, L, D}
 use Rattle.board.specs.Positions.{Position, goal_of}
 use Rattle.board.specs.Keys.{key_of}
 use Rattle.board.specs.Worked.{grid_of, two_by_two}
+use Rattle.search_keys.specs.SearchKeys.{search_key}
 use Rattle.outcomes.specs.declared.outcome.Why.TheVariants.{Exhausted}
 use Rattle.outcomes.specs.declared.outcome.Cause.TheVariants.{Memory as ForMemory, Start as ForStart, Cost as ForCost, Cut as ForCut}
 use Rattle.outcomes.specs.declared.outcome.Want.TheVariants.{Refused}
@@ -30,7 +31,7 @@ use Rattle.world_model.specs.WorkedSteps.{goal_at, start_closed}
 -- worker 1 has expanded the start; it has drawn 64, and 1 of that is in the lane
 abbrev pub starter_halfway : WorkerState
 starter_halfway = record {
-  known = map.insert start_closed (key_of (two_by_two 1 3 2 0)) (entry_of 1 false D);
+  known = map.insert start_closed (search_key (two_by_two 1 3 2 0)) (entry_of 1 false D);
   held = [];
   unsent = [] ∷ [] ∷ [];
   purse = 64;
@@ -58,7 +59,7 @@ abbrev pub ended : WorldState
 ended =
     record halfway {
       workers =
-          record finisher_halfway { known = map.insert map.empty (key_of (goal_of (grid_of 2 2))) (entry_of 1 false L); best = Some 1 }
+          record finisher_halfway { known = map.insert map.empty (search_key (goal_of (grid_of 2 2))) (entry_of 1 false L); best = Some 1 }
           ∷ record starter_halfway { purse = 0; best = Some 1 }
           ∷ [];
       book = record { credit = 0; best = Some 1; floors = None ∷ Some 1 ∷ []; granted = GREATEST_GRANT; limit = 2 ^ 64 - 1; stop = Some Quiet };

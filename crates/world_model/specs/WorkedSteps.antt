@@ -4,8 +4,8 @@ use Rattle.std.specs.Prelude.{ℕ, ◌+◌, ◌-◌, ◌^◌, List, [], ◌∷�
 use Rattle.std.specs.FinMap as map
 use Rattle.board.specs.declared.moves.Move.TheVariants.{U, L, R, D}
 use Rattle.board.specs.Positions.{Position, goal_of}
-use Rattle.board.specs.Keys.{key_of}
 use Rattle.board.specs.Worked.{grid_of, two_by_two, two_by_three}
+use Rattle.search_keys.specs.SearchKeys.{search_key}
 use Rattle.world_model.specs.declared.limits.TheConstants.{PACKET_LIMIT, LANE_LIMIT, GREATEST_GRANT}
 use Rattle.world_model.specs.declared.parts.Item.{Item}
 use Rattle.world_model.specs.declared.steps.Stop.{Stop}
@@ -101,15 +101,15 @@ start_board = two_by_two 1 0 2 3
 abbrev pub LastIsSettled : Type 0
 LastIsSettled =
     let start : Item = record { board = start_board; cost = 3; via = R } in
-    let known : Knowledge = map.insert map.empty (key_of (goal_of (grid_of 2 2))) (entry_of 1 false L) in
+    let known : Knowledge = map.insert map.empty (search_key (goal_of (grid_of 2 2))) (entry_of 1 false L) in
     SettleStep (accepted (record (with_purse 1) { held = start ∷ goal_at 1 ∷ [] }) (record (with_purse 1) { held = start ∷ []; known = known }))
 
 -- that the start is known at 0, is open, and is then closed
 abbrev pub start_open : Knowledge
-start_open = map.insert map.empty (key_of start_board) (entry_of 0 false U)
+start_open = map.insert map.empty (search_key start_board) (entry_of 0 false U)
 
 abbrev pub start_closed : Knowledge
-start_closed = map.insert start_open (key_of start_board) (entry_of 0 true U)
+start_closed = map.insert start_open (search_key start_board) (entry_of 0 true U)
 
 -- the worker that may expand the start so often, and has so many items for worker 0
 abbrev pub expands : ℕ → ℕ → WorkerState
@@ -119,7 +119,7 @@ expands allowance count = record (with_purse 1) { known = start_open; unsent = r
 abbrev pub expanded_start : ℕ → ℕ → WorkerState
 expanded_start allowance count =
     record (with_purse 1) {
-      known = map.insert start_closed (key_of (two_by_two 1 3 2 0)) (entry_of 1 false D);
+      known = map.insert start_closed (search_key (two_by_two 1 3 2 0)) (entry_of 1 false D);
       unsent = (replicate count (goal_at 2) ++ goal_at 1 ∷ []) ∷ [] ∷ [];
       allowance = allowance;
       expansions = 1;
@@ -145,8 +145,8 @@ three_by allowance expansions known packet = record (with_purse 1) { known = kno
 abbrev pub SuccessorsAreInOrder : Type 0
 SuccessorsAreInOrder =
     let role : Role = record { task = three_ways.task; owner = three_ways.owner; me = 1 } in
-    let opened : Knowledge = map.insert map.empty (key_of three_ways.task.start) (entry_of 4 false D) in
-    let closed : Knowledge = map.insert opened (key_of three_ways.task.start) (entry_of 4 true D) in
+    let opened : Knowledge = map.insert map.empty (search_key three_ways.task.start) (entry_of 4 false D) in
+    let closed : Knowledge = map.insert opened (search_key three_ways.task.start) (entry_of 4 true D) in
     let left : Item = record { board = two_by_three (0 ∷ 1 ∷ 2 ∷ 3 ∷ 4 ∷ 5 ∷ []); cost = 5; via = L } in
     let right : Item = record { board = two_by_three (1 ∷ 2 ∷ 0 ∷ 3 ∷ 4 ∷ 5 ∷ []); cost = 5; via = R } in
     let down : Item = record { board = two_by_three (1 ∷ 4 ∷ 2 ∷ 3 ∷ 0 ∷ 5 ∷ []); cost = 5; via = D } in
@@ -155,7 +155,7 @@ SuccessorsAreInOrder =
 
 -- the worker that knows the goal at 3
 abbrev pub goal_known : WorkerState
-goal_known = record (with_purse 1) { known = map.insert map.empty (key_of (goal_of (grid_of 2 2))) (entry_of 3 false L) }
+goal_known = record (with_purse 1) { known = map.insert map.empty (search_key (goal_of (grid_of 2 2))) (entry_of 3 false L) }
 
 -- this best cost
 abbrev pub book_best : ℕ → Option Stop → BookState
@@ -182,7 +182,7 @@ GrantsAreWhole =
 
 -- a worker that knows an open start at 7, with this purse
 abbrev pub rests : ℕ → WorkerState
-rests purse = record (with_purse purse) { known = map.insert map.empty (key_of start_board) (entry_of 7 false U) }
+rests purse = record (with_purse purse) { known = map.insert map.empty (search_key start_board) (entry_of 7 false U) }
 
 -- a book with this credit, the best cost 7, the floors of both workers, which has stopped or not
 abbrev pub book_rested : ℕ → Option ℕ → Option ℕ → Option Stop → BookState

@@ -11,6 +11,7 @@ use memory::PAGE_LENGTH;
 use message_ledger::{Allowance, Credit, Grants, Packet, Plain, Purse};
 use owners::ByBlank;
 use quiescence::Book;
+use search_keys::KeyedBoard;
 use search_lists::SearchLists;
 use std::alloc::Global;
 use test_worlds::{Job, bound_of, expand, hire, meet, settle};
@@ -119,7 +120,7 @@ fn knows(worker: &Worker<Plain>, job: &Job, row: (&[u8], u32, Move, bool)) -> bo
     let Ok(board) = Board::from_tiles(job.goal.shape(), tiles) else {
         return false;
     };
-    match worker.lists().get(board.key()) {
+    match worker.lists().get(KeyedBoard::new(&board).key()) {
         Some(known) => known.cost == cost && known.via == via && known.expanded == expanded,
         None => false,
     }

@@ -55,7 +55,7 @@ fn push_known(text: &mut String, shape: Shape, lists: &SearchLists) -> io::Resul
     }
     'known: for place in 0..lists.len() {
         let (key, known) = lists.at(place);
-        let Some(board) = Board::from_key(shape, key) else {
+        let Some(board) = board_by(shape, key) else {
             return Err(ErrorKind::InvalidData.into());
         };
         push_board(text, &board)?;
@@ -65,6 +65,23 @@ fn push_known(text: &mut String, shape: Shape, lists: &SearchLists) -> io::Resul
         }
     }
     Ok(())
+}
+
+// The board of a shape with a search key, if there is one.
+fn board_by(shape: Shape, key: u128) -> Option<Board> {
+    let cells = shape.cells();
+    let base = if cells <= 16 { 16 } else { 32 };
+    let mut tiles = [0; 25];
+    let mut rest = key;
+    'numbers: for number in 0..cells {
+        let cell = (rest % base) as usize;
+        if cell >= cells {
+            return None;
+        }
+        tiles[cell] = number as u8;
+        rest /= base;
+    }
+    Board::from_tiles(shape, &tiles[..cells]).ok()
 }
 
 // The items that a worker has to send.

@@ -1,8 +1,7 @@
-use Rattle.std.proofs.Common.{◌≡◌, refl, sym, ap, ◌∙◌}
-use Rattle.board.specs.Digits.{digits_of}
-use Rattle.board.specs.Grids.{Grid, cell_count}
-use Rattle.board.specs.Keys.{key_of}
-use Rattle.board.proofs.KeyLemmas.{digits_of-key}
+use Rattle.std.proofs.Common.{◌≡◌, refl, ap}
+use Rattle.board.specs.Positions.{Position}
+use Rattle.search_keys.specs.SearchKeys.{search_key, HasSearchKey}
+use Rattle.search_keys.proofs.SearchKeyLemmas.{key_read}
 use Rattle.worker_core.proofs.laws.tasks_have_guides.Goals as goal
 
 pub returns : goal.returns
@@ -10,6 +9,6 @@ returns c = λ task board. record {
   ends = refl;
   board = board;
   sums = λ b at.
-      let tiles : digits_of (cell_count task.goal.grid) (key_of b) ≡ b.tiles = ap (λ (grid : Grid). digits_of (cell_count grid) (key_of b)) (sym at.1) ∙ digits_of-key b at.0 in
-      λ t. task.sum (record { grid = sym at.1 t; tiles = tiles t });
+      let has : HasSearchKey task.goal.grid (search_key b) b = record { board = at.0; sides = at.1; packed = refl } in
+      ap task.sum (key_read (record { shape = task.goal.grid; key = search_key b }) b has);
 }

@@ -5,7 +5,7 @@ use Rattle.board.specs.Moves.{Moves}
 use Rattle.world_model.specs.declared.parts.Known.{Known}
 use Rattle.world_model.specs.Workers.{IsTaskBoard}
 use Rattle.world_ends.specs.Parts.{task_in, states_of, known_in}
-use Rattle.world_ends.proofs.PartLemmas.{stepped_back, some_is}
+use Rattle.world_ends.proofs.PartLemmas.{stepped_back, some_is, found_before, known_by_answer}
 use Rattle.world_ends.proofs.plan.step_back.Goals as goal
 
 -- src/plan.rt:82:18
@@ -21,7 +21,8 @@ unwrap-there-requires g c =
     let has = c.requires.reached in
     let is : c.step.result ≡ Some (has.0, has.1) = stepped_back c.args.asked.now.weights c.args.board.now c.args.here.via c.undo.result c.step.result has.0 has.1 c.undo.ensures c.step.ensures.moves has.3.board.0 has.3.moves in
     let same = some_is c.step.result c.unwrap-before.result (has.0, has.1) c.unwrap-before.ensures is in
-    let there : c.known_of.result ≡ Some has.2 = c.known_of.ensures ∙ ap (λ (p : Position × ℕ). known_in (g.S.Spread.owner_of c.args.owners.now) (states_of c.args.workers.now) p.0) same ∙ has.3.known in
+    let at = known_in (g.S.Spread.owner_of c.args.owners.now) (states_of c.args.workers.now) in
+    let there : c.known_of.result ≡ Some has.2 = found_before at c.known_of.result c.unwrap-before.result (has.0, has.1) has.2 c.known_of.ensures same has.3.known in
     rw there refl
 
 pub returns-clause-before : goal.returns-clause-before
@@ -29,12 +30,13 @@ returns-clause-before g c =
     let has = c.requires.reached in
     let is : c.step.result ≡ Some (has.0, has.1) = stepped_back c.args.asked.now.weights c.args.board.now c.args.here.via c.undo.result c.step.result has.0 has.1 c.undo.ensures c.step.ensures.moves has.3.board.0 has.3.moves in
     let same = some_is c.step.result c.unwrap-before.result (has.0, has.1) c.unwrap-before.ensures is in
-    let there : c.known_of.result ≡ Some has.2 = c.known_of.ensures ∙ ap (λ (p : Position × ℕ). known_in (g.S.Spread.owner_of c.args.owners.now) (states_of c.args.workers.now) p.0) same ∙ has.3.known in
+    let at = known_in (g.S.Spread.owner_of c.args.owners.now) (states_of c.args.workers.now) in
+    let there : c.known_of.result ≡ Some has.2 = found_before at c.known_of.result c.unwrap-before.result (has.0, has.1) has.2 c.known_of.ensures same has.3.known in
     let cost : c.unwrap-there.result.cost ≡ has.2.cost = ap (λ (o : Option Known). (unwrap_or o has.2).cost) (sym c.unwrap-there.ensures ∙ there) in
     let paid : c.unwrap-before.result.1 ≡ has.1 = ap (λ (p : Position × ℕ). p.1) same in
     record {
       board = subst (λ (p : Position × ℕ). IsTaskBoard (task_in c.args.asked.now) p.0) (sym same) has.3.board;
       moves = subst (λ (p : Position × ℕ). Moves c.args.asked.now.weights p.0 c.args.here.via c.args.board.now p.1) (sym same) has.3.moves;
-      known = sym c.known_of.ensures ∙ c.unwrap-there.ensures;
+      known = known_by_answer c.known_of.result (at c.unwrap-before.result.0) c.unwrap-there.result c.known_of.ensures c.unwrap-there.ensures;
       cheaper = omega (arith, cost, paid, has.3.cheaper);
     }

@@ -29,7 +29,7 @@ add_rows-requires-clause-elsewhere g c =
     let within : c.workers.worker-index < length c.args.workers.now = search rules in
     let worker = c.worker-item.result in
     let at : slice_get states c.workers.worker-index ≡ Some (state_of worker) = state_at c.args.workers.now states c.workers.worker-index worker refl within ∙ ap (λ x. Some (state_of x)) (sym c.worker-item.is) in
-    subst (λ (lists : Lists). AreElsewhere c.workers.rows.items lists.closed.known) (sym c.lists.ensures)
+    subst (λ (lists : Lists). AreElsewhere task.goal.grid c.workers.rows.items lists.closed.known) (sym c.lists.ensures)
     (rows_elsewhere task c.requires.world.0 states c.requires.world.1 c.requires.world.2 c.args.cost c.workers.worker-index (state_of worker) c.workers.rows.items at c.workers.invariant)
 
 -- src/rows.rt:71:5

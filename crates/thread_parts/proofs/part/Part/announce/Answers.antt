@@ -3,8 +3,11 @@ use Rattle.worker_core.specs.Workers.{state_of, with_book}
 use Rattle.world_model.specs.BookSteps.{AnnounceStep}
 use Rattle.world_model.specs.Turns.{refusal_in, turn}
 use Rattle.thread_parts.specs.Parts.{part_state, role_of}
-use Rattle.thread_parts.proofs.PartLemmas.{with_kept, same_guided, unsent_count, unbarred}
+use Rattle.thread_parts.proofs.PartLemmas.{with_kept, same_guided, unsent_count, barred, unbarred}
 use Rattle.thread_parts.proofs.part.Part.announce.Goals as goal
+
+pub returns-in-Err-clause-step : goal.returns-in-Err-clause-step
+returns-in-Err-clause-step g c = barred (AnnounceStep (role_of g.S.Spread.owner_of g.C.Tokens.workers c.args.self.now)) (state_of c.args.self.now.worker) c.args.book.now c.in-Err.refusal c.in-Err.ensures.refused
 
 pub returns-clause-step : goal.returns-clause-step
 returns-clause-step g c =

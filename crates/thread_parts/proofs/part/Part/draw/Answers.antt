@@ -5,6 +5,9 @@ use Rattle.thread_parts.specs.Parts.{part_state, role_of}
 use Rattle.thread_parts.proofs.PartLemmas.{with_kept, same_guided, barred_draw}
 use Rattle.thread_parts.proofs.part.Part.draw.Goals as goal
 
+pub draw-requires-clause-counted : goal.draw-requires-clause-counted
+draw-requires-clause-counted g c κs within = g.met.C.Tokens.counted c.args.book.now.credit c.args.self.now.worker.purse
+
 pub returns-in-Err-clause-step : goal.returns-in-Err-clause-step
 returns-in-Err-clause-step g c = barred_draw (state_of c.args.self.now.worker) c.args.book.now c.in-Err.refusal c.in-Err.ensures.refused
 

@@ -5,8 +5,14 @@ use Rattle.world_model.specs.BookSteps.{GrantStep}
 use Rattle.world_model.specs.Turns.{refusal_in, turn}
 use Rattle.hda_run.specs.Problems.{task_in}
 use Rattle.thread_parts.specs.Parts.{part_state, role_of}
-use Rattle.thread_parts.proofs.PartLemmas.{with_kept, unbarred}
+use Rattle.thread_parts.proofs.PartLemmas.{with_kept, barred, unbarred}
 use Rattle.thread_parts.proofs.part.Part.grant.Goals as goal
+
+pub returns-in-Err-clause-step : goal.returns-in-Err-clause-step
+returns-in-Err-clause-step g c = barred (GrantStep (role_of g.S.Spread.owner_of g.C.Tokens.workers c.args.self.now)) (state_of c.args.self.now.worker) c.args.book.now c.in-Err.refusal c.in-Err.ensures.refused
+
+pub grant-requires-clause-counted : goal.grant-requires-clause-counted
+grant-requires-clause-counted g c κs within = g.met.C.Tokens.counted c.args.book.now.granted c.args.self.now.worker.allowance.granted
 
 pub returns-clause-step : goal.returns-clause-step
 returns-clause-step g c =

@@ -1,9 +1,18 @@
 use Rattle.std.proofs.Common.{inr}
-use Rattle.worker_core.specs.Workers.{state_of}
-use Rattle.world_model.specs.Turns.{refusal_in}
+use Rattle.worker_core.specs.Workers.{state_of, with_book}
+use Rattle.world_model.specs.BookSteps.{HaltStep}
+use Rattle.world_model.specs.Turns.{refusal_in, turn}
 use Rattle.thread_parts.specs.Parts.{part_state, role_of}
-use Rattle.thread_parts.proofs.PartLemmas.{with_kept, same_guided}
+use Rattle.thread_parts.proofs.PartLemmas.{with_kept, same_guided, barred, unbarred}
 use Rattle.thread_parts.proofs.part.Part.halt.Goals as goal
+
+pub returns-in-Err-clause-step : goal.returns-in-Err-clause-step
+returns-in-Err-clause-step g c = barred (HaltStep c.args.cause) (state_of c.args.self.now.worker) c.args.book.now c.in-Err.refusal c.in-Err.ensures.refused
+
+pub returns-clause-step : goal.returns-clause-step
+returns-clause-step g c =
+    unbarred (HaltStep c.args.cause) (turn (with_book (state_of c.args.self.now.worker) c.args.book.now) (refusal_in c.halt.result) (with_book (state_of c.halt.new.self) c.halt.new.book))
+    c.in_default.ensures.goes_on c.in_default.ensures.purse c.halt.ensures.step
 
 pub returns-clause-part : goal.returns-clause-part
 returns-clause-part g c =

@@ -1,4 +1,4 @@
-use Rattle.std.proofs.Common.{inl, inr, refl, sym}
+use Rattle.std.proofs.Common.{◌≡◌, ℕ, ◌<◌, length, inl, inr, refl, sym, ◌∙◌, subst}
 use Rattle.worker_core.specs.Roles.{guide_of}
 use Rattle.worker_core.specs.Workers.{state_of}
 use Rattle.world_model.specs.Turns.{refusal_in}
@@ -6,6 +6,14 @@ use Rattle.hda_run.specs.Problems.{task_in}
 use Rattle.thread_parts.specs.Parts.{part_state, role_of}
 use Rattle.thread_parts.proofs.PartLemmas.{with_kept, barred_rest}
 use Rattle.thread_parts.proofs.part.Part.rest.Goals as goal
+
+pub rest-requires-clause-counted : goal.rest-requires-clause-counted
+rest-requires-clause-counted g c κs within = g.met.C.Tokens.counted c.args.book.now.credit c.args.self.now.worker.purse
+
+pub rest-requires-clause-there : goal.rest-requires-clause-there
+rest-requires-clause-there g c κs within =
+    let floors : length c.args.book.now.floors ≡ g.C.Tokens.workers = sym c.workers.ensures.value ∙ g.met.C.Tokens.one_count c.workers.result c.workers.ensures.allowed in
+    subst (λ (k : ℕ). c.args.self.now.me < k) (sym floors) c.requires.role.me
 
 pub returns-in-Err-clause-step : goal.returns-in-Err-clause-step
 returns-in-Err-clause-step g c =

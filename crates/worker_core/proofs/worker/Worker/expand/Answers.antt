@@ -2,7 +2,7 @@ use Rattle.std.proofs.Common.{rules, ◌≡◌, Option, List, length, refl, sym,
 use Rattle.std.proofs.lemmas.List.{length-map}
 use Rattle.std.specs.FinMap as map
 use Rattle.board.specs.declared.moves.Move.{Move}
-use Rattle.board.specs.Keys.{key_of}
+use Rattle.search_keys.specs.SearchKeys.{search_key}
 use Rattle.closed_table.specs.Tables.{Table}
 use Rattle.offers.specs.Room.{HasRoom}
 use Rattle.world_model.specs.Costs.{limit_of}
@@ -60,10 +60,10 @@ returns-then-not-has_room-clause-step g c = λ start.
     let next = c.in-Some.next in
     let first = c.in-Some.ensures.least guide is.order in
     let role = role_from g.S.Spread.owner_of start read in
-    let b = c.of_key-unpacked.result in
+    let b = c.of_key-board.result in
     let known = first.opens.0 in
     let offers = c.offers_of.new.offers in
-    let it = chosen task guide lists is worker refl (g.S.Spread.owner_of inside.owners.now) inside.workers inside.workers inside.me refl c.limit.result c.limit.ensures next first c.in-Some.ensures.below b c.shape.result c.shape.ensures.value c.of_key-unpacked.ensures c.args.successors c.move_left_out.result c.move_left_out.ensures offers c.offers_of.ensures.offered c.offers_of.ensures.within in
+    let it = chosen task guide lists is worker refl (g.S.Spread.owner_of inside.owners.now) inside.workers inside.workers inside.me refl c.limit.result c.limit.ensures next first c.in-Some.ensures.below b c.shape.result c.shape.ensures.value c.of_key-board.ensures c.args.successors c.move_left_out.result c.move_left_out.ensures offers c.offers_of.ensures.offered c.offers_of.ensures.within in
     let all : length worker.unsent ≡ inside.workers = length-map c.args.self.now.unsent.items (λ v. v.items) ∙ c.requires.workers ∙ sym (ap (λ (x : ContextModel g.row.S.Denot). x.workers) c.context.view_is) in
     let some : worker.allowance ≡ 0 → ⊥ = λ none. c.if-left-eq0.false (c.left.ensures.value ∙ none) in
     let none : ¬ HasRoom inside.me worker.unsent offers = λ room. (let wrong = c.if-not-has_room.ensures.1 (subst (λ (xs : List Items). HasRoom inside.me (packets_of xs) offers) (sym c.deref.ensures.value) room) in cc) in
@@ -92,7 +92,7 @@ make_places-requires g c =
     let guide = c.requires.guided.1 in
     let first = c.in-Some.ensures.least guide c.requires.guided.2.order in
     let low = cost_low guide c.args.self.now.lists.closed c.in-Some.next c.limit.result c.args.self.now.best first c.in-Some.ensures.below c.limit.ensures in
-    all_low c.of_key-unpacked.result.grid c.in-Some.next.cost c.context.inside.workers c.offers_of.new.offers low c.offers_of.ensures.within
+    all_low c.of_key-board.result.grid c.in-Some.next.cost c.context.inside.workers c.offers_of.new.offers low c.offers_of.ensures.within
 
 pub returns-in-Err-clause-step : goal.returns-in-Err-clause-step
 returns-in-Err-clause-step g c = λ start.
@@ -107,10 +107,10 @@ returns-in-Err-clause-step g c = λ start.
     let next = c.in-Some.next in
     let first = c.in-Some.ensures.least guide is.order in
     let role = role_from g.S.Spread.owner_of start read in
-    let b = c.of_key-unpacked.result in
+    let b = c.of_key-board.result in
     let known = first.opens.0 in
     let offers = c.offers_of.new.offers in
-    let it = chosen task guide lists is worker refl (g.S.Spread.owner_of inside.owners.now) inside.workers inside.workers inside.me refl c.limit.result c.limit.ensures next first c.in-Some.ensures.below b c.shape.result c.shape.ensures.value c.of_key-unpacked.ensures c.args.successors c.move_left_out.result c.move_left_out.ensures offers c.offers_of.ensures.offered c.offers_of.ensures.within in
+    let it = chosen task guide lists is worker refl (g.S.Spread.owner_of inside.owners.now) inside.workers inside.workers inside.me refl c.limit.result c.limit.ensures next first c.in-Some.ensures.below b c.shape.result c.shape.ensures.value c.of_key-board.ensures c.args.successors c.move_left_out.result c.move_left_out.ensures offers c.offers_of.ensures.offered c.offers_of.ensures.within in
     let all : length worker.unsent ≡ inside.workers = length-map c.args.self.now.unsent.items (λ v. v.items) ∙ c.requires.workers ∙ sym (ap (λ (x : ContextModel g.row.S.Denot). x.workers) c.context.view_is) in
     let room = subst (λ (xs : List Items). HasRoom inside.me (packets_of xs) offers) c.deref.ensures.value (c.has_room.ensures.0 (search rules)) in
     let some : worker.allowance ≡ 0 → ⊥ = λ none. c.if-left-eq0.false (c.left.ensures.value ∙ none) in
@@ -142,10 +142,10 @@ expand_next-requires-clause-ready g c κs within =
     let next = c.in-Some.next in
     let first = c.in-Some.ensures.least guide is.order in
     let role = role_from g.S.Spread.owner_of start read in
-    let b = c.of_key-unpacked.result in
+    let b = c.of_key-board.result in
     let known = first.opens.0 in
     let offers = c.offers_of.new.offers in
-    let it = chosen task guide lists is worker refl (g.S.Spread.owner_of inside.owners.now) inside.workers inside.workers inside.me refl c.limit.result c.limit.ensures next first c.in-Some.ensures.below b c.shape.result c.shape.ensures.value c.of_key-unpacked.ensures c.args.successors c.move_left_out.result c.move_left_out.ensures offers c.offers_of.ensures.offered c.offers_of.ensures.within in
+    let it = chosen task guide lists is worker refl (g.S.Spread.owner_of inside.owners.now) inside.workers inside.workers inside.me refl c.limit.result c.limit.ensures next first c.in-Some.ensures.below b c.shape.result c.shape.ensures.value c.of_key-board.ensures c.args.successors c.move_left_out.result c.move_left_out.ensures offers c.offers_of.ensures.offered c.offers_of.ensures.within in
     let all : length worker.unsent ≡ inside.workers = length-map c.args.self.now.unsent.items (λ v. v.items) ∙ c.requires.workers ∙ sym (ap (λ (x : ContextModel g.row.S.Denot). x.workers) c.context.view_is) in
     let room = subst (λ (xs : List Items). HasRoom inside.me (packets_of xs) offers) c.deref.ensures.value (c.has_room.ensures.0 (search rules)) in
     subst
@@ -166,19 +166,19 @@ returns-clause-step g c = λ start.
     let next = c.in-Some.next in
     let first = c.in-Some.ensures.least guide is.order in
     let role = role_from g.S.Spread.owner_of start read in
-    let b = c.of_key-unpacked.result in
+    let b = c.of_key-board.result in
     let known = first.opens.0 in
     let offers = c.offers_of.new.offers in
-    let it = chosen task guide lists is worker refl (g.S.Spread.owner_of inside.owners.now) inside.workers inside.workers inside.me refl c.limit.result c.limit.ensures next first c.in-Some.ensures.below b c.shape.result c.shape.ensures.value c.of_key-unpacked.ensures c.args.successors c.move_left_out.result c.move_left_out.ensures offers c.offers_of.ensures.offered c.offers_of.ensures.within in
+    let it = chosen task guide lists is worker refl (g.S.Spread.owner_of inside.owners.now) inside.workers inside.workers inside.me refl c.limit.result c.limit.ensures next first c.in-Some.ensures.below b c.shape.result c.shape.ensures.value c.of_key-board.ensures c.args.successors c.move_left_out.result c.move_left_out.ensures offers c.offers_of.ensures.offered c.offers_of.ensures.within in
     let all : length worker.unsent ≡ inside.workers = length-map c.args.self.now.unsent.items (λ v. v.items) ∙ c.requires.workers ∙ sym (ap (λ (x : ContextModel g.row.S.Denot). x.workers) c.context.view_is) in
     let room = subst (λ (xs : List Items). HasRoom inside.me (packets_of xs) offers) c.deref.ensures.value (c.has_room.ensures.0 (search rules)) in
     let some : worker.allowance ≡ 0 → ⊥ = λ none. c.if-left-eq0.false (c.left.ensures.value ∙ none) in
     let fits = none_overfull role worker b known c.move_left_out.result task.sum offers it.offered read.goal.grid inside.workers it.within all room in
     let same = ap (λ (made : Lists). made.closed.known) c.read_ahead.ensures ∙ c.make_places.ensures.makes.same.known ∙ ap (λ (t : Table). t.known) c.next.ensures.closed in
-    let knows = ap (λ (m : Knowledge). map.get m (key_of b)) same ∙ it.at.opens.knows in
+    let knows = ap (λ (m : Knowledge). map.get m (search_key b)) same ∙ it.at.opens.knows in
     let me = ap (λ (x : ContextModel g.row.S.Denot). x.me) c.context.view_is in
     let sides = it.at.opens.board.1 ∙ ap (λ (x : ContextModel g.row.S.Denot). x.goal.grid) c.context.view_is in
-    let done = c.expand_next.ensures.state role task.sum b known c.move_left_out.result me it.at.opens.board.0 sides c.of_key-unpacked.ensures.packed knows it.offered in
+    let done = c.expand_next.ensures.state role task.sum b known c.move_left_out.result me it.at.opens.board.0 sides c.of_key-board.ensures.packed knows it.offered in
     let made = done ∙ ap (λ (m : Knowledge). expansion_by (moves_but c.move_left_out.result) role (record worker { known = m }) b known) same in
     let both = subst (λ (o : Option Move). (¬ IsOverfull (expansion_by (moves_but o) role worker b known)) × (state_of c.expand_next.new.self ≡ expansion_by (moves_but o) role worker b known)) it.left_out_is (fits, made) in
     step_lent g.S.Spread.owner_of start c.args.successors read context c.context.view_is _
@@ -199,10 +199,10 @@ returns-clause-keeps g c = record {
       let next = c.in-Some.next in
       let first = c.in-Some.ensures.least guide is.order in
       let role = role_from g.S.Spread.owner_of start read in
-      let b = c.of_key-unpacked.result in
+      let b = c.of_key-board.result in
       let known = first.opens.0 in
       let offers = c.offers_of.new.offers in
-      let it = chosen task guide lists is worker refl (g.S.Spread.owner_of inside.owners.now) inside.workers inside.workers inside.me refl c.limit.result c.limit.ensures next first c.in-Some.ensures.below b c.shape.result c.shape.ensures.value c.of_key-unpacked.ensures c.args.successors c.move_left_out.result c.move_left_out.ensures offers c.offers_of.ensures.offered c.offers_of.ensures.within in
+      let it = chosen task guide lists is worker refl (g.S.Spread.owner_of inside.owners.now) inside.workers inside.workers inside.me refl c.limit.result c.limit.ensures next first c.in-Some.ensures.below b c.shape.result c.shape.ensures.value c.of_key-board.ensures c.args.successors c.move_left_out.result c.move_left_out.ensures offers c.offers_of.ensures.offered c.offers_of.ensures.within in
       let low = cost_low guide lists.closed next c.limit.result c.args.self.now.best first c.in-Some.ensures.below c.limit.ensures in
       let cost = first.opens.2 in
       let adds = chosen_adds role guide lists is worker b known c.args.successors c.move_left_out.result offers inside.workers it (omega (arith, cost, low)) in

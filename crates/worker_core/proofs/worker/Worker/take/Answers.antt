@@ -1,6 +1,6 @@
 use Rattle.std.proofs.Common.{◌≡◌, sym, ap, ◌∙◌, subst}
 use Rattle.board.specs.Grids.{Grid}
-use Rattle.board.specs.Keys.{key_of, HasKey}
+use Rattle.search_keys.specs.SearchKeys.{search_key, HasSearchKey}
 use Rattle.board.specs.Positions.{Position}
 use Rattle.worker_core.specs.Contexts.{ContextModel}
 use Rattle.worker_core.specs.Workers.{state_of, packets_of}
@@ -20,8 +20,8 @@ returns-then-offer-context-clause-guided g c = λ task guide ends adds is.
     let same : met ≡ record { key = offer.key; cost = offer.cost; via = c.args.via; f = offer.f } = λ t. record { key = c.met_by.ensures.key t; cost = c.met_by.ensures.cost t; via = c.met_by.ensures.via t; f = c.met_by.ensures.f t } in
     let has = c.requires.1.keys.0 in
     let goal_is : c.context.inside.goal.now ≡ c.args.context.now.goal = ap (λ (x : ContextModel g.row.S.Denot). x.goal) c.context.view_is in
-    let key : key_of task.goal ≡ c.key.result = ap key_of (ends ∙ sym goal_is) ∙ sym c.key.ensures.value in
-    guided_met task guide c.args.self.now.lists c.relax.new.self is offer c.args.via met same adds has.0 (subst (λ (b : Position). HasKey b.grid offer.key has.0) (sym ends) has.1) c.relax.ensures.closed (c.relax.ensures.order guide (is.guides.ends ∙ key))
+    let key : search_key task.goal ≡ c.key.result = ap search_key (ends ∙ sym goal_is) ∙ sym c.key.ensures.value in
+    guided_met task guide c.args.self.now.lists c.relax.new.self is offer c.args.via met same adds has.0 (subst (λ (b : Position). HasSearchKey b.grid offer.key has.0) (sym ends) has.1) c.relax.ensures.closed (c.relax.ensures.order guide (is.guides.ends ∙ key))
 
 pub returns-clause-ready : goal.returns-clause-ready
 returns-clause-ready g c = λ rest ready.
@@ -36,4 +36,4 @@ returns-clause-state g c = λ role sum item me is board last.
     let offer = c.args.offer.now in
     let me_is : c.context.inside.me ≡ context.me = ap (λ (x : ContextModel g.row.S.Denot). x.me) c.context.view_is in
     let shape : c.shape.result ≡ context.goal.grid = c.shape.ensures.value ∙ ap (λ (x : ContextModel g.row.S.Denot). x.goal.grid) c.context.view_is in
-    other_option role (state_of c.args.self.now) sum item offer is context.goal.grid board c.args.via last c.of_key.result (subst (λ (grid : Grid). HasKey grid offer.key c.of_key.result) shape c.of_key.ensures) (λ own. c.if-offer-context.false (own ∙ me ∙ sym me_is)) (packets_of c.put_item.new.packets.items) c.put_item.ensures
+    other_option role (state_of c.args.self.now) sum item offer is context.goal.grid board c.args.via last c.board.result (subst (λ (b : Position). HasSearchKey context.goal.grid offer.key b) (sym c.board.ensures.value) (subst (λ (grid : Grid). HasSearchKey grid offer.key c.of_key.result) shape c.of_key.ensures)) (λ own. c.if-offer-context.false (own ∙ me ∙ sym me_is)) (packets_of c.put_item.new.packets.items) c.put_item.ensures
