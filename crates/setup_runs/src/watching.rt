@@ -16,7 +16,7 @@ pub trait Watch: Gate {
     fn observe(&self, id: &str, stats: &Stats)
         requires { AreFiguresOfLine id.now stats.now };
 
-    /// Is told, where a bound is wanted, that none is known: several workers share the boards.
+    /// Shows that no bound is known, where one is wanted: several workers share the boards.
     fn show_no_bound(&self)
         requires { Self.is_wanted self.now }
     {}
