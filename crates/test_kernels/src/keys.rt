@@ -4,11 +4,21 @@ ghost use Rattle.std.specs.Prelude.{◌≡◌};
 
 use crate::fixtures::shape_of;
 use board::{Board, Move, Weights};
+use pattern_index::cells_of;
 use search_keys::KeyedBoard;
 use std::process::Abort;
 
 // Shapes on both sides of the one at which a digit gets a bit more.
 const SHAPES: [(u8, u8); 6] = [(2, 2), (2, 5), (3, 3), (4, 4), (4, 5), (5, 5)];
+
+// Whether the cells of two tiles are the digits behind the blank's, where a digit has four bits.
+fn are_digits(keyed: &KeyedBoard) -> bool {
+    let cells = keyed.shape().cells();
+    if cells > 16 || cells < 3 {
+        return true;
+    }
+    keyed.digits(1, 2) == keyed.cell(1) + 16 * keyed.cell(2)
+}
 
 // Whether each number of a board is found by its cell, and each cell by its number.
 fn are_found(keyed: &KeyedBoard, board: &Board) -> bool
@@ -18,6 +28,9 @@ fn are_found(keyed: &KeyedBoard, board: &Board) -> bool
         if keyed.number_on(cell) != *number || keyed.cell(*number) != cell {
             return false;
         }
+    }
+    if keyed.cells() != cells_of(board) || !are_digits(keyed) {
+        return false;
     }
     keyed.blank() == board.blank() && keyed.board() == *board
 }

@@ -113,6 +113,8 @@ fn groups_and_their_tables(rt: HostRuntime) {
             .table(i)
             .expect(&rt, "there is a table for each group");
         assert!(rt; is_potential(table, &groups[i], &goal, &weights));
+        // By slot a search reads them fastest.
+        assert!(rt; table.is_by_slot());
     }
 }
 
