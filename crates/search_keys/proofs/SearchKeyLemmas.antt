@@ -6,8 +6,8 @@ use Rattle.std.proofs.Math.Nat.{pow-le-pow_right, mul_comm, pow-suc, pow-succ', 
 use Rattle.std.proofs.lemmas.Bool.{false≢true, cases_eq, cases_lt, cond-true, cond-false, eq-eqb, ne_eqb}
 use Rattle.std.proofs.lemmas.Bool.Decides.{nat_tests}
 use Rattle.std.proofs.lemmas.Grind.{same_number_lists}
-use Rattle.std.proofs.lemmas.List.{length-take, length-drop, length-set, get_or-take, get_or-drop, get_or-set_other, get_or-set_same, drop_more, take_all, take_more, take_more_set}
-use Rattle.std.proofs.lemmas.List.Elements.{All-from_get_or, recursion_from_All}
+use Rattle.std.proofs.lemmas.List.{length-take, length-take-le, length-drop, length-set, get_or-take, get_or-drop, get_or-set_other, get_or-set_same, drop_more}
+use Rattle.std.proofs.lemmas.List.Elements.{All-from_get_or, All-get_or, recursion_from_All}
 use Rattle.std.proofs.lemmas.List.FromFn.{length-map-range_with_len, get_or-map-range_with_len}
 use Rattle.std.proofs.lemmas.Nat.{div-mul-add, mod-mul-add, mul-le, pow_pos}
 use Rattle.board.specs.Grids.{Grid, IsShape, cell_count}
@@ -524,11 +524,37 @@ left_all n key = sym (ap (λ (p : ℕ). key / p) (pow-zero n) ∙ div-one key)
 
 -- ---- the loop that writes the tiles
 
-pub tiles_more : (tiles written : List ℕ) (cell tile : ℕ) → cell < length written → cell < length tiles → tile ≡ get_or tiles cell 0 → take cell written ≡ take cell tiles → take (cell + 1) (set written cell tile) ≡ take (cell + 1) tiles
-tiles_more tiles written cell tile room within is before =
-    take_more_set written cell tile room ∙ (λ i. before i ++ is i ∷ []) ∙ sym (take_more tiles cell 0 within)
+-- two numbers stand on two cells
+pub cells_apart : (b : Position) (m n : ℕ) → IsBoard b → m < cell_count b.grid → n < cell_count b.grid → m ≢ n → cell_of b m ≢ cell_of b n
+cells_apart b m n board m_in n_in apart = λ same.
+    apart (sym (has_cell b board m m_in).1 ∙ ap (λ (c : ℕ). get_or b.tiles c 0) same ∙ (has_cell b board n n_in).1)
 
-pub tiles_all : (b : Position) (written : List ℕ) (cell : ℕ) → IsBoard b → cell ≡ cell_count b.grid → take cell written ≡ take cell b.tiles → take (cell_count b.grid) written ≡ b.tiles
-tiles_all b written cell board all are =
-    let long = board.one_each in
-    ap (λ (n : ℕ). take n written) (sym all) ∙ are ∙ take_all cell b.tiles (omega arith)
+-- one number more is written on its cell
+pub numbers_more : (b : Position) (written : List ℕ) (n : ℕ) → IsBoard b → n < cell_count b.grid → cell_of b n < length written → ((k : ℕ) → k < n → slice_index written (cell_of b k) ≡ k) → (k : ℕ) → k < n + 1 → slice_index (set written (cell_of b n) n) (cell_of b k) ≡ k
+numbers_more b written n board within room are k low =
+    ⊎_elim
+    (λ (same : k ≡ n).
+    ap (λ (j : ℕ). slice_index (set written (cell_of b n) n) (cell_of b j)) same
+    ∙ get_or-set_same written (cell_of b n) n 0 room
+    ∙ sym same)
+    (λ (other : k ≢ n).
+    let below : k < n = omega (arith, low, other) in
+    get_or-set_other written (cell_of b n) (cell_of b k) n 0 (cells_apart b k n board (omega (arith, below, within)) within other)
+    ∙ are k below)
+    (cases_eq k n)
+
+-- once all are written, these are the tiles
+pub numbers_all : (b : Position) (written : List ℕ) (n : ℕ) → IsBoard b → length written ≡ 25 → cell_count b.grid ≤ n → ((k : ℕ) → k < n → slice_index written (cell_of b k) ≡ k) → take (cell_count b.grid) written ≡ b.tiles
+numbers_all b written n board long all are =
+    let most = few_cells b.grid board.sides in
+    let one_each = board.one_each in
+    let count : length (take (cell_count b.grid) written) ≡ cell_count b.grid = length-take-le (cell_count b.grid) written (omega (arith, most, long)) in
+    same_number_lists (take (cell_count b.grid) written) b.tiles (count ∙ sym one_each)
+    (λ (c : ℕ) (c_in : c < length (take (cell_count b.grid) written)).
+    let within : c < cell_count b.grid = omega (arith, c_in, count) in
+    let tile = get_or b.tiles c 0 in
+    let low : tile < cell_count b.grid = All-get_or (λ (t : ℕ). t < cell_count b.grid) b.tiles c 0 (omega (arith, within, one_each)) board.in_range in
+    let there : cell_of b tile ≡ c = cell_is b board.different c tile (omega (arith, within, one_each)) refl in
+    get_or-take (cell_count b.grid) written c 0 within
+    ∙ ap (λ (j : ℕ). get_or written j 0) (sym there)
+    ∙ are tile (omega (arith, low, all)))

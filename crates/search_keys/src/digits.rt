@@ -116,8 +116,8 @@ pub(crate) fn long_digit_at(digit: u128, place: usize) -> u128
     digit << (5 * place as u32)
 }
 
-/// The key after its lowest digit and another one are exchanged.
-pub(crate) fn short_exchanged(key: u64, place: usize, lowest: u64, other: u64) -> u64
+/// The key of four bits a digit after its lowest digit and another one are exchanged.
+pub fn short_exchanged(key: u64, place: usize, lowest: u64, other: u64) -> u64
     requires place { place < 16 }
     requires stand { other * 16 ^ place + lowest ≤ key }
     requires fits { key + lowest * 16 ^ place + other

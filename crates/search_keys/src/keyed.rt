@@ -5,7 +5,7 @@ ghost use Rattle.std.specs.Prelude.{slice_index, take, length, map};
 ghost use Rattle.std.specs.List.{range_with_len};
 ghost use Rattle.board.specs.declared.moves.Move.{Move};
 ghost use Rattle.board.specs.Grids.{cell_count};
-ghost use Rattle.board.specs.Positions.{Position, IsBoard, blank_of, cell_of};
+ghost use Rattle.board.specs.Positions.{Position, IsBoard, blank_of, cell_of, goal_of};
 ghost use Rattle.board.specs.Neighbours.{neighbour};
 ghost use Rattle.board.specs.Moves.{blank_exchange};
 ghost use Rattle.pattern_index.specs.Sparse.{sparse_of};
@@ -18,6 +18,9 @@ use crate::digits::{
 use board::{Board, Shape};
 use pattern_index::cells_of;
 use std::marker::Model;
+
+// The search key of Korf's goal of 2 by 2: each number stands on the cell of its own number.
+const SMALLEST_GOAL: u128 = 0x3210;
 
 /// A board as its search key, which has the cell of each number as a digit, the blank's lowest.
 #[derive(Clone, Copy, Debug)]
@@ -41,6 +44,41 @@ impl Model for KeyedBoard {
     ghost inverse = { storage_of };
 
     ghost inverse_ok = { storage_of-board_in };
+}
+
+impl PartialEq for KeyedBoard {
+    ghost use Rattle.std.specs.Cmp.{partial_equiv_from_equiv};
+    ghost use Rattle.board.specs.Equality.{position_eq, position_eq-laws};
+
+    ghost eq = { position_eq };
+
+    ghost laws = { partial_equiv_from_equiv position_eq-laws };
+
+    /// Whether both are one board.
+    fn eq(&self, other: &Self) -> bool
+        ensures value { result ≡ position_eq self.now other.now }
+        ensures same { IsTrue result ↔ (self.now ≡ other.now) }
+    {
+        self.shape == other.shape && self.key == other.key
+    }
+}
+
+impl Eq for KeyedBoard {
+    ghost use Rattle.board.specs.Equality.{position_eq-laws};
+
+    ghost laws = { position_eq-laws };
+}
+
+impl Default for KeyedBoard {
+    /// Korf's goal of 2 by 2, as of `Board`: what stands where no board was put yet.
+    fn default() -> Self
+        ensures { result ≡ goal_of (record { rows = 2; cols = 2 }) }
+    {
+        KeyedBoard {
+            shape: Shape::new(2, 2).unwrap(),
+            key: SMALLEST_GOAL,
+        }
+    }
 }
 
 /// What is known of a board after a move.
@@ -195,9 +233,9 @@ impl KeyedBoard {
         ensures all { length result ≡ 25 }
     {
         let mut tiles = [0; 25];
-        let count = self.shape().cells();
-        'cells: for cell in 0..count {
-            tiles[cell] = self.number_on(cell);
+        let cells = self.cells();
+        'numbers: for number in 0..self.shape().cells() {
+            tiles[cells[number] as usize] = number as u8;
         }
         tiles
     }

@@ -8,4 +8,5 @@ mod digits;
 mod keyed;
 pub mod laws;
 
+pub use digits::short_exchanged;
 pub use keyed::{KeyedBoard, Slid};

@@ -1,18 +1,44 @@
-use Rattle.std.proofs.Common.{◌≡◌, ◌∙◌, ap, arith}
+use Rattle.std.proofs.Common.{◌≡◌, ◌<◌, ◌+◌, ℕ, set, sym, ap, subst, ◌∙◌, arith}
+use Rattle.std.specs.Prelude.{slice_index}
 use Rattle.std.proofs.lemmas.List.{length-set}
 use Rattle.board.specs.Grids.{cell_count}
-use Rattle.search_keys.proofs.SearchKeyLemmas.{tiles_more, tiles_all}
+use Rattle.board.specs.Positions.{cell_of}
+use Rattle.board.proofs.TileLemmas.{has_cell}
+use Rattle.search_keys.proofs.SearchKeyLemmas.{numbers_more, numbers_all}
 use Rattle.search_keys.proofs.keyed.KeyedBoard.tiles.Goals as goal
 
-pub cells-preserved : goal.cells-preserved
-cells-preserved c =
-    let count : c.cells-count.result ≡ cell_count c.args.self.now.grid = c.cells-count.ensures.value ∙ ap cell_count c.shape.ensures.value in
+count : (c : goal.In-numbers) → c.cells-number-end.result ≡ cell_count c.args.self.now.grid
+count c = c.cells-number-end.ensures.value ∙ ap cell_count c.shape.ensures.value
+
+low : (c : goal.In-numbers) → c.numbers.number < cell_count c.args.self.now.grid
+low c = let all = count c in let next = c.numbers-test.true in omega (arith, all, next)
+
+-- the number stands on this cell
+there : (c : goal.In-numbers) → slice_index c.cells-cells.result c.numbers.number ≡ cell_of c.args.self.now c.numbers.number
+there c = c.cells-cells.ensures.cells c.numbers.number (low c)
+
+within : (c : goal.In-numbers) → slice_index c.cells-cells.result c.numbers.number < 25
+within c =
+    let is = there c in
+    let few = c.cells-cells.ensures.few in
+    let on_board = (has_cell c.args.self.now c.cells-cells.ensures.board c.numbers.number (low c)).0 in
+    omega (arith, is, few, on_board)
+
+pub bounds-tiles-cells : goal.bounds-tiles-cells
+bounds-tiles-cells c = within c
+
+pub numbers-preserved : goal.numbers-preserved
+numbers-preserved c =
+    let is = there c in
+    let all = c.numbers.invariant.all in
+    let room = within c in
     record {
-      all = length-set c.cells.tiles c.cells.cell c.number_on.result ∙ c.cells.invariant.all;
-      are = tiles_more c.args.self.now.tiles c.cells.tiles c.cells.cell c.number_on.result (omega (arith, c.cells.invariant.all, c.cells-test.true, c.cells-count.ensures.high)) (omega (arith, c.cells-test.true, count, c.shape.ensures.board.one_each)) c.number_on.ensures.value c.cells.invariant.are;
+      all = length-set c.numbers.tiles (slice_index c.cells-cells.result c.numbers.number) c.numbers.number ∙ all;
+      are = subst (λ (x : ℕ). (k : ℕ) → k < c.numbers.number + 1 → slice_index (set c.numbers.tiles x c.numbers.number) (cell_of c.args.self.now k) ≡ k) (sym is) (numbers_more c.args.self.now c.numbers.tiles c.numbers.number c.cells-cells.ensures.board (low c) (omega (arith, is, all, room)) c.numbers.invariant.are);
     }
 
 pub returns-clause-tiles : goal.returns-clause-tiles
 returns-clause-tiles c =
-    let count : c.cells-count.result ≡ cell_count c.args.self.now.grid = c.cells-count.ensures.value ∙ ap cell_count c.shape.ensures.value in
-    tiles_all c.args.self.now c.cells.tiles c.cells.cell c.shape.ensures.board (omega (arith, count, c.cells.auto.cell-end, c.cells-test.false)) c.cells.invariant.are
+    let all = c.cells-number-end.ensures.value ∙ ap cell_count c.shape.ensures.value in
+    let end = c.numbers-test.false in
+    numbers_all c.args.self.now c.numbers.tiles c.numbers.number c.shape.ensures.board c.numbers.invariant.all (omega (arith, all, end)) c.numbers.invariant.are

@@ -1,9 +1,10 @@
-use Rattle.std.proofs.Common.{◌≡◌, length, take}
+use Rattle.std.proofs.Common.{ℕ, ◌≡◌, ◌<◌, length, slice_index}
+use Rattle.board.specs.Positions.{cell_of}
 use Rattle.search_keys.proofs.keyed.KeyedBoard.tiles.Given as goal
 
--- the first numbers stand there
-abbrev pub invariant-cells : goal.invariant-cells
-invariant-cells l = record {
+-- the first numbers stand on their cells
+abbrev pub invariant-numbers : goal.invariant-numbers
+invariant-numbers l = record {
   all : length l.tiles ≡ 25;
-  are : take l.cell l.tiles ≡ take l.cell l.self.tiles;
+  are : (k : ℕ) → k < l.number → slice_index l.tiles (cell_of l.self k) ≡ k;
 }
