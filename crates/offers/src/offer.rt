@@ -91,7 +91,7 @@ fn owners_by<S: Spread>(board: &KeyedBoard, owners: &S, workers: usize) -> Owner
     if workers == 1 {
         return OwnersBy::OneWorker;
     }
-    OwnersBy::Spread(owners.hash(&board.board()))
+    OwnersBy::Spread(owners.hash(board))
 }
 
 // What is offered by the move that takes the blank to a cell.

@@ -1,1 +1,2 @@
+pub mod HashLemmas
 pub mod MovedLemmas

@@ -46,9 +46,18 @@ pub trait Spread {
         ensures value { result ≡ owner_of self.now workers board.now }
         ensures within { result < workers };
 
+    /// The same, of a board by its search key.
+    fn owner_by_key(&self, board: &KeyedBoard, workers: usize) -> usize
+        requires { 0 < workers }
+        ensures value { result ≡ owner_of self.now workers board.now }
+        ensures within { result < workers }
+    {
+        self.owner(&board.board(), workers)
+    }
+
     /// The hash of a board, as `owner_after` takes it of the board before a slide. None means that
     /// the spread has no hashes: its `owner_after` finds the owner without one.
-    fn hash(&self, board: &Board) -> Option<u64>
+    fn hash(&self, board: &KeyedBoard) -> Option<u64>
         ensures { result ≡ hash_of self.now board.now };
 
     /// The worker that owns the board after a slide, of `workers` workers. It is given what `hash`
@@ -60,8 +69,8 @@ pub trait Spread {
             → result ≡ owner_of self.now workers b }
     {
         let _ = hash;
-        let board = KeyedBoard::of_key(moved.shape, moved.key).board();
-        self.owner(&board, workers)
+        let board = KeyedBoard::of_key(moved.shape, moved.key);
+        self.owner_by_key(&board, workers)
     }
 
     /// Each board's owner is one of the workers.
@@ -103,8 +112,12 @@ impl Spread for ByBlank {
         worker_of(board.blank() as u64, workers)
     }
 
+    fn owner_by_key(&self, keyed: &KeyedBoard, workers: usize) -> usize {
+        worker_of(keyed.blank() as u64, workers)
+    }
+
     // The slide says where the blank goes: no hash is needed.
-    fn hash(&self, _board: &Board) -> Option<u64> {
+    fn hash(&self, _board: &KeyedBoard) -> Option<u64> {
         None
     }
 

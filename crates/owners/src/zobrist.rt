@@ -8,6 +8,7 @@ use board::{Board, Shape};
 use rand_core::SeedableRng;
 use rand_core::utils::NextWord;
 use rand_xoshiro::SplitMix64;
+use search_keys::KeyedBoard;
 use std::marker::Model;
 
 // As many words as boards of 5 by 5 need: one for each of 24 tiles on each of 25 cells.
@@ -42,14 +43,13 @@ impl Zobrist {
     }
 
     // The hash of a board.
-    fn hash_board(&self, board: &Board) -> u64
+    fn hash_board(&self, board: &KeyedBoard) -> u64
         ensures { result ≡ hash_of board.now }
     {
         let cells = board.shape().cells();
-        let tiles = board.tiles();
         let mut hash = 0;
-        'cells: for cell in 0..cells {
-            hash ^= self.word(cells, tiles[cell], cell);
+        'tiles: for tile in 1..cells {
+            hash ^= self.word(cells, tile as u8, board.cell(tile as u8));
         }
         hash
     }
@@ -91,10 +91,14 @@ impl Spread for Zobrist {
     ghost owners_are_workers = { λ z. owner_by_hash-lt };
 
     fn owner(&self, board: &Board, workers: usize) -> usize {
+        self.owner_by_key(&KeyedBoard::new(board), workers)
+    }
+
+    fn owner_by_key(&self, board: &KeyedBoard, workers: usize) -> usize {
         worker_of(self.hash_board(board), workers)
     }
 
-    fn hash(&self, board: &Board) -> Option<u64> {
+    fn hash(&self, board: &KeyedBoard) -> Option<u64> {
         Some(self.hash_board(board))
     }
 

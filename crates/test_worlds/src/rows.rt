@@ -2,6 +2,7 @@
 
 use board::Board;
 use owners::Spread;
+use search_keys::KeyedBoard;
 
 /// The worker in the middle owns the boards whose blank is in the last row, and worker 0 all others.
 #[derive(Clone, Copy, Debug)]
@@ -20,7 +21,7 @@ impl Spread for ByRow {
         if is_above { 0 } else { workers / 2 }
     }
 
-    fn hash(&self, _board: &Board) -> Option<u64> {
+    fn hash(&self, _board: &KeyedBoard) -> Option<u64> {
         None
     }
 }

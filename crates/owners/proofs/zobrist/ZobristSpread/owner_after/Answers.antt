@@ -12,33 +12,11 @@ use Rattle.board.proofs.StepLemmas.{blank_stands}
 use Rattle.owners.specs.Hashes.{word_on, hash_from, hash_of}
 use Rattle.owners.specs.Slides.{IsSlide}
 use Rattle.owners.specs.declared.spread.Slide.{Slide}
+use Rattle.owners.proofs.HashLemmas.{hash-set}
 use Rattle.owners.proofs.MovedLemmas.{after_slide}
 use Rattle.owners.proofs.zobrist.ZobristSpread.owner_after.Goals as goal
 
--- The hash of a list in which one number is replaced, and so of a board after a slide.
-
--- what stands on both sides goes out
-goes_out : (a b : ℕ) → bit_xor (bit_xor a b) a ≡ b
-goes_out a b = ap (λ (x : ℕ). bit_xor x a) (xor_comm a b) ∙ xor_assoc b a a ∙ ap (bit_xor b) (xor_self a) ∙ xor_zero_r b
-
 module _ (cells : ℕ) where
-  -- the word of what stood on a cell goes out, and that of what stands there now comes in
-  hash-set : (tiles : List ℕ) (k i cell tile : ℕ) → i < length tiles → cell ≡ k + i → hash_from cells k (set tiles i tile) ≡ bit_xor (bit_xor (hash_from cells k tiles) (word_on cells (get_or tiles i 0) cell)) (word_on cells tile cell)
-  hash-set [] k i cell tile within at = absurd (omega (arith, within))
-  hash-set (t ∷ ts) k zero cell tile within at =
-      let here : k ≡ cell = omega (arith, at) in
-      let h = hash_from cells (k + 1) ts in
-      xor_comm (word_on cells tile k) h
-      ∙ ap (λ (x : ℕ). bit_xor x (word_on cells tile k)) (sym (goes_out (word_on cells t k) h))
-      ∙ ap (λ (x : ℕ). bit_xor (bit_xor (bit_xor (word_on cells t k) h) (word_on cells t x)) (word_on cells tile x)) here
-  hash-set (t ∷ ts) k (suc i) cell tile within at =
-      let a = word_on cells t k in
-      let h = hash_from cells (k + 1) ts in
-      let old = word_on cells (get_or ts i 0) cell in
-      ap (bit_xor a) (hash-set ts (k + 1) i cell tile (omega (arith, within)) (omega (arith, at)))
-      ∙ sym (xor_assoc a (bit_xor h old) (word_on cells tile cell))
-      ∙ ap (λ (x : ℕ). bit_xor x (word_on cells tile cell)) (sym (xor_assoc a h old))
-
   -- a tile and the blank change places
   hash-swap : (tiles : List ℕ) (blank cell tile : ℕ) → blank < length tiles → cell < length tiles → get_or tiles blank 0 ≡ 0 → get_or tiles cell 0 ≡ tile → 0 < tile → hash_from cells 0 (swap tiles blank cell) ≡ bit_xor (bit_xor (hash_from cells 0 tiles) (word_on cells tile blank)) (word_on cells tile cell)
   hash-swap tiles blank cell tile from to zero_there tile_there some =
@@ -46,12 +24,12 @@ module _ (cells : ℕ) where
       let first = set tiles blank (get_or tiles cell 0) in
       let kept : get_or first cell 0 ≡ tile = get_or-set_other tiles blank cell (get_or tiles cell 0) 0 apart ∙ tile_there in
       let filled : hash_from cells 0 first ≡ bit_xor (hash_from cells 0 tiles) (word_on cells tile blank) =
-      hash-set tiles 0 blank blank (get_or tiles cell 0) from (omega arith)
+      hash-set cells tiles 0 blank blank (get_or tiles cell 0) from (omega arith)
       ∙ ap (λ (x : ℕ). bit_xor (bit_xor (hash_from cells 0 tiles) (word_on cells x blank)) (word_on cells (get_or tiles cell 0) blank)) zero_there
       ∙ ap (λ (x : ℕ). bit_xor x (word_on cells (get_or tiles cell 0) blank)) (xor_zero_r (hash_from cells 0 tiles))
       ∙ ap (λ (x : ℕ). bit_xor (hash_from cells 0 tiles) (word_on cells x blank)) tile_there in
       ap (hash_from cells 0) (sym (swap_is tiles blank cell 0 from to))
-      ∙ hash-set first 0 cell cell (get_or tiles blank 0) (omega (arith, length-set tiles blank (get_or tiles cell 0), to)) (omega arith)
+      ∙ hash-set cells first 0 cell cell (get_or tiles blank 0) (omega (arith, length-set tiles blank (get_or tiles cell 0), to)) (omega arith)
       ∙ ap (λ (x : ℕ). bit_xor (bit_xor (hash_from cells 0 first) (word_on cells (get_or first cell 0) cell)) (word_on cells x cell)) zero_there
       ∙ xor_zero_r (bit_xor (hash_from cells 0 first) (word_on cells (get_or first cell 0) cell))
       ∙ ap (λ (x : ℕ). bit_xor (hash_from cells 0 first) (word_on cells x cell)) kept

@@ -1,0 +1,108 @@
+-- The hash of a list in which one number is replaced, and of a board whose tiles are put on their cells one after the other.
+use Rattle.std.proofs.Common.{◌≡◌, ◌≢◌, ◌+◌, ◌<◌, ◌≤◌, ℕ, zero, suc, cond, ltb, List, [], ◌∷◌, length, map, set, get_or, bit_xor, refl, sym, ap, ◌∙◌, ⊎_elim, arith}
+use Rattle.std.specs.Prelude.{All}
+use Rattle.std.specs.Int.Bits.{xor_assoc, xor_self, xor_zero_r}
+use Rattle.std.proofs.lemmas.Bool.{cases_eq, cases_lt, cond-true, cond-false, lt-ltb, le-ltb}
+use Rattle.std.proofs.lemmas.Grind.{same_number_lists}
+use Rattle.std.proofs.lemmas.List.{get_or-map, get_or-set_other, get_or-set_same, length-map, length-set}
+use Rattle.std.proofs.lemmas.List.Elements.{All-get_or}
+use Rattle.std.proofs.lemmas.Nat.{xor_comm}
+use Rattle.board.specs.Grids.{cell_count}
+use Rattle.board.specs.Positions.{Position, IsBoard, cell_of}
+use Rattle.board.proofs.TileLemmas.{cell_is, has_cell}
+use Rattle.owners.specs.Hashes.{word_on, hash_from, hash_of}
+
+-- what stands on both sides goes out
+goes_out : (a b : ℕ) → bit_xor (bit_xor a b) a ≡ b
+goes_out a b = ap (λ (x : ℕ). bit_xor x a) (xor_comm a b) ∙ xor_assoc b a a ∙ ap (bit_xor b) (xor_self a) ∙ xor_zero_r b
+
+module _ (cells : ℕ) where
+  -- the word of what stood on a cell goes out, and that of what stands there now comes in
+  pub hash-set : (tiles : List ℕ) (k i cell tile : ℕ) → i < length tiles → cell ≡ k + i → hash_from cells k (set tiles i tile) ≡ bit_xor (bit_xor (hash_from cells k tiles) (word_on cells (get_or tiles i 0) cell)) (word_on cells tile cell)
+  hash-set [] k i cell tile within at = absurd (omega (arith, within))
+  hash-set (t ∷ ts) k zero cell tile within at =
+      let here : k ≡ cell = omega (arith, at) in
+      let h = hash_from cells (k + 1) ts in
+      xor_comm (word_on cells tile k) h
+      ∙ ap (λ (x : ℕ). bit_xor x (word_on cells tile k)) (sym (goes_out (word_on cells t k) h))
+      ∙ ap (λ (x : ℕ). bit_xor (bit_xor (bit_xor (word_on cells t k) h) (word_on cells t x)) (word_on cells tile x)) here
+  hash-set (t ∷ ts) k (suc i) cell tile within at =
+      let a = word_on cells t k in
+      let h = hash_from cells (k + 1) ts in
+      let old = word_on cells (get_or ts i 0) cell in
+      ap (bit_xor a) (hash-set ts (k + 1) i cell tile (omega (arith, within)) (omega (arith, at)))
+      ∙ sym (xor_assoc a (bit_xor h old) (word_on cells tile cell))
+      ∙ ap (λ (x : ℕ). bit_xor x (word_on cells tile cell)) (sym (xor_assoc a h old))
+
+-- a tile below n, and 0 for any other
+abbrev pub below : ℕ → ℕ → ℕ
+below n tile = cond (ltb tile n) tile 0
+
+below_yes : (n tile : ℕ) → tile < n → below n tile ≡ tile
+below_yes n tile low = cond-true (ltb tile n) tile 0 (lt-ltb tile n low)
+
+below_no : (n tile : ℕ) → n ≤ tile → below n tile ≡ 0
+below_no n tile high = cond-false (ltb tile n) tile 0 (le-ltb tile n high)
+
+-- the blank has no word, so the hash of no tile at all is 0
+pub hash_begun : (cells k : ℕ) (tiles : List ℕ) → hash_from cells k (map (below 1) tiles) ≡ 0
+hash_begun cells k [] = refl
+hash_begun cells k (t ∷ ts) =
+    let none : below 1 t ≡ 0 = ⊎_elim (λ (low : t < 1). let zero_is : t ≡ 0 = omega (arith, low) in below_yes 1 t low ∙ zero_is) (below_no 1 t) (cases_lt t 1) in
+    ap (λ (x : ℕ). bit_xor (word_on cells x k) (hash_from cells (k + 1) (map (below 1) ts))) none ∙ hash_begun cells (k + 1) ts
+
+-- the tiles below n + 1 are those below n, and n on its cell
+pub tiles_more : (b : Position) (n : ℕ) → IsBoard b → n < cell_count b.grid → map (below (n + 1)) b.tiles ≡ set (map (below n) b.tiles) (cell_of b n) n
+tiles_more b n board within =
+    let place = cell_of b n in
+    let stands = has_cell b board n within in
+    let one_each = board.one_each in
+    let before = map (below n) b.tiles in
+    let long : length before ≡ length b.tiles = length-map b.tiles (below n) in
+    let room : place < length before = omega (arith, stands.0, one_each, long) in
+    same_number_lists (map (below (n + 1)) b.tiles) (set before place n) (length-map b.tiles (below (n + 1)) ∙ sym (length-set before place n ∙ long))
+    (λ (c : ℕ) (c_in : c < length (map (below (n + 1)) b.tiles)).
+    let within_c : c < length b.tiles = omega (arith, c_in, length-map b.tiles (below (n + 1))) in
+    let tile = get_or b.tiles c 0 in
+    get_or-map (below (n + 1)) b.tiles c 0 0 within_c
+    ∙ ⊎_elim
+    (λ (same : c ≡ place).
+    let is : tile ≡ n = ap (λ (i : ℕ). get_or b.tiles i 0) same ∙ stands.1 in
+    ap (below (n + 1)) is
+    ∙ below_yes (n + 1) n (omega arith)
+    ∙ sym (ap (λ (i : ℕ). get_or (set before place n) i 0) same ∙ get_or-set_same before place n 0 room))
+    (λ (other : c ≢ place).
+    let differs : tile ≢ n = λ is. other (sym (cell_is b board.different c n within_c is)) in
+    ⊎_elim
+    (λ (low : tile < n). below_yes (n + 1) tile (omega (arith, low)) ∙ sym (below_yes n tile low))
+    (λ (high : n ≤ tile). below_no (n + 1) tile (omega (arith, high, differs)) ∙ sym (below_no n tile high))
+    (cases_lt tile n)
+    ∙ sym (get_or-set_other before place c n 0 other ∙ get_or-map (below n) b.tiles c 0 0 within_c))
+    (cases_eq c place))
+
+-- the word of another tile comes in
+pub hash_more : (b : Position) (n hash : ℕ) → IsBoard b → n < cell_count b.grid → hash ≡ hash_from (cell_count b.grid) 0 (map (below n) b.tiles) → bit_xor hash (word_on (cell_count b.grid) n (cell_of b n)) ≡ hash_from (cell_count b.grid) 0 (map (below (n + 1)) b.tiles)
+hash_more b n hash board within is =
+    let cells = cell_count b.grid in
+    let place = cell_of b n in
+    let stands = has_cell b board n within in
+    let one_each = board.one_each in
+    let before = map (below n) b.tiles in
+    let room : place < length before = omega (arith, stands.0, one_each, length-map b.tiles (below n)) in
+    let was : get_or before place 0 ≡ 0 =
+    get_or-map (below n) b.tiles place 0 0 (omega (arith, stands.0, one_each)) ∙ ap (below n) stands.1 ∙ below_no n n (omega arith) in
+    ap (λ (x : ℕ). bit_xor x (word_on cells n place)) (is ∙ sym (xor_zero_r (hash_from cells 0 before)))
+    ∙ ap (λ (x : ℕ). bit_xor (bit_xor (hash_from cells 0 before) (word_on cells x place)) (word_on cells n place)) (sym was)
+    ∙ sym (hash-set cells before 0 place place n room (omega arith))
+    ∙ ap (hash_from cells 0) (sym (tiles_more b n board within))
+
+-- that of all is the board's hash
+pub hash_ended : (b : Position) (n hash : ℕ) → IsBoard b → cell_count b.grid ≤ n → hash ≡ hash_from (cell_count b.grid) 0 (map (below n) b.tiles) → hash ≡ hash_of b
+hash_ended b n hash board all is =
+    let same : map (below n) b.tiles ≡ b.tiles =
+    same_number_lists (map (below n) b.tiles) b.tiles (length-map b.tiles (below n))
+    (λ (c : ℕ) (c_in : c < length (map (below n) b.tiles)).
+    let within : c < length b.tiles = omega (arith, c_in, length-map b.tiles (below n)) in
+    let low : get_or b.tiles c 0 < cell_count b.grid = All-get_or (λ (t : ℕ). t < cell_count b.grid) b.tiles c 0 within board.in_range in
+    get_or-map (below n) b.tiles c 0 0 within ∙ below_yes n (get_or b.tiles c 0) (omega (arith, low, all))) in
+    is ∙ ap (hash_from (cell_count b.grid) 0) same

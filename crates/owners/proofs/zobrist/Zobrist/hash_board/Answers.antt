@@ -1,0 +1,32 @@
+use Rattle.std.proofs.Common.{◌≡◌, ℕ, bit_xor, sym, ap, ◌∙◌, arith}
+use Rattle.board.specs.Grids.{cell_count}
+use Rattle.board.specs.Positions.{cell_of}
+use Rattle.owners.specs.Hashes.{word_on}
+use Rattle.owners.proofs.HashLemmas.{hash_begun, hash_more, hash_ended}
+use Rattle.owners.proofs.zobrist.Zobrist.hash_board.Goals as goal
+
+pub tiles-init : goal.tiles-init
+tiles-init c = record {
+  some = omega arith;
+  hashed = sym (hash_begun (cell_count c.args.board.now.grid) 0 c.args.board.now.tiles);
+}
+
+pub tiles-preserved : goal.tiles-preserved
+tiles-preserved c =
+    let b = c.args.board.now in
+    let tile = c.tiles.tile in
+    let count : c.cells-cells.result ≡ cell_count b.grid = c.cells-cells.ensures.value ∙ ap cell_count c.shape.ensures.value in
+    let below = c.tiles-test.true in
+    let its_word : c.word-hash.result ≡ word_on (cell_count b.grid) tile (cell_of b tile) =
+    c.word-hash.ensures ∙ (λ i. word_on (count i) tile (c.cell.ensures.value i)) in
+    record {
+      some = omega arith;
+      hashed = ap (bit_xor c.tiles.hash) its_word ∙ hash_more b tile c.tiles.hash c.shape.ensures.board (omega (arith, count, below)) c.tiles.invariant.hashed;
+    }
+
+pub returns : goal.returns
+returns c =
+    let b = c.args.board.now in
+    let count : c.cells-cells.result ≡ cell_count b.grid = c.cells-cells.ensures.value ∙ ap cell_count c.shape.ensures.value in
+    let end = c.tiles-test.false in
+    hash_ended b c.tiles.tile c.tiles.hash c.shape.ensures.board (omega (arith, count, end)) c.tiles.invariant.hashed
