@@ -18,3 +18,4 @@ pub mod PlacementLemmas
 pub mod TableFoldLemmas
 pub mod EntryLemmas
 pub mod FrameLemmas
+pub mod SlotRankLemmas

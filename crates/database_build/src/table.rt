@@ -1,16 +1,16 @@
 //! Tables: a number for each view of a group.
 
-ghost use Rattle.std.specs.Prelude.{ℕ, ◌≡◌, ◌≢◌, ◌↔◌, ◌<◌, ◌≤◌, length, slice_index, IsOk, IsErrOf, IfOk, IfSome};
+ghost use Rattle.std.specs.Prelude.{ℕ, ◌≡◌, ◌≢◌, ◌↔◌, ◌<◌, ◌≤◌, length, slice_index, IsOk, IsErrOf, IfOk};
 ghost use Rattle.pattern_index.specs.Views.{IsView, Sight, view_at, exchanged};
-ghost use Rattle.pattern_index.specs.Selections.{size_of};
-ghost use Rattle.pattern_index.specs.Sparse.{slot_in};
+ghost use Rattle.pattern_index.specs.Selections.{rank_in, size_of};
+ghost use Rattle.pattern_index.specs.Sparse.{digit_base, slot_in};
 ghost use Rattle.database_build.specs.Entries.{HasEntries, values_in, widened};
 ghost use Rattle.database_build.specs.Tables.{value_in};
 ghost use Rattle.database_build.specs.declared.faults.TableFault.{TableFault};
 
 use crate::entries::Entries;
 use crate::faults::TableFault;
-use pattern_index::{Group, View, exchange};
+use pattern_index::{Group, View, digit_base, exchange};
 use std::marker::Model;
 
 /// The value of a view from which the goal's isn't reached below this cost: the greatest of 16
@@ -133,28 +133,17 @@ impl Table {
         }
     }
 
-    /// The value of the views with a slot, found with one read. None where it keeps its values by
-    /// rank: `value` tells it then.
-    pub fn slot_value(&self, slot: usize) -> Option<u16>
+    /// The value of the view with a slot, found with one read unless it keeps its values by rank.
+    pub fn slot_value(&self, slot: usize) -> u16
         requires { (v : Sight) × IsView self.now.selection.grid self.now.selection.tiles v
             × (slot_in self.now.selection.grid v ≡ slot) }
-        ensures { IfSome result (λ value. (v : Sight)
-            → IsView self.now.selection.grid self.now.selection.tiles v
-            → slot_in self.now.selection.grid v ≡ slot → value ≡ value_in self.now v) }
+        ensures { (v : Sight) → IsView self.now.selection.grid self.now.selection.tiles v
+            → slot_in self.now.selection.grid v ≡ slot → result ≡ value_in self.now v }
     {
         match &self.entries {
-            Entries::Ranked(_) => None,
-            Entries::Bytes(bytes) => Some(widened(bytes[slot])),
-            Entries::Words(words) => Some(words[slot]),
-        }
-    }
-
-    /// Whether it keeps its values by slot.
-    pub fn is_by_slot(&self) -> bool {
-        match &self.entries {
-            Entries::Ranked(_) => false,
-            Entries::Bytes(_) => true,
-            Entries::Words(_) => true,
+            Entries::Ranked(values) => values[rank_of_slot(&self.group, slot)],
+            Entries::Bytes(bytes) => widened(bytes[slot]),
+            Entries::Words(words) => words[slot],
         }
     }
 
@@ -176,6 +165,43 @@ impl Table {
             Entries::Words(words) => tell_words(words),
         }
     }
+}
+
+// The rank of the view with a slot, whose digits are the cells of the blank and of the tiles.
+#[inline(never)]
+fn rank_of_slot(group: &Group, slot: usize) -> usize
+    requires { (v : Sight) × IsView group.now.grid group.now.tiles v
+        × (slot_in group.now.grid v ≡ slot) }
+    ensures value { (v : Sight) → IsView group.now.grid group.now.tiles v
+        → slot_in group.now.grid v ≡ slot → result ≡ rank_in group.now.grid v }
+    ensures below { result < size_of group.now }
+{
+    // A division by a known number takes less time.
+    match digit_base(group.shape()) {
+        16 => rank_of_digits(16, group, slot),
+        base => rank_of_digits(base, group, slot),
+    }
+}
+
+// The same, where this is the base of the digits.
+#[inline(always)]
+fn rank_of_digits(base: usize, group: &Group, slot: usize) -> usize
+    requires base { base ≡ digit_base group.now.grid }
+    requires view { (v : Sight) × IsView group.now.grid group.now.tiles v
+        × (slot_in group.now.grid v ≡ slot) }
+    ensures value { (v : Sight) → IsView group.now.grid group.now.tiles v
+        → slot_in group.now.grid v ≡ slot → result ≡ rank_in group.now.grid v }
+    ensures below { result < size_of group.now }
+{
+    let tiles = group.tiles();
+    let mut cells = [0; 25];
+    cells[0] = (slot % base) as u8;
+    let mut rest = slot / base;
+    'tiles: for place in 0..tiles.len() {
+        cells[tiles[place] as usize] = (rest % base) as u8;
+        rest /= base;
+    }
+    group.rank_at(&cells)
 }
 
 // The value that a byte stands for.
