@@ -1,3 +1,3 @@
 pub mod PartLemmas
-pub mod RunLemmas
+pub mod ConsecutiveLemmas
 pub mod SlideLemmas

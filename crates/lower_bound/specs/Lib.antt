@@ -7,4 +7,4 @@ pub mod Faults
 pub mod Laws
 pub mod ByTile
 pub mod Slides
-pub mod Runs
+pub mod Consecutive

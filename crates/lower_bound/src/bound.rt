@@ -13,13 +13,13 @@ ghost use Rattle.lower_bound.specs.Folded.{AreFoldsOf, AreFolded, IsBefore, valu
 ghost use Rattle.lower_bound.specs.Tables.{IsTables, AreTablesOf, AreConsistent, ArePotentials, AreWhole};
 ghost use Rattle.lower_bound.specs.Tables.{parts_of};
 ghost use Rattle.lower_bound.specs.Lists.{AreListed, IsFoldedBound};
-ghost use Rattle.lower_bound.specs.Runs.{HasSum};
+ghost use Rattle.lower_bound.specs.Consecutive.{AreReadByDigits, HasSum};
 ghost use Rattle.lower_bound.specs.Slides.{HasCells, IsMoveOf, IsSlide};
 
 use crate::by_tile::find_groups_by_tile;
+use crate::consecutive::has_consecutive_groups;
 use crate::parts::{MOST_GROUPS, Parts};
-use crate::reading::{Reading, told_by_digits};
-use crate::runs::{are_by_slot, has_runs};
+use crate::reading::{Reading, sum_by_digits, values_by_digits};
 use crate::slides::{folded_after, sum_folded as sum_folded_at, sum_whole, whole_after};
 use board::Board;
 use database_build::{Folded, NO_VALUE, Table, TableFault, fold};
@@ -63,7 +63,7 @@ impl Model for Bound {
     ghost use Rattle.lower_bound.specs.Tables.{Tables, IsTables};
     ghost use Rattle.lower_bound.specs.Held.{tables_in};
     ghost use Rattle.lower_bound.specs.ByTile.{AreGroupsByTile};
-    ghost use Rattle.lower_bound.specs.Runs.{HasRuns};
+    ghost use Rattle.lower_bound.specs.Consecutive.{AreReadByDigits};
     ghost use Rattle.std.specs.Prelude.{IsTrue};
 
     ghost Value = { Tables };
@@ -72,7 +72,7 @@ impl Model for Bound {
 
     ghost invariant = { λ b. IsTables (tables_in b.partition b.held)
         × AreGroupsByTile b.partition.groups b.by_tile
-        × (IsTrue b.by_digits → HasRuns b.partition) };
+        × (IsTrue b.by_digits → AreReadByDigits (tables_in b.partition b.held)) };
 }
 
 impl Bound {
@@ -89,7 +89,7 @@ impl Bound {
             return Err(TableFault::WrongCount);
         }
         let by_tile = find_groups_by_tile(partition.groups());
-        let by_digits = has_runs(&partition) && are_by_slot(&tables);
+        let by_digits = has_consecutive_groups(&partition);
         Ok(Bound {
             partition,
             held: Held::Whole(tables),
@@ -155,7 +155,7 @@ impl Bound {
         ensures nothing_below { (rule : CostRule) (goal : Position) →
             ArePotentials rule goal self.now → NothingBelow rule board.now goal result }
     {
-        // What the last clause needs of the board, that it is one, is told by this call.
+        // That it is a board is known by this call, for the last clause.
         let _ = board.shape();
         match &self.held {
             Held::Whole(tables) => sum_values(tables, board),
@@ -180,10 +180,26 @@ impl Bound {
         }
     }
 
-    /// The sum of the board to which a move of a tile leads, by the sum of the board before it and
-    /// the cell of each number there. Only the table is read whose group has the tile, for what it
-    /// said and what it says. No other says something else, where whole tables are consistent.
-    pub fn sum_after(&self, sum: u32, cells: &[u8; 25], tile: u8) -> u32
+    /// The sum of a board that is known by its search key: as `of`, without the board itself.
+    pub fn of_keyed(&self, board: &KeyedBoard) -> u32
+        requires { board.now.grid ≡ self.now.split.grid }
+        ensures value { result ≡ sum_of (parts_of self.now) board.now }
+        ensures high { result ≤ GREATEST_SUM }
+        ensures nothing_below { (rule : CostRule) (goal : Position) →
+            ArePotentials rule goal self.now → NothingBelow rule board.now goal result }
+    {
+        // That it is a board is known by this call.
+        let _ = board.shape();
+        if self.by_digits {
+            return sum_by_digits(self.whole(), board);
+        }
+        self.sum_at(&board.cells())
+    }
+
+    // The sum of the board to which a move of a tile leads, by the sum of the board before it and
+    // the cell of each number there. Only the table is read whose group has the tile, for the values
+    // before and after. No other has another value then, where whole tables are consistent.
+    fn sum_after(&self, sum: u32, cells: &[u8; 25], tile: u8) -> u32
         requires consistent { AreConsistent self.now }
         requires slide { (b : Position) × (b' : Position)
             × IsSlide self.now.split.grid cells.now tile b b'
@@ -221,8 +237,48 @@ impl Bound {
     }
 
     /// The sum of the board to which a move of a tile leads, by the sum of the board before it and
-    /// what is read of that: as `sum_after`, which reads its cells.
+    /// what is read of that. Only the table is read whose group has the tile, for the values before
+    /// and after. No other has another value then, where whole tables are consistent.
     pub fn sum_after_move(&self, sum: u32, reading: &Reading, tile: u8) -> u32
+        requires consistent { AreConsistent self.now }
+        requires moved { (b' : Position) × IsMoveOf tile reading.now b' }
+        requires sum { HasSum self.now reading.now sum }
+        requires low { sum ≤ GREATEST_SUM }
+        ensures value { (b' : Position) → IsMoveOf tile reading.now b'
+            → result ≡ sum_of (parts_of self.now) b' }
+        ensures high { result ≤ sum + NO_VALUE }
+    {
+        if self.by_digits {
+            return self.sum_after_by_digits(sum, reading.board(), tile);
+        }
+        self.sum_after_by_cells(sum, reading, tile)
+    }
+
+    // The same by digits of the board's search key.
+    fn sum_after_by_digits(&self, sum: u32, board: &KeyedBoard, tile: u8) -> u32
+        requires digits { AreReadByDigits self.now }
+        requires consistent { AreConsistent self.now }
+        requires moved { (b' : Position) × IsMoveOf tile board.now b' }
+        requires sum { HasSum self.now board.now sum }
+        requires low { sum ≤ GREATEST_SUM }
+        ensures value { (b' : Position) → IsMoveOf tile board.now b'
+            → result ≡ sum_of (parts_of self.now) b' }
+        ensures high { result ≤ sum + NO_VALUE }
+    {
+        // That it is a board is known by this call.
+        let _ = board.shape();
+        let tables = self.whole();
+        let group = self.by_tile[tile as usize];
+        if group >= tables.len() {
+            return sum;
+        }
+        let (was, is) = values_by_digits(&tables[group], board, tile);
+        sum - u32::from(was) + u32::from(is)
+    }
+
+    // The same by the cells of the board's numbers.
+    #[inline(never)]
+    fn sum_after_by_cells(&self, sum: u32, reading: &Reading, tile: u8) -> u32
         requires consistent { AreConsistent self.now }
         requires moved { (b' : Position) × IsMoveOf tile reading.now b' }
         requires sum { HasSum self.now reading.now sum }
@@ -234,39 +290,7 @@ impl Bound {
         if let Some(cells) = reading.cells() {
             return self.sum_after(sum, cells, tile);
         }
-        let board = reading.board();
-        if let Some(after) = self.sum_by_digits(sum, board, tile) {
-            return after;
-        }
-        self.sum_after(sum, &board.cells(), tile)
-    }
-
-    // The same by digits of the board's search key. None where these do not tell it.
-    fn sum_by_digits(&self, sum: u32, board: &KeyedBoard, tile: u8) -> Option<u32>
-        requires consistent { AreConsistent self.now }
-        requires moved { (b' : Position) × IsMoveOf tile board.now b' }
-        requires sum { HasSum self.now board.now sum }
-        requires low { sum ≤ GREATEST_SUM }
-        ensures value { IfSome result (λ after. (b' : Position) → IsMoveOf tile board.now b'
-            → after ≡ sum_of (parts_of self.now) b') }
-        ensures high { IfSome result (λ after. after ≤ sum + NO_VALUE) }
-    {
-        // That it is a board is told by this call.
-        let _ = board.shape();
-        if !self.by_digits {
-            return None;
-        }
-        let Held::Whole(tables) = &self.held else {
-            return None;
-        };
-        let group = self.by_tile[tile as usize];
-        if group >= tables.len() {
-            return Some(sum);
-        }
-        let Some(told) = told_by_digits(&tables[group], board, tile) else {
-            return None;
-        };
-        Some(sum - u32::from(told.0) + u32::from(told.1))
+        self.sum_after(sum, &reading.board().cells(), tile)
     }
 
     /// The values of a board by folded tables, one for each group.
@@ -288,6 +312,17 @@ impl Bound {
         ensures { result ≡ values_of (parts_of self.now) board.now }
     {
         parts.after(self.folds(), board, tile)
+    }
+
+    // Its whole tables.
+    fn whole(&self) -> &[Table]
+        ensures value { result.now ≡ self.now.lookups }
+        ensures few { length result.now ≤ 24 }
+    {
+        match &self.held {
+            Held::Whole(tables) => tables,
+            Held::Folded(_) => &[],
+        }
     }
 
     // Its folded tables, where none is whole.

@@ -4,11 +4,11 @@
 
 mod bound;
 mod by_tile;
+mod consecutive;
 mod faults;
 pub mod laws;
 mod parts;
 mod reading;
-mod runs;
 mod slides;
 
 pub use bound::{Bound, GREATEST_SUM, TableList};

@@ -1,14 +1,14 @@
 //! What tables read of a board: digits of its search key, or the cells of its numbers.
 
-ghost use Rattle.std.specs.Prelude.{◌≡◌, ◌+◌, ◌*◌, ◌^◌, ◌<◌, ◌≤◌, IfSome};
+ghost use Rattle.std.specs.Prelude.{◌≡◌, ◌+◌, ◌*◌, ◌^◌, ◌<◌, ◌≤◌, length, sum_by, All, IfSome};
 ghost use Rattle.board.specs.Positions.{Position, IsBoard};
 ghost use Rattle.pattern_index.specs.Views.{view_of};
 ghost use Rattle.database_build.specs.Tables.{value_in};
-ghost use Rattle.lower_bound.specs.Runs.{IsRunMove};
+ghost use Rattle.lower_bound.specs.Consecutive.{IsConsecutiveMove, IsReadByDigits};
 ghost use Rattle.lower_bound.specs.Slides.{HasCells, IsMoveOf};
 
 use database_build::{NO_VALUE, Table};
-use search_keys::KeyedBoard;
+use search_keys::{KeyedBoard, short_exchanged};
 use std::marker::Model;
 
 /// A board as the tables of a bound read it: by digits of its search key, or by the cells of its
@@ -58,7 +58,7 @@ impl Reading {
         ensures value { result.now ≡ self.now }
         ensures board { IsBoard self.now }
     {
-        // What the last clause says is told by this call.
+        // That it is a board is known by this call.
         let _ = self.board.shape();
         &self.board
     }
@@ -72,48 +72,50 @@ impl Reading {
     }
 }
 
-// What a table says of a board before a move of one of its tiles and after it, each found with one
-// read by digits of the board's search key. None where the table keeps its values by rank.
-pub(crate) fn told_by_digits(table: &Table, board: &KeyedBoard, tile: u8) -> Option<(u16, u16)>
-    requires { IsRunMove table.now.selection tile board.now }
-    ensures told { IfSome result (λ told. (b' : Position) → IsMoveOf tile board.now b'
-        → told ≡ (
+// Adds the values that tables have for a board, each found with one read by digits of the board's
+// search key.
+pub(crate) fn sum_by_digits(tables: &[Table], board: &KeyedBoard) -> u32
+    requires few { length tables.now ≤ 24 }
+    requires read { All (λ table. IsReadByDigits table.selection board.now) tables.now }
+    ensures value { result
+        ≡ sum_by (λ table. value_in table (view_of table.selection.tiles board.now)) tables.now }
+    ensures high { result ≤ NO_VALUE * length tables.now }
+{
+    let mut sum = 0;
+    'tables: for table in tables {
+        sum += u32::from(value_by_digits(table, board));
+    }
+    sum
+}
+
+// The value that a table has for a board.
+fn value_by_digits(table: &Table, board: &KeyedBoard) -> u16
+    requires { IsReadByDigits table.now.selection board.now }
+    ensures { result ≡ value_in table.now (view_of table.now.selection.tiles board.now) }
+{
+    let tiles = table.group().tiles();
+    let blank = board.digits(0, 1);
+    let slot = board.digits(tiles[0] as usize, tiles.len()) * 16 + blank;
+    table.slot_value(slot)
+}
+
+// The values that a table has for a board before a move of one of its tiles and after it, each found
+// with one read by digits of the board's search key.
+pub(crate) fn values_by_digits(table: &Table, board: &KeyedBoard, tile: u8) -> (u16, u16)
+    requires { IsConsecutiveMove table.now.selection tile board.now }
+    ensures values { (b' : Position) → IsMoveOf tile board.now b'
+        → result ≡ (
           value_in table.now (view_of table.now.selection.tiles board.now),
           value_in table.now (view_of table.now.selection.tiles b'),
-        )) }
-    ensures high { IfSome result (λ told. told.1 ≤ NO_VALUE) }
+        ) }
+    ensures high { result.1 ≤ NO_VALUE }
 {
     let tiles = table.group().tiles();
     let first = tiles[0] as usize;
     let blank = board.digits(0, 1);
     let cell = board.digits(tile as usize, 1);
     let before = board.digits(first, tiles.len()) * 16 + blank;
-    let after = exchanged_slot(before, tile as usize - first + 1, blank, cell);
-    let Some(was) = table.slot_value(before) else {
-        return None;
-    };
-    let Some(is) = table.slot_value(after) else {
-        return None;
-    };
-    Some((was, is))
-}
-
-// The slot after its lowest digit and another one are exchanged.
-fn exchanged_slot(slot: usize, place: usize, lowest: usize, other: usize) -> usize
-    requires place { place < 16 }
-    requires fits { slot + lowest * 16 ^ place + other < 2 ^ 64 }
-    requires stand { other * 16 ^ place + lowest ≤ slot + lowest * 16 ^ place + other }
-    ensures { result + (other * 16 ^ place + lowest) ≡ slot + lowest * 16 ^ place + other }
-{
-    slot + digit_at(lowest, place) + other - digit_at(other, place) - lowest
-}
-
-// A digit of a slot at a place.
-#[tactic(auto, using(search_keys::proofs::ZeroLemmas::short_put))]
-fn digit_at(digit: usize, place: usize) -> usize
-    requires place { place < 16 }
-    requires fits { digit * 16 ^ place < 2 ^ 64 }
-    ensures { result ≡ digit * 16 ^ place }
-{
-    digit << (4 * place as u32)
+    let place = tile as usize - first + 1;
+    let after = short_exchanged(before as u64, place, blank as u64, cell as u64) as usize;
+    (table.slot_value(before), table.slot_value(after))
 }

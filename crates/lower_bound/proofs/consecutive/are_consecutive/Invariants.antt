@@ -1,6 +1,6 @@
 use Rattle.std.proofs.Common.{ℕ, ◌≡◌, ◌+◌, ◌<◌}
 use Rattle.std.specs.Prelude.{slice_index}
-use Rattle.lower_bound.proofs.runs.is_run.Given as goal
+use Rattle.lower_bound.proofs.consecutive.are_consecutive.Given as goal
 
 -- the tiles before the place follow one another
 abbrev pub invariant-tiles : goal.invariant-tiles

@@ -1,0 +1,11 @@
+use Rattle.std.proofs.Common.{◌≡◌, ◌*◌, ◌≤◌, take, sum_by}
+use Rattle.pattern_index.specs.Views.{view_of}
+use Rattle.database_build.specs.Tables.{value_in}
+use Rattle.database_build.specs.declared.table.TheConstants.{NO_VALUE}
+use Rattle.lower_bound.proofs.reading.sum_by_digits.Given as goal
+
+abbrev pub invariant-tables : goal.invariant-tables
+invariant-tables l = record {
+  is : l.sum ≡ sum_by (λ table. value_in table (view_of table.selection.tiles l.board)) (take l.table-index l.tables);
+  high : l.sum ≤ NO_VALUE * l.table-index;
+}
