@@ -18,7 +18,7 @@ use Rattle.world_model.specs.declared.parts.Item.{Item}
 use Rattle.lower_bound.specs.Slides.{IsMoveOf}
 use Rattle.successor_sums.specs.ByMoves.{FourOf, OfFour, before, entries_of, of_move}
 use Rattle.successor_sums.specs.Unpacked.{is_left_out, but}
-use Rattle.successor_sums.proofs.SumLemmas.{absent_too, exits_of, found, led_by, of_four_by}
+use Rattle.successor_sums.proofs.EntryLemmas.{absent_too, exits_of, found, led_by, of_four_by}
 use Rattle.offers.specs.declared.offer.Offer.{Offer}
 use Rattle.offers.specs.Offers.{Offers, item_by, AreOffered, IsOffered}
 use Rattle.std.proofs.lemmas.List.{drop_more}

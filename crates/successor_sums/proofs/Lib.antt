@@ -1,2 +1,2 @@
-pub mod SumLemmas
+pub mod EntryLemmas
 pub mod MoveLemmas

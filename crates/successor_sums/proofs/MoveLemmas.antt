@@ -1,29 +1,31 @@
 -- What a move changes: cells and keys.
-use Rattle.std.proofs.Common.{◌≡◌, ◌≢◌, ℕ, zero, suc, ◌+◌, ◌-◌, ◌*◌, ◌/◌, ◌%◌, ◌^◌, ◌<◌, ◌≤◌, List, [], ◌∷◌, length, get_or, set, refl, sym, ap, ◌∙◌, subst, arith, Some, ⊎_elim, take}
-use Rattle.std.specs.Prelude.{swap, slice_index}
+use Rattle.std.proofs.Common.{◌≡◌, ◌≢◌, ℕ, zero, suc, ◌+◌, ◌-◌, ◌*◌, ◌/◌, ◌%◌, ◌^◌, ◌<◌, ◌≤◌, List, [], ◌∷◌, length, get_or, set, refl, sym, ap, ◌∙◌, subst, arith, Option, Some}
+use Rattle.std.specs.Prelude.{swap, slice_index, option_map}
 use Rattle.std.proofs.Math.Nat.{pow-suc, pow-le-pow_right, mod-eq_of_lt, mul-add-div_right, mul-add-mod_self_right}
-use Rattle.std.proofs.lemmas.Nat.{pow-add, pow_pos, mul-le, div-mul-add, mod-mul-add}
-use Rattle.std.proofs.lemmas.List.{length-set, get_or-set_other, get_or-set_same, take_all}
+use Rattle.std.proofs.lemmas.Nat.{pow-add, pow_pos, mul-le, div-mul-add}
+use Rattle.std.proofs.lemmas.List.{length-set, get_or-set_other}
 use Rattle.std.proofs.lemmas.List.Edits.{swap_is}
 use Rattle.std.specs.Int.Digits.{AllBelowBase}
-use Rattle.std.proofs.lemmas.Bool.{cases_eq, cases_lt}
 use Rattle.std.proofs.lemmas.List.Elements.{recursion_from_All}
 use Rattle.board.specs.Grids.{Grid, cell_count, IsShape}
 use Rattle.board.specs.Digits.{digits_of}
-use Rattle.board.specs.Positions.{Position, IsBoard, blank_of, cell_of}
+use Rattle.board.specs.Positions.{Position, IsBoard, blank_of}
 use Rattle.board.specs.Keys.{packed_number, key_of, HasKey}
-use Rattle.board.specs.Moves.{blank_exchange}
+use Rattle.board.specs.Moves.{blank_exchange, successor, successor_at}
+use Rattle.board.specs.CostRules.{CostRule, weight_of}
 use Rattle.board.proofs.StepLemmas.{blank_stands, tile_above, tile_below}
-use Rattle.board.proofs.KeyLemmas.{digits_of-key, packed_number-lt, key_of-lt, tiles_small, packed_number-more}
+use Rattle.board.proofs.KeyLemmas.{digits_of-key, packed_number-lt, key_of-lt, tiles_small}
 use Rattle.board.specs.declared.moves.Move.{Move}
 use Rattle.board.specs.Neighbours.{LiesTowards, neighbour}
-use Rattle.board.proofs.TileLemmas.{cell_is, has_cell}
-use Rattle.board.proofs.NeighbourLemmas.{cells_above, neighbour_lies}
-use Rattle.board.proofs.MoveLemmas.{exchange_board, other_cell, cell_below}
+use Rattle.board.proofs.NeighbourLemmas.{cells_above}
+use Rattle.board.proofs.MoveLemmas.{blank_after, exchange_board, other_cell, cell_below}
 use Rattle.pattern_index.specs.Views.{exchanged}
 use Rattle.lower_bound.specs.Slides.{AreCellsOf}
+use Rattle.lower_bound.specs.Bounds.{Part, sum_of}
+use Rattle.lower_bound.specs.declared.bound.TheConstants.{GREATEST_SUM}
 use Rattle.lower_bound.proofs.SlideLemmas.{cells_exchanged}
-use Rattle.successor_sums.specs.Unpacked.{board_in, IsUnpacked}
+use Rattle.successor_sums.specs.Unpacked.{FitsGrid, board_in, IsUnpacked, told_of}
+use Rattle.successor_sums.specs.declared.unpacked.Successor.{Successor}
 use Rattle.successor_sums.specs.declared.unpacked.UnpackedBoard.TheInside.{Inside}
 
 -- ---- the key of a board after a move, by the board's own
@@ -117,138 +119,88 @@ blank_is inside unpacked = unpacked.cells.are 0 (cells_above (board_in inside).g
 pub blank_below : (inside : Inside) → IsUnpacked inside → slice_index inside.cells 0 < cell_count (board_in inside).grid
 blank_below inside unpacked = subst (λ (k : ℕ). k < cell_count (board_in inside).grid) (sym (blank_is inside unpacked)) (blank_stands (board_in inside) unpacked.board).0
 
--- a cell beside the blank lies beside the cell that is kept for it
-pub lies_beside : (inside : Inside) (b : Position) (m : Move) (to : ℕ) → IsUnpacked inside → board_in inside ≡ b → neighbour b.grid m (blank_of b) ≡ Some to → LiesTowards inside.shape m (slice_index inside.cells 0) to
-lies_beside inside b m to unpacked is beside =
-    let here : neighbour (board_in inside).grid m (blank_of (board_in inside)) ≡ Some to = subst (λ (p : Position). neighbour p.grid m (blank_of p) ≡ Some to) (sym is) beside in
-    subst (λ (k : ℕ). LiesTowards inside.shape m k to) (sym (blank_is inside unpacked)) ((neighbour_lies inside.shape m (blank_of (board_in inside)) to (blank_stands (board_in inside) unpacked.board).0).0 here)
-
--- what holds where the blank goes to a cell, on which a tile stands
-pub record IsLedTo (inside : Inside) (to tile : ℕ) : Type 0 where
-  pub below : to < cell_count (board_in inside).grid
-  pub few : cell_count (board_in inside).grid ≤ 25
-  pub blank : slice_index inside.cells 0 ≡ blank_of (board_in inside)
-  pub blank_low : slice_index inside.cells 0 < cell_count (board_in inside).grid
-  pub tile_is : slice_index (board_in inside).tiles to ≡ tile
+-- what holds where the blank goes from its cell to another, on which a tile stands
+pub record IsLedTo (inside : Inside) (b : Position) (count from to tile : ℕ) : Type 0 where
+  pub tile_is : slice_index b.tiles to ≡ tile
   pub tile_some : 0 < tile
-  pub tile_low : tile < cell_count (board_in inside).grid
-  pub key_low : tile * 32 ^ (cell_count (board_in inside).grid - 1 - to) ≤ inside.key
-  pub key_is : inside.key - tile * 32 ^ (cell_count (board_in inside).grid - 1 - to) + tile * 32 ^ (cell_count (board_in inside).grid - 1 - slice_index inside.cells 0) ≡ key_of (blank_exchange (board_in inside) to)
-  pub key_fits : key_of (blank_exchange (board_in inside) to) < 2 ^ 125
-  pub board : IsBoard (blank_exchange (board_in inside) to)
-  pub cells : (cells : List ℕ) → AreCellsOf (board_in inside) cells → AreCellsOf (blank_exchange (board_in inside) to) (exchanged cells tile)
+  pub tile_low : tile < cell_count b.grid
+  pub small : tile < 25
+  pub key_low : tile * 32 ^ (count - 1 - to) ≤ inside.key
+  pub key_is : inside.key - tile * 32 ^ (count - 1 - to) + tile * 32 ^ (count - 1 - from) ≡ key_of (blank_exchange b to)
+  pub key_fits : key_of (blank_exchange b to) < 2 ^ 125
+  pub board : IsBoard (blank_exchange b to)
+  pub blank : blank_of (blank_exchange b to) ≡ to
+  pub cells : AreCellsOf (blank_exchange b to) (exchanged inside.cells tile)
 
-module _ (inside : Inside) (grid : Grid) (m : Move) (to : ℕ) (unpacked : IsUnpacked inside) (same : grid ≡ (board_in inside).grid) (lies : LiesTowards grid m (slice_index inside.cells 0) to) where
+module _ (inside : Inside) (m : Move) (count from to : ℕ) (unpacked : IsUnpacked inside) (counted : count ≡ cell_count inside.shape) (at : from ≡ blank_of (board_in inside)) (lies : LiesTowards inside.shape m from to) where
   abbrev b : Position
   b = (board_in inside)
 
-  lies_here : LiesTowards b.grid m (slice_index inside.cells 0) to
-  lies_here = subst (λ (g : Grid). LiesTowards g m (slice_index inside.cells 0) to) same lies
-
-  pub below : to < cell_count (board_in inside).grid
-  below = cell_below b.grid m (slice_index inside.cells 0) to lies_here
+  below : to < cell_count b.grid
+  below = cell_below b.grid m from to lies
 
   other : to ≢ blank_of b
-  other at = other_cell b.grid m (slice_index inside.cells 0) to lies_here (at ∙ sym (blank_is inside unpacked))
+  other same = other_cell b.grid m from to lies (same ∙ sym at)
 
   after : IsBoard (blank_exchange b to)
   after = exchange_board b (blank_of b) to unpacked.board (blank_stands b unpacked.board).0 below
 
-  few : cell_count b.grid ≤ 25
-  few = few_cells b.grid unpacked.board.sides
-
   fits : key_of (blank_exchange b to) < 2 ^ 125
   fits =
       let low : key_of (blank_exchange b to) < 32 ^ cell_count b.grid = key_of-lt (blank_exchange b to) after in
-      let most : 32 ^ cell_count b.grid ≤ 32 ^ 25 = pow-le-pow_right {n = 32} (omega arith) {j = 25} few in
+      let most : 32 ^ cell_count b.grid ≤ 32 ^ 25 = pow-le-pow_right {n = 32} (omega arith) {j = 25} (few_cells b.grid unpacked.board.sides) in
       omega arith
 
-  led_there : IsLedTo inside to (get_or (board_in inside).tiles to 0)
+  led_there : IsLedTo inside b count from to (get_or b.tiles to 0)
   led_there =
-      let blank = blank_is inside unpacked in
       let key = moved_key b to unpacked.board below other in
+      let low : get_or b.tiles to 0 < cell_count b.grid = tile_below b to unpacked.board below in
+      let few = few_cells b.grid unpacked.board.sides in
       record {
-        below = below;
-        few = few;
-        blank = blank;
-        blank_low = blank_below inside unpacked;
         tile_is = refl;
         tile_some = tile_above b to unpacked.board below other;
-        tile_low = tile_below b to unpacked.board below;
-        key_low = subst (λ (k : ℕ). get_or b.tiles to 0 * 32 ^ (cell_count b.grid - 1 - to) ≤ k) unpacked.key key.0;
-        key_is = (λ i. sym unpacked.key i - get_or b.tiles to 0 * 32 ^ (cell_count b.grid - 1 - to) + get_or b.tiles to 0 * 32 ^ (cell_count b.grid - 1 - blank i)) ∙ key.1;
+        tile_low = low;
+        small = omega (arith, low, few);
+        key_low = subst (λ (k : ℕ). get_or b.tiles to 0 * 32 ^ (count - 1 - to) ≤ k) unpacked.key (subst (λ (n : ℕ). get_or b.tiles to 0 * 32 ^ (n - 1 - to) ≤ key_of b) (sym counted) key.0);
+        key_is = (λ i. sym unpacked.key i - get_or b.tiles to 0 * 32 ^ (counted i - 1 - to) + get_or b.tiles to 0 * 32 ^ (counted i - 1 - at i)) ∙ key.1;
         key_fits = fits;
         board = after;
-        cells = λ cs of. cells_exchanged b cs to unpacked.board of below other;
+        blank = blank_after b unpacked.board to below;
+        cells = cells_exchanged b inside.cells to unpacked.board unpacked.cells below other;
       }
 
   -- the tile is a digit of the key
-  pub led_to : (tile : ℕ) → tile ≡ inside.key / 32 ^ (cell_count (board_in inside).grid - 1 - to) % 32 → IsLedTo inside to tile
-  led_to tile read =
+  led_here : (tile : ℕ) → tile ≡ inside.key / 32 ^ (count - 1 - to) % 32 → IsLedTo inside b count from to tile
+  led_here tile read =
       let one_each = unpacked.board.one_each in
       let low = below in
       let behind : ℕ = cell_count b.grid - 1 - to in
       let digit : packed_number b.tiles / 32 ^ behind % 32 ≡ get_or b.tiles to 0 = digit_there b.tiles to behind (omega arith) (recursion_from_All (λ x. x < 32) b.tiles (tiles_small b unpacked.board)) in
-      subst (λ (t : ℕ). IsLedTo inside to t) (sym (read ∙ ap (λ (k : ℕ). k / 32 ^ behind % 32) (sym unpacked.key) ∙ digit)) led_there
+      subst (λ (t : ℕ). IsLedTo inside b count from to t) (sym (read ∙ (λ i. sym unpacked.key i / 32 ^ (counted i - 1 - to) % 32) ∙ digit)) led_there
 
--- ---- the cell of each number, read from a key from the last cell on
+-- so it is for the board that lies in memory
+pub led_to : (inside : Inside) (b : Position) (m : Move) (count from to tile : ℕ) → IsUnpacked inside → board_in inside ≡ b → count ≡ cell_count inside.shape → from ≡ blank_of b → LiesTowards inside.shape m from to → tile ≡ inside.key / 32 ^ (count - 1 - to) % 32 → IsLedTo inside b count from to tile
+led_to inside b m count from to tile unpacked is counted at lies read = subst (λ (p : Position). IsLedTo inside p count from to tile) is (led_here inside m count from to unpacked counted (at ∙ sym (ap blank_of is)) lies tile read)
 
--- before the first cell is read the whole key is left
-pub whole_key : (grid : Grid) (key n : ℕ) (b : Position) → HasKey grid key b → n ≡ cell_count grid → key ≡ packed_number (take n b.tiles)
-whole_key grid key n b has counted =
-    let sides : cell_count b.grid ≡ cell_count grid = ap cell_count has.sides in
-    let long = has.board.one_each in
-    sym has.packed ∙ ap packed_number (sym (take_all n b.tiles (omega arith)))
+-- ---- what is told of a successor
 
--- and no number stands behind
-pub none_behind : (grid : Grid) (key n : ℕ) (b : Position) → HasKey grid key b → n ≡ cell_count grid → (number : ℕ) → number < cell_count b.grid → n ≤ cell_of b number → ⊥
-none_behind grid key n b has counted number low behind =
-    let sides : cell_count b.grid ≡ cell_count grid = ap cell_count has.sides in
-    let long = has.board.one_each in
-    let found = has_cell b has.board number low in
-    omega (arith, found.0)
+module _ (rule : CostRule) (parts : List Part) (b : Position) (m : Move) (inside : Inside) (count from : ℕ) (s : Successor) (led : IsLedTo inside b count from s.cell s.tile) where
+  -- where a move leads there, this is what is told of it
+  pub some_told : neighbour b.grid m (blank_of b) ≡ Some s.cell → s.key ≡ key_of (blank_exchange b s.cell) → s.cost ≡ weight_of rule s.tile → s.sum ≡ sum_of parts (blank_exchange b s.cell) → Some s ≡ option_map (told_of parts b) (successor rule b m)
+  some_told found key cost sum =
+      let tile : s.tile ≡ slice_index b.tiles (blank_of (blank_exchange b s.cell)) = sym led.tile_is ∙ sym (ap (slice_index b.tiles) led.blank) in
+      (λ i. Some (record { key = key i; tile = tile i; cell = sym led.blank i; cost = (cost ∙ ap (weight_of rule) (sym led.tile_is)) i; sum = sum i }))
+      ∙ ap (λ (o : Option ℕ). option_map (told_of parts b) (option_map (successor_at rule b) o)) (sym found)
 
-module _ (grid : Grid) (key cell rest : ℕ) (b : Position) (has : HasKey grid key b) (some : 0 < cell) (within : cell ≤ cell_count grid) (is : rest ≡ packed_number (take cell b.tiles)) where
-  size : cell ≤ length b.tiles
-  size = let long = has.board.one_each in let sides : cell_count b.grid ≡ cell_count grid = ap cell_count has.sides in omega arith
-
-  before : cell - 1 < length b.tiles
-  before = let long = size in omega arith
-
-  more : packed_number (take cell b.tiles) ≡ packed_number (take (cell - 1) b.tiles) * 32 + get_or b.tiles (cell - 1) 0
-  more =
-      let e : cell - 1 + 1 ≡ cell = omega arith in
-      subst (λ (n : ℕ). packed_number (take n b.tiles) ≡ packed_number (take (cell - 1) b.tiles) * 32 + get_or b.tiles (cell - 1) 0) e (packed_number-more b.tiles (cell - 1) before)
-
-  -- the last digit is the number on the cell before, and the others are left
-  pub last_digit : rest % 32 ≡ get_or b.tiles (cell - 1) 0
-  last_digit = ap (λ (n : ℕ). n % 32) (is ∙ more) ∙ mod-mul-add (packed_number (take (cell - 1) b.tiles)) 32 (get_or b.tiles (cell - 1) 0) (tiles_small b has.board (cell - 1) 0 before)
-
-  pub digits_left : rest / 32 ≡ packed_number (take (cell - 1) b.tiles)
-  digits_left = ap (λ (n : ℕ). n / 32) (is ∙ more) ∙ div-mul-add (packed_number (take (cell - 1) b.tiles)) 32 (get_or b.tiles (cell - 1) 0) (tiles_small b has.board (cell - 1) 0 before)
-
-  pub digit_low : rest % 32 < 25
-  digit_low =
-      let digit = last_digit in
-      let low : get_or b.tiles (cell - 1) 0 < cell_count b.grid = has.board.in_range (cell - 1) 0 before in
-      let few = few_cells b.grid has.board.sides in
-      omega arith
-
-  -- the cell of one more number is known
-  pub known_more : (cells : List ℕ) → length cells ≡ 25 → ((number : ℕ) → number < cell_count b.grid → cell ≤ cell_of b number → get_or cells number 0 ≡ cell_of b number) → (number : ℕ) → number < cell_count b.grid → cell - 1 ≤ cell_of b number → get_or (set cells (rest % 32) (cell - 1)) number 0 ≡ cell_of b number
-  known_more cells long known number low behind =
-      let stands : cell_of b (get_or b.tiles (cell - 1) 0) ≡ cell - 1 = cell_is b has.board.different (cell - 1) (get_or b.tiles (cell - 1) 0) before refl in
-      let fits = digit_low in
-      ⊎_elim
-      (λ (same : number ≡ rest % 32).
-      ap (λ (n : ℕ). get_or (set cells (rest % 32) (cell - 1)) n 0) same
-      ∙ get_or-set_same cells (rest % 32) (cell - 1) 0 (omega arith)
-      ∙ sym (ap (cell_of b) (same ∙ last_digit) ∙ stands))
-      (λ (other : number ≢ rest % 32).
-      let found = has_cell b has.board number low in
-      let apart : cell_of b number ≢ cell - 1 = λ at. other (sym found.1 ∙ ap (λ (k : ℕ). get_or b.tiles k 0) at ∙ sym last_digit) in
-      get_or-set_other cells (rest % 32) number (cell - 1) 0 other ∙ known number low (past cell (cell_of b number) behind apart))
-      (cases_eq number (rest % 32))
-    where
-      past : (x y : ℕ) → x - 1 ≤ y → y ≢ x - 1 → x ≤ y
-      past x y le ne = ⊎_elim (λ (h : y < x). absurd (ne (omega arith))) (λ (h : x ≤ y). h) (cases_lt y x)
+  -- and it fits the board's grid
+  pub fits_grid : s.key ≡ key_of (blank_exchange b s.cell) → s.cell < cell_count b.grid → 1 ≤ s.cost → s.cost ≤ 255 → s.sum ≤ GREATEST_SUM → FitsGrid b.grid s
+  fits_grid key cell low high sum = record {
+    board = blank_exchange b s.cell;
+    key = record { board = led.board; sides = refl; packed = sym key };
+    tile_some = led.tile_some;
+    tile_low = led.tile_low;
+    cell = cell;
+    cost_some = low;
+    cost_low = high;
+    sum = sum;
+  }

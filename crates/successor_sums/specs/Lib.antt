@@ -1,3 +1,2 @@
 pub mod ByMoves
-pub mod Exits
 pub mod Unpacked

@@ -1,16 +1,12 @@
-//! The moves by which the blank stays on the board, and what is told of each.
+//! The moves by which the blank stays on the board.
 
-ghost use Rattle.std.specs.Prelude.{ℕ, ◌≡◌, ◌<◌, ◌≤◌, Option, length, slice_index_or};
-ghost use Rattle.board.specs.declared.moves.Move.{Move};
+ghost use Rattle.std.specs.Prelude.{◌≡◌, ◌<◌};
 ghost use Rattle.board.specs.Grids.{cell_count};
 ghost use Rattle.board.specs.Neighbours.{neighbour};
-ghost use Rattle.successor_sums.specs.declared.unpacked.Successor.{Successor};
-ghost use Rattle.successor_sums.specs.ByMoves.{IsBehind, OfFour, entries_of, four_by, with_move};
-ghost use Rattle.successor_sums.specs.Exits.{IsToldOf};
+ghost use Rattle.successor_sums.specs.ByMoves.{IsBehind, four_by, with_move};
 ghost use Rattle.successor_sums.specs.Unpacked.{but, is_left_out};
 
-use crate::by_moves::{ByMoves, MOVES};
-use crate::unpacked::Successor;
+use crate::by_moves::ByMoves;
 use board::{Move, Shape};
 
 /// Finds the cells to which the blank can go from a cell, except by a move that is left out, if any
@@ -53,22 +49,4 @@ fn leaves_out(left_out: Option<Move>, direction: Move) -> bool
         return false;
     };
     back == direction
-}
-
-// Tells of the moves that lead to a cell what was reached by them, one after the other.
-pub(crate) fn tell(
-    exits: &ByMoves<usize>,
-    reached: &[Successor; MOVES],
-    told: &mut ByMoves<Successor>,
-)
-    ensures value { (made : Move → Option Successor) → IsToldOf exits.now reached.now made
-        → told.new ≡ four_by made }
-    ensures reached { OfFour (λ s. (i : ℕ) × (i < length (entries_of exits.now))
-        × ((d : Successor) → slice_index_or reached.now i d ≡ s)) told.new }
-{
-    told.clear();
-    'exits: for place in 0..exits.len() {
-        let (direction, _) = exits.entry(place);
-        told.put_if(direction, reached[place], true);
-    }
 }

@@ -1,4 +1,4 @@
-//! The sums of all successors of a board: the inner loop of an expansion.
+//! The successors of a board with their sums, and the cells to which its blank can go.
 //!
 //! A board is taken apart once, with the cell of each tile beside the tiles. A successor is then
 //! two cells exchanged, and is told by its key: no board is made of it.
@@ -10,4 +10,4 @@ mod unpacked;
 
 pub use by_moves::{ByMoves, MOVES};
 pub use exits::find_exits;
-pub use unpacked::{Successor, UnpackedBoard, no_successors};
+pub use unpacked::{Successor, UnpackedBoard};

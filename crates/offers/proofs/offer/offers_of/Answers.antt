@@ -8,7 +8,7 @@ use Rattle.board.specs.Positions.{blank_of}
 use Rattle.lower_bound.specs.Bounds.{sum_of}
 use Rattle.lower_bound.specs.Tables.{parts_of}
 use Rattle.successor_sums.specs.ByMoves.{IsBehind, entries_of}
-use Rattle.successor_sums.proofs.SumLemmas.{put_entry, at_end, before_end, behind_those, exits_here, exits_of, led_by, of_entries}
+use Rattle.successor_sums.proofs.EntryLemmas.{put_entry, at_end, before_end, behind_those, exits_here, exits_of, led_by, of_entries}
 use Rattle.offers.specs.declared.offer.Offer.{Offer}
 use Rattle.offers.specs.Offers.{item_by, IsOffered, IsWithin}
 use Rattle.offers.specs.Terms.{OriginModel}

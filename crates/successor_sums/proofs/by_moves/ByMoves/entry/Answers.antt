@@ -1,7 +1,7 @@
 use Rattle.std.proofs.Common.{◌<◌, length, get_or, sym, ap, ◌∙◌, subst}
 use Rattle.board.specs.declared.moves.Move.TheVariants.{U}
 use Rattle.successor_sums.specs.ByMoves.{entries_of}
-use Rattle.successor_sums.proofs.SumLemmas.{first_of-at}
+use Rattle.successor_sums.proofs.EntryLemmas.{first_of-at}
 use Rattle.successor_sums.proofs.by_moves.ByMoves.entry.Goals as goal
 
 pub returns : goal.returns

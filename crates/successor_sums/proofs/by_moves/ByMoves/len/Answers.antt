@@ -1,6 +1,6 @@
 use Rattle.std.proofs.Common.{length, sym, ap, ◌∙◌, arith}
 use Rattle.successor_sums.specs.ByMoves.{entries_of}
-use Rattle.successor_sums.proofs.SumLemmas.{first_of-length}
+use Rattle.successor_sums.proofs.EntryLemmas.{first_of-length}
 use Rattle.successor_sums.proofs.by_moves.ByMoves.len.Goals as goal
 
 pub returns-clause-value : goal.returns-clause-value

@@ -2,7 +2,7 @@ use Rattle.std.proofs.Common.{◌≡◌, ◌<◌, ℕ, Some, get_or, refl, sym, 
 use Rattle.std.proofs.Math.Nat.{eq-or-lt_of_le}
 use Rattle.board.specs.declared.moves.Move.{Move}
 use Rattle.successor_sums.specs.ByMoves.{entries_of, of_move}
-use Rattle.successor_sums.proofs.SumLemmas.{none_there, stands_at}
+use Rattle.successor_sums.proofs.EntryLemmas.{none_there, stands_at}
 use Rattle.successor_sums.proofs.by_moves.ByMoves.of.Goals as goal
 
 pub returns-then-eq : goal.returns-then-eq

@@ -1,7 +1,7 @@
 use Rattle.std.proofs.Common.{sym, ap, ◌∙◌, subst}
 use Rattle.std.specs.Prelude.{if◌then◌else◌, Some, None}
 use Rattle.successor_sums.specs.ByMoves.{IsBehind, with_move}
-use Rattle.successor_sums.proofs.SumLemmas.{put_listed}
+use Rattle.successor_sums.proofs.EntryLemmas.{put_listed}
 use Rattle.successor_sums.proofs.by_moves.ByMoves.put_if.Goals as goal
 
 pub invariant_of-self : goal.invariant_of-self

@@ -1,6 +1,6 @@
--- Entries for the moves, and the sum of a board after each.
+-- Entries for the moves, and what moves make that aren't left out.
 use Rattle.std.proofs.Common.{◌≡◌, ◌≢◌, ℕ, zero, suc, ◌<◌, ◌≤◌, List, [], ◌∷◌, ◌++◌, length, get_or, Option, Some, None, refl, sym, ap, ◌∙◌, subst, arith, ◌+◌, Bool, true, false, set, ⊎_elim}
-use Rattle.std.specs.Prelude.{⊤, IfSome, if◌then◌else◌, slice_index, option_map}
+use Rattle.std.specs.Prelude.{⊤, IfSome, if◌then◌else◌}
 use Rattle.std.specs.List.{AllByRecursion}
 use Rattle.std.proofs.lemmas.List.Elements.{All-from_recursion, recursion_from_All}
 use Rattle.std.proofs.lemmas.List.{length-set}
@@ -9,23 +9,11 @@ use mir.Val.{bool_byte}
 use Rattle.board.specs.declared.moves.Move.{Move}
 use Rattle.board.specs.declared.moves.Move.TheVariants.{U, L, R, D}
 use Rattle.board.specs.Grids.{Grid}
-use Rattle.board.specs.Positions.{Position, IsBoard, blank_of}
-use Rattle.board.specs.CostRules.{CostRule, weight_of}
+use Rattle.board.specs.Positions.{Position, blank_of}
 use Rattle.board.specs.Neighbours.{neighbour}
-use Rattle.board.specs.Moves.{blank_exchange, successor, successor_at}
-use Rattle.board.proofs.NeighbourLemmas.{neighbour_lies}
-use Rattle.board.proofs.StepLemmas.{blank_stands}
 use Rattle.successor_sums.specs.ByMoves.{FourOf, IsBehind, OfFour, before, entries_of, four_by, of_move, IsListed, first_of, four_from, four_in, with_move}
 use Rattle.successor_sums.specs.declared.by_moves.ByMoves.TheInside.{Inside}
-use Rattle.successor_sums.specs.Exits.{IsToldOf}
-use Rattle.lower_bound.specs.Bounds.{Part, sum_of}
-use Rattle.pattern_index.specs.Views.{exchanged}
-use Rattle.lower_bound.specs.Slides.{AreCellsOf, HasCells, IsSlide}
-use Rattle.lower_bound.specs.Tables.{Tables, parts_of}
-use Rattle.lower_bound.specs.declared.bound.TheConstants.{GREATEST_SUM}
-use Rattle.successor_sums.specs.Unpacked.{AreSummed, FitsGrid, IsReached, IsUnpacked, board_in, but, is_left_out, told_of, with_sum}
-use Rattle.successor_sums.specs.declared.unpacked.UnpackedBoard.TheInside.{Inside as Unpacked}
-use Rattle.successor_sums.specs.declared.unpacked.Successor.{Successor}
+use Rattle.successor_sums.specs.Unpacked.{but, is_left_out}
 
 -- ---- the entries of what stands for some of the four moves: what holds of each entry
 
@@ -205,20 +193,6 @@ absent_too {A = A} {B = B} a b all same m is = by (of_move a m) refl
         let within : place.0 < length (entries_of b) = omega (arith, low, all) in
         absurd (any (entries_of b) place.0 within (λ d. stands_at b place.0 d within) (λ d. same place.0 d (m, y) low ∙ ap (λ (e : Move × A). e.0) (place.2 (m, y))))
 
--- what has the same moves as another, each with what a function makes for it, is what the function makes
-pub made_by : {A B : Type 0} (a : FourOf A) (b : FourOf B) (made : Move → Option B) → length (entries_of b) ≡ length (entries_of a) → ((j : ℕ) (d : Move × B) (e : Move × A) → j < length (entries_of a) → (get_or (entries_of b) j d).0 ≡ (get_or (entries_of a) j e).0) → ((j : ℕ) (d : Move × B) → j < length (entries_of b) → made (get_or (entries_of b) j d).0 ≡ Some (get_or (entries_of b) j d).1) → ((m : Move) → of_move a m ≡ None → made m ≡ None) → b ≡ four_by made
-made_by {A = A} {B = B} a b made all same there none = λ i. record { up = one U i; left = one L i; right = one R i; down = one D i }
-  where
-    by : (m : Move) (o : Option B) → of_move b m ≡ o → o ≡ made m
-    by m None is = sym (none m (absent_too a b all same m is))
-    by m (Some x) is =
-        let place = found b m x is in
-        let at = place.2 (m, x) in
-        sym (ap (λ (e : Move × B). made e.0) (sym at) ∙ there place.0 (m, x) place.1 ∙ ap (λ (e : Move × B). Some e.1) at)
-
-    one : (m : Move) → of_move b m ≡ made m
-    one m = by m (of_move b m) refl
-
 -- ---- entries in the order of the moves: the first of a list of moves, each with its item
 
 pub first_of-length : {A : Type 0} (count : ℕ) (moves : List Move) (items : List A) → count ≤ length moves → count ≤ length items → length (first_of count moves items) ≡ count
@@ -299,49 +273,7 @@ put_listed {A = A} inside m x false listed behind =
     let four : four_from (first_of (inside.count + bool_byte false) (set inside.moves inside.count m) (set inside.items inside.count x)) ≡ four_in inside = ap four_from made in
     (record { moves = length-set inside.moves inside.count m ∙ listed.moves; items = length-set inside.items inside.count x ∙ listed.items; few = omega (arith, none, few); order = made ∙ listed.order ∙ sym (ap entries_of four) }, four ∙ sym put.2)
 
--- ---- what was reached
-
--- the board, with its cells
-pub has_cells : (tables : Tables) (inside : Unpacked) (b : Position) → IsUnpacked inside → board_in inside ≡ b → tables.split.grid ≡ b.grid → HasCells tables.split.grid inside.cells b
-has_cells tables inside b unpacked is same = record { board = subst IsBoard is unpacked.board; sides = sym same; listed = subst (λ (p : Position). AreCellsOf p inside.cells) is unpacked.cells }
-
-module _ (tables : Tables) (inside : Unpacked) (b : Position) (unpacked : IsUnpacked inside) (is : board_in inside ≡ b) (same : tables.split.grid ≡ b.grid) (rule : CostRule) (m : Move) (r : Successor) (at : IsReached rule b m r) where
-  -- a move leads to what was reached
-  pub slides : IsSlide tables.split.grid inside.cells r.tile b (blank_exchange b at.to)
-  slides =
-      let has = has_cells tables inside b unpacked is same in
-      record {
-        before = has;
-        move = record {
-          rule = rule;
-          direction = m;
-          cost = weight_of rule (slice_index b.tiles at.to);
-          moves = record { cell = at.to; towards = (neighbour_lies b.grid m (blank_of b) at.to (blank_stands b has.board).0).0 at.found; after = refl; cost = refl };
-          moved = at.tile ∙ sym (ap (slice_index b.tiles) at.blank);
-        };
-      }
-
-  -- and it has its cells
-  pub has_after : HasCells tables.split.grid (exchanged inside.cells r.tile) (blank_exchange b at.to)
-  has_after = let has = has_cells tables inside b unpacked is same in record { board = at.board; sides = sym same; listed = at.cells inside.cells has.listed }
-
-  -- its sum is told by its cell
-  pub by_cell : sum_of (parts_of tables) (blank_exchange b at.to) ≡ sum_of (parts_of tables) (blank_exchange b r.cell)
-  by_cell = ap (λ (k : ℕ). sum_of (parts_of tables) (blank_exchange b k)) (sym at.cell)
-
-  pub small : r.tile < 25
-  small = omega (arith, at.tile_low, at.few)
-
--- ---- what is told of a successor
-
--- what the definition tells
-told_is : (rule : CostRule) (parts : List Part) (b : Position) (m : Move) (r : Successor) → IsReached rule b m r → option_map (told_of parts b) (successor rule b m) ≡ Some (with_sum r (sum_of parts (blank_exchange b r.cell)))
-told_is rule parts b m r is =
-    let cell : r.cell ≡ blank_of (blank_exchange b is.to) = is.cell ∙ sym is.blank in
-    let tile : r.tile ≡ slice_index b.tiles (blank_of (blank_exchange b is.to)) = is.tile ∙ sym (ap (slice_index b.tiles) is.blank) in
-    let all : sum_of parts (blank_exchange b r.cell) ≡ sum_of parts (blank_exchange b is.to) = ap (λ (k : ℕ). sum_of parts (blank_exchange b k)) is.cell in
-    ap (λ (o : Option ℕ). option_map (told_of parts b) (option_map (successor_at rule b) o)) is.found
-    ∙ sym (λ i. Some (record { key = is.key i; tile = tile i; cell = cell i; cost = is.cost i; sum = all i }))
+-- ---- what moves make that aren't left out
 
 -- a move that isn't left out makes what it makes
 but_some : {A : Type 0} (left_out : Option Move) (made : Move → Option A) (m : Move) (x : A) → but left_out made m ≡ Some x → (is_left_out left_out m ≡ false) × (made m ≡ Some x)
@@ -376,50 +308,3 @@ led_by left_out b exits is i e low = kept_by left_out (λ m. neighbour b.grid m 
 
 pub exits_here : (left_out : Option Move) (b : Position) (shape : Grid) (blank : ℕ) (exits : FourOf ℕ) → exits ≡ four_by (but left_out (λ m. neighbour shape m blank)) → shape ≡ b.grid → blank ≡ blank_of b → exits ≡ exits_of left_out b
 exits_here left_out b shape blank exits is same at = is ∙ (λ i. four_by (but left_out (λ m. neighbour (same i) m (at i))))
-
--- what was reached by these and has its sum is what the definition tells, but for one move that is left out
-pub told_all : (left_out : Option Move) (rule : CostRule) (parts : List Part) (b : Position) (exits : FourOf ℕ) (reached summed : List Successor) → exits ≡ exits_of left_out b → ((i : ℕ) (d : Successor) (e : Move × ℕ) → i < length (entries_of exits) → IsReached rule b (get_or (entries_of exits) i e).0 (get_or reached i d)) → AreSummed parts b (length (entries_of exits)) reached summed → IsToldOf exits summed (but left_out (λ m. option_map (told_of parts b) (successor rule b m)))
-told_all left_out rule parts b exits reached summed is by summed_by = record {
-  each = λ i d e low.
-      let m = (get_or (entries_of exits) i e).0 in
-      let led = led_by left_out b exits is i e low in
-      cond-false _ _ _ led.0
-      ∙ told_is rule parts b m (get_or reached i d) (by i d e low)
-      ∙ ap (λ (s : Successor). Some s) (sym (summed_by i d low).0);
-  none = λ m none.
-      let at : but left_out (λ k. neighbour b.grid k (blank_of b)) m ≡ None = sym (of_four_by (but left_out (λ k. neighbour b.grid k (blank_of b))) m) ∙ ap (λ (four : FourOf ℕ). of_move four m) (sym is) ∙ none in
-      ⊎_elim
-      (λ (out : is_left_out left_out m ≡ true). cond-true _ _ _ out)
-      (λ (stays : is_left_out left_out m ≡ false). cond-false _ _ _ stays ∙ ap (λ (o : Option ℕ). option_map (told_of parts b) (option_map (successor_at rule b) o)) (sym (cond-false _ _ _ stays) ∙ at))
-      (cases_Bool (is_left_out left_out m));
-}
-
--- what holds of all that was reached and has its sum, holds of what is told
-pub of_told : (P : Successor → Type 0) (rule : CostRule) (parts : List Part) (b : Position) (exits : FourOf ℕ) (reached summed : List Successor) (told : FourOf Successor) → ((m : Move) (r : Successor) → IsReached rule b m r → (n : ℕ) → n ≤ GREATEST_SUM → P (with_sum r n)) → ((i : ℕ) (d : Successor) (e : Move × ℕ) → i < length (entries_of exits) → IsReached rule b (get_or (entries_of exits) i e).0 (get_or reached i d)) → AreSummed parts b (length (entries_of exits)) reached summed → OfFour (λ s. (i : ℕ) × (i < length (entries_of exits)) × ((d : Successor) → get_or summed i d ≡ s)) told → OfFour P told
-of_told P rule parts b exits reached summed told holds by is all = (one told.up all.0, one told.left all.1, one told.right all.2, one told.down all.3)
-  where
-    one : (o : Option Successor) → IfSome o (λ s. (i : ℕ) × (i < length (entries_of exits)) × ((d : Successor) → get_or summed i d ≡ s)) → IfSome o P
-    one None none = tt
-    one (Some s) at =
-        let i = at.0 in
-        let low = at.1 in
-        let e : Move × ℕ = (U, 0) in
-        let r = get_or reached i s in
-        let sums = is i s low in
-        let m = (get_or (entries_of exits) i e).0 in
-        let n = sum_of parts (blank_exchange b r.cell) in
-        let value : n ≤ GREATEST_SUM = subst (λ (k : ℕ). k ≤ GREATEST_SUM) (ap (λ (x : Successor). x.sum) sums.0) sums.1 in
-        subst P (sym sums.0 ∙ at.2 s) (holds m r (by i s e low) n value)
-
--- it fits the board's grid
-pub fits : (rule : CostRule) (b : Position) (m : Move) (r : Successor) → IsReached rule b m r → (n : ℕ) → n ≤ GREATEST_SUM → FitsGrid b.grid (with_sum r n)
-fits rule b m r is n low = record {
-  board = blank_exchange b is.to;
-  key = record { board = is.board; sides = refl; packed = sym is.key };
-  tile_some = is.tile_some;
-  tile_low = is.tile_low;
-  cell = omega (arith, is.cell, is.below);
-  cost_some = is.low;
-  cost_low = is.high;
-  sum = low;
-}
