@@ -54,7 +54,8 @@ impl<'a, R: Wait, G: Gate, C: Tokens> Site<'a, R, G, C> {
         requires { Holds S.owner_of C.workers part.old }
         ensures { KeepsPart S.owner_of C.workers part.old part.new }
     {
-        if !has_news(part) {
+        let goal = part.job.keyed_goal();
+        if !part.worker.knows_better(goal, part.worker.best()) {
             return;
         }
         let announced = part.announce(&mut self.book.lock(self.rt));
@@ -104,17 +105,5 @@ impl<'a, R: Wait, G: Gate, C: Tokens> Site<'a, R, G, C> {
         }
         self.signs.mark_stopped();
         self.gate.pass(part.me, Kind::Halt);
-    }
-}
-
-// Whether a worker knows the goal at a cost below its copy of the best one. Only the goal's owner
-// ever does.
-fn has_news<S: Spread, C: Tokens>(part: &Part<'_, S, C>) -> bool {
-    let Some(known) = part.worker.lists().get(part.job.keyed_goal().key()) else {
-        return false;
-    };
-    match part.worker.best().cost() {
-        Some(cost) => known.cost < cost,
-        None => true,
     }
 }

@@ -154,8 +154,8 @@ impl<C: Counting> Worker<C> {
         self.lists.floor()
     }
 
-    // Whether the goal is known at a cost below the best one.
-    fn knows_better(&self, goal: &Goal, best: Best) -> bool
+    /// Whether it knows the goal at a cost below the best one.
+    pub fn knows_better(&self, goal: &Goal, best: Best) -> bool
         ensures yes { IsTrue result → (known : Known)
             × (map.get self.now.lists.closed.known (search_key goal.now) ≡ Some known)
             × (¬ IsNotBelow (Some known.cost) best) }
