@@ -12,6 +12,7 @@ use board::{Board, Move, Shape, Weights};
 use message_ledger::{Allowance, Credit, Grants, Plain, Purse};
 use owners::ByBlank;
 use quiescence::Book;
+use search_keys::KeyedBoard;
 use std::alloc::Global;
 use std::io::{self, Print};
 use test_worlds::bound_of;
@@ -87,7 +88,7 @@ fn begin(
         return None;
     };
     let item = Item {
-        board: start,
+        board: KeyedBoard::new(&start),
         cost: 0,
         via: Move::U,
     };

@@ -21,6 +21,7 @@ use memory::OutOfMemory;
 use message_ledger::{Allowance, Credit, Grants, Plain, Purse};
 use owners::Spread;
 use quiescence::Book;
+use search_keys::KeyedBoard;
 use std::alloc::Global;
 use worker_core::laws::tasks_have_guides;
 use worker_core::{Context, Queue, Worker};
@@ -129,7 +130,7 @@ fn first_worker<S: Spread>(
     let _ = context.goal.shape();
     let mut worker = Worker::new(alloc, context.workers, purse, Allowance::plain())?;
     let item = Item {
-        board: *start,
+        board: KeyedBoard::new(start),
         cost: 0,
         via: Move::U,
     };

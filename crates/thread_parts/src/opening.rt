@@ -18,6 +18,7 @@ use memory::OutOfMemory;
 use message_ledger::{Allowance, Counting, Purse, Tokens};
 use owners::Spread;
 use rings::Ends;
+use search_keys::KeyedBoard;
 use std::alloc::Global;
 use thread_model::laws::openings_are_kept;
 use worker_core::Worker;
@@ -91,7 +92,7 @@ fn open_worker<S: Spread, C: Counting>(
         return Ok(worker);
     }
     let item = Item {
-        board: *search.job.start(),
+        board: KeyedBoard::new(search.job.start()),
         cost: 0,
         via: Move::U,
     };

@@ -11,7 +11,6 @@ use crate::lanes::{LaneIn, LaneOut};
 use crate::packets::{put_packet, take_packet};
 use crate::worker::Worker;
 use message_ledger::{Counting, Packet};
-use search_keys::KeyedBoard;
 use search_lists::SearchLists;
 use world_model::{Item, PACKET_LIMIT, Refusal};
 
@@ -83,7 +82,7 @@ fn read_ahead(lists: &mut SearchLists, items: &[Item])
 {
     let mut keys = [0; PACKET_LIMIT];
     'keys: for (key, item) in keys.iter_mut().zip(items) {
-        *key = KeyedBoard::new(&item.board).key();
+        *key = item.board.key();
     }
     lists.read_ahead(&keys);
 }

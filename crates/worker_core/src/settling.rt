@@ -20,7 +20,6 @@ use board::GREATEST_COST;
 use memory::OutOfMemory;
 use message_ledger::Counting;
 use owners::Spread;
-use search_keys::KeyedBoard;
 use search_lists::{Met, SearchLists};
 use std::alloc::Global;
 use world_model::{Item, Refusal};
@@ -87,7 +86,7 @@ fn is_foreign<S: Spread>(context: &Context<'_, S>, item: &Item) -> bool
     if context.workers == 1 {
         return false;
     }
-    context.owners.owner(&item.board, context.workers) != context.me
+    context.owners.owner_by_key(&item.board, context.workers) != context.me
 }
 
 // Relaxes the board of an item. All memory is taken before the first change.
@@ -103,8 +102,7 @@ fn relax_item<S: Spread>(
     ensures err { OnErr result (lists.new.closed.known ≡ lists.old.closed.known) }
     ensures lists { StayInOrder context.now lists.old lists.new }
 {
-    let board = KeyedBoard::new(&item.board);
-    let key = board.key();
+    let key = item.board.key();
     if !brings_news(lists, key, item.cost) {
         return Ok(());
     }
@@ -112,7 +110,7 @@ fn relax_item<S: Spread>(
         key,
         cost: item.cost,
         via: item.via,
-        f: item.cost + context.bound.sum_at(&board.cells()),
+        f: item.cost + context.bound.of_keyed(&item.board),
     };
     make_place(lists, alloc, met.f)?;
     lists.relax(context.goal.key(), met);

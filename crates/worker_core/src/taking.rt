@@ -51,7 +51,7 @@ impl<C: Counting> Worker<C> {
             return;
         }
         let item = Item {
-            board: KeyedBoard::of_key(context.goal.shape(), offer.key).board(),
+            board: KeyedBoard::of_key(context.goal.shape(), offer.key),
             cost: offer.cost,
             via,
         };

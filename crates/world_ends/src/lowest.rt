@@ -25,7 +25,7 @@ pub fn lowest_of(bound: &Bound, items: &[Item], lowest: Option<u32>) -> Option<u
 {
     let mut least = lowest;
     'items: for item in items {
-        let f = item.cost + bound.of(&item.board);
+        let f = item.cost + bound.of_keyed(&item.board);
         least = lesser(Some(f), least);
     }
     least

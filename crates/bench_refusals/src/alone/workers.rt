@@ -108,7 +108,7 @@ fn item(job: &Job, tiles: &[u8], cost: u32) -> Option<Item> {
         return None;
     };
     Some(Item {
-        board,
+        board: KeyedBoard::new(&board),
         cost,
         via: Move::U,
     })

@@ -8,6 +8,7 @@ use board::{Board, Move, Shape};
 use message_ledger::{Packet, Purse, Tokens};
 use owners::Spread;
 use quiescence::{Book, Rested, book_code};
+use search_keys::KeyedBoard;
 use std::alloc::Global;
 use step_lines::{answer_word, step_code};
 use worker_core::{LaneIn, LaneOut, Queue};
@@ -130,7 +131,7 @@ fn item_of(shape: Shape, row: &Row) -> Option<Item> {
         return None;
     };
     Some(Item {
-        board,
+        board: KeyedBoard::new(&board),
         cost: *cost,
         via: *via,
     })

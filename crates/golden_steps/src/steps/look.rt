@@ -148,7 +148,7 @@ fn list_items(text: &mut String, items: &[Item]) -> io::Result<()> {
         write!(text, " {} items, the last", items.len())?;
     }
     'items: for item in &items[first..] {
-        push_board(text, &item.board)?;
+        push_board(text, &item.board.board())?;
         write!(text, ":{}{:?}", item.cost, item.via)?;
     }
     Ok(())

@@ -1,4 +1,4 @@
-use Rattle.std.proofs.Common.{refl, subst}
+use Rattle.std.proofs.Common.{◌∙◌, refl, subst}
 use Rattle.board.specs.declared.moves.Move.TheVariants.{U}
 use Rattle.worker_core.specs.Contexts.{ContextModel}
 use Rattle.worker_core.specs.Roles.{guide_of}
@@ -18,7 +18,7 @@ pub returns-clause-first : goal.returns-clause-first
 returns-clause-first g c = λ own.
     let n = c.args.search.now.workers in
     let worker = c.in_ok-worker.worker in
-    (U, first_is n (task_in c.args.search.now.job) c.args.means.purse c.args.means.allowance (state_of worker) (state_of c.meet.new.self) (record { board = c.start-2.result.now; cost = 0; via = U }) refl c.start-2.ensures c.in_ok-worker.ensures.state c.in_ok-meet.ensures.ok)
+    (U, first_is n (task_in c.args.search.now.job) c.args.means.purse c.args.means.allowance (state_of worker) (state_of c.meet.new.self) (record { board = c.new-2.result; cost = 0; via = U }) refl (c.new-2.ensures ∙ c.start-2.ensures) c.in_ok-worker.ensures.state c.in_ok-meet.ensures.ok)
 
 pub returns-clause-guided : goal.returns-clause-guided
 returns-clause-guided g c =

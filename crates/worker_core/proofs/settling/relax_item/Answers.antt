@@ -1,9 +1,8 @@
-use Rattle.std.proofs.Common.{rules, ◌≡◌, ◌+◌, ℕ, arith, sym, ap, ◌∙◌, subst}
+use Rattle.std.proofs.Common.{◌≡◌, ◌+◌, ℕ, arith, sym, ap, ◌∙◌, subst}
 use Rattle.std.specs.FinMap as map
 use Rattle.search_keys.specs.SearchKeys.{search_key}
 use Rattle.board.specs.Positions.{Position, IsBoard}
 use Rattle.lower_bound.specs.Bounds.{sum_of}
-use Rattle.lower_bound.specs.Slides.{AreCellsOf, HasCells}
 use Rattle.lower_bound.specs.Tables.{Tables, parts_of}
 use Rattle.world_model.specs.Knowledge.{Knowledge}
 use Rattle.search_lists.proofs.OrderLemmas.{order_with_room}
@@ -18,17 +17,8 @@ returns-in_err-make_place-clause-lists g c = record {
   boards = λ task goal_is boards key known at. boards key known (ap (λ (m : Knowledge). map.get m key) (sym c.make_place.ensures.same.known) ∙ at);
 }
 
-pub sum_at-requires : goal.sum_at-requires
-sum_at-requires g c =
-    let new = c.new-board.ensures in
-    let listed : AreCellsOf c.new-board.result c.cells.result = record { all = search rules; are = c.cells.ensures.cells } in (
-      c.args.item.now.board,
-      record {
-        board = subst IsBoard new c.cells.ensures.board;
-        sides = c.requires.board ∙ sym (ap (λ (x : ContextModel g.row.S.Denot). x.goal.grid) c.context.view_is) ∙ sym c.context.invariant.tables;
-        listed = subst (λ (b : Position). AreCellsOf b c.cells.result) new listed;
-      },
-    )
+pub of_keyed-requires : goal.of_keyed-requires
+of_keyed-requires g c = c.requires.board ∙ sym (ap (λ (x : ContextModel g.row.S.Denot). x.goal.grid) c.context.view_is) ∙ sym c.context.invariant.tables
 
 pub returns-clause-lists : goal.returns-clause-lists
 returns-clause-lists g c =
@@ -36,21 +26,14 @@ returns-clause-lists g c =
     let goal_is : c.context.inside.goal.now ≡ c.args.context.now.goal = ap (λ (x : ContextModel g.row.S.Denot). x.goal) c.context.view_is in
     let tables_are : c.context.inside.bound.now ≡ c.args.context.now.tables = ap (λ (x : ContextModel g.row.S.Denot). x.tables) c.context.view_is in
     let made = c.make_place.new.lists.closed in
-    let new = c.new-board.ensures in
-    let board : IsBoard item.board = subst IsBoard new c.cells.ensures.board in
-    let key : c.key-key.result ≡ search_key item.board = c.key-key.ensures.value ∙ ap search_key new in
-    let listed : AreCellsOf c.new-board.result c.cells.result = record { all = search rules; are = c.cells.ensures.cells } in
-    let has : HasCells c.context.inside.bound.now.split.grid c.cells.result item.board = record {
-      board = board;
-      sides = c.requires.board ∙ sym (ap (λ (x : ContextModel g.row.S.Denot). x.goal.grid) c.context.view_is) ∙ sym c.context.invariant.tables;
-      listed = subst (λ (b : Position). AreCellsOf b c.cells.result) new listed;
-    } in
+    let board : IsBoard item.board = c.key-key.ensures.board in
+    let key : c.key-key.result ≡ search_key item.board = c.key-key.ensures.value in
     record {
       order = λ start guide leads order.
           let low = c.requires.cost in
-          let high = c.sum_at.ensures.high in
+          let high = c.of_keyed.ensures.high in
           let before = order_with_room guide c.args.lists.now c.make_place.new.lists c.make_place.ensures.same order in
-          let sum : c.sum_at.result ≡ guide.sum c.key-key.result = c.sum_at.ensures.value item.board has ∙ ap (λ (x : Tables). sum_of (parts_of x) item.board) tables_are ∙ sym (leads.sums item.board (board, c.requires.board)) ∙ ap guide.sum (sym key) in
+          let sum : c.of_keyed.result ≡ guide.sum c.key-key.result = c.of_keyed.ensures.value ∙ ap (λ (x : Tables). sum_of (parts_of x) item.board) tables_are ∙ sym (leads.sums item.board (board, c.requires.board)) ∙ ap guide.sum (sym key) in
           c.relax.ensures.order guide (leads.ends ∙ ap search_key (sym goal_is) ∙ sym c.key.ensures.value) (record { adds = ap (λ (n : ℕ). item.cost + n) sum; within = omega (arith, low, high) }) before;
       boards = λ task ends boards.
           let before : AreTaskBoards task made = λ key known at. boards key known (ap (λ (m : Knowledge). map.get m key) (sym c.make_place.ensures.same.known) ∙ at) in

@@ -11,8 +11,8 @@ use Rattle.world_ends.proofs.PartLemmas.{item_more}
 use Rattle.world_ends.proofs.lowest.lowest_of.Goals as goal
 
 -- src/lowest.rt:28:29
-pub of-requires : goal.of-requires
-of-requires c =
+pub of_keyed-requires : goal.of_keyed-requires
+of_keyed-requires c =
     let within : c.items.item-index < length c.args.items.now = search rules in
     let has : Contains c.args.items.now c.item-item.result = subst (Contains c.args.items.now) (sym c.item-item.is) (Contains-get_or c.args.items.now c.items.item-index c.item-item.result within) in
     (c.requires c.item-item.result has).0
@@ -23,7 +23,7 @@ overflow_add-f c =
     let within : c.items.item-index < length c.args.items.now = search rules in
     let has : Contains c.args.items.now c.item-item.result = subst (Contains c.args.items.now) (sym c.item-item.is) (Contains-get_or c.args.items.now c.items.item-index c.item-item.result within) in
     let low = (c.requires c.item-item.result has).1 in
-    let high = c.of.ensures.high in
+    let high = c.of_keyed.ensures.high in
     omega (arith, low, high)
 
 -- src/lowest.rt:27:5
@@ -33,7 +33,7 @@ items-preserved c =
     let within : c.items.item-index < length c.args.items.now = search rules in
     let at : slice_get c.args.items.now c.items.item-index ≡ Some c.item-item.result = slice_get_read c.args.items.now (length c.args.items.now) c.items.item-index c.item-item.result refl within c.item-item.is in
     subst (λ (o : Option ℕ). IsLeastBeside (IsOfItem sum (take (c.items.item-index + 1) c.args.items.now)) c.args.lowest o) (sym c.lesser-least.ensures)
-    (item_more sum c.args.items.now c.items.item-index c.item-item.result (c.item-item.result.cost + c.of.result) c.args.lowest c.items.least within at (ap (λ (n : ℕ). c.item-item.result.cost + n) c.of.ensures.value) c.items.invariant)
+    (item_more sum c.args.items.now c.items.item-index c.item-item.result (c.item-item.result.cost + c.of_keyed.result) c.args.lowest c.items.least within at (ap (λ (n : ℕ). c.item-item.result.cost + n) c.of_keyed.ensures.value) c.items.invariant)
 
 -- src/lowest.rt:22:1
 pub returns : goal.returns

@@ -36,4 +36,4 @@ returns-clause-state g c = λ role sum item me is board last.
     let offer = c.args.offer.now in
     let me_is : c.context.inside.me ≡ context.me = ap (λ (x : ContextModel g.row.S.Denot). x.me) c.context.view_is in
     let shape : c.shape.result ≡ context.goal.grid = c.shape.ensures.value ∙ ap (λ (x : ContextModel g.row.S.Denot). x.goal.grid) c.context.view_is in
-    other_option role (state_of c.args.self.now) sum item offer is context.goal.grid board c.args.via last c.board.result (subst (λ (b : Position). HasSearchKey context.goal.grid offer.key b) (sym c.board.ensures.value) (subst (λ (grid : Grid). HasSearchKey grid offer.key c.of_key.result) shape c.of_key.ensures)) (λ own. c.if-offer-context.false (own ∙ me ∙ sym me_is)) (packets_of c.put_item.new.packets.items) c.put_item.ensures
+    other_option role (state_of c.args.self.now) sum item offer is context.goal.grid board c.args.via last c.of_key.result (subst (λ (grid : Grid). HasSearchKey grid offer.key c.of_key.result) shape c.of_key.ensures) (λ own. c.if-offer-context.false (own ∙ me ∙ sym me_is)) (packets_of c.put_item.new.packets.items) c.put_item.ensures
