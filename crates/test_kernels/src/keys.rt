@@ -32,15 +32,17 @@ fn are_found(keyed: &KeyedBoard, board: &Board) -> bool
     if keyed.cells() != cells_of(board) || !are_digits(keyed) {
         return false;
     }
-    keyed.blank() == board.blank() && keyed.board() == *board
+    *keyed == KeyedBoard::new(board) && keyed.blank() == board.blank() && keyed.board() == *board
 }
 
 // The board after a move, where the blank stays on it. The key that was made by the move is the one
 // that is made of that board.
 fn after(rt: &impl Abort, board: &Board, direction: Move) -> Option<Board> {
     let to = board.shape().neighbour(board.blank(), direction)?;
-    let slid = KeyedBoard::new(board).slide(to);
+    let keyed = KeyedBoard::new(board);
+    let slid = keyed.slide(to);
     let (next, _) = board.step(direction, &Weights::unit(board.shape()))?;
+    assert!(rt; keyed != KeyedBoard::new(&next));
     assert!(rt; slid.tile == next.tile(board.blank()));
     assert!(rt; slid.key == KeyedBoard::new(&next).key());
     Some(next)
@@ -62,4 +64,10 @@ fn keys_on_walks(rt: HostRuntime) {
             assert!(rt; are_found(&KeyedBoard::new(&board), &board));
         }
     }
+}
+
+#[test]
+fn keys_where_no_board_was_put(rt: HostRuntime) {
+    assert!(rt; KeyedBoard::default() == KeyedBoard::new(&Board::default()));
+    assert!(rt; KeyedBoard::default() != KeyedBoard::new(&Board::goal(shape_of(&rt, 2, 3))));
 }

@@ -3,10 +3,11 @@
 ghost use Rattle.std.specs.Prelude.{◌≡◌};
 
 use crate::fixtures::{board_of, group_of, shape_of};
-use board::{Board, Shape, Weights};
+use board::{Board, Move, Shape, Weights};
 use database_build::{NO_VALUE, build};
 use lower_bound::{Bound, is_potential};
-use pattern_index::Partition;
+use pattern_index::{Partition, cells_of};
+use search_keys::KeyedBoard;
 use std::process::Abort;
 use successor_sums::{Successor, UnpackedBoard};
 use test_support::least_costs;
@@ -86,8 +87,7 @@ fn successors_of_the_hardest_board(rt: HostRuntime) {
     let bound = bound_of(&rt, &Board::goal(shape), &weights, &SINGLES);
     let start = board_of(&rt, shape, &HARDEST);
     let unpacked = UnpackedBoard::new(&start);
-    assert!(rt; unpacked.key() == start.key() && unpacked.board() == start);
-    assert!(rt; unpacked.sum(&bound) == 21);
+    assert!(rt; bound.sum_at(&cells_of(&start)) == 21);
     let [up, left, right, down] = unpacked.successors(&weights, &bound);
     assert!(rt; up.is_none());
     assert!(rt; unpacked.blank() == 1);
@@ -113,15 +113,14 @@ fn groups_and_their_tables(rt: HostRuntime) {
             .table(i)
             .expect(&rt, "there is a table for each group");
         assert!(rt; is_potential(table, &groups[i], &goal, &weights));
-        // By slot a search reads them fastest.
-        assert!(rt; table.is_by_slot());
     }
 }
 
 // Groups of the tiles of 2 by 3.
-const PARTITIONS: [&[&[u8]]; 3] = [
+const PARTITIONS: [&[&[u8]]; 4] = [
     &[&[1], &[2], &[3], &[4], &[5]],
     &[&[1, 2, 3], &[4, 5]],
+    &[&[1, 3], &[2, 4, 5]],
     &[&[1, 2, 3, 4, 5]],
 ];
 
@@ -131,6 +130,9 @@ fn is_right(bound: &Bound, goal: &Board, start: &Board, cost: u32, is_whole: boo
     requires { start.now.grid ≡ bound.now.split.grid }
 {
     let sum = bound.of(start);
+    if bound.of_keyed(&KeyedBoard::new(start)) != sum {
+        return false;
+    }
     if sum > cost || (sum < cost && is_whole) {
         return false;
     }
@@ -169,5 +171,50 @@ fn each_board_of_two_by_three(rt: HostRuntime) {
         for tiles in PARTITIONS {
             assert!(rt; compare_with_search(&rt, &goal, &weights, tiles) == 360);
         }
+    }
+}
+
+// Whether the boards of a walk from the goal on have by their search keys the sums that they have.
+fn has_keyed_sums(bound: &Bound, goal: &Board) -> bool {
+    let weights = Weights::unit(goal.shape());
+    let mut board = *goal;
+    let mut state: u64 = 1;
+    'steps: for _ in 0..200 {
+        state = state
+            .wrapping_mul(6_364_136_223_846_793_005)
+            .wrapping_add(1_442_695_040_888_963_407);
+        let direction = Move::ALL[(state >> 62) as usize];
+        if board.shape() != bound.partition().shape() || weights.shape() != board.shape() {
+            return false;
+        }
+        if let Some((next, _)) = board.step(direction, &weights) {
+            board = next;
+        }
+        if board.shape() != bound.partition().shape() {
+            return false;
+        }
+        if bound.of_keyed(&KeyedBoard::new(&board)) != bound.of(&board) {
+            return false;
+        }
+    }
+    true
+}
+
+// Shapes with groups of their tiles. The table of the first is kept by rank.
+const KEYED: [(u8, u8, &[&[u8]]); 4] = [
+    (3, 3, &[&[1, 2, 3, 4, 5, 6, 7, 8]]),
+    (3, 3, &[&[1, 2, 3, 4], &[5, 6, 7, 8]]),
+    (3, 4, &[&[1, 3, 5], &[2, 4, 7]]),
+    (4, 5, &[&[1, 2], &[18, 19]]),
+];
+
+#[test]
+fn sums_by_search_keys(rt: HostRuntime) {
+    for (rows, cols, tiles) in KEYED {
+        let goal = Board::goal(shape_of(&rt, rows, cols));
+        let bound = bound_of(&rt, &goal, &Weights::face(goal.shape()), tiles);
+        assert!(rt; has_keyed_sums(&bound, &goal));
+        let folded = bound.folded(rt.alloc()).expect(&rt, "memory");
+        assert!(rt; has_keyed_sums(&folded, &goal));
     }
 }

@@ -105,14 +105,16 @@ fn worked_values(rt: HostRuntime) {
     }
 }
 
-// Whether a table has these values, by rank.
+// Whether a table has these values, by rank and by slot.
 fn has_all_values(table: &Table, values: &[u16]) -> bool {
     let size = table.group().size();
     if values.len() != size {
         return false;
     }
     for rank in 0..size {
-        if table.entry(rank) != values[rank] {
+        let view = table.group().unrank(rank);
+        let slot = table.group().slot(&view);
+        if table.entry(rank) != values[rank] || table.slot_value(slot) != values[rank] {
             return false;
         }
     }
@@ -127,6 +129,8 @@ fn values_of_one_tile(rt: HostRuntime) {
     let group = group_of(&rt, shape, &[1]);
     let built = build(rt.alloc(), &group, &goal, &unit).expect(&rt, "memory");
     assert!(rt; has_all_values(&built, &TILE_ONE) && *built.group() == group);
+    let given = Table::from_values(&group, list_of(&rt, &TILE_ONE)).expect(&rt, "a table");
+    assert!(rt; has_all_values(&given, &TILE_ONE));
 }
 
 #[test]

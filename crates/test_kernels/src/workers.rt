@@ -12,6 +12,7 @@ use message_ledger::{Allowance, Capped, Counting, Credit, Grants, Packet, Plain,
 use outcomes::Want;
 use owners::{ByBlank, Spread, Zobrist};
 use quiescence::Book;
+use search_keys::KeyedBoard;
 use std::marker::Brand;
 use std::sync::ledger::{Blank, Ledger};
 use world_model::{HaltCause, Item, Stop};
@@ -237,6 +238,17 @@ fn owners_of<S: Spread>(spread: &S, board: &Board) -> [usize; 4] {
     ]
 }
 
+// The same, of the board by its search key.
+fn owners_by_key<S: Spread>(spread: &S, board: &Board) -> [usize; 4] {
+    let keyed = KeyedBoard::new(board);
+    [
+        spread.owner_by_key(&keyed, 2),
+        spread.owner_by_key(&keyed, 3),
+        spread.owner_by_key(&keyed, 7),
+        spread.owner_by_key(&keyed, 16),
+    ]
+}
+
 #[test]
 fn owners_of_boards(rt: HostRuntime) {
     for (rows, cols, tiles, by_hash, by_blank) in &OWNERS {
@@ -245,8 +257,11 @@ fn owners_of_boards(rt: HostRuntime) {
         let zobrist = Zobrist::new(shape);
         assert_eq!(rt; owners_of(&zobrist, &board), *by_hash);
         assert_eq!(rt; owners_of(&ByBlank, &board), *by_blank);
+        assert_eq!(rt; owners_by_key(&zobrist, &board), *by_hash);
+        assert_eq!(rt; owners_by_key(&ByBlank, &board), *by_blank);
         // Owners by the hash need that of the board before, those by the blank need none.
-        assert!(rt; zobrist.hash(&board).is_some());
-        assert!(rt; ByBlank.hash(&board).is_none());
+        let keyed = KeyedBoard::new(&board);
+        assert!(rt; zobrist.hash(&keyed).is_some());
+        assert!(rt; ByBlank.hash(&keyed).is_none());
     }
 }
