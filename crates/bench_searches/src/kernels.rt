@@ -11,12 +11,12 @@ mod words;
 
 use board::Shape;
 use containers::search;
-use lower_bound::Bound;
-use pattern_index::Group;
+use pattern_index::{Group, Partition};
 use ranks::sum_of_ranks;
 use std::io::{self, ErrorKind, Print};
+use std::thread::Threads;
 use steps::walk_from_goal;
-use sums::{drawn_keys, expand_all};
+use sums::check_offers;
 use tables::{Made, Summary, Task, frame_for};
 use words::{Part, read_words};
 
@@ -64,15 +64,14 @@ fn print_tables(rt: &(impl Print + AllocGlobal), groups: &[Group], task: Task) -
 }
 
 fn print_sums(
-    rt: &(impl Print + AllocGlobal),
-    bound: &Bound,
+    rt: &(impl Print + Threads + AllocGlobal + Sync),
+    groups: &Partition,
     boards: u32,
     rounds: u32,
 ) -> io::Result<()> {
-    let Some(keys) = drawn_keys(rt.alloc(), bound.partition().shape(), boards) else {
+    let Some(check) = check_offers(rt, groups, boards, rounds) else {
         return Err(ErrorKind::OutOfMemory.into());
     };
-    let check = expand_all(bound, &keys, rounds);
     println!(rt; "boards {boards} rounds {rounds} check {check}")
 }
 
@@ -87,19 +86,19 @@ fn print_search(rt: &(impl Print + AllocGlobal), count: usize) -> io::Result<()>
 }
 
 // Runs a part, and prints what it came to.
-fn print_part(rt: &(impl Print + AllocGlobal), part: &Part) -> io::Result<()> {
+fn print_part(rt: &(impl Print + Threads + AllocGlobal + Sync), part: &Part) -> io::Result<()> {
     match part {
         Part::Steps(shape, steps) => print_steps(rt, *shape, *steps),
         Part::Ranks(group, ranks) => print_ranks(rt, group, *ranks),
         Part::Tables(groups, task) => print_tables(rt, groups, *task),
-        Part::Sums(bound, boards, rounds) => print_sums(rt, bound, *boards, *rounds),
+        Part::Sums(groups, boards, rounds) => print_sums(rt, groups, *boards, *rounds),
         Part::Containers(count) => print_search(rt, *count),
     }
 }
 
 /// Runs the part of this name by the words after it, and prints what it came to. Answers the exit
 /// status.
-pub fn run(rt: &(impl Print + AllocGlobal), name: &str, words: &[String]) -> u8 {
+pub fn run(rt: &(impl Print + Threads + AllocGlobal + Sync), name: &str, words: &[String]) -> u8 {
     let Some(part) = read_words(rt.alloc(), name, words) else {
         return 2;
     };

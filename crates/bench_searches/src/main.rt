@@ -19,8 +19,8 @@
 //!     bench_searches built .., built-folded ..
 //!                                               tables that are built and not read
 //!     bench_searches sums SIDE BOARDS ROUNDS COUNT..
-//!                                               expansions of random boards, with the sums of
-//!                                               tables of random values, of groups as above
+//!                                               what the moves from random boards offer at face
+//!                                               cost, with tables of groups as above
 //!     bench_searches containers COUNT           a search until this many boards are known
 //!
 //!     bench_searches expand COUNT               a search by one worker: expands this many boards

@@ -1,16 +1,20 @@
-//! Expansions of boards that are drawn by random numbers.
+//! What the moves from randomly drawn boards offer.
 
 ghost use Rattle.std.specs.Prelude.{ℕ, ◌≡◌, ◌≤◌, length, All, IfSome};
-ghost use Rattle.board.specs.Positions.{Position};
-ghost use Rattle.board.specs.Keys.{HasKey};
+ghost use Rattle.board.specs.declared.costs.TheConstants.{GREATEST_EXPANDED_COST};
+ghost use Rattle.lower_bound.specs.Bounds.{sum_of};
+ghost use Rattle.lower_bound.specs.Tables.{parts_of};
 
 use crate::kernels::steps::next_state;
-use board::{Board, Shape, Weights};
-use database_build::Table;
+use board::{Board, GREATEST_EXPANDED_COST, Weights};
 use lower_bound::Bound;
-use pattern_index::{Group, Partition};
+use offers::{Offer, Origin, Terms, no_offers, offers_of};
+use owners::ByBlank;
+use pattern_index::Partition;
+use search_keys::KeyedBoard;
 use std::alloc::Global;
-use successor_sums::{Successor, UnpackedBoard};
+use std::thread::Threads;
+use table_sets::build_bound;
 
 // The numbers on the boards of some shape.
 const NUMBERS: [u8; 25] = [
@@ -20,43 +24,58 @@ const NUMBERS: [u8; 25] = [
 // How many numbers a word of 64 bits stands for.
 const WORD: u128 = 18_446_744_073_709_551_616;
 
-/// The bound of these groups, of this shape, by tables of random values below 64; or None where
-/// they make no partition, or find no memory.
-pub fn drawn_bound(alloc: Global, shape: Shape, groups: Vec<Group>) -> Option<Bound>
-    requires { All (λ g. g.grid ≡ shape) groups.items }
-    ensures { IfSome result (λ bound. bound.split.grid ≡ shape) }
-{
-    let mut tables = Vec::new(alloc);
-    let mut state = 3;
-    for group in &groups {
-        let mut values = Vec::new(alloc);
-        for _ in 0..group.size() {
-            state = next_state(state);
-            values.push((state >> 58) as u16).ok()?;
-        }
-        tables.push(Table::from_values(group, values).ok()?).ok()?;
-    }
-    let partition = Partition::new(shape, groups).ok()?;
-    Bound::new(partition, tables).ok()
+/// Draws this many boards of the groups' shape, and finds `rounds` times what their moves offer to
+/// the one worker of a search at face cost that is guided by the groups' tables. Answers a number
+/// into which all offers are mixed, or None where memory is refused or a sum is too large.
+pub fn check_offers(
+    rt: &(impl Threads + AllocGlobal + Sync),
+    groups: &Partition,
+    boards: u32,
+    rounds: u32,
+) -> Option<u64> {
+    let shape = groups.shape();
+    let goal = Board::goal(shape);
+    let weights = Weights::face(shape);
+    let Ok(copied) = groups.copy(rt.alloc()) else {
+        return None;
+    };
+    let Ok(bound) = build_bound(rt, rt.alloc(), copied, &goal, &weights) else {
+        return None;
+    };
+    let drawn = drawn_boards(rt.alloc(), &bound, boards)?;
+    let terms = Terms {
+        weights: &weights,
+        bound: &bound,
+        owners: &ByBlank,
+        workers: 1,
+    };
+    Some(offer_all(&terms, &drawn, rounds))
 }
 
-/// The keys of this many boards, in any order of their tiles.
-pub fn drawn_keys(alloc: Global, shape: Shape, boards: u32) -> Option<Vec<u128>>
-    ensures { IfSome result (λ keys. All (λ key. (b : Position) × HasKey shape key b) keys.items) }
+// This many boards, in any order of their tiles, each with its sum; None where memory is refused,
+// or a sum is above `GREATEST_EXPANDED_COST`.
+fn drawn_boards(alloc: Global, bound: &Bound, boards: u32) -> Option<Vec<(KeyedBoard, u32)>>
+    ensures { IfSome result (λ drawn. All (λ d. (d.0.grid ≡ bound.now.split.grid)
+        × (d.1 ≡ sum_of (parts_of bound.now) d.0) × (d.1 ≤ GREATEST_EXPANDED_COST)) drawn.items) }
 {
-    let mut keys = Vec::new(alloc);
+    let shape = bound.partition().shape();
+    let mut drawn = Vec::new(alloc);
     let mut state = 4;
     'boards: for _ in 0..boards {
-        let drawn = shuffled(shape.cells(), state);
-        let Ok(board) = Board::from_tiles(shape, &drawn.0[..shape.cells()]) else {
+        let numbers = shuffled(shape.cells(), state);
+        let Ok(board) = Board::from_tiles(shape, &numbers.0[..shape.cells()]) else {
             return None;
         };
-        if keys.push(board.key()).is_err() {
+        let sum = bound.of(&board);
+        if sum > GREATEST_EXPANDED_COST {
             return None;
         }
-        state = drawn.1;
+        if drawn.push((KeyedBoard::new(&board), sum)).is_err() {
+            return None;
+        }
+        state = numbers.1;
     }
-    Some(keys)
+    Some(drawn)
 }
 
 /// The first numbers in an order that a state makes, and the state after it (Fisher, Yates).
@@ -76,30 +95,32 @@ pub fn shuffled(count: usize, start: u64) -> ([u8; 25], u64)
     (numbers, state)
 }
 
-/// Expands the boards with these keys `rounds` times, where moving a tile costs its number, and
-/// mixes what each successor comes with into one number.
-pub fn expand_all(bound: &Bound, keys: &[u128], rounds: u32) -> u64
-    requires { All (λ key. (b : Position) × HasKey bound.now.split.grid key b) keys.now }
+// Finds `rounds` times what the moves from these boards offer, and mixes it into one number.
+fn offer_all(terms: &Terms<'_, ByBlank>, drawn: &[(KeyedBoard, u32)], rounds: u32) -> u64
+    requires { All (λ d. (d.0.grid ≡ terms.now.tables.split.grid)
+        × (d.1 ≡ sum_of (parts_of terms.now.tables) d.0) × (d.1 ≤ GREATEST_EXPANDED_COST)) drawn.now }
 {
-    let shape = bound.partition().shape();
-    let weights = Weights::face(shape);
     let mut check: u64 = 0;
     'rounds: for _ in 0..rounds {
-        'boards: for key in keys {
-            let board = UnpackedBoard::of_key(shape, *key);
-            for told in &board.successors(&weights, bound) {
-                if let Some(successor) = told {
-                    check = check.wrapping_mul(31).wrapping_add(folded(successor));
-                }
+        'boards: for (board, sum) in drawn {
+            let origin = Origin {
+                board,
+                cost: 0,
+                sum: *sum,
+            };
+            let mut offers = no_offers();
+            offers_of(&origin, terms, None, &mut offers);
+            'offers: for place in 0..offers.len() {
+                let (_, offer) = offers.entry(place);
+                check = check.wrapping_mul(31).wrapping_add(folded(&offer));
             }
         }
     }
     check
 }
 
-// A successor, with all that comes with it, as one number.
-fn folded(told: &Successor) -> u64 {
-    let key = (told.key % WORD) as u64 ^ (told.key / WORD) as u64;
-    let moved = (told.tile as u64) << 56 ^ (told.cell as u64) << 48;
-    key ^ moved ^ (told.cost as u64) << 32 ^ told.sum as u64
+// An offer as one number.
+fn folded(offer: &Offer) -> u64 {
+    let key = (offer.key % WORD) as u64 ^ (offer.key / WORD) as u64;
+    key ^ (offer.cost as u64) << 32 ^ offer.f as u64
 }

@@ -2,11 +2,9 @@
 
 ghost use Rattle.std.specs.Prelude.{◌≡◌, All, IfSome};
 
-use crate::kernels::sums::drawn_bound;
 use crate::kernels::tables::Task;
 use board::Shape;
-use lower_bound::Bound;
-use pattern_index::Group;
+use pattern_index::{Group, Partition};
 use std::alloc::Global;
 
 // The tiles that the boards of some shape have.
@@ -34,8 +32,8 @@ pub enum Part {
     Ranks(Group, u32),
     /// The tables of these groups for a task.
     Tables(Vec<Group>, Task),
-    /// A count of boards, and how often each is expanded, with the sums of a bound.
-    Sums(Bound, u32, u32),
+    /// Groups for tables, a count of boards, and how often their offers are found.
+    Sums(Partition, u32, u32),
     /// A search until this many boards are known.
     Containers(usize),
 }
@@ -113,7 +111,8 @@ fn read_sums(alloc: Global, numbers: &[usize]) -> Option<Part> {
     let rounds = u32::try_from(*rounds).ok()?;
     let shape = shape_of(*side, *side)?;
     let groups = read_groups(alloc, shape, counts)?;
-    Some(Part::Sums(drawn_bound(alloc, shape, groups)?, boards, rounds))
+    let groups = Partition::new(shape, groups).ok()?;
+    Some(Part::Sums(groups, boards, rounds))
 }
 
 fn read_count(numbers: &[usize]) -> Option<Part> {
