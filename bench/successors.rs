@@ -1,4 +1,4 @@
-// Boards taken apart and what is told of their successors in plain safe Rust, which programs of this folder include
+// Boards taken apart and their successors, each with its cost and sum, in plain safe Rust. bench/expand.rs includes this
 // beside groups.rs.
 
 const MOST_TABLES: usize = 24;
@@ -8,7 +8,7 @@ struct Table {
     values: Vec<u16>,
 }
 
-// (not every program looks at the tile and its cell)
+// (bench/expand.rs reads neither the tile nor its cell)
 #[allow(dead_code)]
 struct Successor {
     key: u128,
