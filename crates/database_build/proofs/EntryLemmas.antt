@@ -1,43 +1,43 @@
--- What a table keeps of views, and how it is read.
-use Rattle.std.proofs.Common.{◌≡◌, ℕ, suc, ◌<◌, ◌≤◌, Vec, Global, true, false, List, ◌∷◌, eqb, length, get_or, map, take, drop, replicate, ◌++◌, sym, ap, ◌∙◌, subst, ⊎_elim, arith, ◌+◌, ◌*◌}
-use Rattle.std.specs.Prelude.{◌⊎◌, ◌-◌, ◌^◌, zero, Option, Some, min, slice_index, slice_get, unwrap_or}
+-- What a table and a folded table keep, how it is read and how it is made: by rank, by place, by slot and by sparse place.
+use Rattle.std.proofs.Common.{◌≡◌, ℕ, suc, ◌<◌, ◌≤◌, Vec, Global, true, false, List, ◌∷◌, eqb, length, get_or, map, take, drop, replicate, ◌++◌, sym, ap, ◌∙◌, subst, ⊎_elim, arith, ◌*◌, ◌≢◌, [], inr, ◌+◌, ◌%◌, ◌/◌, set, refl}
+use Rattle.std.specs.Prelude.{◌⊎◌, ◌-◌, ◌^◌, zero, Option, Some, min, slice_index, slice_get, unwrap_or, AllPairs, All}
 use Rattle.std.proofs.Math.Nat.{le-max_left, min-eq_left, min-eq_right, min-le_left, mul-le-mul_left, mul_comm, pow-le-pow_left, pow-succ', pow-zero}
-use Rattle.std.proofs.lemmas.Nat.{mul-add-lt}
+use Rattle.std.proofs.lemmas.Nat.{mul-add-lt, mul-le}
 use Rattle.std.specs.List.{range_with_len}
 use Rattle.std.proofs.lemmas.Bool.{cases_lt, cases_Bool, cond-true, cond-false, ne_eqb}
-use Rattle.std.proofs.lemmas.List.{get_or-map, get_or_read, get_or_past, get_or-replicate, length-replicate, length-take-le, take_at}
-use Rattle.std.proofs.lemmas.Option.{get_or_from_slice_get, slice_get_within, unwrap_or-slice_get}
+use Rattle.std.proofs.lemmas.List.{get_or-map, get_or_read, get_or_past, get_or-replicate, length-replicate, take_at, get_or_default, append-nil, append_assoc, get_or-set_other, get_or-set_same, get_or-take, length-set, length-take-le, map-append, take_all, take_more}
+use Rattle.std.proofs.lemmas.Option.{get_or_from_slice_get, slice_get_within, unwrap_or-slice_get, slice_get-get_or}
 use Rattle.std.proofs.lemmas.List.FromFn.{get_or-map-range_with_len, length-map-range_with_len}
 use Rattle.board.specs.Grids.{cell_count}
+use Rattle.board.specs.Positions.{Position}
+use Rattle.board.specs.CostRules.{CostRule}
 use Rattle.pattern_index.specs.Laws.{factorial}
 use Rattle.pattern_index.specs.Ranks.{ways, list_at, IsListing}
-use Rattle.pattern_index.specs.Views.{Sight, IsView}
-use Rattle.pattern_index.specs.Selections.{Selection, IsSelection, folded_size_of, place_in, size_of, rank_in}
-use Rattle.pattern_index.specs.Sparse.{digit_base, slot_count_of, slot_in, sparse_in, sparse_of, sparse_size_of}
-use Rattle.pattern_index.proofs.GroupLemmas.{cells_high, groups_small}
+use Rattle.pattern_index.specs.Views.{Sight, IsView, view_of, view_at}
+use Rattle.pattern_index.specs.Selections.{Selection, folded_size_of, place_in, size_of, rank_in, IsSelection, abstraction_of, IsTile}
+use Rattle.pattern_index.specs.Sparse.{digit_base, slot_count_of, slot_in, sparse_in, sparse_of, sparse_size_of, digits_in}
 use Rattle.pattern_index.proofs.PlaceLemmas.{place_listing, place_below as view_place_below}
-use Rattle.pattern_index.proofs.RankLemmas.{below_in, differ_in, length-list_at, list_at_below, list_at_differ, listing_from}
 use Rattle.pattern_index.proofs.SightLemmas.{sight_below, listing}
-use Rattle.pattern_index.proofs.SparseLemmas.{slot_below}
-use Rattle.database_build.specs.Entries.{HasEntries, HaveOneForm, IsKeptBest, by_rank, slot_of_rank, values_in, widened}
-use Rattle.database_build.specs.FoldEntries.{HasNoView, by_place, most_places}
-use Rattle.database_build.specs.Graphs.{node_in, node_count}
-use Rattle.database_build.specs.Orders.{order_of}
-use Rattle.database_build.specs.Placements.{AreAllWritten, placement_count, placement_in}
-use Rattle.database_build.specs.Regions.{IsFree, IsPlaced, IsRegions, region_in}
-use Rattle.database_build.specs.Sets.{choose, set_place}
-use Rattle.database_build.specs.Slots.{AreAllFilled, AreFilledTo, placement_of}
-use Rattle.database_build.specs.Tables.{Lookup, value_in}
+use Rattle.pattern_index.proofs.SparseLemmas.{slot_below, digits_back, slot_digits}
+use Rattle.pattern_graph.specs.Placements.{HasNoView, AreAllWritten, placement_count, placement_in, AreAllFilled, AreFilledTo, placement_of}
+use Rattle.pattern_graph.specs.Graphs.{node_in, node_count}
+use Rattle.pattern_graph.specs.Orders.{order_of}
+use Rattle.pattern_graph.specs.Regions.{IsFree, IsPlaced, IsRegions, region_in}
+use Rattle.pattern_graph.specs.Sets.{choose}
+use Rattle.pattern_graph.specs.declared.regions.Regions.{Regions}
+use Rattle.pattern_graph.proofs.RowLemmas.{least_long, list_back, blank_out, view_room, placement_below}
+use Rattle.pattern_graph.proofs.OrderLemmas.{order_below}
+use Rattle.pattern_graph.proofs.PlacementLemmas.{differ_or_not, seen_place, numbered}
+use Rattle.database_build.specs.Entries.{HasEntries, HaveOneForm, IsKeptBest, by_rank, slot_of_rank, values_in, widened, by_place, most_places, AreSmall, ArePlaces}
+use Rattle.database_build.specs.Tables.{Lookup, value_in, HoldsValues}
 use Rattle.database_build.specs.declared.entries.Entries.{Entries}
 use Rattle.database_build.specs.declared.entries.Entries.TheVariants.{Ranked, Bytes, Words}
 use Rattle.database_build.specs.declared.folding.TheConstants.{MOST_PLACES, PLACES_A_VALUE}
-use Rattle.database_build.specs.declared.regions.Regions.{Regions}
 use Rattle.database_build.specs.declared.table.TheConstants.{NO_VALUE}
-use Rattle.database_build.proofs.FoldLemmas.{by_place_at}
-use Rattle.database_build.proofs.FillLemmas.{list_back, blank_out}
-use Rattle.database_build.proofs.OrderLemmas.{below-all, below_low, order_below}
-use Rattle.database_build.proofs.RowLemmas.{listing_wide}
-use Rattle.database_build.proofs.SetLemmas.{choose_ways, place_below}
+use Rattle.database_build.proofs.FoldLemmas.{by_place_at, length-by_place}
+use Rattle.database_build.specs.Searches.{AreFound}
+use Rattle.database_build.specs.Values.{IsValue}
+use Rattle.database_build.specs.declared.finding.Found.{Found}
 
 -- ---- values of views by rank
 
@@ -45,15 +45,6 @@ use Rattle.database_build.proofs.SetLemmas.{choose_ways, place_below}
 pub length-by_rank : (g : Selection) (at_slot : ℕ → ℕ) → length (by_rank g at_slot) ≡ size_of g
 unfolding by_rank
 length-by_rank g at_slot = length-map-range_with_len (λ rank. at_slot (slot_of_rank g rank)) 0 (size_of g)
-
--- the cells of a view differ, so there are no more than the grid has
-view_room : (g : Selection) (v : Sight) → IsView g.grid g.tiles v → suc (length v.cells) ≤ cell_count g.grid
-view_room g v view =
-    let is = listing g.grid g.tiles v view in
-    let n = cell_count g.grid in
-    let all = below-all n (v.blank ∷ v.cells) (below_in n (v.blank ∷ v.cells) is) in
-    let low = below_low n (v.blank ∷ v.cells) (differ_in n (v.blank ∷ v.cells) is) in
-    omega (arith, all, low)
 
 -- the slot of a view's rank is that of the view
 slot_back : (g : Selection) (v : Sight) → IsView g.grid g.tiles v → slot_of_rank g (rank_in g.grid v) ≡ slot_in g.grid v
@@ -266,15 +257,6 @@ byte_back values narrow bytes i j low small narrowed is =
     ∙ get_or-map (λ value. min value 255) values j 0 0 low)
     ∙ widened_back (slice_index values j) (small j 0 low)
 
--- the number of a placement is below how many there are
-placement_below : (n count : ℕ) (cells : List ℕ) → IsListing n cells → length cells ≡ count → placement_in count cells < placement_count n count
-placement_below n count cells is long =
-    let set : set_place cells < choose n count = subst (λ k. set_place cells < choose n k) long (place_below n cells is) in
-    let order : order_of cells < factorial count = subst (λ k. order_of cells < factorial k) long (order_below cells) in
-    let m = mul-add-lt (set_place cells) (factorial count) (order_of cells) (choose n count) set order in
-    let c = mul_comm (factorial count) (choose n count) in
-    omega (arith, m, c)
-
 module _ (g : Selection) (r : Regions) (regions : IsRegions g.grid (length g.tiles) r) (v : Sight) (view : IsView g.grid g.tiles v) where
   -- the tiles of a view stand on different cells
   view_placed : IsPlaced r.shape r.count v.cells
@@ -338,10 +320,6 @@ replicated n i a x is =
 pub others_kept : {A : Type 0} (g : Selection) (least places : List A) (filler : A) → AreAllWritten g least (replicate (sparse_size_of g) filler) places → (sparse : ℕ) (entry : A) → HasNoView g sparse → slice_get places sparse ≡ Some entry → entry ≡ filler
 others_kept g least places filler written sparse entry none is = replicated (sparse_size_of g) sparse filler entry (sym (written.others sparse none) ∙ is)
 
--- there are as many placements as places
-pub least_long : (g : Selection) (least : List ℕ) → length least ≡ placement_count (cell_count g.grid) (length g.tiles) → length least ≡ folded_size_of g
-least_long g least are = are ∙ choose_ways (cell_count g.grid) (length g.tiles)
-
 -- sparse places that are not too many are few enough
 pub not_more : (g : Selection) → ¬ (most_places g < sparse_size_of g) → sparse_size_of g ≤ most_places g
 not_more g few = ⊎_elim (λ (more : most_places g < sparse_size_of g). absurd (few more)) (λ (fits : sparse_size_of g ≤ most_places g). fits) (cases_lt (most_places g) (sparse_size_of g))
@@ -356,12 +334,6 @@ least_few g least are few =
     omega (arith, fits, all, low, top)
 
 module _ (g : Selection) (v : Sight) (view : IsView g.grid g.tiles v) where
-  -- the cells of its tiles are those of its place
-  place_back : list_at (cell_count g.grid) (length g.tiles) (place_in g.grid v) ≡ v.cells
-  place_back =
-      ap (λ k. list_at (cell_count g.grid) k (place_in g.grid v)) (sym view.one_each)
-      ∙ list_back (cell_count g.grid) v.cells (place_listing g.grid g.tiles v view) (let room = view_room g v view in omega (arith, room))
-
   -- it is a placement of the tiles
   pub tiles_placed : IsPlaced g.grid (length g.tiles) v.cells
   tiles_placed = record { listing = place_listing g.grid g.tiles v view; one_each = view.one_each }
@@ -387,53 +359,129 @@ module _ (g : Selection) (v : Sight) (view : IsView g.grid g.tiles v) where
         by_place_at g (λ sparse. widened (slice_index bytes sparse)) v view
         ∙ byte_back least narrow bytes (sparse_in g.grid v) (placement_in (length g.tiles) v.cells) low small narrowed is
 
--- ---- folded values by place
+-- ---- where words are needed
 
--- what the tiles have on the cells of a place
-abbrev pub at_place : Selection → List ℕ → ℕ → ℕ
-at_place g least place = slice_index least (placement_in (length g.tiles) (list_at (cell_count g.grid) (length g.tiles) place))
+-- where the value of a placement needs a word, so does the word at its sparse place
+pub words_needed :
+    (g : Selection) (least words : List ℕ)
+    → length least ≡ placement_count (cell_count g.grid) (length g.tiles)
+    → ((xs : List ℕ) → IsPlaced g.grid (length g.tiles) xs → slice_get words (sparse_of (cell_count g.grid) xs) ≡ slice_get least (placement_in (length g.tiles) xs))
+    → ¬ AreSmall least
+    → ¬ AreSmall words
+words_needed g least words long kept large small = large (λ k d low.
+    let at = numbered g.grid (length g.tiles) k (omega (arith, low, long)) in
+    let sparse = sparse_of (cell_count g.grid) at.0 in
+    let there : slice_get words sparse ≡ Some (get_or least k d) = kept at.0 at.1 ∙ ap (slice_get least) at.2 ∙ slice_get-get_or least k d low in
+    subst (λ (value : ℕ). (value < 255) ⊎ (value ≡ NO_VALUE)) (get_or_from_slice_get words sparse (get_or least k d) d there) (small sparse d (slice_get_within words sparse (get_or least k d) there)))
 
--- the values of all places are those of all views
-pub places_all : (g : Selection) (least items : List ℕ) (place : ℕ) → place ≡ folded_size_of g → items ≡ map (at_place g least) (range_with_len 0 place) → (v : Sight) → IsView g.grid g.tiles v → slice_index items (place_in g.grid v) ≡ slice_index least (placement_in (length g.tiles) v.cells)
-places_all g least items place end are v view =
-    ap (λ (xs : List ℕ). slice_index xs (place_in g.grid v)) are
-    ∙ get_or-map-range_with_len (at_place g least) 0 place (place_in g.grid v) (place_in g.grid v) 0 (let low = view_place_below g.grid g.tiles v view in omega (arith, low, end)) (omega arith)
-    ∙ ap (λ (xs : List ℕ). slice_index least (placement_in (length g.tiles) xs)) (place_back g v view)
+-- words by place need as much as those by sparse place, since no other needs any
+pub small_places : (g : Selection) (words : List ℕ) → IsSelection g → ArePlaces g NO_VALUE words → AreSmall (by_place g (slice_index words)) → AreSmall words
+small_places g words group are small k d low =
+    ⊎_elim
+    (λ (different : AllPairs (λ x y. x ≢ y) digits).
+    let v = seen_place g k group (omega (arith, low, are.size)) different in
+    let is : get_or (by_place g (slice_index words)) (place_in g.grid v.0) 0 ≡ get_or words k d =
+    by_place_at g (slice_index words) v.0 v.1 ∙ ap (slice_index words) v.2 ∙ get_or_default words k 0 d low in
+    let within : place_in g.grid v.0 < length (by_place g (slice_index words)) = let all = length-by_place g (slice_index words) in let below = view_place_below g.grid g.tiles v.0 v.1 in omega (arith, all, below) in
+    subst (λ (value : ℕ). (value < 255) ⊎ (value ≡ NO_VALUE)) is (small (place_in g.grid v.0) 0 within))
+    (λ (none : HasNoView g k). inr (are.others k (get_or words k d) none (slice_get-get_or words k d low)))
+    (differ_or_not digits)
+  where
+    digits : List ℕ
+    digits = digits_in (cell_count g.grid) (length g.tiles) k
 
-module _ (g : Selection) (group : IsSelection g) (place : ℕ) (low : place < folded_size_of g) (cells count : ℕ) (array list : List ℕ)
-    (counted : cells ≡ cell_count g.grid) (tiles : count ≡ length g.tiles) (all : length array ≡ 9) (is : list ≡ list_at cells (length (take count array)) place) where
-  -- the cells that are written over the first of an array are those of the place
-  pub cells_read : take count (list ++ drop count array) ≡ list_at (cell_count g.grid) (length g.tiles) place
-  cells_read =
-      let small = groups_small g group in
-      let short = small.0 in
-      let room = small.1 in
-      let taken = length-take-le count array (omega (arith, short, tiles, all)) in
-      let there : list ≡ list_at (cell_count g.grid) (length g.tiles) place = is ∙ (λ i. list_at (counted i) ((taken ∙ tiles) i) place) in
-      take_at list (drop count array) count (ap length there ∙ length-list_at (cell_count g.grid) (length g.tiles) place (omega (arith, room)) ∙ sym tiles) ∙ there
+-- ---- tables
 
-  place_listed : IsListing (cell_count g.grid) (list_at (cell_count g.grid) (length g.tiles) place)
-  place_listed =
-      let room = (groups_small g group).1 in
-      listing_from (cell_count g.grid) (list_at (cell_count g.grid) (length g.tiles) place) (list_at_below (cell_count g.grid) (length g.tiles) place (omega (arith, room)) low) (list_at_differ (cell_count g.grid) (length g.tiles) place)
+-- a table that has the values of nodes at the ranks of their views holds the values of views
+pub table_built : (g : Selection) (rule : CostRule) (goal : Position) (found : Found) (t : Lookup) (nodes values : List ℕ)
+    → AreFound g rule goal found
+    → nodes ≡ found.values.items
+    → ((v : Sight) → IsView g.grid g.tiles v → slice_index values (rank_in g.grid v) ≡ slice_index nodes (node_in found.regions v))
+    → t ≡ record { selection = g; values = values }
+    → HoldsValues t rule goal
+table_built g rule goal found t nodes values are all same is =
+    subst (λ (u : Lookup). HoldsValues u rule goal) (sym is)
+    (λ v view. subst (λ (n : ℕ). IsValue (abstraction_of g rule) (view_of g.tiles goal) v n) (sym (same v view ∙ ap (λ (ns : List ℕ). slice_index ns (node_in found.regions v)) all)) (are.values v view))
 
-  -- they are of 25
-  pub cells_wide : IsListing 25 (take count (list ++ drop count array))
-  cells_wide = subst (IsListing 25) (sym cells_read) (listing_wide (cell_count g.grid) 25 (list_at (cell_count g.grid) (length g.tiles) place) (cells_high g.grid group.sides) place_listed)
+-- ---- the rank of a slot
 
-  module _ (least : List ℕ) (set orders order : ℕ) (set_is : set ≡ set_place (take count (list ++ drop count array))) (orders_are : orders ≡ factorial count) (order_is : order ≡ order_of (take count (list ++ drop count array))) where
-    number_is : set * orders + order ≡ placement_in (length g.tiles) (list_at (cell_count g.grid) (length g.tiles) place)
-    number_is = λ i. (set_is ∙ ap set_place cells_read) i * (orders_are ∙ ap factorial tiles) i + (order_is ∙ ap order_of cells_read) i
+-- what is looked up elsewhere stays as it is
+unchanged : (cells : List ℕ) (t x : ℕ) (places : List ℕ) → ((k : ℕ) → k < length places → get_or places k 0 ≢ t) → map (slice_index (set cells t x)) places ≡ map (slice_index cells) places
+unchanged cells t x [] other = refl
+unchanged cells t x (y ∷ ys) other = λ i. get_or-set_other cells t y x 0 (other 0 (omega arith)) i ∷ unchanged cells t x ys (λ k low. other (suc k) (omega (arith, low))) i
 
-    -- the value is among those that are given
-    pub number_within : length least ≡ placement_count (cell_count g.grid) (length g.tiles) → set * orders + order < length least
-    number_within are =
-        let room = (groups_small g group).1 in
-        let long = length-list_at (cell_count g.grid) (length g.tiles) place (omega (arith, room)) in
-        let below = placement_below (cell_count g.grid) (length g.tiles) (list_at (cell_count g.grid) (length g.tiles) place) place_listed long in
-        let e = number_is in
-        omega (arith, below, e, are)
+-- the digit of one tile more is written
+pub written : (n : ℕ) (tiles cells total : List ℕ) (place rest : ℕ) → AllPairs (λ x y. x ≢ y) tiles → place < length tiles → get_or tiles place 0 < length cells → map (slice_index cells) (take place tiles) ++ digits_in n (length tiles - place) rest ≡ total → map (slice_index (set cells (get_or tiles place 0) (rest % n))) (take (place + 1) tiles) ++ digits_in n (length tiles - (place + 1)) (rest / n) ≡ total
+unfolding digits_in
+written n tiles cells total place rest differ within room are =
+    let t : ℕ = get_or tiles place 0 in
+    let left : length tiles - place ≡ suc (length tiles - (place + 1)) = omega (arith, within) in
+    let next : digits_in n (length tiles - place) rest ≡ (rest % n) ∷ digits_in n (length tiles - (place + 1)) (rest / n) = ap (λ k. digits_in n k rest) left in
+    let long = length-take-le place tiles (omega (arith, within)) in
+    let before : map (slice_index (set cells (get_or tiles place 0) (rest % n))) (take place tiles) ≡ map (slice_index cells) (take place tiles) =
+    unchanged cells (get_or tiles place 0) (rest % n) (take place tiles) (λ k low.
+    let k_low : k < place = omega (arith, long, low) in
+    λ e. differ k place 0 k_low within (sym (get_or-take place tiles k 0 k_low) ∙ e)) in
+    let here : slice_index (set cells (get_or tiles place 0) (rest % n)) (get_or tiles place 0) ≡ rest % n = get_or-set_same cells (get_or tiles place 0) (rest % n) 0 room in
+    let more : map (slice_index (set cells (get_or tiles place 0) (rest % n))) (take (place + 1) tiles) ≡ map (slice_index cells) (take place tiles) ++ (rest % n) ∷ [] =
+    ap (map (slice_index (set cells (get_or tiles place 0) (rest % n)))) (take_more tiles place 0 within)
+    ∙ map-append (slice_index (set cells (get_or tiles place 0) (rest % n))) (take place tiles) (get_or tiles place 0 ∷ [])
+    ∙ (λ i. before i ++ here i ∷ []) in
+    ap (λ (xs : List ℕ). xs ++ digits_in n (length tiles - (place + 1)) (rest / n)) more
+    ∙ append_assoc (map (slice_index cells) (take place tiles)) ((rest % n) ∷ []) (digits_in n (length tiles - (place + 1)) (rest / n))
+    ∙ ap (λ (xs : List ℕ). map (slice_index cells) (take place tiles) ++ xs) (sym next)
+    ∙ are
 
-    -- and that of the place
-    pub value_there : slice_index least (set * orders + order) ≡ at_place g least place
-    value_there = ap (slice_index least) number_is
+-- once all are written, the cells are those of the view with the slot
+pub seen :
+    (g : Selection) (base slot rest place : ℕ) (tiles cells : List ℕ)
+    → base ≡ digit_base g.grid
+    → tiles ≡ g.tiles
+    → length tiles ≤ place
+    → slice_index cells 0 ≡ slot % base
+    → map (slice_index cells) (take place tiles) ++ digits_in base (length tiles - place) rest ≡ digits_in base (length tiles) (slot / base)
+    → (v : Sight) → IsView g.grid g.tiles v → slot_in g.grid v ≡ slot → view_at g.tiles cells ≡ v
+unfolding digits_in
+seen g base slot rest place tiles cells based listed end blank are v view at = λ i. record { blank = get_or (one i) 0 0; cells = drop 1 (one i) }
+  where
+    none : length tiles - place ≡ 0
+    none = omega (arith, end)
+
+    all : map (slice_index cells) tiles ≡ digits_in base (length tiles) (slot / base)
+    all =
+        sym (ap (map (slice_index cells)) (take_all place tiles end))
+        ∙ sym (append-nil (map (slice_index cells) (take place tiles)))
+        ∙ ap (λ (k : ℕ). map (slice_index cells) (take place tiles) ++ digits_in base k rest) (sym none)
+        ∙ are
+
+    long : length tiles ≡ length v.cells
+    long = ap length listed ∙ sym view.one_each
+
+    one : slice_index cells 0 ∷ map (slice_index cells) g.tiles ≡ v.blank ∷ v.cells
+    one =
+        ap (λ (ts : List ℕ). slice_index cells 0 ∷ map (slice_index cells) ts) (sym listed)
+        ∙ (λ i. blank i ∷ all i)
+        ∙ (λ i. digits_in (based i) (suc (long i)) (sym at i))
+        ∙ digits_back (digit_base g.grid) (v.blank ∷ v.cells) (slot_digits g.grid g.tiles v view)
+
+-- what the loop keeps is kept by one tile more
+pub tile_written :
+    (g : Selection) (base slot rest place : ℕ) (tiles cells : List ℕ)
+    → IsSelection g
+    → tiles ≡ g.tiles
+    → place < length tiles
+    → length cells ≡ 25
+    → slice_index cells 0 ≡ slot % base
+    → map (slice_index cells) (take place tiles) ++ digits_in base (length tiles - place) rest ≡ digits_in base (length tiles) (slot / base)
+    → (length (set cells (get_or tiles place 0) (rest % base)) ≡ 25)
+    × (slice_index (set cells (get_or tiles place 0) (rest % base)) 0 ≡ slot % base)
+    × (map (slice_index (set cells (get_or tiles place 0) (rest % base))) (take (place + 1) tiles) ++ digits_in base (length tiles - (place + 1)) (rest / base) ≡ digits_in base (length tiles) (slot / base))
+tile_written g base slot rest place tiles cells is listed within all blank are =
+    let few : cell_count g.grid ≤ 25 = mul-le g.grid.rows g.grid.cols 5 5 is.sides.rows_high is.sides.cols_high in
+    let each : All (IsTile g.grid) tiles = subst (λ (ts : List ℕ). All (IsTile g.grid) ts) (sym listed) is.group.tiles in
+    let tile : IsTile g.grid (get_or tiles place 0) = each place 0 within in
+    let differ : AllPairs (λ x y. x ≢ y) tiles = subst (λ (ts : List ℕ). AllPairs (λ x y. x ≢ y) ts) (sym listed) is.group.different in (
+      length-set cells (get_or tiles place 0) (rest % base) ∙ all,
+      get_or-set_other cells (get_or tiles place 0) 0 (rest % base) 0 (λ e. absurd (omega (arith, e, tile.0))) ∙ blank,
+      written base tiles cells (digits_in base (length tiles) (slot / base)) place rest differ within (omega (arith, tile.1, few, all)) are,
+    )

@@ -23,17 +23,16 @@ use Rattle.pattern_index.proofs.RankLemmas.{Below, below_in, differ_in, length-l
 use Rattle.pattern_index.proofs.SightLemmas.{sight_below, sight_from_rank}
 use Rattle.pattern_index.proofs.SparseLemmas.{sparse_below}
 use Rattle.pattern_index.proofs.ViewMoveLemmas.{successor_of_sight, moved_view, blank_inside, board_view}
-use Rattle.database_build.specs.Entries.{widened}
-use Rattle.database_build.specs.Falls.{FallsTo, FallsSlowlyAt}
-use Rattle.database_build.specs.FoldEntries.{ArePlaces, HasLeast, HasNoView, by_place, least_in, most_places, sparse_of_place}
+use Rattle.pattern_graph.specs.Placements.{HasNoView}
+use Rattle.pattern_graph.proofs.RowLemmas.{list_back}
+use Rattle.pattern_graph.proofs.OrderLemmas.{below-all, below_low}
+use Rattle.database_build.specs.Entries.{widened, ArePlaces, HasLeast, by_place, least_in, most_places, sparse_of_place}
+use Rattle.database_build.specs.Tables.{FallsTo, FallsSlowlyAt, Lookup, HoldsValues, value_in}
 use Rattle.database_build.specs.Folds.{Fold, IsFoldedValue, folded_in}
-use Rattle.database_build.specs.Tables.{Lookup, HoldsValues, value_in}
 use Rattle.database_build.specs.Values.{IsPotential}
 use Rattle.database_build.specs.declared.entries.Entries.{Entries}
 use Rattle.database_build.specs.declared.entries.Entries.TheVariants.{Ranked, Bytes, Words}
 use Rattle.database_build.specs.declared.table.TheConstants.{NO_VALUE}
-use Rattle.database_build.proofs.FillLemmas.{list_back}
-use Rattle.database_build.proofs.OrderLemmas.{below-all, below_low}
 
 -- ---- folded values by place
 

@@ -10,23 +10,22 @@ use Rattle.board.specs.CostRules.{CostRule}
 use Rattle.pattern_index.specs.Laws.{factorial}
 use Rattle.pattern_index.specs.Views.{Sight, view_of}
 use Rattle.pattern_index.specs.Selections.{Selection, abstraction_of}
+use Rattle.pattern_graph.specs.Orders.{tile_of, moved_order}
+use Rattle.pattern_graph.specs.Regions.{IsRegions, HasEdge}
+use Rattle.pattern_graph.specs.Graphs.{node_in, node_count, IsSoundGraph}
+use Rattle.pattern_graph.specs.declared.edges.Edge.{Edge}
+use Rattle.pattern_graph.specs.declared.graph.Graph.{Graph}
+use Rattle.pattern_graph.specs.declared.regions.Regions.{Regions}
+use Rattle.pattern_graph.proofs.OrderTables.{tile_low}
+use Rattle.pattern_graph.proofs.GraphLemmas.{IsParted, parted}
 use Rattle.database_build.specs.Values.{IsValue}
-use Rattle.database_build.specs.Orders.{tile_of, moved_order}
-use Rattle.database_build.specs.Regions.{IsRegions, HasEdge}
-use Rattle.database_build.specs.Graphs.{node_in, node_count}
-use Rattle.database_build.specs.Searches.{IsSoundGraph, IsSought, AreFound}
-use Rattle.database_build.specs.NodeSets.{Has, IsNodeSet}
-use Rattle.database_build.specs.Layers.{IsSetOf, AreLayers, IsAtStart, IsFresh, IsLedFresh, IsWordPassed, IsRegionPassed, IsLayerPassed}
-use Rattle.database_build.specs.declared.edges.Edge.{Edge}
-use Rattle.database_build.specs.declared.graph.Graph.{Graph}
+use Rattle.database_build.specs.Searches.{IsSought, AreFound}
+use Rattle.database_build.specs.Layers.{Has, IsNodeSet, IsSetOf, AreLayers, IsAtStart, IsFresh, IsLedFresh, IsWordPassed, IsRegionPassed, IsLayerPassed}
 use Rattle.database_build.specs.declared.node_sets.NodeSet.{NodeSet}
 use Rattle.database_build.specs.declared.layers.Layers.{Layers}
 use Rattle.database_build.specs.declared.finding.Found.{Found}
-use Rattle.database_build.specs.declared.regions.Regions.{Regions}
 use Rattle.database_build.specs.declared.table.TheConstants.{NO_VALUE}
-use Rattle.database_build.proofs.BucketLemmas.{none_some}
-use Rattle.database_build.proofs.OrderTables.{tile_low}
-use Rattle.database_build.proofs.ReachLemmas.{Quest, IsIn, node, count_of, HasGraph, Passes, IsReached, IsUnderWay, IsParted, parted, reached_past, values_are, quest_of}
+use Rattle.database_build.proofs.SearchLemmas.{none_some, Quest, IsIn, node, count_of, HasGraph, Passes, IsReached, IsUnderWay, reached_past, values_are, quest_of}
 use Rattle.database_build.proofs.LayerStepLemmas.{set_wide, place_within, moved_low, fresh_low, layer_kept}
 
 abbrev pub size_of : Quest → ℕ

@@ -1,9 +1,16 @@
 -- Folded tables: for each way in which a group's tiles can stand, the least value over the blank's places.
-use Rattle.std.specs.Prelude.{ℕ, ◌≡◌, ◌≤◌, List, length, slice_index}
-use Rattle.pattern_index.specs.Views.{Sight, IsView}
-use Rattle.pattern_index.specs.Selections.{Selection, place_in, folded_size_of}
+use Rattle.std.specs.Prelude.{ℕ, ◌≡◌, ◌≤◌, List, length, slice_index, ◌+◌, ◌<◌}
 use Rattle.board.specs.Positions.{Position}
 use Rattle.board.specs.CostRules.{CostRule}
+use Rattle.board.specs.Grids.{cell_count}
+use Rattle.pattern_index.specs.Views.{Sight, IsView}
+use Rattle.pattern_index.specs.Selections.{Selection, place_in, folded_size_of}
+use Rattle.pattern_index.specs.Laws.{factorial}
+use Rattle.pattern_graph.specs.Regions.{IsPlaced}
+use Rattle.pattern_graph.specs.declared.regions.Regions.{Regions}
+use Rattle.pattern_graph.specs.Placements.{IsLeastNode, placement_in, placement_count}
+use Rattle.pattern_graph.specs.Orders.{order_of}
+use Rattle.pattern_graph.specs.Sets.{AreSame}
 use Rattle.database_build.specs.Tables.{Lookup, HoldsValues, value_in}
 
 -- A group, and an entry for each way in which its tiles can stand, by place.
@@ -29,3 +36,21 @@ pub record IsFoldOf (table : Lookup) (fold : Fold) : Type 0 where
 -- folded from a table with the value of each view for the goal by these costs
 abbrev pub IsTrueFold : CostRule → Position → Fold → Type 0
 IsTrueFold rule goal fold = (table : Lookup) × IsFoldOf table fold × HoldsValues table rule goal
+
+-- ---- the least value of each placement of the tiles
+
+-- the least value of the nodes of each placement
+pub record AreLeastNodes (r : Regions) (nodes least : List ℕ) : Type 0 where
+  pub size : length least ≡ placement_count (cell_count r.shape) r.count
+  pub values : (cells : List ℕ) → IsPlaced r.shape r.count cells → IsLeastNode r nodes cells (slice_index least (placement_in r.count cells))
+
+-- the least value that a table has of each placement
+pub record AreLeastOf (table : Lookup) (least : List ℕ) : Type 0 where
+  pub size : length least ≡ placement_count (cell_count table.selection.grid) (length table.selection.tiles)
+  pub values : (v : Sight) → IsView table.selection.grid table.selection.tiles v → IsFoldedValue table v (slice_index least (placement_in (length table.selection.tiles) v.cells))
+
+-- behind the old values stand those of the placements on a set of cells, by order
+pub record AreAdded (table : Lookup) (cells old new : List ℕ) : Type 0 where
+  pub size : length new ≡ length old + factorial (length table.selection.tiles)
+  pub kept : (i : ℕ) → i < length old → slice_index new i ≡ slice_index old i
+  pub added : (v : Sight) → IsView table.selection.grid table.selection.tiles v → AreSame v.cells cells → IsFoldedValue table v (slice_index new (length old + order_of v.cells))

@@ -7,12 +7,12 @@ use Rattle.board.specs.CostRules.{CostRule}
 use Rattle.pattern_index.specs.Views.{Sight, IsView, Abstraction, ViewLeads, view_of}
 use Rattle.pattern_index.specs.Selections.{Selection, IsSelection, abstraction_of, folded_size_of}
 use Rattle.pattern_index.specs.Sparse.{sparse_in, sparse_size_of}
+use Rattle.pattern_graph.specs.Placements.{HasNoView}
+use Rattle.pattern_graph.specs.Frames.{GroupSize, Fits}
 use Rattle.database_build.specs.Values.{IsValue, IsPotential}
 use Rattle.database_build.specs.Tables.{Lookup, HoldsValues, value_in}
 use Rattle.database_build.specs.Folds.{Fold, IsFoldedValue, IsFoldOf, folded_in}
-use Rattle.database_build.specs.Entries.{AreSmall, HaveOneForm, IsKeptBest}
-use Rattle.database_build.specs.FoldEntries.{HasLeast, HasNoView, least_in, most_places}
-use Rattle.database_build.specs.Frames.{GroupSize, Fits}
+use Rattle.database_build.specs.Entries.{AreSmall, HaveOneForm, IsKeptBest, HasLeast, least_in, most_places}
 use Rattle.database_build.specs.declared.table.TheConstants.{NO_VALUE}
 use Rattle.database_build.specs.declared.entries.Entries.{Entries}
 use Rattle.database_build.specs.declared.entries.Entries.TheVariants.{Words}

@@ -1,45 +1,63 @@
--- How a search lowers the values of nodes, along edges.
-use Rattle.std.specs.Prelude.{ℕ, zero, suc, ◌≡◌, ◌≢◌, ◌⊎◌, ◌+◌, ◌-◌, ◌*◌, ◌/◌, ◌%◌, ◌<◌, ◌≤◌, [], length, replicate, Some, slice_get, slice_index, sum}
+-- Ranks that wait in buckets of cost.
+use Rattle.std.specs.Prelude.{ℕ, ◌≡◌, ◌⊎◌, ◌+◌, ◌≤◌, List, Vec, length, Contains, Option, Some, None, slice_get, zero, suc, ◌≢◌, ◌-◌, ◌*◌, ◌/◌, ◌%◌, ◌<◌, [], replicate, slice_index, sum}
+use Rattle.std.specs.declared.alloc.Global.{Global}
 use Rattle.board.specs.Positions.{Position}
 use Rattle.board.specs.CostRules.{CostRule}
 use Rattle.pattern_index.specs.Views.{Sight, IsView, view_of}
 use Rattle.pattern_index.specs.Laws.{factorial}
 use Rattle.pattern_index.specs.Selections.{Selection, abstraction_of}
-use Rattle.pattern_index.specs.declared.group.TheConstants.{MAX_SIZE}
-use Rattle.database_build.specs.Buckets.{Waits, waiting_count}
-use Rattle.database_build.specs.Orders.{tile_of, moved_order}
-use Rattle.database_build.specs.Regions.{IsRegions, HasEdge}
-use Rattle.database_build.specs.Graphs.{IsOrders, IsGraph, node_in, node_count}
+use Rattle.pattern_graph.specs.Regions.{IsRegions}
+use Rattle.pattern_graph.specs.Graphs.{node_in, node_count, IsGraphOf, target, cost_by, IsSoundGraph}
+use Rattle.pattern_graph.specs.declared.edges.Edge.{Edge}
+use Rattle.pattern_graph.specs.declared.graph.Graph.{Graph}
 use Rattle.database_build.specs.Values.{IsValue}
-use Rattle.database_build.specs.declared.edges.Edge.{Edge}
-use Rattle.database_build.specs.declared.graph.Graph.{Graph}
 use Rattle.database_build.specs.declared.search.Search.{Search}
 use Rattle.database_build.specs.declared.finding.Found.{Found}
 use Rattle.database_build.specs.declared.table.TheConstants.{NO_VALUE}
 
--- the regions are those of the group, and the graph is that of its views
-pub record IsGraphOf (selection : Selection) (rule : CostRule) (g : Graph) : Type 0 where
-  pub regions : IsRegions selection.grid (length selection.tiles) g.regions
-  pub graph : IsGraph (abstraction_of selection rule) g.regions g.edges g.costs
+-- ---- ranks that wait in buckets of cost
 
--- the node to which an edge leads from one of this order
-abbrev pub target : Graph → ℕ → Edge → ℕ
-target g order e = e.region * factorial g.regions.count + moved_order g.regions.count order e.from e.to
+-- the bucket of each cost, from 0 on
+abbrev pub Buckets : Type 0
+Buckets = List (Vec ℕ Global)
 
--- what the edge costs there
-abbrev pub cost_by : Graph → ℕ → Edge → ℕ
-cost_by g order e = slice_index g.costs (tile_of g.regions.count order e.from)
+-- the rank is in the bucket of this cost
+abbrev pub Waits : Buckets → ℕ → ℕ → Type 0
+Waits buckets cost rank = (bucket : Vec ℕ Global) × (slice_get buckets cost ≡ Some bucket) × Contains bucket.items rank
 
--- what is kept of orders and edges can be read, and each edge leads to a node
-pub record IsSoundGraph (g : Graph) : Type 0 where
-  pub orders : IsOrders g.regions.count g.orders
-  pub costs : length g.costs ≡ 9
-  pub few : node_count g.regions ≤ MAX_SIZE
-  pub starts : length g.edges.starts.items ≡ suc (length g.regions.homes.items)
-  pub rising : (region : ℕ) → region < length g.regions.homes.items → slice_index g.edges.starts.items region ≤ slice_index g.edges.starts.items (suc region)
-  pub within : (region : ℕ) → region < length g.regions.homes.items → slice_index g.edges.starts.items (suc region) ≤ length g.edges.edges.items
-  pub ends : (node : ℕ) (e : Edge) → node < node_count g.regions → HasEdge g.edges (node / factorial g.regions.count) e
-      → (e.from < g.regions.count) × (e.to < g.regions.count) × (target g (node % factorial g.regions.count) e < node_count g.regions)
+-- how many are in a bucket, if there is one
+abbrev pub size_in : Option (Vec ℕ Global) → ℕ
+size_in None = 0
+size_in (Some bucket) = length bucket.items
+
+-- how many are in the bucket of this cost
+abbrev pub waiting_count : Buckets → ℕ → ℕ
+waiting_count buckets cost = size_in (slice_get buckets cost)
+
+-- the same wait in both, and no bucket is lost
+pub record IsGrown (b b' : Buckets) : Type 0 where
+  pub waits : (cost rank : ℕ) → Waits b cost rank → Waits b' cost rank
+  pub only : (cost rank : ℕ) → Waits b' cost rank → Waits b cost rank
+  pub same : (cost : ℕ) → waiting_count b' cost ≡ waiting_count b cost
+  pub wide : length b ≤ length b'
+
+-- one more waits
+pub record IsPut (cost rank : ℕ) (b b' : Buckets) : Type 0 where
+  pub here : Waits b' cost rank
+  pub waits : (at k : ℕ) → Waits b at k → Waits b' at k
+  pub only : (at k : ℕ) → Waits b' at k → Waits b at k ⊎ (k ≡ rank)
+  pub count : (at : ℕ) → waiting_count b' at ≤ waiting_count b at + 1
+  pub same_length : length b' ≡ length b
+
+-- one that waited is gone
+pub record IsTaken (cost rank : ℕ) (b b' : Buckets) : Type 0 where
+  pub here : Waits b cost rank
+  pub waits : (at k : ℕ) → Waits b at k → Waits b' at k ⊎ ((at ≡ cost) × (k ≡ rank))
+  pub only : (at k : ℕ) → Waits b' at k → Waits b at k
+  pub count : waiting_count b' cost + 1 ≡ waiting_count b cost
+  pub same_length : length b' ≡ length b
+
+-- ---- how a search lowers values
 
 -- there is a value for each node
 pub record IsFit (s : Search) : Type 0 where

@@ -1,10 +1,13 @@
 -- Tables: a number for each view of a group.
-use Rattle.std.specs.Prelude.{ℕ, List, slice_index}
+use Rattle.std.specs.Prelude.{ℕ, List, slice_index, ◌≡◌, ◌+◌, ◌≤◌, Option, None, Some, codes}
 use Rattle.board.specs.Positions.{Position}
 use Rattle.board.specs.CostRules.{CostRule}
+use Rattle.board.specs.declared.moves.Move.{Move}
 use Rattle.pattern_index.specs.Views.{Sight, IsView, view_of}
-use Rattle.pattern_index.specs.Selections.{Selection, rank_in, abstraction_of}
+use Rattle.pattern_index.specs.Selections.{Selection, rank_in, abstraction_of, sight_successor}
 use Rattle.database_build.specs.Values.{IsValue}
+use Rattle.database_build.specs.declared.faults.TableFault.{TableFault}
+use Rattle.database_build.specs.declared.faults.TableFault.TheVariants.{WrongCount}
 
 -- A group, and the entry of each of its views, by rank.
 pub record Lookup : Type 0 where
@@ -21,3 +24,25 @@ HoldsValues table rule goal =
     (v : Sight)
     → IsView table.selection.grid table.selection.tiles v
     → IsValue (abstraction_of table.selection rule) (view_of table.selection.tiles goal) v (value_in table v)
+
+-- ---- when the entries of a table fall slowly, rank by rank and move by move
+
+-- n is no more than the cost of a move and the entry of the view that it leads to, if there is one
+abbrev pub FallsTo : Lookup → ℕ → Option (Sight × ℕ) → Type 0
+FallsTo table n None = Unit {0}
+FallsTo table n (Some moved) = n ≤ moved.1 + value_in table moved.0
+
+-- no move from the view of this rank lowers the entry by more than its cost
+abbrev pub FallsSlowlyAt : Lookup → CostRule → ℕ → Type 0
+FallsSlowlyAt table rule rank =
+    (v : Sight)
+    → IsView table.selection.grid table.selection.tiles v
+    → rank_in table.selection.grid v ≡ rank
+    → (m : Move)
+    → FallsTo table (value_in table v) (sight_successor (abstraction_of table.selection rule) v m)
+
+-- ---- the code of the fault of tables
+
+-- the code that a fault is reported by
+abbrev pub table_code : TableFault → List ℕ
+table_code WrongCount = codes "E11"

@@ -1,7 +1,7 @@
 //! Ranks that wait in buckets of cost.
 
 ghost use Rattle.std.specs.Prelude.{◌≡◌, ◌<◌, ◌≤◌, length, OnOk, MatchOption};
-ghost use Rattle.database_build.specs.Buckets.{IsGrown, IsPut, IsTaken, waiting_count};
+ghost use Rattle.database_build.specs.Searches.{IsGrown, IsPut, IsTaken, waiting_count};
 
 use crate::table::NO_VALUE;
 use memory::{OutOfMemory, push};

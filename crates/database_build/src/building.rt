@@ -2,22 +2,23 @@
 
 ghost use Rattle.std.specs.Prelude.{◌≡◌, IfOk};
 ghost use Rattle.database_build.specs.Tables.{HoldsValues};
-ghost use Rattle.database_build.specs.Frames.{IsTask, Fits};
+ghost use Rattle.pattern_graph.specs.Frames.{IsTask, Fits};
 ghost use Rattle.database_build.specs.Folds.{IsTrueFold};
 
 use crate::entries::{keep_least, keep_values};
 use crate::finding::find_values;
 use crate::folding::Folded;
-use crate::frame::Frame;
 use crate::least::fold_nodes;
 use crate::table::Table;
 use board::{Board, Weights};
 use memory::OutOfMemory;
+use pattern_graph::Frame;
 use pattern_index::Group;
 use std::alloc::Global;
 
 /// The table that holds the value of each view of the group for this goal: the smaller of
-/// `NO_VALUE` and the least cost of a view plan to the goal's view (Korf, Felner 2002).
+/// `NO_VALUE` and the least cost of a view plan to the goal's view (Korf, Felner 2002). It keeps them
+/// by slot, as bytes where each fits one, where the group has at most 2^25 slots; else by rank.
 pub fn build(
     alloc: Global,
     group: &Group,
@@ -52,7 +53,7 @@ pub fn build_in(
 }
 
 // The same, in a frame of its own.
-#[tactic(auto, using(crate::proofs::FrameLemmas::table_built))]
+#[tactic(auto, using(crate::proofs::EntryLemmas::table_built))]
 fn build_of(
     alloc: Global,
     frame: Frame,

@@ -3,20 +3,18 @@
 ghost use Rattle.std.specs.Prelude.{replicate, ◌≡◌, ◌↔◌, ◌<◌, ◌≤◌, ◌^◌, IfOk, IsTrue};
 ghost use Rattle.std.specs.Prelude.{length, map, min};
 ghost use Rattle.pattern_index.specs.Sparse.{slot_count_of, sparse_size_of};
-ghost use Rattle.database_build.specs.Entries.{AreSmall, HasEntries, IsKeptBest, values_in};
-ghost use Rattle.database_build.specs.FoldEntries.{HasFewPlaces, HasLeast, least_in, most_places};
-ghost use Rattle.database_build.specs.Graphs.{AreNodesOf};
-ghost use Rattle.database_build.specs.Slots.{AreAllFilled};
-ghost use Rattle.database_build.specs.Placements.{IsOnePerPlacement, AreNodeValues, ArePlaceValues};
-ghost use Rattle.database_build.specs.Placements.{AreAllWritten};
+ghost use Rattle.database_build.specs.Entries.{AreSmall, HasEntries, IsKeptBest, values_in, HasFewPlaces, HasLeast};
+ghost use Rattle.database_build.specs.Entries.{least_in, most_places};
+ghost use Rattle.pattern_graph.specs.Graphs.{AreNodesOf};
+ghost use Rattle.pattern_graph.specs.Placements.{AreAllFilled, IsOnePerPlacement, AreNodeValues, ArePlaceValues};
+ghost use Rattle.pattern_graph.specs.Placements.{AreAllWritten};
 
 use crate::folding::{MOST_PLACES, PLACES_A_VALUE};
-use crate::orders::factorial;
-use crate::regions::Regions;
-use crate::rows::{rank_least, rank_values};
-use crate::slots::{find_positions, write_places, write_slots};
 use crate::table::NO_VALUE;
 use memory::{OutOfMemory, filled, push, with_capacity};
+use pattern_graph::{
+    Regions, factorial, find_positions, rank_least, rank_values, write_places, write_slots,
+};
 use pattern_index::Group;
 use std::alloc::Global;
 

@@ -1,7 +1,7 @@
 //! Why values are no table, and tables not those of a partition.
 
 ghost use Rattle.std.specs.Prelude.{◌≡◌};
-ghost use Rattle.database_build.specs.Faults.{table_code};
+ghost use Rattle.database_build.specs.Tables.{table_code};
 
 use thiserror::Error;
 

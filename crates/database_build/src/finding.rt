@@ -2,15 +2,13 @@
 
 ghost use Rattle.std.specs.Prelude.{ℕ, ◌≡◌, ◌<◌, ◌↔◌, length, replicate, Some, IfOk};
 ghost use Rattle.database_build.specs.Searches.{AreFound};
-ghost use Rattle.database_build.specs.Frames.{IsTask};
+ghost use Rattle.pattern_graph.specs.Frames.{IsTask};
 
-use crate::frame::Frame;
-use crate::graph::Graph;
 use crate::layers::find_by_layers;
-use crate::regions::Regions;
 use crate::search::find_by_buckets;
 use board::{Board, Weights};
 use memory::OutOfMemory;
+use pattern_graph::{Frame, Graph, Regions};
 use pattern_index::Group;
 use std::alloc::Global;
 

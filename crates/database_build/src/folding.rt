@@ -7,9 +7,9 @@ ghost use Rattle.pattern_index.specs.Views.{IsView, Sight, view_at};
 ghost use Rattle.pattern_index.specs.Selections.{IsSelection, folded_size_of};
 ghost use Rattle.pattern_index.specs.Sparse.{sparse_in, sparse_size_of, stride_of};
 ghost use Rattle.database_build.specs.Folds.{IsFoldOf, folded_in};
-ghost use Rattle.database_build.specs.Marks.{AreMarksOf};
-ghost use Rattle.database_build.specs.FoldEntries.{AreStridesOf, HasLeast, HasNoView, least_in};
-ghost use Rattle.database_build.specs.FoldEntries.{most_places, sparse_of_place};
+ghost use Rattle.pattern_graph.specs.Sets.{AreMarksOf};
+ghost use Rattle.database_build.specs.Entries.{AreStridesOf, HasLeast, least_in, most_places, sparse_of_place};
+ghost use Rattle.pattern_graph.specs.Placements.{HasNoView};
 
 use crate::entries::{Entries, keep_least};
 use crate::least::fold_table;
@@ -39,8 +39,8 @@ pub struct Folded {
 
 impl Model for Folded {
     ghost use Rattle.database_build.specs.Folds.{Fold};
-    ghost use Rattle.database_build.specs.Marks.{AreMarksOf};
-    ghost use Rattle.database_build.specs.FoldEntries.{AreStridesOf, HasLeast, least_in};
+    ghost use Rattle.pattern_graph.specs.Sets.{AreMarksOf};
+    ghost use Rattle.database_build.specs.Entries.{AreStridesOf, HasLeast, least_in};
     ghost use Rattle.pattern_index.specs.Selections.{IsSelection};
 
     ghost Value = { Fold };

@@ -1,9 +1,8 @@
 //! The laws of the definitions: each is the contract of a function that does nothing.
 
 ghost use Rattle.std.specs.Prelude.{◌≡◌, ◌^◌};
-ghost use Rattle.database_build.specs.Laws.{ValuesAreDetermined, ValuesArePotentials};
-ghost use Rattle.database_build.specs.Laws.{PotentialsAreLowerBounds, ValuesAreReached};
-ghost use Rattle.database_build.specs.Laws.{FoldedValuesAreLow, FoldedValuesAreReached};
+ghost use Rattle.database_build.specs.Laws.{ValuesAreDetermined, ValuesArePotentials, PotentialsAreLowerBounds};
+ghost use Rattle.database_build.specs.Laws.{ValuesAreReached, FoldedValuesAreLow, FoldedValuesAreReached};
 ghost use Rattle.database_build.specs.Laws.{PlacesAreFew, FoldedValuesAreDetermined, FramesFitAll};
 ghost use Rattle.database_build.specs.Laws.{FormsAreDetermined, PlacesWithoutViews, WordsAreNeeded};
 
@@ -63,7 +62,7 @@ pub fn folded_values_are_least()
 
 /// Values are kept best in one form: by rank, as bytes, or as words. Folded values are kept as words
 /// only where some value needs one.
-#[tactic(auto, using(crate::proofs::EntryLemmas::one_form, crate::proofs::PlacementLemmas::small_places))]
+#[tactic(auto, using(crate::proofs::EntryLemmas::one_form, crate::proofs::EntryLemmas::small_places))]
 pub fn forms_are_determined()
     ensures best { FormsAreDetermined }
     ensures words { WordsAreNeeded }

@@ -1,23 +1,20 @@
 //! The search for the values of nodes where each tile costs the same: layer by layer, since all nodes
 //! that are found in a layer have one value.
 
-ghost use Rattle.std.specs.Prelude.{ℕ, suc, ◌≡◌, ◌+◌, ◌*◌, ◌<◌, ◌≤◌, false, length, slice_index, IfOk};
+ghost use Rattle.std.specs.Prelude.{ℕ, suc, ◌≡◌, ◌+◌, ◌*◌, ◌<◌, ◌≤◌, length, slice_index, IfOk};
 ghost use Rattle.pattern_index.specs.Laws.{factorial};
-ghost use Rattle.database_build.specs.Graphs.{IsOrders};
-ghost use Rattle.database_build.specs.Regions.{HasPositions};
-ghost use Rattle.database_build.specs.Searches.{AreFoundFrom, IsStart, IsSoundGraph};
-ghost use Rattle.database_build.specs.NodeSets.{IsIn, IsUnion};
-ghost use Rattle.database_build.specs.Layers.{AreBelow, AreLayers, IsAtStart, IsLed, IsMovedFrom, IsWritten};
-ghost use Rattle.database_build.specs.Layers.{HasPassed, IsWordPassed, IsRegionPassed, IsLayerPassed};
+ghost use Rattle.pattern_graph.specs.Graphs.{IsOrders, IsSoundGraph};
+ghost use Rattle.pattern_graph.specs.Regions.{HasPositions};
+ghost use Rattle.database_build.specs.Searches.{AreFoundFrom, IsStart};
+ghost use Rattle.database_build.specs.Layers.{IsIn, IsUnion, AreBelow, AreLayers, IsAtStart, IsLed, IsMovedFrom};
+ghost use Rattle.database_build.specs.Layers.{IsWritten, HasPassed, IsWordPassed, IsRegionPassed, IsLayerPassed};
 ghost use Rattle.database_build.specs.Layers.{AreLayersWith, IsSetOf};
 
-use crate::edges::Edge;
 use crate::finding::Found;
-use crate::graph::Graph;
 use crate::node_sets::NodeSet;
-use crate::orders::Orders;
 use crate::table::NO_VALUE;
 use memory::{OutOfMemory, filled};
+use pattern_graph::{Edge, Graph, Orders};
 use std::alloc::Global;
 
 // What is found of the values of nodes, the nodes that have one, and those of this layer and of the

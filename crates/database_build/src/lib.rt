@@ -7,29 +7,21 @@
 
 mod buckets;
 mod building;
-mod edges;
 mod entries;
 mod faults;
 mod finding;
 mod folding;
-mod frame;
-mod graph;
 pub mod laws;
 mod layers;
 mod least;
 mod node_sets;
-mod orders;
 mod potential;
-mod regions;
-mod rows;
 mod search;
-mod sets;
-mod slots;
 mod table;
 
 pub use building::{build, build_folded, build_folded_in, build_in};
 pub use faults::TableFault;
 pub use folding::{Folded, MOST_PLACES, PLACES_A_VALUE, fold};
-pub use frame::Frame;
+pub use pattern_graph::Frame;
 pub use potential::is_potential;
 pub use table::{NO_VALUE, Table};

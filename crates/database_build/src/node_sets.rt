@@ -2,7 +2,7 @@
 
 ghost use Rattle.std.specs.Prelude.{ℕ, ◌≡◌, ◌+◌, ◌*◌, ◌/◌, ◌<◌, ◌≤◌, length, slice_index, IfOk};
 ghost use Rattle.pattern_index.specs.declared.group.TheConstants.{MAX_SIZE};
-ghost use Rattle.database_build.specs.NodeSets.{Has, IsIn, IsNodeSet, IsUnion};
+ghost use Rattle.database_build.specs.Layers.{Has, IsIn, IsNodeSet, IsUnion};
 
 use memory::{OutOfMemory, filled};
 use std::alloc::Global;

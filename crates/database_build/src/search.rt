@@ -1,22 +1,21 @@
 //! The search for the values of nodes by buckets of cost: backwards from the goal's node, since each
 //! view move can be taken back at the same cost.
 
-ghost use Rattle.std.specs.Prelude.{◌+◌, ◌<◌, ◌≤◌, ◌^◌, length, slice_index, IfOk, OnOk};
+ghost use Rattle.std.specs.Prelude.{◌<◌, ◌≤◌, ◌^◌, length, slice_index, IfOk, OnOk};
 ghost use Rattle.board.specs.Positions.{Position};
 ghost use Rattle.board.specs.CostRules.{CostRule};
 ghost use Rattle.pattern_index.specs.Laws.{factorial};
 ghost use Rattle.pattern_index.specs.Selections.{Selection};
-ghost use Rattle.database_build.specs.Graphs.{node_count};
-ghost use Rattle.database_build.specs.Regions.{HasPositions};
-ghost use Rattle.database_build.specs.Searches.{IsStart, IsSoundGraph, IsSought, IsFit, IsFresh, IsLowered};
-ghost use Rattle.database_build.specs.Searches.{AreFoundFrom, IsPassed, IsVisited, target};
+ghost use Rattle.pattern_graph.specs.Graphs.{node_count, IsSoundGraph, target};
+ghost use Rattle.pattern_graph.specs.Regions.{HasPositions};
+ghost use Rattle.database_build.specs.Searches.{IsStart, IsSought, IsFit, IsFresh, IsLowered, AreFoundFrom, IsPassed};
+ghost use Rattle.database_build.specs.Searches.{IsVisited};
 
 use crate::buckets::{grow, put, release, take};
-use crate::edges::Edge;
 use crate::finding::Found;
-use crate::graph::Graph;
 use crate::table::NO_VALUE;
 use memory::{OutOfMemory, filled};
+use pattern_graph::{Edge, Graph};
 use std::alloc::Global;
 
 // What is found of the values of nodes, and the nodes that wait in buckets of cost.

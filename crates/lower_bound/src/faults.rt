@@ -90,7 +90,7 @@ impl From<PartitionFault> for PatternFault {
 
 impl From<TableFault> for PatternFault {
     ghost use Rattle.std.specs.Prelude.{◌≡◌};
-    ghost use Rattle.database_build.specs.Faults.{table_code};
+    ghost use Rattle.database_build.specs.Tables.{table_code};
     ghost use Rattle.lower_bound.specs.Faults.{pattern_code, of_table};
 
     ghost from_gives = { λ fault sum. sum ≡ of_table fault };

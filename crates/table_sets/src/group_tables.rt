@@ -4,7 +4,7 @@ ghost use Rattle.std.specs.Prelude.{◌≡◌, All, IfNone, IfOk, IfSome};
 ghost use Rattle.board.specs.Positions.{Position};
 ghost use Rattle.board.specs.CostRules.{CostRule};
 ghost use Rattle.pattern_index.specs.Selections.{Selection};
-ghost use Rattle.database_build.specs.Frames.{Fits};
+ghost use Rattle.pattern_graph.specs.Frames.{Fits};
 
 use board::{Board, Weights};
 use database_build::{Folded, Frame, Table, build, build_folded, build_folded_in, build_in};

@@ -2,7 +2,7 @@
 
 ghost use Rattle.std.specs.Prelude.{◌≡◌, length, IfSome};
 ghost use Rattle.pattern_index.specs.Selections.{size_of};
-ghost use Rattle.database_build.specs.Frames.{Fits};
+ghost use Rattle.pattern_graph.specs.Frames.{Fits};
 
 use crate::kernels::steps::next_state;
 use crate::kernels::sums::shuffled;

@@ -1,4 +1,4 @@
-use Rattle.database_build.proofs.LeastNodeLemmas.{least_count, true_fold}
+use Rattle.database_build.proofs.LeastLemmas.{least_count, true_fold}
 use Rattle.database_build.proofs.building.fold_of.Goals as goal
 
 pub keep_least-requires : goal.keep_least-requires

@@ -2,7 +2,7 @@ use Rattle.std.proofs.Common.{ℕ, ◌≡◌, ◌<◌, length, ap, arith}
 use Rattle.std.specs.Prelude.{slice_index}
 use Rattle.std.proofs.lemmas.Result.{IfOk-weaker}
 use Rattle.database_build.specs.Searches.{AreFound, AreFoundFrom}
-use Rattle.database_build.proofs.GraphLemmas.{same_each}
+use Rattle.pattern_graph.proofs.GraphLemmas.{same_each}
 use Rattle.database_build.proofs.finding.find_values.Goals as goal
 
 -- the cost of each tile

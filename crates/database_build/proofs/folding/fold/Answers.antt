@@ -1,6 +1,6 @@
 use Rattle.std.proofs.Common.{subst, sym}
-use Rattle.database_build.specs.Placements.{AreLeastOf}
-use Rattle.database_build.proofs.TableFoldLemmas.{kept_fold}
+use Rattle.database_build.specs.Folds.{AreLeastOf}
+use Rattle.database_build.proofs.LeastLemmas.{kept_fold}
 use Rattle.database_build.proofs.folding.fold.Goals as goal
 
 pub returns : goal.returns

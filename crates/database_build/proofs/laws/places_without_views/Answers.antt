@@ -1,4 +1,4 @@
-use Rattle.database_build.proofs.PlacementLemmas.{seen_place, unseen_place}
+use Rattle.pattern_graph.proofs.PlacementLemmas.{seen_place, unseen_place}
 use Rattle.database_build.proofs.laws.places_without_views.Goals as goal
 
 pub returns : goal.returns

@@ -1,8 +1,8 @@
 use Rattle.std.proofs.Common.{◌≡◌, ℕ, ◌+◌, ◌*◌, subst, arith}
 use Rattle.std.specs.Int.{w64, trailing_zeros}
-use Rattle.database_build.specs.NodeSets.{IsUnion}
-use Rattle.database_build.proofs.NodeSetLemmas.{cleared, order_here, one_inserted}
-use Rattle.database_build.proofs.OrderTables.{factorial_small}
+use Rattle.database_build.specs.Layers.{IsUnion}
+use Rattle.database_build.proofs.LayerStepLemmas.{cleared, order_here, one_inserted}
+use Rattle.pattern_graph.proofs.OrderTables.{factorial_small}
 use Rattle.database_build.proofs.layers.insert_moved.Goals as goal
 
 pub overflow_mul-order : goal.overflow_mul-order

@@ -1,4 +1,4 @@
-use Rattle.database_build.proofs.NodeSetLemmas.{IsInserting}
+use Rattle.database_build.proofs.LayerStepLemmas.{IsInserting}
 use Rattle.database_build.proofs.layers.insert_moved.Given as goal
 
 abbrev pub invariant-bits : goal.invariant-bits

@@ -1,6 +1,6 @@
 use Rattle.std.proofs.Common.{length, sym, subst, arith}
 use Rattle.pattern_index.specs.Laws.{factorial}
-use Rattle.database_build.specs.NodeSets.{IsUnion}
+use Rattle.database_build.specs.Layers.{IsUnion}
 use Rattle.database_build.specs.declared.node_sets.NodeSet.{NodeSet}
 use Rattle.database_build.proofs.LayerStepLemmas.{ends_at, edge_at, word_within, words_within, all_moved, some_moved, leading_more, leading_all}
 use Rattle.database_build.proofs.layers.insert_next.Goals as goal

@@ -1,6 +1,6 @@
 use Rattle.std.proofs.Common.{arith}
 use Rattle.std.specs.Int.{w64, trailing_zeros}
-use Rattle.database_build.proofs.NodeSetLemmas.{cleared, inside_here, one_written}
+use Rattle.database_build.proofs.LayerStepLemmas.{cleared, inside_here, one_written}
 use Rattle.database_build.proofs.layers.write_values.Goals as goal
 
 pub overflow_add-values : goal.overflow_add-values

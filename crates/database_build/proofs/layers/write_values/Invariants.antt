@@ -1,4 +1,4 @@
-use Rattle.database_build.proofs.NodeSetLemmas.{IsWriting}
+use Rattle.database_build.proofs.LayerStepLemmas.{IsWriting}
 use Rattle.database_build.proofs.layers.write_values.Given as goal
 
 abbrev pub invariant-bits : goal.invariant-bits

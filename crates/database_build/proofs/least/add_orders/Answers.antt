@@ -1,7 +1,7 @@
 use Rattle.std.proofs.Common.{◌+◌, length, replicate, subst, sym, ◌∙◌, rules, arith}
 use Rattle.std.proofs.lemmas.List.{length-take-le}
-use Rattle.database_build.proofs.PlacementLemmas.{row_inside, row_low, row_ordered, row_size, row_within}
-use Rattle.database_build.proofs.TableFoldLemmas.{AreAddedTo, added_all, added_more, ended_is, same_marks, set_few, set_listed}
+use Rattle.pattern_graph.proofs.PlacementLemmas.{row_inside, row_low, row_ordered, row_size, row_within}
+use Rattle.database_build.proofs.LeastLemmas.{AreAddedTo, added_all, added_more, ended_is, same_marks, set_few, set_listed}
 use Rattle.database_build.proofs.least.add_orders.Goals as goal
 
 pub mark_cells-marks-requires : goal.mark_cells-marks-requires

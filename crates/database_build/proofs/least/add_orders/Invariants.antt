@@ -1,4 +1,4 @@
-use Rattle.database_build.proofs.TableFoldLemmas.{AreAddedTo}
+use Rattle.database_build.proofs.LeastLemmas.{AreAddedTo}
 use Rattle.database_build.proofs.least.add_orders.Given as goal
 
 -- the placements in the orders before this one are added

@@ -1,4 +1,4 @@
-use Rattle.database_build.proofs.LeastNodeLemmas.{AreLeastTo}
+use Rattle.database_build.proofs.LeastLemmas.{AreLeastTo}
 use Rattle.database_build.proofs.least.fold_nodes.Given as goal
 
 -- the placements on the sets before this one have their least values

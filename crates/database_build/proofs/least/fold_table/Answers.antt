@@ -1,8 +1,8 @@
 use Rattle.std.proofs.Common.{◌≡◌, ap, length, subst, ◌∙◌, arith}
 use Rattle.board.specs.Grids.{cell_count}
 use Rattle.pattern_index.specs.Selections.{IsSelection, Selection}
-use Rattle.database_build.specs.Sets.{choose}
-use Rattle.database_build.proofs.TableFoldLemmas.{front_is, sets_all, sets_more}
+use Rattle.pattern_graph.specs.Sets.{choose}
+use Rattle.database_build.proofs.LeastLemmas.{front_is, sets_all, sets_more}
 use Rattle.database_build.proofs.least.fold_table.Goals as goal
 
 pub sets-preserved : goal.sets-preserved

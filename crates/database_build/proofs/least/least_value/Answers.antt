@@ -2,7 +2,7 @@ use Rattle.std.proofs.Common.{ap, subst, ◌∙◌, arith}
 use Rattle.std.proofs.lemmas.List.{length-set}
 use Rattle.board.specs.Grids.{cell_count}
 use Rattle.pattern_index.specs.Selections.{IsSelection, Selection}
-use Rattle.database_build.proofs.TableFoldLemmas.{before_pass, before_more, before_all, blank_put, blank_view, blank_kept}
+use Rattle.database_build.proofs.LeastLemmas.{before_pass, before_more, before_all, blank_put, blank_view, blank_kept}
 use Rattle.database_build.proofs.least.least_value.Goals as goal
 
 pub blanks-preserved-then-marks-blank : goal.blanks-preserved-then-marks-blank

@@ -1,6 +1,6 @@
 use Rattle.std.proofs.Common.{◌≡◌, length, map}
 use Rattle.std.specs.Prelude.{slice_index}
-use Rattle.database_build.proofs.TableFoldLemmas.{IsLeastBefore}
+use Rattle.database_build.proofs.LeastLemmas.{IsLeastBefore}
 use Rattle.database_build.proofs.least.least_value.Given as goal
 
 -- the cells of the tiles stay written, and the free cells before this one were looked at

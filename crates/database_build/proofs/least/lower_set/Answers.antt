@@ -1,6 +1,7 @@
 use Rattle.std.proofs.Common.{length, refl, sym, ◌∙◌, arith}
-use Rattle.database_build.proofs.SlotLemmas.{set_listing, set_written}
-use Rattle.database_build.proofs.LeastNodeLemmas.{lowered_none, lowered_pass, lowered_more, lowered_all, nodes_within, nodes_end_fits}
+use Rattle.pattern_graph.proofs.SlotLemmas.{set_listing, set_written}
+use Rattle.database_build.proofs.LeastLemmas.{lowered_none, lowered_pass, lowered_all}
+use Rattle.database_build.proofs.LeastLemmas.{lowered_more, nodes_within, nodes_end_fits}
 use Rattle.database_build.proofs.least.lower_set.Goals as goal
 
 pub mark_cells-marks-requires : goal.mark_cells-marks-requires

@@ -1,4 +1,4 @@
-use Rattle.database_build.proofs.LeastNodeLemmas.{AreLowered}
+use Rattle.database_build.proofs.LeastLemmas.{AreLowered}
 use Rattle.database_build.proofs.least.lower_set.Given as goal
 
 -- the free cells before this one were looked at

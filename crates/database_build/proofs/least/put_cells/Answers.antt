@@ -1,4 +1,4 @@
-use Rattle.database_build.proofs.TableFoldLemmas.{cell_put}
+use Rattle.database_build.proofs.LeastLemmas.{cell_put}
 use Rattle.database_build.proofs.least.put_cells.Goals as goal
 
 pub tiles-preserved : goal.tiles-preserved

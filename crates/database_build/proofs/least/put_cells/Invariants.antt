@@ -1,4 +1,4 @@
-use Rattle.database_build.proofs.TableFoldLemmas.{ArePut}
+use Rattle.database_build.proofs.LeastLemmas.{ArePut}
 use Rattle.database_build.proofs.least.put_cells.Given as goal
 
 -- the cells of the tiles before this one are written

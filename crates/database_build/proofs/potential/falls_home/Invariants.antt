@@ -1,5 +1,5 @@
 use Rattle.std.proofs.Common.{ℕ, ◌<◌}
-use Rattle.database_build.specs.Falls.{FallsSlowlyAt}
+use Rattle.database_build.specs.Tables.{FallsSlowlyAt}
 use Rattle.database_build.proofs.potential.falls_home.Given as goal
 
 abbrev pub invariant-loop-rank : goal.invariant-loop-rank

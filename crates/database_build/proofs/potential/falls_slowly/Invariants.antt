@@ -2,7 +2,7 @@ use Rattle.std.proofs.Common.{ℕ, ◌<◌, get_or}
 use Rattle.board.specs.Moves.{all_moves}
 use Rattle.board.specs.declared.moves.Move.TheVariants.{U}
 use Rattle.pattern_index.specs.Selections.{abstraction_of, sight_successor}
-use Rattle.database_build.specs.Falls.{FallsTo}
+use Rattle.database_build.specs.Tables.{FallsTo}
 use Rattle.database_build.proofs.potential.falls_slowly.Given as goal
 
 abbrev pub invariant-moves : goal.invariant-moves

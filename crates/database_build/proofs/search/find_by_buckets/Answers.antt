@@ -1,5 +1,5 @@
 use Rattle.std.proofs.Common.{refl, arith}
-use Rattle.database_build.proofs.ReachLemmas.{seeking_some, are_seeking_first, seeking_visited, seeking_next, seeking_found}
+use Rattle.database_build.proofs.SearchLemmas.{seeking_some, are_seeking_first, seeking_visited, seeking_next, seeking_found}
 use Rattle.database_build.proofs.search.find_by_buckets.Goals as goal
 
 pub costs-init : goal.costs-init

@@ -1,8 +1,8 @@
 use Rattle.std.proofs.Common.{◌+◌, ◌-◌, ◌*◌, ◌<◌, length}
 use Rattle.std.specs.Prelude.{sum}
-use Rattle.database_build.specs.Buckets.{waiting_count}
+use Rattle.database_build.specs.Searches.{waiting_count}
 use Rattle.database_build.specs.declared.table.TheConstants.{NO_VALUE}
-use Rattle.database_build.proofs.ReachLemmas.{AreSeeking}
+use Rattle.database_build.proofs.SearchLemmas.{AreSeeking}
 use Rattle.database_build.proofs.search.find_by_buckets.Given as goal
 
 abbrev pub invariant-nodes : goal.invariant-nodes

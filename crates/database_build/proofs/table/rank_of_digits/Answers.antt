@@ -1,7 +1,7 @@
 use Rattle.std.proofs.Common.{sym, ap, ◌∙◌, subst, arith}
 use Rattle.pattern_index.specs.Selections.{rank_in}
 use Rattle.pattern_index.specs.Views.{IsView, Sight}
-use Rattle.database_build.proofs.SlotRankLemmas.{seen, tile_written}
+use Rattle.database_build.proofs.EntryLemmas.{seen, tile_written}
 use Rattle.database_build.proofs.table.rank_of_digits.Goals as goal
 
 pub tiles-preserved : goal.tiles-preserved

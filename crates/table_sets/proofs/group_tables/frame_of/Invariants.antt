@@ -1,6 +1,6 @@
 use Rattle.std.proofs.Common.{take}
 use Rattle.std.specs.Prelude.{All}
-use Rattle.database_build.specs.Frames.{Fits}
+use Rattle.pattern_graph.specs.Frames.{Fits}
 use Rattle.table_sets.proofs.group_tables.frame_of.Given as goal
 
 abbrev pub invariant-frames : goal.invariant-frames

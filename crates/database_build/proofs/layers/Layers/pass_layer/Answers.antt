@@ -1,5 +1,5 @@
 use Rattle.std.proofs.Common.{◌<◌, length, sym, subst, arith}
-use Rattle.database_build.specs.declared.graph.Graph.{Graph}
+use Rattle.pattern_graph.specs.declared.graph.Graph.{Graph}
 use Rattle.database_build.proofs.LayerStepLemmas.{layer_kept, layer_more, same_still}
 use Rattle.database_build.proofs.layers.Layers.pass_layer.Goals as goal
 

@@ -2,8 +2,8 @@ use Rattle.std.proofs.Common.{◌≡◌, ℕ, ◌+◌, ◌*◌, ◌/◌, ◌%◌
 use Rattle.std.specs.Int.Bits.{bit_or}
 use Rattle.std.proofs.Math.ListN.{set}
 use Rattle.std.proofs.lemmas.List.{get_or_read}
-use Rattle.database_build.specs.NodeSets.{IsIn}
-use Rattle.database_build.proofs.NodeSetLemmas.{words_joined, same_added, one_order}
+use Rattle.database_build.specs.Layers.{IsIn}
+use Rattle.database_build.proofs.LayerStepLemmas.{words_joined, same_added, one_order}
 use Rattle.database_build.proofs.node_sets.NodeSet.insert.Goals as goal
 
 pub returns : goal.returns

@@ -2,7 +2,7 @@ use Rattle.std.proofs.Common.{ℕ, ◌+◌, ◌*◌, refl, ap}
 use Rattle.std.specs.Int.Bits.{bit_or}
 use Rattle.std.proofs.Math.ListN.{set}
 use Rattle.std.proofs.lemmas.List.{get_or_read}
-use Rattle.database_build.proofs.NodeSetLemmas.{words_joined}
+use Rattle.database_build.proofs.LayerStepLemmas.{words_joined}
 use Rattle.database_build.proofs.node_sets.NodeSet.insert_all.Goals as goal
 
 pub returns : goal.returns

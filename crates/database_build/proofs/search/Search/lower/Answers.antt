@@ -1,5 +1,5 @@
 use Rattle.std.proofs.Common.{refl}
-use Rattle.database_build.proofs.BucketLemmas.{lowered_put}
+use Rattle.database_build.proofs.SearchLemmas.{lowered_put}
 use Rattle.database_build.proofs.search.Search.lower.Goals as goal
 
 pub returns : goal.returns

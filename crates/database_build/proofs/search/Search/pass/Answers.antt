@@ -1,8 +1,9 @@
 use Rattle.std.proofs.Common.{◌∙◌, ◌+◌, ◌*◌, ap, subst}
 use Rattle.std.specs.Prelude.{slice_index}
 use Rattle.std.proofs.lemmas.Result.{on_ok_weaker}
-use Rattle.database_build.specs.Orders.{tile_of, moved_order}
-use Rattle.database_build.specs.Searches.{IsLowered, cost_by}
+use Rattle.pattern_graph.specs.Orders.{tile_of, moved_order}
+use Rattle.database_build.specs.Searches.{IsLowered}
+use Rattle.pattern_graph.specs.Graphs.{cost_by}
 use Rattle.database_build.proofs.search.Search.pass.Goals as goal
 
 pub returns : goal.returns

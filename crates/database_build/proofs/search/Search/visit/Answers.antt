@@ -1,7 +1,7 @@
 use Rattle.std.proofs.Common.{◌≡◌, ◌∙◌, ◌+◌, ◌-◌, subst, arith}
 use Rattle.std.proofs.lemmas.List.{get_or_default}
 use Rattle.std.specs.Prelude.{◌%◌, Some, slice_get}
-use Rattle.database_build.proofs.ReachLemmas.{at_from, edge_read, edge_ends, spreading_more, visited_all}
+use Rattle.database_build.proofs.SearchLemmas.{at_from, edge_read, edge_ends, spreading_more, visited_all}
 use Rattle.database_build.proofs.search.Search.visit.Goals as goal
 
 pub index-requires-in-edges : goal.index-requires-in-edges

@@ -1,5 +1,5 @@
 use Rattle.std.proofs.Common.{◌-◌}
-use Rattle.database_build.proofs.ReachLemmas.{IsSpreading}
+use Rattle.database_build.proofs.SearchLemmas.{IsSpreading}
 use Rattle.database_build.proofs.search.Search.visit.Given as goal
 
 abbrev pub invariant-edges : goal.invariant-edges

@@ -1,7 +1,0 @@
-use Rattle.std.proofs.Common.{[], ◌∷◌, ◌++◌, length}
-use Rattle.database_build.proofs.EdgeLemmas.{AreDone}
-use Rattle.database_build.proofs.edges.Edges.new.Given as goal
-
--- the edges of the regions done
-abbrev pub invariant-regions : goal.invariant-regions
-invariant-regions l = AreDone l.regions l.region (l.edges.starts.items ++ length l.edges.edges.items ∷ []) l.edges.edges.items

@@ -1,6 +1,0 @@
-use Rattle.std.proofs.Common.{◌≡◌, ◌++◌, map, take, drop}
-use Rattle.database_build.specs.Orders.{exchanged}
-use Rattle.database_build.proofs.orders.exchange.Given as goal
-
-abbrev pub invariant-tiles : goal.invariant-tiles
-invariant-tiles l = l.positions ≡ map (exchanged l.position) (take l.other-index l.initial.positions) ++ drop l.other-index l.initial.positions

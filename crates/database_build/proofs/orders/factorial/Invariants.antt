@@ -1,6 +1,0 @@
-use Rattle.std.proofs.Common.{◌≡◌}
-use Rattle.pattern_index.specs.Laws.{factorial}
-use Rattle.database_build.proofs.orders.factorial.Given as goal
-
-abbrev pub invariant-factors : goal.invariant-factors
-invariant-factors l = l.product ≡ factorial l.factor

@@ -1,9 +1,0 @@
-use Rattle.std.proofs.Common.{◌+◌, ◌*◌}
-use Rattle.database_build.proofs.OrderTables.{HaveMoves}
-use Rattle.database_build.proofs.orders.find_moves.Given as goal
-
-abbrev pub invariant-from : goal.invariant-from
-invariant-from l = HaveMoves l.orders.count (l.from * l.orders.count) l.moves.items
-
-abbrev pub invariant-to : goal.invariant-to
-invariant-to l = HaveMoves l.orders.count (l.from * l.orders.count + l.to) l.moves.items

@@ -1,7 +1,0 @@
-use Rattle.std.proofs.Common.{◌≡◌, take}
-use Rattle.pattern_index.specs.Laws.{factorial}
-use Rattle.database_build.specs.Orders.{order_of}
-use Rattle.database_build.proofs.orders.order_of.Given as goal
-
-abbrev pub invariant-tiles : goal.invariant-tiles
-invariant-tiles l = record { order_is : l.order ≡ order_of (take l.tile l.cells); unit_is : l.unit ≡ factorial l.tile }

@@ -1,5 +1,0 @@
-use Rattle.database_build.proofs.FillLemmas.{IsFilling}
-use Rattle.database_build.proofs.rows.add_row.Given as goal
-
-abbrev pub invariant-cells : goal.invariant-cells
-invariant-cells l = IsFilling l.regions l.nodes l.blank l.others l.unit l.fn.values.items l.cell l.order l.values.items

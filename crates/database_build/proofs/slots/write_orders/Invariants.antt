@@ -1,6 +1,0 @@
-use Rattle.database_build.proofs.PlacementLemmas.{AreWrittenTo}
-use Rattle.database_build.proofs.slots.write_orders.Given as goal
-
--- the placements in the orders before this one are written
-abbrev pub invariant-orders : goal.invariant-orders
-invariant-orders g l = AreWrittenTo l.group l.cells l.row l.fn.places l.order l.places

@@ -1,6 +1,0 @@
-use Rattle.database_build.proofs.PlacementLemmas.{AreSetsWritten}
-use Rattle.database_build.proofs.slots.write_places.Given as goal
-
--- the placements on the sets before this one are written
-abbrev pub invariant-sets : goal.invariant-sets
-invariant-sets g l = AreSetsWritten l.group l.least l.fn.places l.set l.places

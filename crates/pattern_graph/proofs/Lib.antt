@@ -1,0 +1,9 @@
+pub mod OrderLemmas
+pub mod OrderTables
+pub mod SetLemmas
+pub mod RegionLemmas
+pub mod EdgeLemmas
+pub mod GraphLemmas
+pub mod RowLemmas
+pub mod SlotLemmas
+pub mod PlacementLemmas

@@ -1,0 +1,35 @@
+-- What the tables of all groups of as many tiles have in common.
+use Rattle.std.specs.Prelude.{ℕ, ◌≡◌, length}
+use Rattle.board.specs.CostRules.{CostRule}
+use Rattle.board.specs.Grids.{Grid}
+use Rattle.board.specs.Positions.{Position}
+use Rattle.pattern_index.specs.Selections.{Selection}
+use Rattle.pattern_graph.specs.Regions.{IsRegions, AreEdges}
+use Rattle.pattern_graph.specs.Graphs.{IsOrders}
+use Rattle.pattern_graph.specs.declared.frame.Frame.TheInside.{Inside}
+
+-- A grid, and how many tiles a group has.
+pub record GroupSize : Type 0 where
+  pub grid : Grid
+  pub count : ℕ
+
+-- the size of groups that a frame is made for
+abbrev pub size_in : Inside → GroupSize
+size_in f = record { grid = f.regions.shape; count = f.regions.count }
+
+-- its regions, the edges between them, and the orders of tiles
+pub record IsFrame (f : Inside) : Type 0 where
+  pub regions : IsRegions f.regions.shape f.regions.count f.regions
+  pub edges : AreEdges f.regions f.edges
+  pub orders : IsOrders f.regions.count f.orders
+
+-- the group has this size
+pub record Fits (size : GroupSize) (g : Selection) : Type 0 where
+  pub grid : size.grid ≡ g.grid
+  pub count : size.count ≡ length g.tiles
+
+-- the frame fits the group, whose grid the goal and the costs of moves have
+pub record IsTask (size : GroupSize) (g : Selection) (goal : Position) (rule : CostRule) : Type 0 where
+  pub fits : Fits size g
+  pub same_goal : goal.grid ≡ g.grid
+  pub same_costs : rule.grid ≡ g.grid

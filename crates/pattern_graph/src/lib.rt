@@ -1,0 +1,29 @@
+//! The graph of a group's views: orders of its tiles, regions of the blank, moves between them.
+//!
+//! Past tiles of no group the blank moves at no cost. So while a group's tiles stay where they are,
+//! the cells that the blank reaches are one region (`Regions`), and the views with the blank there
+//! are one node of a `Graph`. Edges lead from node to node where a tile of the group moves.
+//!
+//! `database_build` searches this graph for the values of nodes. It makes a `Frame` for all groups of
+//! as many tiles, and from it the graph of each; `rank_values`, `rank_least`, `write_slots` and
+//! `write_places` lay out what it finds. Begin with `specs/Regions.antt`, `specs/Graphs.antt` and
+//! `src/graph.rt`.
+#![tactic(auto)]
+
+mod edges;
+mod frame;
+mod graph;
+mod orders;
+mod regions;
+mod rows;
+mod sets;
+mod slots;
+
+pub use edges::{Edge, Edges};
+pub use frame::Frame;
+pub use graph::Graph;
+pub use orders::{Orders, factorial};
+pub use regions::{Home, Regions};
+pub use rows::{mark_cells, rank_least, rank_values};
+pub use sets::Choices;
+pub use slots::{find_positions, place_tiles, write_places, write_slots};
