@@ -116,7 +116,11 @@ pub(crate) fn long_digit_at(digit: u128, place: usize) -> u128
     digit << (5 * place as u32)
 }
 
-/// The key of four bits a digit after its lowest digit and another one are exchanged.
+/// A number of four bits a digit after two of its digits change places: `lowest`, which is its
+/// lowest digit, and `other`, which is its digit at `place`.
+///
+/// The number is a search key of a board of at most 16 cells, or the slot of a view of such a board.
+/// In both the blank's cell is the lowest digit.
 pub fn short_exchanged(key: u64, place: usize, lowest: u64, other: u64) -> u64
     requires place { place < 16 }
     requires stand { other * 16 ^ place + lowest ≤ key }
@@ -128,7 +132,7 @@ pub fn short_exchanged(key: u64, place: usize, lowest: u64, other: u64) -> u64
     rest + short_digit_at(lowest, place) + other
 }
 
-/// The same with digits of five bits.
+/// The same of a search key of five bits a digit.
 pub(crate) fn long_exchanged(key: u128, place: usize, lowest: u128, other: u128) -> u128
     requires place { place < 25 }
     requires stand { other * 32 ^ place + lowest ≤ key }

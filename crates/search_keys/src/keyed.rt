@@ -70,7 +70,7 @@ impl Eq for KeyedBoard {
 }
 
 impl Default for KeyedBoard {
-    /// Korf's goal of 2 by 2, as of `Board`: what stands where no board was put yet.
+    /// Korf's goal of 2 by 2, as for `Board`. It fills places of a buffer that hold no board yet.
     fn default() -> Self
         ensures { result ≡ goal_of (record { rows = 2; cols = 2 }) }
     {

@@ -1,5 +1,5 @@
-use Rattle.std.proofs.Common.{rules, ℕ, ◌≡◌, refl, sym, arith}
-use Rattle.board.specs.Grids.{Grid, IsShape}
+use Rattle.std.proofs.Common.{rules, ◌≡◌, refl, sym, arith}
+use Rattle.board.specs.Grids.{Grid}
 use Rattle.board.specs.Positions.{goal_of}
 use Rattle.board.proofs.GoalLemmas.{goal_board}
 use Rattle.pattern_index.specs.Sparse.{sparse_of}
