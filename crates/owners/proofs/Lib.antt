@@ -1,2 +1,1 @@
-pub mod HashLemmas
-pub mod MovedLemmas
+pub mod OwnerLemmas

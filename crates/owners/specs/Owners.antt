@@ -1,8 +1,35 @@
--- Who owns which board.
-use Rattle.std.specs.Prelude.{ℕ, ◌<◌, ◌%◌}
+-- Who owns which board: by the cell of its blank, or by its hash, the exclusive or of one word for each tile and the cell on which it stands (Zobrist 1970).
+use Rattle.std.specs.Prelude.{ℕ, zero, suc, ◌≡◌, ◌+◌, ◌-◌, ◌*◌, ◌%◌, ◌<◌, ◌==◌, if◌then◌else◌, List, [], ◌∷◌, length, slice_index, bit_xor}
 use Rattle.std.proofs.Math.Nat.{mod-lt}
+use Rattle.board.specs.Grids.{cell_count}
 use Rattle.board.specs.Positions.{Position, blank_of}
-use Rattle.owners.specs.Hashes.{hash_of}
+use Rattle.rand_xoshiro.specs.SplitMix64.{mix_u64}
+
+-- the state of SplitMix64 after so many words, from eight zero bytes on
+abbrev pub state_after : ℕ → ℕ
+state_after zero = 0
+state_after (suc k) = (mix_u64 (state_after k)).1
+
+-- its word of this number, from 0 on
+abbrev pub word : ℕ → ℕ
+word k = (mix_u64 (state_after k)).0
+
+-- these are its first words
+abbrev pub AreWords : List ℕ → Type 0
+AreWords words = (k : ℕ) → k < length words → slice_index words k ≡ word k
+
+-- the word of a tile on a cell: tile by tile from 1 on, and for each tile cell by cell; the blank has none
+abbrev pub word_on : ℕ → ℕ → ℕ → ℕ
+word_on cells tile cell = if tile == 0 then 0 else word ((tile - 1) * cells + cell)
+
+-- the exclusive or of the words of tiles, of which the first stands on this cell
+abbrev pub hash_from : ℕ → ℕ → List ℕ → ℕ
+hash_from cells cell [] = 0
+hash_from cells cell (tile ∷ tiles) = bit_xor (word_on cells tile cell) (hash_from cells (cell + 1) tiles)
+
+-- the hash of a board
+abbrev pub hash_of : Position → ℕ
+hash_of b = hash_from (cell_count b.grid) 0 b.tiles
 
 -- by each spread, the owner of a board among n workers is one of them
 abbrev pub AreWorkers : {S : Type 0} → (S → ℕ → Position → ℕ) → Type 0

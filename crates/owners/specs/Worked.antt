@@ -1,8 +1,7 @@
 -- Words, hashes and owners that are known.
 use Rattle.std.specs.Prelude.{ℕ, ◌≡◌, List, [], ◌∷◌}
 use Rattle.board.specs.Positions.{Position, goal_of}
-use Rattle.owners.specs.Hashes.{word, hash_of}
-use Rattle.owners.specs.Owners.{owner_by_blank, owner_by_hash}
+use Rattle.owners.specs.Owners.{word, hash_of, owner_by_blank, owner_by_hash}
 
 -- the first words of SplitMix64 from eight zero bytes on
 abbrev pub FirstWords : Type 0

@@ -1,8 +1,7 @@
 //! The law of spreads: the contract of a function that does nothing.
 
 ghost use Rattle.std.specs.Prelude.{◌≡◌, Some};
-ghost use Rattle.owners.specs.Hashes.{hash_of};
-ghost use Rattle.owners.specs.Owners.{owner_by_blank, owner_by_hash};
+ghost use Rattle.owners.specs.Owners.{hash_of, owner_by_blank, owner_by_hash};
 
 use crate::spread::{ByBlank, Spread};
 use crate::zobrist::Zobrist;

@@ -1,6 +1,6 @@
 //! Ways to divide boards among workers.
 
-ghost use Rattle.std.specs.Prelude.{◌≡◌, ◌<◌, ◌%◌, ◌==◌, ℕ, Option, None};
+ghost use Rattle.std.specs.Prelude.{◌≡◌, ◌<◌, ◌%◌, ℕ, Option, None};
 ghost use Rattle.board.specs.Positions.{Position};
 ghost use Rattle.search_keys.specs.SearchKeys.{HasSearchKey};
 ghost use Rattle.owners.specs.Owners.{AreWorkers};
@@ -46,7 +46,9 @@ pub trait Spread {
         ensures value { result ≡ owner_of self.now workers board.now }
         ensures within { result < workers };
 
-    /// The same, of a board by its search key.
+    /// The worker that owns a board known by its search key, of `workers` workers: as `owner`
+    /// answers. The default makes the board for `owner`; a spread that reads its owners from the
+    /// key overrides it.
     fn owner_by_key(&self, board: &KeyedBoard, workers: usize) -> usize
         requires { 0 < workers }
         ensures value { result ≡ owner_of self.now workers board.now }

@@ -1,7 +1,7 @@
 //! Owners by a hash of the whole board.
 
 ghost use Rattle.std.specs.Prelude.{◌≡◌, ◌<◌, ◌≤◌, ℕ, slice_index, length};
-ghost use Rattle.owners.specs.Hashes.{hash_of, word, word_on};
+ghost use Rattle.owners.specs.Owners.{hash_of, word, word_on};
 
 use crate::spread::{Moved, Spread, worker_of};
 use board::{Board, Shape};
@@ -25,7 +25,7 @@ pub struct Zobrist {
 
 impl Model for Zobrist {
     ghost use Rattle.std.specs.Prelude.{⊤};
-    ghost use Rattle.owners.specs.Hashes.{AreWords};
+    ghost use Rattle.owners.specs.Owners.{AreWords};
 
     ghost Value = { ⊤ };
 
@@ -54,16 +54,14 @@ impl Zobrist {
         hash
     }
 
-    // The word of a tile on a cell, where there are so many cells.
+    // The word of a tile on a cell of a board of `cells` cells.
     fn word(&self, cells: usize, tile: u8, cell: usize) -> u64
         requires few { cells ≤ 25 }
+        requires some { 0 < tile }
         requires tile { tile < cells }
         requires cell { cell < cells }
         ensures { result ≡ word_on cells tile cell }
     {
-        if tile == 0 {
-            return 0;
-        }
         self.words[(tile as usize - 1) * cells + cell]
     }
 }
@@ -81,7 +79,7 @@ fn fill(words: &mut [u64])
 
 impl Spread for Zobrist {
     ghost use Rattle.std.specs.Prelude.{Some};
-    ghost use Rattle.owners.specs.Hashes.{hash_of};
+    ghost use Rattle.owners.specs.Owners.{hash_of};
     ghost use Rattle.owners.specs.Owners.{owner_by_hash, owner_by_hash-lt};
 
     ghost owner_of = { λ z. owner_by_hash };

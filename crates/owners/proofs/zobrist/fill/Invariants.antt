@@ -1,5 +1,5 @@
 use Rattle.std.specs.Prelude.{ℕ, ◌≡◌, ◌<◌, slice_index, length}
-use Rattle.owners.specs.Hashes.{state_after, word}
+use Rattle.owners.specs.Owners.{state_after, word}
 use Rattle.owners.proofs.zobrist.fill.Given as goal
 
 -- the words so far, and the state after them

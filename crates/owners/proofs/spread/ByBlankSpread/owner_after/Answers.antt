@@ -1,5 +1,5 @@
 use Rattle.std.proofs.Common.{◌%◌, ℕ, ◌∙◌, ap, sym}
-use Rattle.owners.proofs.MovedLemmas.{blank_moved}
+use Rattle.owners.proofs.OwnerLemmas.{blank_moved}
 use Rattle.owners.proofs.spread.ByBlankSpread.owner_after.Goals as goal
 
 pub returns : goal.returns

@@ -1,5 +1,5 @@
 use Rattle.std.proofs.Common.{◌∙◌, ap}
-use Rattle.owners.proofs.MovedLemmas.{one_board}
+use Rattle.owners.proofs.OwnerLemmas.{one_board}
 use Rattle.owners.proofs.spread.Spread.owner_after.Goals as goal
 
 pub returns : goal.returns

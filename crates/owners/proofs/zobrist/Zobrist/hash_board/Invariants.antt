@@ -1,7 +1,7 @@
 use Rattle.std.specs.Prelude.{◌≡◌, ◌≤◌, map}
 use Rattle.board.specs.Grids.{cell_count}
-use Rattle.owners.specs.Hashes.{hash_from}
-use Rattle.owners.proofs.HashLemmas.{below}
+use Rattle.owners.specs.Owners.{hash_from}
+use Rattle.owners.proofs.OwnerLemmas.{below}
 use Rattle.owners.proofs.zobrist.Zobrist.hash_board.Given as goal
 
 -- the tiles before this one are hashed

@@ -1,7 +1,6 @@
-use Rattle.std.proofs.Common.{◌≡◌, ◌≢◌, ◌+◌, ◌<◌, ℕ, zero, suc, List, [], ◌∷◌, length, bit_xor, sym, ap, ◌∙◌, arith, ◌%◌, Some}
+use Rattle.std.proofs.Common.{◌≡◌, ◌≢◌, ◌<◌, ℕ, List, length, bit_xor, sym, ap, ◌∙◌, arith, ◌%◌, Some}
 use Rattle.std.specs.List.{swap}
-use Rattle.std.specs.Int.Bits.{xor_assoc, xor_self, xor_zero_r}
-use Rattle.std.proofs.lemmas.Nat.{xor_comm}
+use Rattle.std.specs.Int.Bits.{xor_zero_r}
 use Rattle.std.proofs.Math.ListN.{set, get_or}
 use Rattle.std.proofs.lemmas.List.{get_or-set_other, length-set}
 use Rattle.std.proofs.lemmas.List.Edits.{swap_is}
@@ -9,11 +8,10 @@ use Rattle.board.specs.Grids.{Grid, cell_count}
 use Rattle.board.specs.Positions.{Position, blank_of}
 use Rattle.board.specs.Moves.{blank_exchange}
 use Rattle.board.proofs.StepLemmas.{blank_stands}
-use Rattle.owners.specs.Hashes.{word_on, hash_from, hash_of}
+use Rattle.owners.specs.Owners.{word_on, hash_from, hash_of}
 use Rattle.owners.specs.Slides.{IsSlide}
 use Rattle.owners.specs.declared.spread.Slide.{Slide}
-use Rattle.owners.proofs.HashLemmas.{hash-set}
-use Rattle.owners.proofs.MovedLemmas.{after_slide}
+use Rattle.owners.proofs.OwnerLemmas.{after_slide, hash-set}
 use Rattle.owners.proofs.zobrist.ZobristSpread.owner_after.Goals as goal
 
 module _ (cells : ℕ) where

@@ -1,23 +1,30 @@
--- The hash of a list in which one number is replaced, and of a board whose tiles are put on their cells one after the other.
-use Rattle.std.proofs.Common.{◌≡◌, ◌≢◌, ◌+◌, ◌<◌, ◌≤◌, ℕ, zero, suc, cond, ltb, List, [], ◌∷◌, length, map, set, get_or, bit_xor, refl, sym, ap, ◌∙◌, ⊎_elim, arith}
-use Rattle.std.specs.Prelude.{All}
+-- The hash of a list in which one number is replaced, that of a board whose tiles are put on their cells one by one, and the board to which a slide leads.
+use Rattle.std.proofs.Common.{◌≡◌, ◌≢◌, ◌+◌, ◌<◌, ◌≤◌, ℕ, zero, suc, cond, ltb, List, [], ◌∷◌, length, map, set, get_or, bit_xor, refl, sym, ap, subst, ◌∙◌, ⊎_elim, arith}
 use Rattle.std.specs.Int.Bits.{xor_assoc, xor_self, xor_zero_r}
 use Rattle.std.proofs.lemmas.Bool.{cases_eq, cases_lt, cond-true, cond-false, lt-ltb, le-ltb}
 use Rattle.std.proofs.lemmas.Grind.{same_number_lists}
 use Rattle.std.proofs.lemmas.List.{get_or-map, get_or-set_other, get_or-set_same, length-map, length-set}
 use Rattle.std.proofs.lemmas.List.Elements.{All-get_or}
 use Rattle.std.proofs.lemmas.Nat.{xor_comm}
-use Rattle.board.specs.Grids.{cell_count}
-use Rattle.board.specs.Positions.{Position, IsBoard, cell_of}
+use Rattle.board.specs.Grids.{Grid, cell_count}
+use Rattle.board.specs.Moves.{blank_exchange}
+use Rattle.board.specs.Positions.{Position, IsBoard, blank_of, cell_of}
+use Rattle.board.proofs.MoveLemmas.{blank_after}
 use Rattle.board.proofs.TileLemmas.{cell_is, has_cell}
-use Rattle.owners.specs.Hashes.{word_on, hash_from, hash_of}
+use Rattle.search_keys.specs.SearchKeys.{HasSearchKey}
+use Rattle.search_keys.proofs.SearchKeyLemmas.{one_board as same_board}
+use Rattle.owners.specs.Owners.{word_on, hash_from, hash_of}
+use Rattle.owners.specs.Slides.{IsMoved}
+use Rattle.owners.specs.declared.spread.Moved.{Moved}
 
--- what stands on both sides goes out
+-- ---- hashes
+
+-- a number that comes twice into an exclusive or cancels out
 goes_out : (a b : ℕ) → bit_xor (bit_xor a b) a ≡ b
 goes_out a b = ap (λ (x : ℕ). bit_xor x a) (xor_comm a b) ∙ xor_assoc b a a ∙ ap (bit_xor b) (xor_self a) ∙ xor_zero_r b
 
 module _ (cells : ℕ) where
-  -- the word of what stood on a cell goes out, and that of what stands there now comes in
+  -- where a number is replaced, the words of the old one and of the new one on its cell come into the exclusive or
   pub hash-set : (tiles : List ℕ) (k i cell tile : ℕ) → i < length tiles → cell ≡ k + i → hash_from cells k (set tiles i tile) ≡ bit_xor (bit_xor (hash_from cells k tiles) (word_on cells (get_or tiles i 0) cell)) (word_on cells tile cell)
   hash-set [] k i cell tile within at = absurd (omega (arith, within))
   hash-set (t ∷ ts) k zero cell tile within at =
@@ -80,7 +87,7 @@ tiles_more b n board within =
     ∙ sym (get_or-set_other before place c n 0 other ∙ get_or-map (below n) b.tiles c 0 0 within_c))
     (cases_eq c place))
 
--- the word of another tile comes in
+-- the hash of the tiles below n + 1 is the exclusive or of that of the tiles below n and the word of tile n on its cell
 pub hash_more : (b : Position) (n hash : ℕ) → IsBoard b → n < cell_count b.grid → hash ≡ hash_from (cell_count b.grid) 0 (map (below n) b.tiles) → bit_xor hash (word_on (cell_count b.grid) n (cell_of b n)) ≡ hash_from (cell_count b.grid) 0 (map (below (n + 1)) b.tiles)
 hash_more b n hash board within is =
     let cells = cell_count b.grid in
@@ -96,7 +103,7 @@ hash_more b n hash board within is =
     ∙ sym (hash-set cells before 0 place place n room (omega arith))
     ∙ ap (hash_from cells 0) (sym (tiles_more b n board within))
 
--- that of all is the board's hash
+-- the hash of all tiles is the board's
 pub hash_ended : (b : Position) (n hash : ℕ) → IsBoard b → cell_count b.grid ≤ n → hash ≡ hash_from (cell_count b.grid) 0 (map (below n) b.tiles) → hash ≡ hash_of b
 hash_ended b n hash board all is =
     let same : map (below n) b.tiles ≡ b.tiles =
@@ -106,3 +113,19 @@ hash_ended b n hash board all is =
     let low : get_or b.tiles c 0 < cell_count b.grid = All-get_or (λ (t : ℕ). t < cell_count b.grid) b.tiles c 0 within board.in_range in
     get_or-map (below n) b.tiles c 0 0 within ∙ below_yes n (get_or b.tiles c 0) (omega (arith, low, all))) in
     is ∙ ap (hash_from (cell_count b.grid) 0) same
+
+-- ---- the board after a slide
+
+-- two boards of a grid that have one search key are one
+pub one_board : (grid : Grid) (key : ℕ) (a b : Position) → HasSearchKey grid key a → HasSearchKey grid key b → a ≡ b
+one_board grid key a b has has' = same_board a b has.board has'.board (has.sides ∙ sym has'.sides) (has.packed ∙ sym has'.packed)
+
+-- the board with the key is that after the slide
+pub after_slide : (b c : Position) (moved : Moved) → IsMoved b moved → HasSearchKey moved.shape moved.key c → c ≡ blank_exchange b moved.slide.from
+after_slide b c moved is has = one_board moved.shape moved.key c (blank_exchange b moved.slide.from) has is.key
+
+-- and its blank is where the tile stood
+pub blank_moved : (b c : Position) (moved : Moved) → IsMoved b moved → HasSearchKey moved.shape moved.key c → blank_of c ≡ moved.slide.from
+blank_moved b c moved is has =
+    let slide = is.slide in
+    ap blank_of (after_slide b c moved is has) ∙ blank_after b slide.board moved.slide.from (subst (λ (grid : Grid). moved.slide.from < cell_count grid) (sym slide.sides) slide.within)
