@@ -12,7 +12,7 @@ use Rattle.std.proofs.Math.Nat.{max-eq_right, pow-le-pow_right, pow-succ', pow-z
 use Rattle.board.specs.Grids.{Grid, cell_count}
 use Rattle.board.specs.Positions.{Position, IsBoard, blank_of, cell_of}
 use Rattle.board.proofs.TileLemmas.{has_cell}
-use Rattle.pattern_index.specs.Selections.{Selection, IsGroup, IsSelection, IsTile}
+use Rattle.pattern_index.specs.Selections.{Selection, IsGroup, IsSelection}
 use Rattle.pattern_index.specs.Splits.{IsSplit, Split}
 use Rattle.pattern_index.specs.Sparse.{digit_base, slot_in, sparse_of, stride_of}
 use Rattle.pattern_index.specs.Views.{IsView, exchanged, view_of}
@@ -24,8 +24,8 @@ use Rattle.search_keys.proofs.SearchKeyLemmas.{digit_set}
 use Rattle.database_build.specs.Tables.{Lookup, value_in}
 use Rattle.lower_bound.specs.Bounds.{Part, sum_of}
 use Rattle.lower_bound.specs.ByTile.{AreGroupsByTile}
-use Rattle.lower_bound.specs.Consecutive.{AreConsecutive, HasConsecutiveGroups, HasSum, IsConsecutiveMove, IsReadByDigits}
-use Rattle.lower_bound.specs.Slides.{AreCellsOf, HasCells, IsMoveOf, IsSlide}
+use Rattle.lower_bound.specs.Consecutive.{AreConsecutive, HasConsecutiveGroups, IsConsecutiveMove, IsConsecutiveOn}
+use Rattle.lower_bound.specs.Slides.{AreCellsOf, HasCells, HasSum, IsMoveOf, IsSlide}
 use Rattle.lower_bound.specs.Tables.{AreConsistent, AreWhole, IsTables, Tables, parts_of}
 use Rattle.lower_bound.proofs.PartLemmas.{each_lookup, tables_sum, whole_each, whole_parts}
 use Rattle.lower_bound.proofs.SlideLemmas.{blank_there, board_groups, cells_there, exchange_of, few_cells, has_tile, moved_board, moved_cells, moved_sides, next_sparse, seen_at, sum_is, tile_low, tile_small, whole_at, whole_none, whole_says}
@@ -54,14 +54,6 @@ consecutive_made tiles are =
     same_number_lists tiles (range_with_len (slice_index tiles 0) (length tiles))
     (sym (length-range_with_len (slice_index tiles 0) (length tiles)))
     (λ k k_in. are k k_in ∙ sym (get_or-range_with_len (slice_index tiles 0) (length tiles) k 0 k_in))
-
--- one tile more
-pub consecutive_more : (tiles : List ℕ) (place : ℕ) → slice_index tiles place ≡ slice_index tiles 0 + place → ((k : ℕ) → k < place → slice_index tiles k ≡ slice_index tiles 0 + k) → (k : ℕ) → k < place + 1 → slice_index tiles k ≡ slice_index tiles 0 + k
-consecutive_more tiles place here are k low =
-    ⊎_elim
-    (λ (same : k ≡ place). subst (λ (j : ℕ). slice_index tiles j ≡ slice_index tiles 0 + j) (sym same) here)
-    (λ (other : k ≢ place). are k (omega (arith, low, other)))
-    (cases_eq k place)
 
 -- a number of a range is that far behind the range's first
 range_within : (first n tile : ℕ) → Contains (range_with_len first n) tile → (first ≤ tile) × (tile < first + n)
@@ -98,7 +90,7 @@ one_digit n cell =
 
 -- ---- what consecutive tiles see of a board
 
-module _ (g : Selection) (b : Position) (selection : IsSelection g) (is : IsReadByDigits g b) where
+module _ (g : Selection) (b : Position) (selection : IsSelection g) (is : IsConsecutiveOn g b) where
   abbrev first : ℕ
   first = slice_index g.tiles 0
 
@@ -111,24 +103,11 @@ module _ (g : Selection) (b : Position) (selection : IsSelection g) (is : IsRead
   group : IsGroup b.grid g.tiles
   group = subst (λ (grid : Grid). IsGroup grid g.tiles) (sym is.sides) selection.group
 
-  -- there are some tiles, none of them the blank, and the last is one of the grid
-  pub tiles_some : 0 < count
-  tiles_some = selection.some
-
+  -- there are at most nine tiles
   pub tiles_few : count ≤ 9
   tiles_few = (groups_small g selection).0
 
-  first_tile : IsTile b.grid first
-  first_tile = group.tiles 0 0 selection.some
-
-  pub tiles_end : first + count ≤ cell_count b.grid
-  tiles_end =
-      let last : slice_index g.tiles (count - 1) ≡ first + (count - 1) =
-      ap (λ (ts : List ℕ). slice_index ts (count - 1)) is.consecutive ∙ get_or-range_with_len first count (count - 1) 0 (omega (arith, selection.some)) in
-      let low = (group.tiles (count - 1) 0 (omega (arith, selection.some))).1 in
-      omega (arith, last, low, selection.some)
-
-  -- so it is a view
+  -- what the group sees is a view
   pub sees_before : IsView g.grid g.tiles (view_of g.tiles b)
   sees_before = subst (λ (grid : Grid). IsView grid g.tiles (view_of g.tiles b)) is.sides (board_view g.tiles b is.board group)
 
@@ -161,18 +140,18 @@ module _ (g : Selection) (b : Position) (selection : IsSelection g) (is : IsRead
 
 module _ (g : Selection) (tile : ℕ) (b : Position) (selection : IsSelection g) (is : IsConsecutiveMove g tile b) where
   board : IsBoard b
-  board = is.read.board
+  board = is.here.board
 
   -- where the tile stands among the others
   pub within : (slice_index g.tiles 0 ≤ tile) × (tile < slice_index g.tiles 0 + length g.tiles)
-  within = range_within (slice_index g.tiles 0) (length g.tiles) tile (subst (λ (ts : List ℕ). Contains ts tile) is.read.consecutive is.has)
+  within = range_within (slice_index g.tiles 0) (length g.tiles) tile (subst (λ (ts : List ℕ). Contains ts tile) is.here.consecutive is.has)
 
   module _ (b' : Position) (move : IsMoveOf tile b b') where
     pub sees_after : IsView g.grid g.tiles (view_of g.tiles b')
     sees_after =
         let same : b'.grid ≡ b.grid = moved_sides tile b b' board move in
-        subst (λ (grid : Grid). IsView grid g.tiles (view_of g.tiles b')) (same ∙ is.read.sides)
-        (board_view g.tiles b' (moved_board tile b b' board move) (subst (λ (grid : Grid). IsGroup grid g.tiles) (sym same) (group g b selection is.read)))
+        subst (λ (grid : Grid). IsView grid g.tiles (view_of g.tiles b')) (same ∙ is.here.sides)
+        (board_view g.tiles b' (moved_board tile b b' board move) (subst (λ (grid : Grid). IsGroup grid g.tiles) (sym same) (group g b selection is.here)))
 
     -- the cells of the tiles as digits, before and after
     next : sparse_of 16 (map (cell_of b') g.tiles) + cell_of b tile * 16 ^ (tile - slice_index g.tiles 0) ≡ sparse_of 16 (map (cell_of b) g.tiles) + blank_of b * 16 ^ (tile - slice_index g.tiles 0)
@@ -181,10 +160,10 @@ module _ (g : Selection) (tile : ℕ) (b : Position) (selection : IsSelection g)
         let of : AreCellsOf b (listed b) = cells_listed b board in
         let of' : AreCellsOf b' (exchanged (listed b) tile) = moved_cells tile b b' board move (listed b) of in
         let same : b'.grid ≡ b.grid = moved_sides tile b b' board move in
-        let low : (grid : Grid) → grid ≡ b.grid → All (λ t. t < cell_count grid) g.tiles = λ grid e. subst (λ (h : Grid). All (λ t. t < cell_count h) g.tiles) (sym e) (λ k d k_in. ((group g b selection is.read).tiles k d k_in).1) in
+        let low : (grid : Grid) → grid ≡ b.grid → All (λ t. t < cell_count grid) g.tiles = λ grid e. subst (λ (h : Grid). All (λ t. t < cell_count h) g.tiles) (sym e) (λ k d k_in. ((group g b selection is.here).tiles k d k_in).1) in
         let here : map (slice_index (listed b)) g.tiles ≡ map (cell_of b) g.tiles = looked_up b (listed b) g.tiles of.are (recursion_from_All (λ t. t < cell_count b.grid) g.tiles (low b.grid refl)) in
         let there : map (slice_index (exchanged (listed b) tile)) g.tiles ≡ map (cell_of b') g.tiles = looked_up b' (exchanged (listed b) tile) g.tiles of'.are (recursion_from_All (λ t. t < cell_count b'.grid) g.tiles (low b'.grid same)) in
-        let stride : stride_of 16 g.tiles tile ≡ 16 ^ (tile - slice_index g.tiles 0) = ap (λ (ts : List ℕ). stride_of 16 ts tile) is.read.consecutive ∙ range_stride 16 (slice_index g.tiles 0) (length g.tiles) tile within.0 within.1 in
+        let stride : stride_of 16 g.tiles tile ≡ 16 ^ (tile - slice_index g.tiles 0) = ap (λ (ts : List ℕ). stride_of 16 ts tile) is.here.consecutive ∙ range_stride 16 (slice_index g.tiles 0) (length g.tiles) tile within.0 within.1 in
         let cell : slice_index (listed b) tile ≡ cell_of b tile = of.are tile (tile_low tile b b' board move) in
         let some = tile_low tile b b' board move in
         let blank : slice_index (listed b) 0 ≡ blank_of b = of.are 0 (omega (arith, some)) in
@@ -197,8 +176,8 @@ module _ (g : Selection) (tile : ℕ) (b : Position) (selection : IsSelection g)
     slot_next =
         let power : 16 ^ (tile - slice_index g.tiles 0 + 1) ≡ 16 * 16 ^ (tile - slice_index g.tiles 0) = (let up : tile - slice_index g.tiles 0 + 1 ≡ suc (tile - slice_index g.tiles 0) = omega arith in ap (λ (k : ℕ). 16 ^ k) up ∙ pow-succ' 16 (tile - slice_index g.tiles 0)) in
         let blank = blank_there tile b b' board move in
-        let after = slot_parts g b selection is.read b' in
-        let before = slot_parts g b selection is.read b in
+        let after = slot_parts g b selection is.here b' in
+        let before = slot_parts g b selection is.here b in
         joined (sparse_of 16 (map (cell_of b) g.tiles)) (sparse_of 16 (map (cell_of b') g.tiles)) (cell_of b tile) (blank_of b) (16 ^ (tile - slice_index g.tiles 0)) (16 ^ (tile - slice_index g.tiles 0 + 1)) (slot_in g.grid (view_of g.tiles b)) (slot_in g.grid (view_of g.tiles b')) next power before (after ∙ ap (λ (k : ℕ). k + 16 * sparse_of 16 (map (cell_of b') g.tiles)) blank)
       where
         joined : (s s' c x p q k k' : ℕ) → s' + c * p ≡ s + x * p → q ≡ 16 * p → k ≡ x + 16 * s → k' ≡ c + 16 * s' → k' + (c * q + x) ≡ k + x * q + c
@@ -218,13 +197,13 @@ module _ (g : Selection) (tile : ℕ) (b : Position) (selection : IsSelection g)
       let i_in : i < length g.tiles = omega (arith, at.0, at.1) in
       let back : slice_index g.tiles 0 + i ≡ tile = omega (arith, at.0) in
       let tile_at : slice_index g.tiles i ≡ tile =
-      ap (λ (ts : List ℕ). slice_index ts i) is.read.consecutive ∙ get_or-range_with_len (slice_index g.tiles 0) (length g.tiles) i 0 i_in ∙ back in
+      ap (λ (ts : List ℕ). slice_index ts i) is.here.consecutive ∙ get_or-range_with_len (slice_index g.tiles 0) (length g.tiles) i 0 i_in ∙ back in
       let digit : slice_index xs i ≡ cell_of b tile = get_or-map (cell_of b) g.tiles i 0 0 i_in ∙ ap (cell_of b) tile_at in
       let there = digit_set 16 xs i 0 (omega (arith, i_in, length-map g.tiles (cell_of b))) in
       let all : sparse_of 16 (set xs i 0) + cell_of b tile * 16 ^ i ≡ sparse_of 16 xs =
       ap (λ (x : ℕ). sparse_of 16 (set xs i 0) + x * 16 ^ i) (sym digit) ∙ there ∙ none (sparse_of 16 xs) (16 ^ i) in
       let power : 16 ^ (i + 1) ≡ 16 * 16 ^ i = (let up : i + 1 ≡ suc i = omega arith in ap (λ (k : ℕ). 16 ^ k) up ∙ pow-succ' 16 i) in
-      joined (sparse_of 16 xs) (sparse_of 16 (set xs i 0)) (cell_of b tile) (blank_of b) (16 ^ i) (16 ^ (i + 1)) (slot_in g.grid (view_of g.tiles b)) all power (slot_parts g b selection is.read b)
+      joined (sparse_of 16 xs) (sparse_of 16 (set xs i 0)) (cell_of b tile) (blank_of b) (16 ^ i) (16 ^ (i + 1)) (slot_in g.grid (view_of g.tiles b)) all power (slot_parts g b selection is.here b)
     where
       none : (s p : ℕ) → s + 0 * p ≡ s
       none s p = omega arith
@@ -237,7 +216,7 @@ module _ (g : Selection) (tile : ℕ) (b : Position) (selection : IsSelection g)
 
   digit_room : (cell : ℕ) → cell < 16 → cell * 16 ^ (tile - slice_index g.tiles 0 + 1) ≤ 15 * 16 ^ 9
   digit_room cell small =
-      let few = tiles_few g b selection is.read in
+      let few = tiles_few g b selection is.here in
       let at = within in
       let most : 16 ^ (tile - slice_index g.tiles 0 + 1) ≤ 16 ^ 9 = pow-le-pow_right {n = 16} (omega arith) {j = 9} (omega (arith, few, at.1, at.0)) in
       mul-le cell (16 ^ (tile - slice_index g.tiles 0 + 1)) 15 (16 ^ 9) (omega (arith, small)) most
@@ -251,7 +230,7 @@ pub record IsRead (g : Selection) (b : Position) (sparse blank : ℕ) : Type 0 w
   pub slot : slot_in g.grid (view_of g.tiles b) ≡ sparse * 16 + blank
 
 -- by what names the code has
-module _ (g : Selection) (b : Position) (own : Selection) (tiles : List ℕ) (sparse blank : ℕ) (is : IsReadByDigits g b) (same : own ≡ g) (listed_are : tiles ≡ own.tiles) (selected : IsSelection own) where
+module _ (g : Selection) (b : Position) (own : Selection) (tiles : List ℕ) (sparse blank : ℕ) (is : IsConsecutiveOn g b) (same : own ≡ g) (listed_are : tiles ≡ own.tiles) (selected : IsSelection own) where
   pub digits_read : sparse ≡ sparse_of 16 (map (cell_of b) (range_with_len (slice_index tiles 0) (length tiles))) → blank ≡ sparse_of 16 (map (cell_of b) (range_with_len 0 1)) → IsRead g b sparse blank
   digits_read sparse_is blank_is =
       let selection : IsSelection g = subst IsSelection same selected in
@@ -262,16 +241,16 @@ module _ (g : Selection) (b : Position) (own : Selection) (tiles : List ℕ) (sp
 
 -- ---- what is read of a board before a move
 
--- digits that are read of a board, and the slots that they make before a move and after it
-pub record IsReadToMove (g : Selection) (tile : ℕ) (b : Position) (sparse blank cell start : ℕ) : Type 0 where
+-- the slot and the digits that are read of a board, and the slot after a move
+pub record IsReadToMove (g : Selection) (tile : ℕ) (b : Position) (slot blank cell start : ℕ) : Type 0 where
   pub above : start ≤ tile
-  pub fits : sparse * 16 + blank + blank * 16 ^ (tile - start + 1) + cell < 2 ^ 64
-  pub stand : cell * 16 ^ (tile - start + 1) + blank ≤ sparse * 16 + blank
+  pub fits : slot + blank * 16 ^ (tile - start + 1) + cell < 2 ^ 64
+  pub stand : cell * 16 ^ (tile - start + 1) + blank ≤ slot
   pub sees_next : (b' : Position) → IsMoveOf tile b b' → IsView g.grid g.tiles (view_of g.tiles b')
-  pub next : (b' : Position) (after : ℕ) → IsMoveOf tile b b' → after + (cell * 16 ^ (tile - start + 1) + blank) ≡ sparse * 16 + blank + blank * 16 ^ (tile - start + 1) + cell → slot_in g.grid (view_of g.tiles b') ≡ after
+  pub next : (b' : Position) (after : ℕ) → IsMoveOf tile b b' → after + (cell * 16 ^ (tile - start + 1) + blank) ≡ slot + blank * 16 ^ (tile - start + 1) + cell → slot_in g.grid (view_of g.tiles b') ≡ after
 
 -- by what names the code has
-module _ (g : Selection) (tile : ℕ) (b : Position) (own : Selection) (tiles : List ℕ) (sparse blank cell : ℕ) (is : IsConsecutiveMove g tile b) (same : own ≡ g) (listed_are : tiles ≡ own.tiles) (selected : IsSelection own) where
+module _ (g : Selection) (tile : ℕ) (b : Position) (own : Selection) (tiles : List ℕ) (slot blank cell : ℕ) (is : IsConsecutiveMove g tile b) (same : own ≡ g) (listed_are : tiles ≡ own.tiles) (selected : IsSelection own) where
   selection : IsSelection g
   selection = subst IsSelection same selected
 
@@ -279,28 +258,26 @@ module _ (g : Selection) (tile : ℕ) (b : Position) (own : Selection) (tiles : 
   tiles_are = listed_are ∙ ap (λ (s : Selection). s.tiles) same
 
   pub move_read :
-      sparse ≡ sparse_of 16 (map (cell_of b) (range_with_len (slice_index tiles 0) (length tiles)))
+      slot_in g.grid (view_of g.tiles b) ≡ slot
       → blank ≡ sparse_of 16 (map (cell_of b) (range_with_len 0 1))
       → cell ≡ sparse_of 16 (map (cell_of b) (range_with_len tile 1))
-      → IsReadToMove g tile b sparse blank cell (slice_index tiles 0)
-  move_read sparse_is blank_is cell_is =
-      let board = is.read.board in
-      let read = slot_read g b selection is.read sparse blank (slice_index tiles 0) (length tiles) (ap (λ (ts : List ℕ). slice_index ts 0) tiles_are) (ap length tiles_are) sparse_is blank_is in
-      let at_blank : blank ≡ blank_of b = digit_read g b selection is.read 0 blank blank_is in
-      let at_cell : cell ≡ cell_of b tile = digit_read g b selection is.read tile cell cell_is in
-      subst (λ (ts : List ℕ). IsReadToMove g tile b sparse blank cell (slice_index ts 0)) (sym tiles_are)
-      (subst (λ (x : ℕ). IsReadToMove g tile b sparse x cell (slice_index g.tiles 0)) (sym at_blank)
-      (subst (λ (x : ℕ). IsReadToMove g tile b sparse (blank_of b) x (slice_index g.tiles 0)) (sym at_cell) (known sparse (read ∙ ap (λ (x : ℕ). sparse * 16 + x) at_blank))))
+      → IsReadToMove g tile b slot blank cell (slice_index tiles 0)
+  move_read read blank_is cell_is =
+      let at_blank : blank ≡ blank_of b = digit_read g b selection is.here 0 blank blank_is in
+      let at_cell : cell ≡ cell_of b tile = digit_read g b selection is.here tile cell cell_is in
+      subst (λ (ts : List ℕ). IsReadToMove g tile b slot blank cell (slice_index ts 0)) (sym tiles_are)
+      (subst (λ (x : ℕ). IsReadToMove g tile b slot x cell (slice_index g.tiles 0)) (sym at_blank)
+      (subst (λ (x : ℕ). IsReadToMove g tile b slot (blank_of b) x (slice_index g.tiles 0)) (sym at_cell) known))
     where
-      known : (sparse : ℕ) → slot_in g.grid (view_of g.tiles b) ≡ sparse * 16 + blank_of b → IsReadToMove g tile b sparse (blank_of b) (cell_of b tile) (slice_index g.tiles 0)
-      known sparse read =
-          let board = is.read.board in
+      known : IsReadToMove g tile b slot (blank_of b) (cell_of b tile) (slice_index g.tiles 0)
+      known =
+          let board = is.here.board in
           let at = within g tile b selection is in
-          let small = slot_small g b selection is.read in
+          let small = slot_small g b selection is.here in
           let low = tile_low tile b is.moved.0 board is.moved.1 in
-          let blank_small = cell_small g b selection is.read 0 (omega (arith, low)) in
+          let blank_small = cell_small g b selection is.here 0 (omega (arith, low)) in
           let blank_room = digit_room g tile b selection is (blank_of b) blank_small in
-          let cell_small' = cell_small g b selection is.read tile low in
+          let cell_small' = cell_small g b selection is.here tile low in
           record {
             above = at.0;
             fits = omega (arith, small, read, blank_room, cell_small');
@@ -312,7 +289,7 @@ module _ (g : Selection) (tile : ℕ) (b : Position) (own : Selection) (tiles : 
 -- ---- the sum
 
 -- each group is read by digits
-pub groups_read : (split : Split) (b : Position) → IsSplit split → HasConsecutiveGroups split → IsBoard b → b.grid ≡ split.grid → All (λ g. IsReadByDigits g b) split.groups
+pub groups_read : (split : Split) (b : Position) → IsSplit split → HasConsecutiveGroups split → IsBoard b → b.grid ≡ split.grid → All (λ g. IsConsecutiveOn g b) split.groups
 groups_read split b is consecutive board sides k d k_in = record {
   board = board;
   few = subst (λ (grid : Grid). cell_count grid ≤ 16) (sym sides) consecutive.few;
@@ -321,10 +298,10 @@ groups_read split b is consecutive board sides k d k_in = record {
 }
 
 -- so is each table's
-pub tables_read : (tables : Tables) (lookups : List Lookup) (b : Position) → IsTables tables → HasConsecutiveGroups tables.split → IsBoard b → b.grid ≡ tables.split.grid → lookups ≡ tables.lookups → All (λ table. IsReadByDigits table.selection b) lookups
+pub tables_read : (tables : Tables) (lookups : List Lookup) (b : Position) → IsTables tables → HasConsecutiveGroups tables.split → IsBoard b → b.grid ≡ tables.split.grid → lookups ≡ tables.lookups → All (λ table. IsConsecutiveOn table.selection b) lookups
 tables_read tables lookups b is consecutive board sides same =
-    subst (λ (ls : List Lookup). All (λ table. IsReadByDigits table.selection b) ls) (sym same)
-    (each_lookup (λ g. IsReadByDigits g b) tables is (groups_read tables.split b is.partition consecutive board sides))
+    subst (λ (ls : List Lookup). All (λ table. IsConsecutiveOn table.selection b) ls) (sym same)
+    (each_lookup (λ g. IsConsecutiveOn g b) tables is (groups_read tables.split b is.partition consecutive board sides))
 
 -- whole tables' values are added
 pub sum_read : (tables : Tables) (lookups : List Lookup) (b : Position) → AreWhole tables → lookups ≡ tables.lookups → sum_by (λ table. value_in table (view_of table.selection.tiles b)) lookups ≡ sum_of (parts_of tables) b
@@ -375,7 +352,7 @@ module _ (tables : Tables) (places : List ℕ) (tile : ℕ) (b : Position) (is :
     -- where digits are read, the group has the tile
     pub consecutive_move : HasConsecutiveGroups tables.split → (b' : Position) × IsMoveOf tile b b' → IsConsecutiveMove table.selection tile b
     consecutive_move consecutive moved = record {
-      read = of_table (λ g. IsReadByDigits g b) (groups_read tables.split b is.partition consecutive board sides);
+      here = of_table (λ g. IsConsecutiveOn g b) (groups_read tables.split b is.partition consecutive board sides);
       has = subst (λ (t : Lookup). Contains t.selection.tiles tile) (sym at)
           (has_tile (λ (t : Lookup). t.selection) tables.split.groups tables.lookups (whole_each tables is whole) tile (slice_index places tile) table (by tile (tile_small tile b moved.0 board moved.1)) low);
       moved = moved;

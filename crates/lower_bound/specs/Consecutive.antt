@@ -1,13 +1,12 @@
--- Groups of consecutive tiles, whose slots are digits of a search key, and boards that are read by these.
+-- Groups of consecutive tiles, on boards of at most 16 cells: the slot of what such a group sees is made of digits of the board's search key.
 use Rattle.std.specs.Prelude.{ℕ, ◌≡◌, ◌≤◌, List, length, slice_index, All, Contains}
 use Rattle.std.specs.List.{range_with_len}
 use Rattle.board.specs.Grids.{cell_count}
 use Rattle.board.specs.Positions.{Position, IsBoard}
 use Rattle.pattern_index.specs.Selections.{Selection}
 use Rattle.pattern_index.specs.Splits.{Split}
-use Rattle.lower_bound.specs.Bounds.{sum_of}
 use Rattle.lower_bound.specs.Slides.{IsMoveOf}
-use Rattle.lower_bound.specs.Tables.{AreWhole, Tables, parts_of}
+use Rattle.lower_bound.specs.Tables.{AreWhole, Tables}
 
 -- the tiles follow one another, from the first on
 abbrev pub AreConsecutive : List ℕ → Type 0
@@ -18,25 +17,20 @@ pub record HasConsecutiveGroups (split : Split) : Type 0 where
   pub few : cell_count split.grid ≤ 16
   pub groups : All (λ g. AreConsecutive g.tiles) split.groups
 
--- all tables are whole, and their groups are such
-pub record AreReadByDigits (tables : Tables) : Type 0 where
+-- no table is folded, there are at most 16 cells, and the tiles of each table's group are consecutive
+pub record HasConsecutiveTables (tables : Tables) : Type 0 where
   pub whole : AreWhole tables
   pub groups : HasConsecutiveGroups tables.split
 
 -- the board is one of the group's grid, which has at most 16 cells, and the group's tiles are consecutive
-pub record IsReadByDigits (g : Selection) (b : Position) : Type 0 where
+pub record IsConsecutiveOn (g : Selection) (b : Position) : Type 0 where
   pub board : IsBoard b
   pub few : cell_count b.grid ≤ 16
   pub sides : b.grid ≡ g.grid
   pub consecutive : AreConsecutive g.tiles
 
--- so it is read, and a move of one of the group's tiles leads from the board
+-- the group's tiles are consecutive on such a board, and there is a move of one of them from the board
 pub record IsConsecutiveMove (g : Selection) (tile : ℕ) (b : Position) : Type 0 where
-  pub read : IsReadByDigits g b
+  pub here : IsConsecutiveOn g b
   pub has : Contains g.tiles tile
   pub moved : (b' : Position) × IsMoveOf tile b b'
-
--- a board of the tables' grid, and its sum
-pub record HasSum (tables : Tables) (b : Position) (sum : ℕ) : Type 0 where
-  pub sides : b.grid ≡ tables.split.grid
-  pub is : sum ≡ sum_of (parts_of tables) b

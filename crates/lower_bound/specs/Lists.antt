@@ -1,9 +1,27 @@
--- The tables of a bound, as they are given out, and as they are folded.
-use Rattle.std.specs.Prelude.{◌≡◌, []}
+-- The tables of a bound, as it holds them, as they are given out, and as they are folded.
+use Rattle.std.specs.Prelude.{◌≡◌, List, []}
+use Rattle.pattern_index.specs.Splits.{Split}
+use Rattle.database_build.specs.Tables.{Lookup}
+use Rattle.database_build.specs.Folds.{Fold}
 use Rattle.lower_bound.specs.Folded.{AreFolded}
 use Rattle.lower_bound.specs.Tables.{Tables, AreWhole}
+use Rattle.lower_bound.specs.declared.bound.Held.{Held}
+use Rattle.lower_bound.specs.declared.bound.Held.TheVariants as memory
 use Rattle.lower_bound.specs.declared.bound.TableList.{TableList}
 use Rattle.lower_bound.specs.declared.bound.TableList.TheVariants.{Whole, Folded}
+
+-- the whole tables that are held, and the folded ones
+abbrev pub lookups_in : Held → List Lookup
+lookups_in (memory.Whole tables) = tables.items
+lookups_in (memory.Folded folds) = []
+
+abbrev pub folds_in : Held → List Fold
+folds_in (memory.Whole tables) = []
+folds_in (memory.Folded folds) = folds.items
+
+-- a partition with the tables that are held
+abbrev pub tables_in : Split → Held → Tables
+tables_in split held = record { split = split; lookups = lookups_in held; folds = folds_in held }
 
 -- these are the tables: all of them whole, or all of them folded
 abbrev pub AreListed : Tables → TableList → Type 0

@@ -11,7 +11,9 @@ use Rattle.pattern_index.specs.Views.{IsView, view_at, exchanged}
 use Rattle.database_build.specs.Folds.{Fold}
 use Rattle.database_build.specs.Entries.{most_places}
 use Rattle.database_build.specs.declared.table.TheConstants.{NO_VALUE}
+use Rattle.lower_bound.specs.Bounds.{sum_of}
 use Rattle.lower_bound.specs.Folded.{value_by}
+use Rattle.lower_bound.specs.Tables.{Tables, parts_of}
 
 -- the list holds the cell of each number, and has a place for each that a board may have
 pub record AreCellsOf (b : Position) (cells : List ℕ) : Type 0 where
@@ -31,6 +33,11 @@ pub record IsMoveOf (tile : ℕ) (b b' : Position) : Type 0 where
   pub cost : ℕ
   pub moves : Moves rule b direction b' cost
   pub moved : tile ≡ slice_index b.tiles (blank_of b')
+
+-- this is a board of the tables' grid, and its sum
+pub record HasSum (tables : Tables) (b : Position) (sum : ℕ) : Type 0 where
+  pub sides : b.grid ≡ tables.split.grid
+  pub is : sum ≡ sum_of (parts_of tables) b
 
 -- a move of this tile leads from the board with these cells to another
 pub record IsSlide (grid : Grid) (cells : List ℕ) (tile : ℕ) (b b' : Position) : Type 0 where

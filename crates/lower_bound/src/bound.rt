@@ -1,7 +1,7 @@
 //! Tables for the groups of a partition, whole or folded, whose values are added.
 
 ghost use Rattle.std.specs.Prelude.{◌≡◌, ◌↔◌, ◌+◌, ◌*◌, ◌<◌, ◌≤◌, [], length, slice_get, All, Some, sum_by};
-ghost use Rattle.std.specs.Prelude.{IsTrue, IsOk, IsErrOf, IfOk, IfSome, MatchOption, Ok};
+ghost use Rattle.std.specs.Prelude.{IsTrue, IsOk, IsErrOf, IfOk, MatchOption, Ok};
 ghost use Rattle.board.specs.Positions.{Position};
 ghost use Rattle.board.specs.CostRules.{CostRule};
 ghost use Rattle.board.specs.Plans.{NothingBelow};
@@ -10,11 +10,11 @@ ghost use Rattle.database_build.specs.Tables.{value_in};
 ghost use Rattle.database_build.specs.declared.faults.TableFault.{TableFault};
 ghost use Rattle.lower_bound.specs.Bounds.{sum_of};
 ghost use Rattle.lower_bound.specs.Folded.{AreFoldsOf, AreFolded, IsBefore, value_for, values_of};
-ghost use Rattle.lower_bound.specs.Tables.{IsTables, AreTablesOf, AreConsistent, ArePotentials, AreWhole};
+ghost use Rattle.lower_bound.specs.Tables.{IsTables, AreTablesOf, AreConsistent, ArePotentials};
 ghost use Rattle.lower_bound.specs.Tables.{parts_of};
 ghost use Rattle.lower_bound.specs.Lists.{AreListed, IsFoldedBound};
-ghost use Rattle.lower_bound.specs.Consecutive.{AreReadByDigits, HasSum};
-ghost use Rattle.lower_bound.specs.Slides.{HasCells, IsMoveOf, IsSlide};
+ghost use Rattle.lower_bound.specs.Consecutive.{HasConsecutiveTables};
+ghost use Rattle.lower_bound.specs.Slides.{HasCells, HasSum, IsMoveOf, IsSlide};
 
 use crate::by_tile::find_groups_by_tile;
 use crate::consecutive::has_consecutive_groups;
@@ -61,9 +61,9 @@ pub enum TableList<'a> {
 
 impl Model for Bound {
     ghost use Rattle.lower_bound.specs.Tables.{Tables, IsTables};
-    ghost use Rattle.lower_bound.specs.Held.{tables_in};
+    ghost use Rattle.lower_bound.specs.Lists.{tables_in};
     ghost use Rattle.lower_bound.specs.ByTile.{AreGroupsByTile};
-    ghost use Rattle.lower_bound.specs.Consecutive.{AreReadByDigits};
+    ghost use Rattle.lower_bound.specs.Consecutive.{HasConsecutiveTables};
     ghost use Rattle.std.specs.Prelude.{IsTrue};
 
     ghost Value = { Tables };
@@ -72,7 +72,7 @@ impl Model for Bound {
 
     ghost invariant = { λ b. IsTables (tables_in b.partition b.held)
         × AreGroupsByTile b.partition.groups b.by_tile
-        × (IsTrue b.by_digits → AreReadByDigits (tables_in b.partition b.held)) };
+        × (IsTrue b.by_digits → HasConsecutiveTables (tables_in b.partition b.held)) };
 }
 
 impl Bound {
@@ -155,7 +155,8 @@ impl Bound {
         ensures nothing_below { (rule : CostRule) (goal : Position) →
             ArePotentials rule goal self.now → NothingBelow rule board.now goal result }
     {
-        // That it is a board is known by this call, for the last clause.
+        // The last clause needs that tiles and grid are a board's. Each `Board` is one, and the
+        // contract of `shape` says so.
         let _ = board.shape();
         match &self.held {
             Held::Whole(tables) => sum_values(tables, board),
@@ -188,7 +189,7 @@ impl Bound {
         ensures nothing_below { (rule : CostRule) (goal : Position) →
             ArePotentials rule goal self.now → NothingBelow rule board.now goal result }
     {
-        // That it is a board is known by this call.
+        // The proof needs that this is a board. Each `KeyedBoard` is one, and `shape` says so.
         let _ = board.shape();
         if self.by_digits {
             return sum_by_digits(self.whole(), board);
@@ -256,7 +257,7 @@ impl Bound {
 
     // The same by digits of the board's search key.
     fn sum_after_by_digits(&self, sum: u32, board: &KeyedBoard, tile: u8) -> u32
-        requires digits { AreReadByDigits self.now }
+        requires digits { HasConsecutiveTables self.now }
         requires consistent { AreConsistent self.now }
         requires moved { (b' : Position) × IsMoveOf tile board.now b' }
         requires sum { HasSum self.now board.now sum }
@@ -265,7 +266,7 @@ impl Bound {
             → result ≡ sum_of (parts_of self.now) b' }
         ensures high { result ≤ sum + NO_VALUE }
     {
-        // That it is a board is known by this call.
+        // The proof needs that this is a board. Each `KeyedBoard` is one, and `shape` says so.
         let _ = board.shape();
         let tables = self.whole();
         let group = self.by_tile[tile as usize];

@@ -1,10 +1,11 @@
 //! What tables read of a board: digits of its search key, or the cells of its numbers.
 
-ghost use Rattle.std.specs.Prelude.{◌≡◌, ◌+◌, ◌*◌, ◌^◌, ◌<◌, ◌≤◌, length, sum_by, All, IfSome};
+ghost use Rattle.std.specs.Prelude.{◌≡◌, ◌*◌, ◌≤◌, length, sum_by, All, IfSome};
 ghost use Rattle.board.specs.Positions.{Position, IsBoard};
-ghost use Rattle.pattern_index.specs.Views.{view_of};
+ghost use Rattle.pattern_index.specs.Sparse.{slot_in};
+ghost use Rattle.pattern_index.specs.Views.{IsView, view_of};
 ghost use Rattle.database_build.specs.Tables.{value_in};
-ghost use Rattle.lower_bound.specs.Consecutive.{IsConsecutiveMove, IsReadByDigits};
+ghost use Rattle.lower_bound.specs.Consecutive.{IsConsecutiveMove, IsConsecutiveOn};
 ghost use Rattle.lower_bound.specs.Slides.{HasCells, IsMoveOf};
 
 use database_build::{NO_VALUE, Table};
@@ -58,7 +59,7 @@ impl Reading {
         ensures value { result.now ≡ self.now }
         ensures board { IsBoard self.now }
     {
-        // That it is a board is known by this call.
+        // The last clause needs that this is a board. Each `KeyedBoard` is one, and `shape` says so.
         let _ = self.board.shape();
         &self.board
     }
@@ -67,16 +68,17 @@ impl Reading {
     pub(crate) fn cells(&self) -> Option<&[u8; 25]>
         ensures { IfSome result (λ cells. HasCells self.now.grid cells.now self.now) }
     {
+        // Here too `shape` says that this is a board.
         let _ = self.board.shape();
         self.cells.as_ref()
     }
 }
 
-// Adds the values that tables have for a board, each found with one read by digits of the board's
-// search key.
+// Adds the values that tables have for a board, each found by a slot of digits of the board's search
+// key.
 pub(crate) fn sum_by_digits(tables: &[Table], board: &KeyedBoard) -> u32
     requires few { length tables.now ≤ 24 }
-    requires read { All (λ table. IsReadByDigits table.selection board.now) tables.now }
+    requires read { All (λ table. IsConsecutiveOn table.selection board.now) tables.now }
     ensures value { result
         ≡ sum_by (λ table. value_in table (view_of table.selection.tiles board.now)) tables.now }
     ensures high { result ≤ NO_VALUE * length tables.now }
@@ -90,17 +92,14 @@ pub(crate) fn sum_by_digits(tables: &[Table], board: &KeyedBoard) -> u32
 
 // The value that a table has for a board.
 fn value_by_digits(table: &Table, board: &KeyedBoard) -> u16
-    requires { IsReadByDigits table.now.selection board.now }
+    requires { IsConsecutiveOn table.now.selection board.now }
     ensures { result ≡ value_in table.now (view_of table.now.selection.tiles board.now) }
 {
-    let tiles = table.group().tiles();
-    let blank = board.digits(0, 1);
-    let slot = board.digits(tiles[0] as usize, tiles.len()) * 16 + blank;
-    table.slot_value(slot)
+    table.slot_value(slot_by_digits(table, board))
 }
 
 // The values that a table has for a board before a move of one of its tiles and after it, each found
-// with one read by digits of the board's search key.
+// by a slot of digits of the board's search key.
 pub(crate) fn values_by_digits(table: &Table, board: &KeyedBoard, tile: u8) -> (u16, u16)
     requires { IsConsecutiveMove table.now.selection tile board.now }
     ensures values { (b' : Position) → IsMoveOf tile board.now b'
@@ -111,11 +110,24 @@ pub(crate) fn values_by_digits(table: &Table, board: &KeyedBoard, tile: u8) -> (
     ensures high { result.1 ≤ NO_VALUE }
 {
     let tiles = table.group().tiles();
-    let first = tiles[0] as usize;
     let blank = board.digits(0, 1);
     let cell = board.digits(tile as usize, 1);
-    let before = board.digits(first, tiles.len()) * 16 + blank;
-    let place = tile as usize - first + 1;
+    let before = slot_by_digits(table, board);
+    let place = tile as usize - tiles[0] as usize + 1;
     let after = short_exchanged(before as u64, place, blank as u64, cell as u64) as usize;
     (table.slot_value(before), table.slot_value(after))
+}
+
+// The slot of what a table's group sees of a board: the blank's digit of the board's search key, and
+// above it the digits of the group's tiles.
+fn slot_by_digits(table: &Table, board: &KeyedBoard) -> usize
+    requires { IsConsecutiveOn table.now.selection board.now }
+    ensures view { IsView table.now.selection.grid table.now.selection.tiles
+        (view_of table.now.selection.tiles board.now) }
+    ensures slot { slot_in table.now.selection.grid (view_of table.now.selection.tiles board.now)
+        ≡ result }
+{
+    let tiles = table.group().tiles();
+    let blank = board.digits(0, 1);
+    board.digits(tiles[0] as usize, tiles.len()) * 16 + blank
 }

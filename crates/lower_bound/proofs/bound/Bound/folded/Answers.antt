@@ -3,7 +3,7 @@ use Rattle.std.proofs.lemmas.Bool.{false≢true}
 use Rattle.database_build.specs.Folds.{Fold}
 use Rattle.lower_bound.specs.Folded.{AreFoldsOf}
 use Rattle.lower_bound.specs.Tables.{IsTables}
-use Rattle.lower_bound.specs.Held.{tables_in}
+use Rattle.lower_bound.specs.Lists.{tables_in}
 use Rattle.lower_bound.specs.declared.bound.Held.{Held}
 use Rattle.lower_bound.specs.declared.bound.Held.TheVariants.{Whole, Folded}
 use Rattle.lower_bound.proofs.PartLemmas.{folded_groups, whole_each, folded_each, folded_potentials}

@@ -6,7 +6,7 @@ use Rattle.database_build.specs.Folds.{Fold}
 use Rattle.lower_bound.specs.Bounds.{Part, sum_of}
 use Rattle.lower_bound.specs.Folded.{value_for}
 use Rattle.lower_bound.specs.Tables.{Tables, IsTables}
-use Rattle.lower_bound.specs.Held.{tables_in}
+use Rattle.lower_bound.specs.Lists.{tables_in}
 use Rattle.lower_bound.specs.declared.bound.Held.{Held}
 use Rattle.lower_bound.proofs.PartLemmas.{tables_sum, folds_sum, grids_fit, folds_fit, whole_parts, all_folded_parts, nothing_below}
 use Rattle.lower_bound.proofs.bound.Bound.of.Goals as goal

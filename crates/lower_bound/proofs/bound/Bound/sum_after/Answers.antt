@@ -5,7 +5,7 @@ use Rattle.database_build.specs.Folds.{Fold}
 use Rattle.lower_bound.specs.ByTile.{AreGroupsByTile}
 use Rattle.pattern_index.specs.Views.{exchanged}
 use Rattle.lower_bound.specs.Tables.{Tables, IsTables}
-use Rattle.lower_bound.specs.Held.{tables_in}
+use Rattle.lower_bound.specs.Lists.{tables_in}
 use Rattle.lower_bound.specs.declared.bound.Held.{Held}
 use Rattle.lower_bound.proofs.SlideLemmas.{FoldedAt, WholeAt, cells_there, exchange_of, folded_at, folded_none, sum_is, whole_at, whole_none}
 use Rattle.lower_bound.proofs.bound.Bound.sum_after.Goals as goal

@@ -5,7 +5,7 @@ use Rattle.database_build.specs.Folds.{Fold}
 use Rattle.lower_bound.specs.Folded.{value_by}
 use Rattle.lower_bound.specs.Slides.{SeesView}
 use Rattle.lower_bound.specs.Tables.{Tables, IsTables}
-use Rattle.lower_bound.specs.Held.{tables_in}
+use Rattle.lower_bound.specs.Lists.{tables_in}
 use Rattle.lower_bound.specs.declared.bound.Held.{Held}
 use Rattle.lower_bound.proofs.PartLemmas.{each_lookup, each_fold, nothing_below}
 use Rattle.lower_bound.proofs.SlideLemmas.{whole_says, whole_sum_at, folded_sum_at, sees, sum_is}
