@@ -24,9 +24,12 @@ use Rattle.search_keys.proofs.SearchKeyLemmas.{digit_set}
 use Rattle.database_build.specs.Tables.{Lookup, value_in}
 use Rattle.lower_bound.specs.Bounds.{Part, sum_of}
 use Rattle.lower_bound.specs.ByTile.{AreGroupsByTile}
-use Rattle.lower_bound.specs.Consecutive.{AreConsecutive, HasConsecutiveGroups, IsConsecutiveMove, IsConsecutiveOn}
+use Rattle.lower_bound.specs.Consecutive.{AreConsecutive, HasConsecutiveGroups, HasConsecutiveTables, IsConsecutiveMove, IsConsecutiveOn}
+use Rattle.lower_bound.specs.Lists.{AreHeldWhole, tables_in}
 use Rattle.lower_bound.specs.Slides.{AreCellsOf, HasCells, HasSum, IsMoveOf, IsSlide}
 use Rattle.lower_bound.specs.Tables.{AreConsistent, AreWhole, IsTables, Tables, parts_of}
+use Rattle.lower_bound.specs.declared.bound.Held.{Held}
+use Rattle.lower_bound.specs.declared.bound.Held.TheVariants.{Whole, Folded}
 use Rattle.lower_bound.proofs.PartLemmas.{each_lookup, tables_sum, whole_each, whole_parts}
 use Rattle.lower_bound.proofs.SlideLemmas.{blank_there, board_groups, cells_there, exchange_of, few_cells, has_tile, moved_board, moved_cells, moved_sides, next_sparse, seen_at, sum_is, tile_low, tile_small, whole_at, whole_none, whole_says}
 
@@ -287,6 +290,11 @@ module _ (g : Selection) (tile : ℕ) (b : Position) (own : Selection) (tiles : 
           }
 
 -- ---- the sum
+
+-- whole tables that are held for consecutive groups
+pub held_consecutive : (split : Split) (held : Held) → AreHeldWhole held × HasConsecutiveGroups split → HasConsecutiveTables (tables_in split held)
+held_consecutive split (Whole tables) both = record { whole = refl; groups = both.1 }
+held_consecutive split (Folded folds) both = absurd both.0
 
 -- each group is read by digits
 pub groups_read : (split : Split) (b : Position) → IsSplit split → HasConsecutiveGroups split → IsBoard b → b.grid ≡ split.grid → All (λ g. IsConsecutiveOn g b) split.groups

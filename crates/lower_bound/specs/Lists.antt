@@ -1,5 +1,5 @@
 -- The tables of a bound, as it holds them, as they are given out, and as they are folded.
-use Rattle.std.specs.Prelude.{◌≡◌, List, []}
+use Rattle.std.specs.Prelude.{◌≡◌, List, [], ⊤}
 use Rattle.pattern_index.specs.Splits.{Split}
 use Rattle.database_build.specs.Tables.{Lookup}
 use Rattle.database_build.specs.Folds.{Fold}
@@ -22,6 +22,11 @@ folds_in (memory.Folded folds) = folds.items
 -- a partition with the tables that are held
 abbrev pub tables_in : Split → Held → Tables
 tables_in split held = record { split = split; lookups = lookups_in held; folds = folds_in held }
+
+-- the tables that are held are whole
+abbrev pub AreHeldWhole : Held → Type 0
+AreHeldWhole (memory.Whole tables) = ⊤
+AreHeldWhole (memory.Folded folds) = ⊥
 
 -- these are the tables: all of them whole, or all of them folded
 abbrev pub AreListed : Tables → TableList → Type 0

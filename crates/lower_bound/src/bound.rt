@@ -61,10 +61,10 @@ pub enum TableList<'a> {
 
 impl Model for Bound {
     ghost use Rattle.lower_bound.specs.Tables.{Tables, IsTables};
-    ghost use Rattle.lower_bound.specs.Lists.{tables_in};
+    ghost use Rattle.lower_bound.specs.Lists.{AreHeldWhole, tables_in};
     ghost use Rattle.lower_bound.specs.ByTile.{AreGroupsByTile};
-    ghost use Rattle.lower_bound.specs.Consecutive.{HasConsecutiveTables};
-    ghost use Rattle.std.specs.Prelude.{IsTrue};
+    ghost use Rattle.lower_bound.specs.Consecutive.{HasConsecutiveGroups};
+    ghost use Rattle.std.specs.Prelude.{◌↔◌, IsTrue};
 
     ghost Value = { Tables };
 
@@ -72,7 +72,7 @@ impl Model for Bound {
 
     ghost invariant = { λ b. IsTables (tables_in b.partition b.held)
         × AreGroupsByTile b.partition.groups b.by_tile
-        × (IsTrue b.by_digits → HasConsecutiveTables (tables_in b.partition b.held)) };
+        × (IsTrue b.by_digits ↔ (AreHeldWhole b.held × HasConsecutiveGroups b.partition)) };
 }
 
 impl Bound {
@@ -240,6 +240,7 @@ impl Bound {
     /// The sum of the board to which a move of a tile leads, by the sum of the board before it and
     /// what is read of that. Only the table is read whose group has the tile, for the values before
     /// and after. No other has another value then, where whole tables are consistent.
+    #[tactic(auto, using(crate::proofs::ConsecutiveLemmas::held_consecutive))]
     pub fn sum_after_move(&self, sum: u32, reading: &Reading, tile: u8) -> u32
         requires consistent { AreConsistent self.now }
         requires moved { (b' : Position) × IsMoveOf tile reading.now b' }

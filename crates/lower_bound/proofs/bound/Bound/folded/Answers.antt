@@ -11,7 +11,7 @@ use Rattle.lower_bound.proofs.bound.Bound.folded.Goals as goal
 use Rattle.lower_bound.proofs.bound.Bound.folded.Goals.{in-Whole+in_ok-folds-in-Whole, in-Folded}
 
 pub invariant_of-result : goal.invariant_of-result
-invariant_of-result c = (is_tables, c.self.invariant.1, λ none. absurd (false≢true none))
+invariant_of-result c = (is_tables, c.self.invariant.1, (λ none. absurd (false≢true none), λ both. absurd both.0))
   where
     there : (held : Held) → c.self.inside.held ≡ held → IsTables (tables_in c.self.inside.partition held)
     there held is = subst (λ (h : Held). IsTables (tables_in c.self.inside.partition h)) is c.self.invariant.0

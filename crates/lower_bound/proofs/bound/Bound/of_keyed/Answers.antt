@@ -2,18 +2,18 @@ use Rattle.std.proofs.Common.{◌∙◌, subst}
 use Rattle.lower_bound.specs.Consecutive.{HasConsecutiveTables}
 use Rattle.lower_bound.specs.Slides.{HasCells}
 use Rattle.lower_bound.specs.Tables.{IsTables}
-use Rattle.lower_bound.proofs.ConsecutiveLemmas.{sum_read, tables_read}
+use Rattle.lower_bound.proofs.ConsecutiveLemmas.{held_consecutive, sum_read, tables_read}
 use Rattle.lower_bound.proofs.PartLemmas.{nothing_below}
 use Rattle.lower_bound.proofs.bound.Bound.of_keyed.Goals as goal
 
 pub sum_by_digits-requires-clause-read : goal.sum_by_digits-requires-clause-read
 sum_by_digits-requires-clause-read c =
-    let digits : HasConsecutiveTables c.args.self.now = subst HasConsecutiveTables c.self.view_is (c.self.invariant.2 c.if-self.true) in
+    let digits : HasConsecutiveTables c.args.self.now = subst HasConsecutiveTables c.self.view_is (held_consecutive c.self.inside.partition c.self.inside.held (c.self.invariant.2.0 c.if-self.true)) in
     tables_read c.args.self.now c.whole.result.now c.args.board.now (subst IsTables c.self.view_is c.self.invariant.0) digits.groups c.shape.ensures.board c.requires c.whole.ensures.value
 
 pub returns-then-self-clause-value : goal.returns-then-self-clause-value
 returns-then-self-clause-value c =
-    let digits : HasConsecutiveTables c.args.self.now = subst HasConsecutiveTables c.self.view_is (c.self.invariant.2 c.if-self.true) in
+    let digits : HasConsecutiveTables c.args.self.now = subst HasConsecutiveTables c.self.view_is (held_consecutive c.self.inside.partition c.self.inside.held (c.self.invariant.2.0 c.if-self.true)) in
     c.sum_by_digits.ensures.value ∙ sum_read c.args.self.now c.whole.result.now c.args.board.now digits.whole c.whole.ensures.value
 
 pub returns-then-self-clause-nothing_below : goal.returns-then-self-clause-nothing_below
