@@ -5,7 +5,7 @@ use Rattle.board.specs.Grids.{cell_count}
 use Rattle.board.specs.Positions.{Position, blank_of}
 use Rattle.rand_xoshiro.specs.SplitMix64.{mix_u64}
 
--- the state of SplitMix64 after so many words, from eight zero bytes on
+-- the state of SplitMix64 after this number of words, from eight zero bytes on
 abbrev pub state_after : ℕ → ℕ
 state_after zero = 0
 state_after (suc k) = (mix_u64 (state_after k)).1
@@ -22,7 +22,7 @@ AreWords words = (k : ℕ) → k < length words → slice_index words k ≡ word
 abbrev pub word_on : ℕ → ℕ → ℕ → ℕ
 word_on cells tile cell = if tile == 0 then 0 else word ((tile - 1) * cells + cell)
 
--- the exclusive or of the words of tiles, of which the first stands on this cell
+-- the exclusive or of the words of tiles, the first of them on this cell
 abbrev pub hash_from : ℕ → ℕ → List ℕ → ℕ
 hash_from cells cell [] = 0
 hash_from cells cell (tile ∷ tiles) = bit_xor (word_on cells tile cell) (hash_from cells (cell + 1) tiles)
