@@ -1,5 +1,5 @@
 -- Entries for the moves, and what moves make that aren't left out.
-use Rattle.std.proofs.Common.{◌≡◌, ◌≢◌, ℕ, zero, suc, ◌<◌, ◌≤◌, List, [], ◌∷◌, ◌++◌, length, get_or, Option, Some, None, refl, sym, ap, ◌∙◌, subst, arith, ◌+◌, Bool, true, false, set, ⊎_elim}
+use Rattle.std.proofs.Common.{◌≡◌, ℕ, zero, suc, ◌<◌, ◌≤◌, List, [], ◌∷◌, ◌++◌, length, get_or, Option, Some, None, refl, sym, ap, ◌∙◌, subst, arith, ◌+◌, Bool, true, false, set, ⊎_elim}
 use Rattle.std.specs.Prelude.{⊤, IfSome, if◌then◌else◌}
 use Rattle.std.specs.List.{AllByRecursion}
 use Rattle.std.proofs.lemmas.List.Elements.{All-from_recursion, recursion_from_All}
@@ -63,16 +63,6 @@ found four U x is = there_first U four.up x (before L four.left (before R four.r
 found four L x is = behind_others (L, x) U four.up (before L four.left (before R four.right (before D four.down []))) (there_first L four.left x (before R four.right (before D four.down [])) is)
 found four R x is = behind_others (R, x) U four.up (before L four.left (before R four.right (before D four.down []))) (behind_others (R, x) L four.left (before R four.right (before D four.down [])) (there_first R four.right x (before D four.down []) is))
 found four D x is = behind_others (D, x) U four.up (before L four.left (before R four.right (before D four.down []))) (behind_others (D, x) L four.left (before R four.right (before D four.down [])) (behind_others (D, x) R four.right (before D four.down []) (there_first D four.down x [] is)))
-
--- where no entry is of a move, nothing stands for it
-pub none_there : {A : Type 0} (four : FourOf A) (m : Move) → ((j : ℕ) (d : Move × A) → j < length (entries_of four) → (get_or (entries_of four) j d).0 ≢ m) → of_move four m ≡ None
-none_there {A = A} four m others = by (of_move four m) refl
-  where
-    by : (o : Option A) → of_move four m ≡ o → of_move four m ≡ None
-    by None is = is
-    by (Some x) is =
-        let place = found four m x is in
-        absurd (others place.0 (m, x) place.1 (ap (λ (e : Move × A). e.0) (place.2 (m, x))))
 
 -- ---- the order of the entries
 

@@ -7,7 +7,7 @@ use Rattle.std.proofs.lemmas.List.{length-set, get_or-set_other}
 use Rattle.std.proofs.lemmas.List.Edits.{swap_is}
 use Rattle.std.specs.Int.Digits.{AllBelowBase}
 use Rattle.std.proofs.lemmas.List.Elements.{recursion_from_All}
-use Rattle.board.specs.Grids.{Grid, cell_count, IsShape}
+use Rattle.board.specs.Grids.{Grid, cell_count}
 use Rattle.board.specs.Digits.{digits_of}
 use Rattle.board.specs.Positions.{Position, IsBoard, blank_of}
 use Rattle.board.specs.Keys.{packed_number, key_of, HasKey}
@@ -23,27 +23,20 @@ use Rattle.pattern_index.specs.Views.{exchanged}
 use Rattle.lower_bound.specs.Slides.{AreCellsOf}
 use Rattle.lower_bound.specs.Bounds.{Part, sum_of}
 use Rattle.lower_bound.specs.declared.bound.TheConstants.{GREATEST_SUM}
-use Rattle.lower_bound.proofs.SlideLemmas.{cells_exchanged}
+use Rattle.lower_bound.proofs.SlideLemmas.{cells_exchanged, few_cells}
+use Rattle.search_keys.proofs.ZeroLemmas.{five_bits, long_put}
 use Rattle.successor_sums.specs.Unpacked.{FitsGrid, board_in, IsUnpacked, told_of}
 use Rattle.successor_sums.specs.declared.unpacked.Successor.{Successor}
 use Rattle.successor_sums.specs.declared.unpacked.UnpackedBoard.TheInside.{Inside}
 
 -- ---- the key of a board after a move, by the board's own
 
--- five bits are a digit
-pub five_bits : (k : ℕ) → 2 ^ (5 * k) ≡ 32 ^ k
-five_bits zero = refl
-five_bits (suc k) =
-    let more : 5 * suc k ≡ 5 * k + 5 = omega arith in
-    ap (λ (e : ℕ). 2 ^ e) more ∙ pow-add 2 (5 * k) 5 ∙ ap (λ (x : ℕ). x * 32) (five_bits k) ∙ sym (pow-suc 32 k)
-
 -- a digit of a key does not pass 128 bits
 pub digit_fits : (tile behind : ℕ) → tile < 32 → behind ≤ 24 → tile * 2 ^ (5 * behind) % 340282366920938463463374607431768211456 ≡ tile * 32 ^ behind
 digit_fits tile behind low few =
     let power : 32 ^ behind ≤ 32 ^ 24 = pow-le-pow_right {n = 32} (omega arith) {j = 24} few in
     let most : tile * 32 ^ behind ≤ 31 * 32 ^ 24 = mul-le tile (32 ^ behind) 31 (32 ^ 24) (omega arith) power in
-    ap (λ (x : ℕ). tile * x % 340282366920938463463374607431768211456) (five_bits behind)
-    ∙ mod-eq_of_lt (omega arith)
+    long_put tile behind (omega arith)
 
 -- a digit of a packed number is the number that stands there
 pub digit_there : (xs : List ℕ) (i k : ℕ) → i + suc k ≡ length xs → AllBelowBase 32 xs → packed_number xs / 32 ^ k % 32 ≡ get_or xs i 0
@@ -102,9 +95,6 @@ moved_key b to board to_below other =
     (omega arith, omega arith)
 
 -- ---- what lies in memory
-
-pub few_cells : (grid : Grid) → IsShape grid → cell_count grid ≤ 25
-few_cells grid sides = mul-le grid.rows grid.cols 5 5 sides.rows_high sides.cols_high
 
 -- what lies in memory where a board has the key, and the cells are its
 pub unpacked_as : (inside : Inside) (b : Position) → HasKey inside.shape inside.key b → AreCellsOf b inside.cells → IsUnpacked inside

@@ -2,7 +2,7 @@
 
 ghost use Rattle.std.specs.Prelude.{ℕ, ◌≡◌, ◌≤◌, ◌<◌, if◌then◌else◌, Some, None, length, slice_index_or};
 ghost use Rattle.board.specs.declared.moves.Move.{Move};
-ghost use Rattle.successor_sums.specs.ByMoves.{IsBehind, entries_of, nothing, of_move, with_move};
+ghost use Rattle.successor_sums.specs.ByMoves.{IsBehind, entries_of, nothing, with_move};
 
 use board::Move;
 use std::marker::Model;
@@ -61,19 +61,6 @@ impl<T: Copy> ByMoves<T> {
         ensures { self.new ≡ nothing }
     {
         self.count = 0;
-    }
-
-    /// What stands for a move.
-    pub fn of(&self, direction: Move) -> Option<T>
-        ensures { result ≡ of_move self.now direction }
-    {
-        'places: for place in 0..self.len() {
-            let (found, item) = self.entry(place);
-            if found == direction {
-                return Some(item);
-            }
-        }
-        None
     }
 
     /// For how many moves there is an item.

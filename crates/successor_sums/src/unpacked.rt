@@ -12,8 +12,8 @@ use lower_bound::Bound;
 use pattern_index::{cells_of, exchange};
 use std::marker::Model;
 
-/// What is told of a successor, the board that a move leads to. Cell and tile have 32 bits, so that
-/// no byte is unused: those that are would be copied one by one.
+/// A successor, the board that a move leads to, with what the move costs. Cell and tile have 32
+/// bits, so that no byte is unused: unused bytes would be copied one by one.
 #[derive(Clone, Copy, Debug)]
 pub struct Successor {
     /// Its key.
@@ -70,8 +70,8 @@ impl UnpackedBoard {
         self.cells[0] as usize
     }
 
-    /// What is told of its successors, by the four moves in the order of `Move::ALL`: None where
-    /// the blank would leave the board.
+    /// Its successors by the four moves, in the order of `Move::ALL`. None where the blank would
+    /// leave the board.
     pub fn successors(&self, weights: &Weights, bound: &Bound) -> [Option<Successor>; 4]
         requires rule { weights.now.grid ≡ self.now.grid }
         requires bound { bound.now.split.grid ≡ self.now.grid }
@@ -86,8 +86,8 @@ impl UnpackedBoard {
         ]
     }
 
-    // What is told of the successor by a move. Its key is this board's, with the tile's digit taken
-    // from one place to another.
+    // The successor by a move. Its key is this board's, with the tile's digit moved from one place
+    // to another.
     fn successor(&self, direction: Move, weights: &Weights, bound: &Bound) -> Option<Successor>
         requires rule { weights.now.grid ≡ self.now.grid }
         requires bound { bound.now.split.grid ≡ self.now.grid }
@@ -112,7 +112,8 @@ impl UnpackedBoard {
     }
 }
 
-// The digit of a key that has so many digits behind it.
+// The digit of a key that has this number of digits behind it.
+#[tactic(auto, using(search_keys::proofs::ZeroLemmas::long_read))]
 fn digit_of(key: u128, behind: usize) -> u8
     requires { behind ≤ 24 }
     ensures { result ≡ key / 32 ^ behind % 32 }
@@ -120,7 +121,7 @@ fn digit_of(key: u128, behind: usize) -> u8
     ((key >> (5 * behind as u32)) % 32) as u8
 }
 
-// A tile as the digit of a key that has so many digits behind it.
+// A tile as the digit of a key that has this number of digits behind it.
 fn digit_at(tile: u8, behind: usize) -> u128
     requires tile { tile < 32 }
     requires few { behind ≤ 24 }
