@@ -37,7 +37,7 @@ use Rattle.offers.specs.declared.offer.Offer.{Offer}
 use Rattle.offers.specs.Offers.{IsOfferOf, IsOffered, AreOffered, OfEach, Offers, item_by, IsWithin}
 use Rattle.offers.specs.Room.{goes, HasRoom}
 use Rattle.offers.proofs.OfferLemmas.{entry_is, entries_give, of_one}
-use Rattle.worker_core.specs.Expanding.{IsReady, stock, OfAll, taken, AddsUpBy, all_go, all_taken, in_turn, HasPlaces}
+use Rattle.worker_core.specs.Expanding.{IsReady, stock, OfAll, taken, AddsUpBy, all_go, all_taken, in_turn, HasAllPlaces, HasPlaces}
 use Rattle.worker_core.specs.Roles.{IsGuided, AreTaskBoards, IsGuideOf, task_of}
 use Rattle.worker_core.proofs.GuideLemmas.{none_below}
 
@@ -383,6 +383,16 @@ same_elsewhere me h old new offer other others apart =
 -- where places were wanting at an entry, they were wanting before
 pub still_wanting : (me : ℕ) (old new : Lists) (offer : Offer) → HasMoreRoom old new → ¬ HasPlaces me new offer → ¬ HasPlaces me old offer
 still_wanting me old new offer more wanting here = wanting (λ own. let places = here own in let no_less = more.places offer.f in omega (arith, places, no_less))
+
+-- where the lists have no fewer places later, what is there already is there then
+more_at : (me : ℕ) (old new : Lists) → ((h : ℕ) → places_at old.waiting h ≤ places_at new.waiting h) → (o : Option Offer) → IfSome o (HasPlaces me old) → IfSome o (HasPlaces me new)
+more_at me old new more None has = tt
+more_at me old new more (Some offer) has = λ own. let here = has own in let no_less = more offer.f in omega (arith, here, no_less)
+
+-- so where there are too few later, there were too few before
+pub lacking_before : (me : ℕ) (old new : Lists) (offers : Offers) → new.closed ≡ old.closed → ((h : ℕ) → places_at old.waiting h ≤ places_at new.waiting h) → ¬ HasAllPlaces me new offers → ¬ HasAllPlaces me old offers
+lacking_before me old new offers closed more lacking all =
+    lacking (subst (λ (t : Table). 4 ≤ t.room) (sym closed) all.0, (more_at me old new more offers.up all.1.0, more_at me old new more offers.left all.1.1, more_at me old new more offers.right all.1.2, more_at me old new more offers.down all.1.3))
 
 -- and of all entries
 pub places_for_all : (me : ℕ) (lists : Lists) (offers : Offers) (count : ℕ) → length (entries_of offers) ≤ count → HavePlaces me lists offers count → OfEach (λ offer. offer.owner ≡ me → 4 ≤ places_at lists.waiting offer.f) offers

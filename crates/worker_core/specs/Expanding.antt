@@ -8,17 +8,18 @@ use Rattle.board.specs.Positions.{Position}
 use Rattle.open_buckets.specs.declared.open.TheConstants.{GREATEST_F}
 use Rattle.open_buckets.specs.OpenLists.{places_at}
 use Rattle.offers.specs.declared.offer.Offer.{Offer}
-use Rattle.offers.specs.Offers.{Offers, OfEach}
+use Rattle.offers.specs.Offers.{AreOffered, Offers, OfEach, item_by}
 use Rattle.offers.specs.Room.{goes}
 use Rattle.outcomes.specs.Outcomes.{Task}
 use Rattle.search_lists.specs.Lists.{HasMoreRoom, Lists}
 use Rattle.search_lists.specs.Orders.{Guide}
 use Rattle.successor_sums.specs.ByMoves.{of_move}
+use Rattle.successor_sums.specs.Unpacked.{but}
 use Rattle.world_model.specs.declared.limits.TheConstants.{PACKET_LIMIT}
 use Rattle.world_model.specs.declared.parts.Item.{Item}
 use Rattle.world_model.specs.declared.parts.Known.{Known}
 use Rattle.world_model.specs.Expansions.{move_back, with_successor}
-use Rattle.world_model.specs.Workers.{WorkerState, Packet, Role}
+use Rattle.world_model.specs.Workers.{IsNext, WorkerState, Packet, Role}
 use Rattle.world_model.specs.WorkerSteps.{ExpandStep, ExpandOnwardStep}
 use Rattle.world_model.specs.Turns.{Turn}
 use Rattle.world_model.specs.declared.steps.Refusal.{Refusal}
@@ -102,6 +103,13 @@ pub record MakesRoom {A E : Type 0} (has : Lists → Type 0) (answer : Result A 
   pub refused : OnErr answer (¬ has old)
   pub enough : has old → new ≡ old
   pub same : HasMoreRoom old new
+
+-- a board is expanded next whose moves offer what there are too few places for
+abbrev pub LacksPlacesToExpand : Successors → Role → WorkerState → Lists → Type 0
+LacksPlacesToExpand successors role worker lists =
+    (b : Position) × (known : Known) × IsNext role.task worker b known × (offers : Offers)
+    × AreOffered role.task.sum role.owner (but (left_out_by successors known) (item_by role.task.rule b known.cost)) offers
+    × (¬ HasAllPlaces role.me lists offers)
 
 -- places for four boards more, and for four at each f, are all places, whatever is offered
 abbrev pub FourPlacesAreEnough : Type 0

@@ -1,12 +1,21 @@
 -- How a worker settles the last item that it holds.
-use Rattle.std.specs.Prelude.{◌≡◌, ◌⊎◌, None, Some}
+use Rattle.std.specs.Prelude.{◌≡◌, ◌⊎◌, ◌+◌, ◌<◌, ℕ, true, List, [], ◌∷◌, ◌++◌, None, Some}
+use Rattle.std.specs.FinMap as map
+use Rattle.lower_bound.specs.Bounds.{sum_of}
+use Rattle.lower_bound.specs.Tables.{parts_of}
+use Rattle.open_buckets.specs.OpenLists.{places_at}
+use Rattle.search_keys.specs.SearchKeys.{search_key}
+use Rattle.search_lists.specs.Lists.{Lists}
 use Rattle.world_model.specs.declared.parts.Item.{Item}
 use Rattle.world_model.specs.declared.steps.Refusal.{Refusal}
+use Rattle.world_model.specs.Knowledge.{is_news}
 use Rattle.world_model.specs.Shapes.{IsItemFor}
 use Rattle.world_model.specs.Turns.{Turn}
 use Rattle.world_model.specs.Workers.{WorkerState, Role}
 use Rattle.world_model.specs.WorkerSteps.{SettleStep}
 use Rattle.thread_model.specs.Changes.{DropStep, HoldsOwnLast}
+use Rattle.worker_core.specs.Contexts.{ContextModel}
+use Rattle.worker_core.specs.declared.worker.Worker.{Worker}
 
 -- the item is the worker's own: a board with the goal's sides that it owns, at a cost of at most `GREATEST_COST`
 abbrev pub IsOwn : Role → Item → Type 0
@@ -24,3 +33,16 @@ SettleOrDrop role it = (HoldsOwnLast role it.before × SettleStep it) ⊎ ((it.a
 -- what is refused changes nothing
 abbrev pub RefusedSettlesChangeNothing : Type 0
 RefusedSettlesChangeNothing = (role : Role) (it : Turn WorkerState Refusal) (refusal : Refusal) → SettleOrDrop role it → it.answer ≡ Some refusal → it.after ≡ it.before
+
+-- there is a place for one board more, and for one that waits at an f
+abbrev pub HasPlaceAt : ℕ → Lists → Type 0
+HasPlaceAt f lists = (0 < lists.closed.room) × (0 < places_at lists.waiting f)
+
+-- the cost of the item's board is news, and there is no place for the board at its cost plus sum
+pub record LacksPlaceFor {S : Type 0} (context : ContextModel S) (item : Item) (lists : Lists) : Type 0 where
+  pub news : is_news (map.get lists.closed.known (search_key item.board)) item.cost ≡ true
+  pub no_place : ¬ HasPlaceAt (item.cost + sum_of (parts_of context.tables) item.board) lists
+
+-- so it is for the last item that the worker holds
+abbrev pub LacksPlaceForLast : {S C D E K G : Type 0} → ContextModel S → Worker C D E K G → Type 0
+LacksPlaceForLast context worker = (front : List Item) × (last : Item) × (worker.held.items ≡ front ++ last ∷ []) × LacksPlaceFor context last worker.lists

@@ -1,8 +1,10 @@
 -- What contracts see of a worker.
-use Rattle.std.specs.Prelude.{List, map}
+use Rattle.std.specs.Prelude.{⊤, List, map, Result, Err}
 use Rattle.arrayvec.specs.ArrayVec.{ArrayVec}
 use Rattle.message_ledger.specs.Spending.{spent}
 use Rattle.world_model.specs.declared.parts.Item.{Item}
+use Rattle.world_model.specs.declared.steps.Refusal.{Refusal}
+use Rattle.world_model.specs.declared.steps.Refusal.TheVariants.{Memory}
 use Rattle.world_model.specs.Books.{BookState}
 use Rattle.world_model.specs.BookSteps.{AtBook}
 use Rattle.world_model.specs.Workers.{WorkerState, Packet, Lane}
@@ -16,6 +18,11 @@ packets_of lists = map (λ list. list.items) lists
 -- a worker, as worlds have it
 abbrev pub state_of : {C D S K G : Type 0} → Worker C D S K G → WorkerState
 state_of w = record { known = w.lists.closed.known; held = w.held.items; unsent = packets_of w.unsent.items; purse = w.purse; allowance = w.allowance.left; expansions = spent w.allowance; best = w.best }
+
+-- so it is where a step is refused since memory was refused
+abbrev pub IfMemoryRefused : {T : Type 0} → Result T Refusal → Type 0 → Type 0
+IfMemoryRefused (Err (Memory refused)) P = P
+IfMemoryRefused _ P = ⊤
 
 -- a worker, and a lane that it is lent
 abbrev pub at_lane : WorkerState → Lane → AtLane

@@ -154,7 +154,7 @@ impl<C: Counting> Worker<C> {
         self.lists.floor()
     }
 
-    /// Whether it knows the goal at a cost below the best one.
+    /// Whether it knows the goal at a lower cost than the best.
     pub fn knows_better(&self, goal: &Goal, best: Best) -> bool
         ensures yes { IsTrue result → (known : Known)
             × (map.get self.now.lists.closed.known (search_key goal.now) ≡ Some known)

@@ -20,9 +20,10 @@ ghost use Rattle.world_model.specs.Workers.{Role, KnowsAs};
 ghost use Rattle.worker_core.specs.Contexts.{role_from};
 ghost use Rattle.worker_core.specs.Expanding.{IsReady, stock, AddsUpBy, all_taken, in_turn};
 ghost use Rattle.worker_core.specs.Expanding.{left_out_by, ExpandStepFor, HasPlaces, HasAllPlaces, MakesRoom};
+ghost use Rattle.worker_core.specs.Expanding.{LacksPlacesToExpand};
 ghost use Rattle.worker_core.specs.Roles.{IsGuided};
 ghost use Rattle.worker_core.specs.Serving.{Serves, KeepsServing};
-ghost use Rattle.worker_core.specs.Workers.{state_of, packets_of};
+ghost use Rattle.worker_core.specs.Workers.{IfMemoryRefused, state_of, packets_of};
 
 use crate::context::Context;
 use crate::worker::Worker;
@@ -53,7 +54,8 @@ const BOARDS_IN_CACHE: usize = 1 << 12;
 impl<C: Counting> Worker<C> {
     /// Expands a board of least cost plus sum: relaxes the successors that this worker owns, and
     /// puts the others into the packets for their owners. Refusals: S1 no board may be expanded
-    /// below the limit, S2 no allowance is left, S3 a packet has no room, S8 memory was refused.
+    /// below the limit, S2 no allowance is left, S3 a packet has no room, S8 memory was refused,
+    /// which happens only where there were too few places for the successors.
     pub fn expand<S: Spread>(
         &mut self,
         alloc: Global,
@@ -64,6 +66,9 @@ impl<C: Counting> Worker<C> {
         ensures step { (start : Position)
             → ExpandStepFor successors (role_from S.owner_of start context.now)
             (turn (state_of self.old) (refusal_in result) (state_of self.new)) }
+        ensures refused { IfMemoryRefused result ((start : Position)
+            → LacksPlacesToExpand successors (role_from S.owner_of start context.now)
+            (state_of self.old) self.old.lists) }
         ensures keeps { KeepsServing context.now self.old self.new }
     {
         let Some(next) = self.lists.next(self.best.limit()) else {

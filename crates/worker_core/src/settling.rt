@@ -1,18 +1,18 @@
 //! The step that takes an item in.
 
-ghost use Rattle.std.specs.Prelude.{◌≡◌, ◌<◌, ◌≤◌, OnOk, OnErr, IsTrue, IsFalse};
+ghost use Rattle.std.specs.Prelude.{◌≡◌, ◌≤◌, OnOk, OnErr, IsTrue, IsFalse};
 ghost use Rattle.std.specs.FinMap as map;
 ghost use Rattle.board.specs.declared.costs.TheConstants.{GREATEST_COST};
 ghost use Rattle.board.specs.Positions.{Position};
-ghost use Rattle.open_buckets.specs.OpenLists.{places_at};
 ghost use Rattle.open_buckets.specs.declared.open.TheConstants.{GREATEST_F};
 ghost use Rattle.search_lists.specs.Lists.{HasMoreRoom};
 ghost use Rattle.world_model.specs.Knowledge.{is_news, relaxation};
 ghost use Rattle.world_model.specs.Turns.{turn, refusal_in};
 ghost use Rattle.worker_core.specs.Contexts.{role_from};
 ghost use Rattle.worker_core.specs.Serving.{StayInOrder, KeepsInOrder};
-ghost use Rattle.worker_core.specs.Settling.{IsForeign, IsOwn, SettleOrDrop};
-ghost use Rattle.worker_core.specs.Workers.{state_of};
+ghost use Rattle.worker_core.specs.Settling.{IsForeign, IsOwn, SettleOrDrop, HasPlaceAt};
+ghost use Rattle.worker_core.specs.Settling.{LacksPlaceFor, LacksPlaceForLast};
+ghost use Rattle.worker_core.specs.Workers.{IfMemoryRefused, state_of};
 
 use crate::context::Context;
 use crate::worker::Worker;
@@ -27,7 +27,8 @@ use world_model::{Item, Refusal};
 impl<C: Counting> Worker<C> {
     /// Takes the last held item out, and relaxes its board. A foreign item is dropped: its board
     /// has other sides than the goal, another worker owns it, or its cost is above
-    /// `GREATEST_COST`. Refusals: S13 nothing is held, S8 memory was refused.
+    /// `GREATEST_COST`. Refusals: S13 nothing is held, S8 memory was refused, which happens only
+    /// where there was no place for the board.
     pub fn settle<S: Spread>(
         &mut self,
         alloc: Global,
@@ -35,6 +36,7 @@ impl<C: Counting> Worker<C> {
     ) -> Result<(), Refusal>
         ensures step { (start : Position) → SettleOrDrop (role_from S.owner_of start context.now)
             (turn (state_of self.old) (refusal_in result) (state_of self.new)) }
+        ensures refused { IfMemoryRefused result (LacksPlaceForLast context.now self.old) }
         ensures keeps { KeepsInOrder context.now self.old self.new }
     {
         let Some(item) = self.held.last() else {
@@ -51,7 +53,8 @@ impl<C: Counting> Worker<C> {
         Ok(())
     }
 
-    /// Relaxes a board, as the start before the first step. After a refusal nothing has changed.
+    /// Relaxes a board, as the start before the first step. It is refused only where there was no
+    /// place for the board, and nothing has changed then.
     pub fn meet<S: Spread>(
         &mut self,
         alloc: Global,
@@ -64,6 +67,7 @@ impl<C: Counting> Worker<C> {
           known = relaxation (state_of self.old).known item.now;
         }) }
         ensures err { OnErr result (state_of self.new ≡ state_of self.old) }
+        ensures refused { OnErr result (LacksPlaceFor context.now item.now self.old.lists) }
         ensures keeps { KeepsInOrder context.now self.old self.new }
     {
         relax_item(&mut self.lists, alloc, context, item)
@@ -89,7 +93,8 @@ fn is_foreign<S: Spread>(context: &Context<'_, S>, item: &Item) -> bool
     context.owners.owner_by_key(&item.board, context.workers) != context.me
 }
 
-// Relaxes the board of an item. All memory is taken before the first change.
+// Relaxes the board of an item. All memory is taken before the first change, and is refused only
+// where the board's cost is news and there was no place for it.
 fn relax_item<S: Spread>(
     lists: &mut SearchLists,
     alloc: Global,
@@ -100,6 +105,7 @@ fn relax_item<S: Spread>(
     requires cost { item.now.cost ≤ GREATEST_COST }
     ensures ok { OnOk result (lists.new.closed.known ≡ relaxation lists.old.closed.known item.now) }
     ensures err { OnErr result (lists.new.closed.known ≡ lists.old.closed.known) }
+    ensures refused { OnErr result (LacksPlaceFor context.now item.now lists.old) }
     ensures lists { StayInOrder context.now lists.old lists.new }
 {
     let key = item.board.key();
@@ -127,11 +133,11 @@ fn brings_news(lists: &SearchLists, key: u128, cost: u32) -> bool
     }
 }
 
-// Makes a place for one board more, which waits at an f.
+// Makes a place for one board more, which waits at an f. It is refused only where there was none.
 fn make_place(lists: &mut SearchLists, alloc: Global, f: u32) -> Result<(), OutOfMemory>
     requires { f ≤ GREATEST_F }
-    ensures board { OnOk result (0 < lists.new.closed.room) }
-    ensures place { OnOk result (0 < places_at lists.new.waiting f) }
+    ensures made { OnOk result (HasPlaceAt f lists.new) }
+    ensures refused { OnErr result (¬ HasPlaceAt f lists.old) }
     ensures same { HasMoreRoom lists.old lists.new }
 {
     lists.reserve_boards(alloc, 1)?;

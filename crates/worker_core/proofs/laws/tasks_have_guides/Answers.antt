@@ -1,5 +1,4 @@
-use Rattle.std.proofs.Common.{◌≡◌, refl, ap}
-use Rattle.board.specs.Positions.{Position}
+use Rattle.std.proofs.Common.{refl, ap}
 use Rattle.search_keys.specs.SearchKeys.{search_key, HasSearchKey}
 use Rattle.search_keys.proofs.SearchKeyLemmas.{key_read}
 use Rattle.worker_core.proofs.laws.tasks_have_guides.Goals as goal

@@ -4,7 +4,9 @@ use Rattle.std.specs.FinMap as map
 use Rattle.board.specs.declared.moves.Move.{Move}
 use Rattle.search_keys.specs.SearchKeys.{search_key}
 use Rattle.closed_table.specs.Tables.{Table}
+use Rattle.offers.specs.Offers.{AreOffered, item_by}
 use Rattle.offers.specs.Room.{HasRoom}
+use Rattle.successor_sums.specs.Unpacked.{but}
 use Rattle.world_model.specs.Costs.{limit_of}
 use Rattle.world_model.specs.Knowledge.{Knowledge}
 use Rattle.world_model.specs.Expansions.{expansion_by, moves_but}
@@ -12,11 +14,11 @@ use Rattle.world_model.specs.WorkerSteps.{IsOverfull}
 use Rattle.world_model.specs.Workers.{HasNothingBelow}
 use Rattle.search_lists.specs.Lists.{Lists}
 use Rattle.worker_core.specs.Contexts.{ContextModel, context_of, role_from, task_from}
-use Rattle.worker_core.specs.Expanding.{IsReady, stock, in_turn}
+use Rattle.worker_core.specs.Expanding.{IsReady, LacksPlacesToExpand, stock, in_turn}
 use Rattle.worker_core.specs.Roles.{IsGuided}
 use Rattle.worker_core.specs.Workers.{state_of, packets_of}
 use Rattle.worker_core.proofs.BackLemmas.{chosen, chosen_adds, cost_low, all_low, guided_by_next, guided_with_room, overfull, none_overfull, step_for, step_lent, guided_read}
-use Rattle.worker_core.proofs.ExpandLemmas.{ready_for}
+use Rattle.worker_core.proofs.ExpandLemmas.{lacking_before, ready_for}
 use Rattle.worker_core.proofs.GuideLemmas.{none_below, some_below, Items}
 use Rattle.worker_core.proofs.worker.Worker.expand.Goals as goal
 
@@ -118,6 +120,29 @@ returns-in-Err-clause-step g c = λ start.
     let same = c.make_places.ensures.makes.same.known ∙ ap (λ (t : Table). t.known) c.next.ensures.closed in
     step_lent g.S.Spread.owner_of start c.args.successors read context c.context.view_is _
     (inr (it.waits, inr (some, (b, known, it.at, inr (subst (λ (o : Option Move). ¬ IsOverfull (expansion_by (moves_but o) role worker b known)) it.left_out_is fits, inr (c.in-Err.refused, (refl, ap (λ (m : Knowledge). record worker { known = m }) same)))))))
+
+pub returns-in-Err-clause-refused : goal.returns-in-Err-clause-refused
+returns-in-Err-clause-refused g c = λ start.
+    let inside = c.context.inside in
+    let context = c.args.context.now in
+    let read = context_of inside.me inside.workers inside.goal.now inside.weights.now inside.bound.now inside.owners.now in
+    let task = task_from start read in
+    let worker = state_of c.args.self.now in
+    let lists = c.args.self.now.lists in
+    let guide = c.requires.guided.1 in
+    let is = guided_read c.requires.guided.0 start read context c.context.view_is guide lists c.requires.guided.2 in
+    let first = c.in-Some.ensures.least guide is.order in
+    let role = role_from g.S.Spread.owner_of start read in
+    let b = c.of_key-board.result in
+    let known = first.opens.0 in
+    let offers = c.offers_of.new.offers in
+    let it = chosen task guide lists is worker refl (g.S.Spread.owner_of inside.owners.now) inside.workers inside.workers inside.me refl c.limit.result c.limit.ensures c.in-Some.next first c.in-Some.ensures.below b c.shape.result c.shape.ensures.value c.of_key-board.ensures c.args.successors c.move_left_out.result c.move_left_out.ensures offers c.offers_of.ensures.offered c.offers_of.ensures.within in
+    let offered = subst (λ (o : Option Move). AreOffered task.sum role.owner (but o (item_by task.rule b known.cost)) offers) it.left_out_is it.offered in
+    let lacking = lacking_before inside.me lists c.next.new.self offers c.next.ensures.closed c.next.ensures.places c.in-Err.ensures.makes.refused in
+    subst
+    (λ (x : ContextModel g.row.S.Denot). LacksPlacesToExpand c.args.successors (role_from g.S.Spread.owner_of start x) worker lists)
+    c.context.view_is
+    (b, known, it.at, offers, offered, lacking)
 
 pub returns-in-Err-clause-keeps : goal.returns-in-Err-clause-keeps
 returns-in-Err-clause-keeps g c = record {

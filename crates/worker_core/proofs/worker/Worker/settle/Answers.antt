@@ -29,6 +29,12 @@ returns-in-Err-clause-step g c = λ start.
     let last = last_held old.held.items c.deref.result.now item c.deref.ensures.0 c.in-Some.ensures.value in
     settles_not role (state_of old) last.0 item last.1 _ c.in-Err.refused (c.if-is_foreign.ensures.no refl start) (λ t. record (state_of old) { known = c.in-Err.ensures.err t })
 
+pub returns-in-Err-clause-refused : goal.returns-in-Err-clause-refused
+returns-in-Err-clause-refused g c =
+    let item = c.in-Some.item.now in
+    let last = last_held c.args.self.now.held.items c.deref.result.now item c.deref.ensures.0 c.in-Some.ensures.value in
+    (last.0, item, last.1, c.in-Err.ensures.refused)
+
 -- and else it is taken out and relaxed
 pub returns-clause-step : goal.returns-clause-step
 returns-clause-step g c = λ start.
