@@ -1,5 +1,5 @@
 //! The search of `bench_searches expand` in plain safe Rust: the same A* with the same tables over a `HashMap` with a fast hash,
-//! and buckets of which the last entry is taken first.
+//! and buckets of which the last entry is taken first. A bucket is put in order of cost when the search comes to it.
 
 use std::collections::HashMap;
 use std::collections::hash_map::Entry;
@@ -53,6 +53,8 @@ struct Search {
     known: HashMap<u128, Known, BuildHasherDefault<Fast>>,
     buckets: Vec<Vec<(u128, u32)>>,
     cursor: usize,
+    // The last bucket that was put in order.
+    ordered: usize,
     goal: u128,
 }
 
@@ -90,6 +92,11 @@ impl Search {
     fn close_next(&mut self, limit: u32) -> Option<(u128, u32)> {
         while self.cursor < limit as usize {
             let bucket = self.buckets.get_mut(self.cursor)?;
+            // A board of greater cost is nearer to the goal, so it is taken first.
+            if !bucket.is_empty() && self.ordered < self.cursor {
+                bucket.sort_unstable_by_key(|entry| entry.1);
+                self.ordered = self.cursor;
+            }
             let Some((key, cost)) = bucket.pop() else {
                 self.cursor += 1;
                 continue;
@@ -115,6 +122,7 @@ fn search(shape: Shape, weights: &[u8; 25], tables: &[Table], count: u64) {
         known: HashMap::default(),
         buckets: Vec::new(),
         cursor: usize::MAX,
+        ordered: 0,
         goal: key_of(&goal),
     };
     search.meet(start.key, 0, sum, Move::U);
