@@ -1,5 +1,5 @@
-//! The search of `bench_searches expand` in plain safe Rust: the same A* with the same tables over a `HashMap` with a fast hash,
-//! and buckets of which the last entry is taken first. A bucket is put in order of cost when the search comes to it.
+//! The search of `bench_searches expand` in plain safe Rust: the same A* with the same tables over a `HashMap` with a
+//! fast hash, and buckets whose last entry is taken first. A bucket is put in order of cost when the search reaches it.
 
 use std::collections::HashMap;
 use std::collections::hash_map::Entry;
@@ -9,7 +9,6 @@ use std::process::ExitCode;
 
 include!("groups.rs");
 include!("tables_of_groups.rs");
-include!("successors.rs");
 
 const FACTOR: u128 = 0x9E37_79B9_7F4A_7C15_F39C_C060_5CED_C835;
 
@@ -18,6 +17,122 @@ const GRANT: u64 = 256;
 
 /// A board of which no plan costs less than 57 (Korf 1985, the first of his hundred).
 const START: [u8; 16] = [14, 13, 15, 7, 11, 12, 9, 5, 6, 0, 2, 1, 4, 8, 10, 3];
+
+/// The most groups that a board of 25 cells has.
+const MOST_TABLES: usize = 24;
+
+struct Table {
+    group: Group,
+    values: Vec<u16>,
+}
+
+/// What a move leads to.
+struct Successor {
+    key: u128,
+    cost: u32,
+    sum: u32,
+}
+
+/// The same before its values are read.
+struct Reached {
+    key: u128,
+    cost: u32,
+    ranks: [u32; MOST_TABLES],
+}
+
+/// A board by the tile on each cell and the cell of each tile.
+struct UnpackedBoard {
+    shape: Shape,
+    tiles: [u8; 25],
+    key: u128,
+    cells: [u8; 25],
+}
+
+impl Group {
+    /// The rank of what it sees of a board, by the cell of each number.
+    fn rank_at(&self, cells: &[u8; 25]) -> usize {
+        let blank = cells[0];
+        let mut rank = blank as usize;
+        let mut free = self.shape.cells() - 1;
+        let mut seen: u32 = 1 << blank;
+        for tile in self.tiles() {
+            let cell = cells[*tile as usize];
+            let below = (seen & ((1 << cell) - 1)).count_ones() as usize;
+            rank = rank * free + (cell as usize - below);
+            seen |= 1 << cell;
+            free -= 1;
+        }
+        rank
+    }
+}
+
+impl UnpackedBoard {
+    fn of_key(shape: Shape, key: u128) -> Self {
+        let mut tiles = [0; 25];
+        let mut rest = key;
+        for cell in (0..shape.cells()).rev() {
+            tiles[cell] = (rest % 32) as u8;
+            rest /= 32;
+        }
+        let mut cells = [0; 25];
+        for (cell, tile) in tiles[..shape.cells()].iter().enumerate() {
+            cells[*tile as usize] = cell as u8;
+        }
+        UnpackedBoard {
+            shape,
+            tiles,
+            key,
+            cells,
+        }
+    }
+
+    fn successors(&self, weights: &[u8; 25], tables: &[Table]) -> [Option<Successor>; 4] {
+        let up = self.reach(Move::U, weights, tables);
+        let left = self.reach(Move::L, weights, tables);
+        let right = self.reach(Move::R, weights, tables);
+        let down = self.reach(Move::D, weights, tables);
+        [
+            look_up(tables, &up),
+            look_up(tables, &left),
+            look_up(tables, &right),
+            look_up(tables, &down),
+        ]
+    }
+
+    fn reach(&self, direction: Move, weights: &[u8; 25], tables: &[Table]) -> Option<Reached> {
+        let from = self.cells[0];
+        let to = self.shape.neighbour(from as usize, direction)?;
+        let tile = self.tiles[to];
+        let mut cells = self.cells;
+        cells[0] = to as u8;
+        cells[tile as usize] = from;
+        let last = self.shape.cells() - 1;
+        let key = self.key - digit_at(tile, last - to) + digit_at(tile, last - from as usize);
+        let cost = weights[tile as usize] as u32;
+        let mut ranks = [0; MOST_TABLES];
+        for (rank, table) in ranks.iter_mut().zip(tables) {
+            *rank = table.group.rank_at(&cells) as u32;
+        }
+        Some(Reached { key, cost, ranks })
+    }
+}
+
+fn look_up(tables: &[Table], reached: &Option<Reached>) -> Option<Successor> {
+    let found = reached.as_ref()?;
+    let mut sum = 0;
+    for (table, rank) in tables.iter().zip(&found.ranks) {
+        sum += u32::from(table.values[*rank as usize]);
+    }
+    Some(Successor {
+        key: found.key,
+        cost: found.cost,
+        sum,
+    })
+}
+
+fn digit_at(tile: u8, behind: usize) -> u128 {
+    (tile as u128) << (5 * behind as u32)
+}
 
 /// What is known of a board.
 #[derive(Clone, Copy)]
