@@ -57,7 +57,7 @@ fn top<'a>(alloc: Global) -> Result<Command<'a>, Error>
 fn solving<'a>(alloc: Global, spreads: &'a [&'a str]) -> Result<Command<'a>, Error>
     ensures { MakesCommand (solve_app spreads.entry) result }
 {
-    let command = puzzle(alloc, "solve", spreads)?
+    let command = puzzle(alloc, "solve", spreads, help::WORKERS, help::LIMIT)?
         .arg(flag(alloc, "cert", help::CERT))?
         .arg(flag(alloc, "progress", help::PROGRESS))?
         .arg(flag(alloc, "stats", help::STATS))?;
@@ -108,7 +108,13 @@ fn upgrading<'a>(alloc: Global) -> Command<'a>
 fn replaying<'a>(alloc: Global, spreads: &'a [&'a str]) -> Result<Command<'a>, Error>
     ensures { MakesCommand (puzzle_app spreads.entry (codes "replay")) result }
 {
-    let command = puzzle(alloc, "replay", spreads)?;
+    let command = puzzle(
+        alloc,
+        "replay",
+        spreads,
+        help::REPLAYED_WORKERS,
+        help::REPLAYED_LIMIT,
+    )?;
     Ok(with_help(command, help::REPLAY, help::REPLAY_LONG, help::REPLAY_AFTER))
 }
 
@@ -129,13 +135,20 @@ fn listing<'a>(alloc: Global) -> Result<Command<'a>, Error>
     Ok(with_help(command, help::BOARDS, help::BOARDS_LONG, help::BOARDS_AFTER))
 }
 
-// A subcommand with the options that say a puzzle and how it is searched.
-fn puzzle<'a>(alloc: Global, name: &'a str, spreads: &'a [&'a str]) -> Result<Command<'a>, Error>
+// A subcommand with the options that say a puzzle and how it is searched. What `--workers` and
+// `--limit` mean differs between subcommands, so their texts are given.
+fn puzzle<'a>(
+    alloc: Global,
+    name: &'a str,
+    spreads: &'a [&'a str],
+    workers: &'a str,
+    limit: &'a str,
+) -> Result<Command<'a>, Error>
     ensures { MakesCommand (puzzle_app spreads.entry name.entry.now) result }
 {
     let command = stated(alloc, name)?
         .arg(parsed(
-            option(alloc, "workers", "N", help::WORKERS),
+            option(alloc, "workers", "N", workers),
             ValueParser::Unsigned(1, 16),
             "1",
         ))?
@@ -145,7 +158,7 @@ fn puzzle<'a>(alloc: Global, name: &'a str, spreads: &'a [&'a str]) -> Result<Co
             "zobrist",
         ))?
         .arg(parsed(
-            option(alloc, "limit", "N", help::LIMIT),
+            option(alloc, "limit", "N", limit),
             ValueParser::Unsigned(0, u64::MAX),
             "18446744073709551615",
         ))?;

@@ -228,12 +228,19 @@ plans stay the same";
 pub(crate) const WORKERS: &str =
     "Number of workers, 1 to 16: they solve lines side by side, or share one";
 
+/// The same of `replay`.
+pub(crate) const REPLAYED_WORKERS: &str = "Number of workers that share the board, 1 to 16";
+
 /// The option `--spread`.
 pub(crate) const SPREAD: &str =
     "How boards are divided among workers: by a hash of all tiles, or by the blank's cell";
 
 /// The option `--limit`.
 pub(crate) const LIMIT: &str = "Maximum number of boards to expand for each line, 0 or more";
+
+/// The same of `replay`.
+pub(crate) const REPLAYED_LIMIT: &str =
+    "Maximum number of boards that the workers expand in all, 0 or more";
 
 /// The option `--cert`.
 pub(crate) const CERT: &str = "Write the certificate of the first board instead of reports";
