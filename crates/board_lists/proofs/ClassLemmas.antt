@@ -12,7 +12,7 @@ use Rattle.board.proofs.KeyLemmas.{packed_in_order, tiles_small}
 use Rattle.pattern_index.specs.Ranks.{ways, rank_of, list_at, IsListing}
 use Rattle.pattern_index.proofs.RankLemmas.{listing_from, list_at_below, list_at_differ, length-list_at, rank_of-list_at, rank_differs, rank_below, order_from_rank, below_in, differ_in}
 use Rattle.board_lists.specs.Classes.{IsOfClass, AreWholeClass}
-use Rattle.board_lists.specs.Orders.{board_at}
+use Rattle.board_lists.specs.Classes.{board_at}
 use Rattle.board_lists.proofs.DrawLemmas.{take_front}
 
 -- in how many orders the tiles of a board can be

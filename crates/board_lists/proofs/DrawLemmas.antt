@@ -10,7 +10,7 @@ use Rattle.board.specs.Grids.{Grid, cell_count}
 use Rattle.board.specs.Positions.{Position, IsBoard, blank_of}
 use Rattle.board.specs.Classes.{inversions, taxicab, SameClass}
 use Rattle.board.proofs.MoveLemmas.{exchange_board}
-use Rattle.board_lists.specs.Turns.{turned}
+use Rattle.board_lists.specs.Classes.{turned}
 
 -- a board with other tiles
 abbrev pub tiled : Position → List ℕ → Position

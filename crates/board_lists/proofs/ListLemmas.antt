@@ -14,7 +14,7 @@ use Rattle.pattern_index.specs.Ranks.{ways}
 use Rattle.board_lists.specs.Classes.{AreEach, AreWholeClass}
 use Rattle.board_lists.specs.Lines.{line_text, lines_text}
 use Rattle.board_lists.specs.Lists.{BeginsList, ListsBoards}
-use Rattle.board_lists.specs.Orders.{board_at}
+use Rattle.board_lists.specs.Classes.{board_at}
 use Rattle.board_lists.proofs.ClassLemmas.{AreBelow, AreBelow-none, AreBelow-more, AreBelow-same, AreBelow-on, AreBelow-all}
 
 -- ---- texts

@@ -20,7 +20,7 @@ use Rattle.board.proofs.PlanLemmas.{one_more, led_board}
 use Rattle.board.proofs.ClassLemmas.{same_class_led}
 use Rattle.board_lists.specs.Classes.{IsOfClass}
 use Rattle.board_lists.specs.Walks.{GoesOn, TakesNoneBack, IsWalkedTo}
-use Rattle.board_lists.specs.Onward.{takes_back, leads_on}
+use Rattle.board_lists.specs.Walks.{takes_back, leads_on}
 
 -- ---- a move that leads on
 

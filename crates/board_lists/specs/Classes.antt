@@ -1,8 +1,10 @@
 -- The boards from which a plan may lead to a goal.
-use Rattle.std.specs.Prelude.{ℕ, ◌≡◌, ◌<◌, ◌↔◌, List, length, All, AllPairs, Contains}
+use Rattle.std.specs.Prelude.{ℕ, ◌≡◌, ◌<◌, ◌↔◌, List, length, All, AllPairs, Contains, ◌==◌, ◌||◌, slice_index, swap, if◌then◌else◌}
 use Rattle.board.specs.Positions.{Position, IsBoard}
 use Rattle.board.specs.Classes.{SameClass}
 use Rattle.board.specs.Keys.{key_of}
+use Rattle.board.specs.Grids.{Grid, cell_count}
+use Rattle.pattern_index.specs.Ranks.{list_at}
 
 -- a board of the goal's shape and of its class
 pub record IsOfClass (goal b : Position) : Type 0 where
@@ -19,3 +21,11 @@ pub record AreEach (HasIt : Position → Type 0) (count : ℕ) (boards : List Po
 pub record AreWholeClass (goal : Position) (boards : List Position) : Type 0 where
   pub each : (b : Position) → Contains boards b ↔ IsOfClass goal b
   pub rising : AllPairs (λ x y. key_of x < key_of y) boards
+
+-- the first two numbers exchanged, or the next two where one of these is the blank
+abbrev pub turned : List ℕ → List ℕ
+turned tiles = if (slice_index tiles 0 == 0) || (slice_index tiles 1 == 0) then swap tiles 2 3 else swap tiles 0 1
+
+-- the board whose tiles have this place, from 0 on
+abbrev pub board_at : Grid → ℕ → Position
+board_at grid k = record { grid = grid; tiles = list_at (cell_count grid) (cell_count grid) k }

@@ -1,11 +1,12 @@
 -- Walks: no move takes back the one before it.
-use Rattle.std.specs.Prelude.{ℕ, ◌≡◌, ◌≢◌, List, [], ◌∷◌, Option, None, Some, length, ⊤}
+use Rattle.std.specs.Prelude.{ℕ, ◌≡◌, ◌≢◌, List, [], ◌∷◌, Option, None, Some, length, ⊤, Bool, false, ◌&&◌, not, is_some}
 use Rattle.board.specs.declared.moves.Move.{Move}
-use Rattle.board.specs.Neighbours.{opposite}
-use Rattle.board.specs.Positions.{Position}
+use Rattle.board.specs.Neighbours.{opposite, neighbour}
+use Rattle.board.specs.Positions.{Position, blank_of}
 use Rattle.board.specs.CostRules.{unit_rule}
 use Rattle.board.specs.Plans.{Leads}
 use Rattle.board_lists.specs.Classes.{IsOfClass}
+use Rattle.board.specs.Equality.{move_eq}
 
 -- a move doesn't take back the last one, if there is one
 abbrev pub GoesOn : Option Move → Move → Type 0
@@ -28,3 +29,12 @@ pub record IsWalkedTo (goal : Position) (moves : ℕ) (b : Position) : Type 0 wh
 pub record IsWalked (goal : Position) (moves : ℕ) (b : Position) : Type 0 where
   pub walked : IsWalkedTo goal moves b
   pub class : IsOfClass goal b
+
+-- the move takes the last one back, if there is one
+abbrev pub takes_back : Option Move → Move → Bool
+takes_back None m = false
+takes_back (Some last) m = move_eq last (opposite m)
+
+-- the blank stays on the board, and the move doesn't take the last one back
+abbrev pub leads_on : Position → Option Move → Move → Bool
+leads_on b last m = is_some (neighbour b.grid m (blank_of b)) && not (takes_back last m)

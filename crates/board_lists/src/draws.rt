@@ -5,7 +5,7 @@ ghost use Rattle.board.specs.Grids.{cell_count};
 ghost use Rattle.board.specs.Positions.{Position, IsBoard};
 ghost use Rattle.board.specs.Classes.{SameClass};
 ghost use Rattle.board_lists.specs.Classes.{IsOfClass};
-ghost use Rattle.board_lists.specs.Turns.{turned};
+ghost use Rattle.board_lists.specs.Classes.{turned};
 
 use board::{Board, same_class};
 use rand::seq::SliceRandom;

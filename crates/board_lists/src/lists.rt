@@ -7,7 +7,7 @@ ghost use Rattle.pattern_index.specs.Ranks.{ways};
 ghost use Rattle.board_lists.specs.Classes.{IsOfClass, AreEach, AreWholeClass};
 ghost use Rattle.board_lists.specs.Walks.{IsWalked};
 ghost use Rattle.board_lists.specs.Lists.{ListsBoards};
-ghost use Rattle.board_lists.specs.Orders.{board_at};
+ghost use Rattle.board_lists.specs.Classes.{board_at};
 
 use crate::draws::draw_board;
 use crate::lines::put_line;

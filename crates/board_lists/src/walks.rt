@@ -4,7 +4,7 @@ ghost use Rattle.std.specs.Prelude.{◌≡◌, IsPermutation, true};
 ghost use Rattle.board.specs.Positions.{IsBoard};
 ghost use Rattle.board.specs.Moves.{all_moves};
 ghost use Rattle.board_lists.specs.Walks.{IsWalkedTo};
-ghost use Rattle.board_lists.specs.Onward.{leads_on, takes_back};
+ghost use Rattle.board_lists.specs.Walks.{leads_on, takes_back};
 
 use board::{Board, Move, Weights};
 use rand::seq::SliceRandom;

@@ -37,7 +37,7 @@ use Rattle.board.proofs.NeighbourLemmas.{successor_moves}
 use Rattle.lower_bound.specs.Tables.{Tables, parts_of}
 use Rattle.successor_sums.specs.Unpacked.{told_of, successors_of}
 use Rattle.successor_sums.specs.declared.unpacked.Successor.{Successor}
-use Rattle.certificate_check.specs.Blocks.{IsClosedBlock}
+use Rattle.certificate_check.specs.Refusals.{IsClosedBlock}
 use Rattle.certificate_check.specs.declared.parallel.TheConstants.{BLOCK_ROWS}
 
 -- ---- the rows of a certificate rise by their keys, so a board has one row at most

@@ -4,7 +4,7 @@ ghost use Rattle.std.specs.Prelude.{◌≡◌, ◌*◌, ◌≤◌, ◌↔◌, �
 ghost use Rattle.board.specs.declared.moves.Move.{Move};
 ghost use Rattle.certificate.specs.Certificates.{IsCertificate};
 ghost use Rattle.certificate_check.specs.Refusals.{LeavesOpenAt, IsFirstOpen, AreClosed};
-ghost use Rattle.certificate_check.specs.Blocks.{IsClosedBlock};
+ghost use Rattle.certificate_check.specs.Refusals.{IsClosedBlock};
 
 use crate::successors::{are_closed, find_open};
 use board::Move;

@@ -18,7 +18,7 @@ use Rattle.board.specs.declared.faults.WeightsFault.TheVariants.{WrongCount, Wei
 use Rattle.board.proofs.WeightLemmas.{rule_has_no_fault, one_fault}
 use Rattle.batch_lines.specs.Words.{Spells, SpellEach}
 use Rattle.option_texts.specs.Texts.{comma_words, SpellsWeight, AreWeightsOf, AreCostsOf}
-use Rattle.option_texts.specs.WeightNumbers.{weight_number}
+use Rattle.option_texts.specs.Texts.{weight_number}
 use Rattle.option_texts.specs.Faults.{IsFirstWeightWord, IsFirstWeightFault, IsFirstCostsFault}
 
 -- ---- the number of a word

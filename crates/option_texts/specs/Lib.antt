@@ -1,5 +1,4 @@
 pub mod Texts
-pub mod WeightNumbers
 pub mod Faults
 pub mod Defaults
 pub mod Laws

@@ -1,6 +1,6 @@
 -- What the texts of options say: a goal, costs, and groups of tiles.
-use Rattle.std.specs.Prelude.{ℕ, ◌≡◌, ◌≤◌, ◌⊎◌, ◌==◌, List, [], ◌∷◌, map, if◌then◌else◌, codes, IsPermutation}
-use Rattle.std.specs.List.{slice_split, AllZip}
+use Rattle.std.specs.Prelude.{ℕ, ◌≡◌, ◌≤◌, ◌⊎◌, ◌==◌, List, [], ◌∷◌, map, if◌then◌else◌, codes, IsPermutation, ◌&&◌, nat_lt}
+use Rattle.std.specs.List.{slice_split, AllZip, list_all}
 use Rattle.std.specs.Str.{bytes_eq}
 use Rattle.board.specs.Grids.{Grid}
 use Rattle.board.specs.Positions.{Position, IsBoard}
@@ -8,6 +8,8 @@ use Rattle.board.specs.CostRules.{CostRule, IsCostRule, listed_rule, unit_rule, 
 use Rattle.pattern_index.specs.Selections.{Selection, IsSelection}
 use Rattle.batch_lines.specs.TileNumbers.{tile_number}
 use Rattle.batch_lines.specs.Words.{Spells, SpellEach}
+use Rattle.std.specs.Char.{is_ascii_digit}
+use Rattle.std.specs.Str.Parse.{digits_value}
 
 -- the words of a text: what stands before, between and behind its commas
 abbrev pub comma_words : List ℕ → List (List ℕ)
@@ -55,3 +57,7 @@ pub record IsGroupOf (grid : Grid) (text : List ℕ) (g : Selection) : Type 0 wh
 -- text by text, these groups
 abbrev pub AreGroupsOf : Grid → List (List ℕ) → List Selection → Type 0
 AreGroupsOf grid texts groups = AllZip (IsGroupOf grid) texts groups
+
+-- the number that a word of digits says, where it is below 256; 0, which is no weight, stands for any other word
+abbrev pub weight_number : List ℕ → ℕ
+weight_number word = if list_all is_ascii_digit word && nat_lt (digits_value 10 word) 256 then digits_value 10 word else 0

@@ -3,7 +3,7 @@
 ghost use Rattle.std.specs.Prelude.{◌≡◌, ◌↔◌, IfOk, IsErrOf, map, take};
 ghost use Rattle.board.specs.declared.faults.WeightsFault.{WeightsFault};
 ghost use Rattle.option_texts.specs.Texts.{comma_words, AreCostsOf};
-ghost use Rattle.option_texts.specs.WeightNumbers.{weight_number};
+ghost use Rattle.option_texts.specs.Texts.{weight_number};
 ghost use Rattle.option_texts.specs.Faults.{IsFirstCostsFault};
 
 use crate::words::WORDS_READ;

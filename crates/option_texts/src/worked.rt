@@ -2,7 +2,7 @@
 
 ghost use Rattle.std.specs.Prelude.{◌≡◌, ◌∷◌, [], codes};
 ghost use Rattle.option_texts.specs.Defaults.{default_groups};
-ghost use Rattle.option_texts.specs.WeightNumbers.{weight_number};
+ghost use Rattle.option_texts.specs.Texts.{weight_number};
 
 /// The groups of boards of 4, 9 and 15 cells where none are named.
 pub fn default_groups_of_boards()

@@ -23,7 +23,7 @@ use Rattle.thread_parts.specs.Parts.{Face, Holds, face_of, part_state, role_of}
 use Rattle.thread_joins.specs.Lanes.{IsTied}
 use Rattle.thread_joins.specs.Worlds.{parts_with, AreApart, shared_by}
 use Rattle.thread_joins.specs.declared.apart.Joined.{Joined}
-use Rattle.thread_joins.specs.Joints.{IsJoint}
+use Rattle.thread_joins.specs.Threads.{IsJoint}
 
 -- ---- rows of ends, of which one has changed
 

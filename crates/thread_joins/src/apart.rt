@@ -3,7 +3,7 @@
 ghost use Rattle.std.specs.Prelude.{◌≤◌, IfOk, vec_len};
 ghost use Rattle.world_model.specs.declared.limits.TheConstants.{WORKER_LIMIT};
 ghost use Rattle.hda_run.specs.Problems.{Problem};
-ghost use Rattle.thread_joins.specs.Joints.{IsJoint};
+ghost use Rattle.thread_joins.specs.Threads.{IsJoint};
 ghost use Rattle.thread_joins.specs.Worlds.{AreApart};
 
 use memory::OutOfMemory;

@@ -4,7 +4,7 @@ ghost use Rattle.std.specs.Prelude.{◌≡◌, IfOk};
 ghost use Rattle.world_model.specs.Books.{BookState};
 ghost use Rattle.world_model.specs.Worlds.{WorldState};
 ghost use Rattle.world_ends.specs.Parts.{states_of};
-ghost use Rattle.thread_joins.specs.Joints.{IsJoint};
+ghost use Rattle.thread_joins.specs.Threads.{IsJoint};
 ghost use Rattle.thread_joins.specs.Threads.{IsFoundByThreads, GivesIfKept};
 ghost use Rattle.thread_joins.specs.Worlds.{IsWorldOf};
 

@@ -7,7 +7,7 @@ ghost use Rattle.world_model.specs.declared.limits.TheConstants.{WORKER_LIMIT};
 ghost use Rattle.world_model.specs.Worlds.{WorldState};
 ghost use Rattle.world_ends.specs.Parts.{states_of, AreGuided};
 ghost use Rattle.hda_run.specs.Problems.{Problem};
-ghost use Rattle.thread_joins.specs.Joints.{IsJoint};
+ghost use Rattle.thread_joins.specs.Threads.{IsJoint};
 ghost use Rattle.thread_joins.specs.Worlds.{IsWorldOf};
 
 use crate::apart::{Joined, take_apart};

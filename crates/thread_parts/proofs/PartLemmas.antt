@@ -37,7 +37,7 @@ use Rattle.hda_run.specs.Problems.{Problem, context_in, task_in}
 use Rattle.thread_parts.specs.declared.part.Part.{Part}
 use Rattle.thread_parts.specs.Parts.{ChangesItsWorker, face_of, Holds, IsKept, part_state, role_of}
 use Rattle.thread_parts.specs.Steps.{SendByRing, DeliverByRing, WithPurse, IsBarred}
-use Rattle.thread_parts.specs.Openings.{with_means}
+use Rattle.thread_parts.specs.Parts.{with_means}
 use Rattle.std.specs.Vec.{with_item}
 use Rattle.std.proofs.Math.Seq.{map-set_same}
 use Rattle.std.proofs.lemmas.Option.{get_or_from_slice_get}

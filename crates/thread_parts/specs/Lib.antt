@@ -1,4 +1,3 @@
 -- The part of a run that one thread has.
 pub mod Parts
 pub mod Steps
-pub mod Openings

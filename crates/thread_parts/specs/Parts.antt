@@ -4,12 +4,13 @@ use Rattle.board.specs.Positions.{Position}
 use Rattle.rings.specs.Rings.{Ring, out_rings, in_rings, sent_lanes, received_lanes}
 use Rattle.thread_model.specs.Changes.{with_worker}
 use Rattle.thread_model.specs.Parts.{PartState, IsRole, Keeps}
-use Rattle.world_model.specs.Workers.{Role}
+use Rattle.world_model.specs.Workers.{Role, WorkerState}
 use Rattle.worker_core.specs.Expanding.{role_by}
 use Rattle.worker_core.specs.Roles.{IsGuided, guide_of}
 use Rattle.worker_core.specs.Workers.{state_of}
 use Rattle.hda_run.specs.Problems.{Problem, task_in}
 use Rattle.thread_parts.specs.declared.part.Part.{Part}
+use Rattle.message_ledger.specs.Spending.{Spending, spent}
 
 -- What the steps of a part leave as it is: what is to be solved, how boards are owned, which worker it is, and which rings it has the
 -- ends of.
@@ -55,3 +56,7 @@ module _ {S C D E K G : Type 0} where
     pub rest : part_state new ≡ with_worker (part_state old) (state_of new.worker)
     pub holds : Holds owner_of n new
     pub kept : IsKept old new
+
+-- the worker with this purse and allowance
+abbrev pub with_means : ℕ → Spending → WorkerState → WorkerState
+with_means purse allowance worker = record worker { purse = purse; allowance = allowance.left; expansions = spent allowance }

@@ -6,7 +6,7 @@ ghost use Rattle.worker_core.specs.Roles.{IsGuided, guide_of};
 ghost use Rattle.rings.specs.Rings.{out_rings, in_rings, sent_lanes, received_lanes};
 ghost use Rattle.hda_run.specs.Problems.{task_in};
 ghost use Rattle.worker_core.specs.Workers.{state_of};
-ghost use Rattle.thread_parts.specs.Openings.{with_means};
+ghost use Rattle.thread_parts.specs.Parts.{with_means};
 ghost use Rattle.world_model.specs.Openings.{idle_worker, first_worker};
 ghost use Rattle.thread_parts.specs.Parts.{face};
 

@@ -5,7 +5,7 @@ use Rattle.std.proofs.lemmas.Option.{none-some, slice_get-map, get_or_from_slice
 use Rattle.rings.specs.Rings.{Ring, ArePaired}
 use Rattle.hda_run.specs.Problems.{Problem, task_in}
 use Rattle.thread_parts.specs.Parts.{Face, face}
-use Rattle.thread_joins.specs.Joints.{IsJoint}
+use Rattle.thread_joins.specs.Threads.{IsJoint}
 use Rattle.std.proofs.lemmas.List.{length-replicate, length-set}
 use Rattle.board.specs.declared.moves.Move.TheVariants.{U}
 use Rattle.board.specs.Positions.{Position}

@@ -2,7 +2,7 @@
 
 ghost use Rattle.std.specs.Prelude.{◌≡◌, ◌+◌, ◌<◌, ◌≤◌, IfOk};
 ghost use Rattle.rings.specs.Rings.{AreNew};
-ghost use Rattle.thread_joins.specs.Joints.{IsJoint};
+ghost use Rattle.thread_joins.specs.Threads.{IsJoint};
 
 use memory::OutOfMemory;
 use message_ledger::{Capped, Credit, Purse, Shares, Tickets};

@@ -1,7 +1,7 @@
 //! Threads that were joined after a run.
 
 ghost use Rattle.std.specs.Prelude.{◌≡◌, ◌+◌, ◌^◌, IfOk};
-ghost use Rattle.thread_joins.specs.Joints.{IsJoint};
+ghost use Rattle.thread_joins.specs.Threads.{IsJoint};
 ghost use Rattle.thread_runs.specs.Ledgers.{AreBlanksOf};
 
 use crate::ledgers::Blanks;

@@ -2,7 +2,7 @@ use Rattle.std.proofs.Common.{◌≡◌, ◌≤◌, ℕ, ap, sym, subst, ◌∙�
 use Rattle.board.specs.Grids.{cell_count}
 use Rattle.board.specs.Positions.{Position, IsBoard}
 use Rattle.board.specs.Classes.{SameClass}
-use Rattle.board_lists.specs.Turns.{turned}
+use Rattle.board_lists.specs.Classes.{turned}
 use Rattle.board_lists.proofs.DrawLemmas.{tiled, turned_front, turned_class}
 use Rattle.board_lists.proofs.draws.turn.Goals as goal
 

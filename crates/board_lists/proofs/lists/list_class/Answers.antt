@@ -3,7 +3,7 @@ use Rattle.std.proofs.lemmas.Bool.{false≢true}
 use Rattle.board.specs.Grids.{Grid, cell_count}
 use Rattle.byte_streams.specs.Streams.{change}
 use Rattle.pattern_index.specs.Ranks.{ways}
-use Rattle.board_lists.specs.Orders.{board_at}
+use Rattle.board_lists.specs.Classes.{board_at}
 use Rattle.board_lists.proofs.ListLemmas.{ClassIsListed-none, ClassIsListed-more, ClassIsListed-same, ClassIsListed-failed, ClassIsListed-flushed}
 use Rattle.board_lists.proofs.lists.list_class.Goals.{then-same_class+in-Ok, else-same_class}
 use Rattle.board_lists.proofs.lists.list_class.Goals as goal

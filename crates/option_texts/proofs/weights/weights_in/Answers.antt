@@ -2,7 +2,7 @@ use Rattle.std.proofs.Common.{map, ap, ◌∙◌, arith, rules}
 use Rattle.std.proofs.lemmas.Iterator.{YieldsList-from_take}
 use Rattle.std.proofs.lemmas.Iterator.Splits.{YieldsList-from_str_split}
 use Rattle.std.proofs.lemmas.Iterator.Consumers.{YieldsList-end}
-use Rattle.option_texts.specs.WeightNumbers.{weight_number}
+use Rattle.option_texts.specs.Texts.{weight_number}
 use Rattle.option_texts.proofs.TextLemmas.{read_each}
 use Rattle.option_texts.proofs.weights.weights_in.Goals as goal
 

@@ -1,6 +1,6 @@
 use Rattle.std.proofs.Common.{◌≡◌, ℕ, List, map}
 use Rattle.std.specs.Borrow.{Bor}
-use Rattle.option_texts.specs.WeightNumbers.{weight_number}
+use Rattle.option_texts.specs.Texts.{weight_number}
 use Rattle.option_texts.proofs.weights.weights_in.Given as goal
 
 abbrev pub invariant-words : goal.invariant-words
