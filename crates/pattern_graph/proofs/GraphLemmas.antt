@@ -23,7 +23,7 @@ use Rattle.pattern_index.proofs.StorageLemmas.{looked_up}
 use Rattle.pattern_graph.specs.Orders.{order_of, below, tile_of, moved_order}
 use Rattle.pattern_graph.specs.Sets.{replaced, set_place, set_at, choose, AreSame, IsChoices}
 use Rattle.pattern_graph.specs.Regions.{IsPlaced, IsFree, region_in, IsRegions, IsCrossing, IsEdgeOf, HasEdge, AreEdges, Wanders, HasRegions, AreSameRegions}
-use Rattle.pattern_graph.specs.Graphs.{IsOrders, node_in, node_count, AreWeightsOf, IsPast, IsGraph, IsGraphOf, IsSoundGraph, target, cost_by}
+use Rattle.pattern_graph.specs.Graphs.{IsOrders, node_in, node_count, AreWeightsOf, IsPast, IsGraph, IsGraphOf, IsSoundGraph, target}
 use Rattle.pattern_graph.specs.declared.regions.Home.{Home}
 use Rattle.pattern_graph.specs.declared.regions.Regions.{Regions}
 use Rattle.pattern_graph.specs.declared.edges.Edge.{Edge}
@@ -315,7 +315,7 @@ edge_leads s rule g is edges node e less has =
     let part = parted (length r.homes.items) (factorial r.count) node less in
     let sound = edges.sound (node / factorial r.count) e v.cells v.blank part.region has placed free at in
     let ends = edge_positions r.shape r.count sound.1 sound.2 v.cells r sound.0 e placed sound.3 sound.5 in
-    let other = is.graph.sound node e (target g (node % factorial r.count) e) (cost_by g (node % factorial r.count) e) less (record { edge = has; other = refl; cost = refl }) in
+    let other = is.graph.sound node e (target g (node % factorial r.count) e) (slice_index g.costs (tile_of r.count (node % factorial r.count) e.from)) less (record { edge = has; other = refl; cost = refl }) in
     (ends.0, ends.1, other.0)
 
 -- the graph of a group

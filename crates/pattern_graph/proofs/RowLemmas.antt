@@ -1,7 +1,7 @@
 -- Values of views by rank, row by row, and of placements by place.
-use Rattle.std.proofs.Common.{◌≡◌, ◌≢◌, ◌⊎◌, ℕ, zero, suc, ◌+◌, ◌-◌, ◌*◌, ◌<◌, ◌≤◌, Bool, true, false, cond, ltb, List, [], ◌∷◌, ◌++◌, length, get_or, set, replicate, refl, sym, ap, ◌∙◌, subst, ⊎_elim, arith, ◌^◌, take, drop, inl, inr, map}
-use Rattle.std.specs.Prelude.{Contains, slice_index, min}
-use Rattle.std.proofs.Math.Nat.{mul_assoc, mul-le-mul_right, mul_comm, min-eq_left, min-eq_right}
+use Rattle.std.proofs.Common.{◌≡◌, ◌≢◌, ◌⊎◌, ℕ, zero, suc, ◌+◌, ◌-◌, ◌*◌, ◌<◌, ◌≤◌, Bool, true, false, cond, ltb, List, [], ◌∷◌, ◌++◌, length, get_or, set, replicate, refl, sym, ap, ◌∙◌, subst, ⊎_elim, arith, ◌^◌, take, drop, map}
+use Rattle.std.specs.Prelude.{Contains, slice_index}
+use Rattle.std.proofs.Math.Nat.{mul_assoc, mul-le-mul_right, mul_comm}
 use Rattle.std.proofs.lemmas.Bool.{cases_lt, cases_eq, false≢true}
 use Rattle.std.proofs.lemmas.Bool.Decides.{nat_tests}
 use Rattle.std.proofs.lemmas.List.{length-append, length-replicate, get_or_append_left, get_or_push, get_or-replicate, get_or_past, get_or-set_same, get_or-set_other, length-set, length-take-le, take_at, take_more_set, get_or_read}
@@ -21,7 +21,7 @@ use Rattle.pattern_index.specs.declared.group.TheConstants.{MAX_SIZE}
 use Rattle.pattern_index.proofs.SightLemmas.{sight_below, listing as view_listing, listing}
 use Rattle.pattern_graph.specs.Orders.{below, order_of}
 use Rattle.pattern_graph.specs.Sets.{AreMarksOf, choose, set_place, set_at, AreSame}
-use Rattle.pattern_graph.specs.Placements.{IsRow, AreLarger, node_value, placement_count, placement_in, IsLeastNode}
+use Rattle.pattern_graph.specs.Placements.{IsRow, AreLarger, node_value, placement_count, placement_in}
 use Rattle.pattern_graph.proofs.OrderLemmas.{below-all, below_low, below_out, below_step, split_last, order_below, below_there, in_or_out, order_with, below-le-length, below-zero}
 use Rattle.pattern_graph.specs.Regions.{IsRegions, IsPlaced, IsFree, region_in}
 use Rattle.pattern_graph.specs.declared.regions.Regions.{Regions}
@@ -661,8 +661,6 @@ module _ (g : Selection) (r : Regions) (nodes : List ℕ) (regions : IsRegions g
   all_views row items end rows v view =
       rows.values (v.blank ∷ v.cells) (view_listing g.grid g.tiles v view) (ap suc view.one_each) (let low = sight_below g.grid g.tiles v view in let e = all_rows row items end rows in omega (arith, low, e))
 
--- ---- How the least value over the blank's cells is found from the values of nodes.
-
 -- ---- one list of cells
 
 -- some cell is free where fewer are taken
@@ -676,80 +674,7 @@ some_free (suc m) xs differ few =
     (λ (out : ¬ Contains xs m). (m, omega arith, out))
     (in_or_out m xs)
 
--- a view with the blank on a free cell has this value
-abbrev pub HasNode : Regions → List ℕ → List ℕ → ℕ → Type 0
-HasNode r nodes cells n = (blank : ℕ) × IsFree r.shape cells blank × (node_value r nodes (blank ∷ cells) ≡ n)
-
--- the least value of the free cells before this one
-pub record IsLeastTo (r : Regions) (nodes cells : List ℕ) (blank least : ℕ) : Type 0 where
-  pub reached : (least ≡ 65535) ⊎ HasNode r nodes cells least
-  pub capped : least ≤ 65535
-  pub none_below : (b : ℕ) → b < blank → ¬ Contains cells b → least ≤ node_value r nodes (b ∷ cells)
-
-pub least_none : (r : Regions) (nodes cells : List ℕ) → IsLeastTo r nodes cells 0 65535
-least_none r nodes cells = record {
-  reached = inl refl;
-  capped = omega arith;
-  none_below = λ b lt free. absurd (omega (arith, lt));
-}
-
--- a tile stands there
-pub least_pass : (r : Regions) (nodes cells : List ℕ) (blank least : ℕ) → Contains cells blank → IsLeastTo r nodes cells blank least → IsLeastTo r nodes cells (blank + 1) least
-least_pass r nodes cells blank least has so_far = record {
-  reached = so_far.reached;
-  capped = so_far.capped;
-  none_below = λ b lt free.
-      so_far.none_below b
-      (⊎_elim (λ (less : b < blank). less) (λ (more : blank ≤ b). let e : blank ≡ b = omega (arith, lt, more) in absurd (free (subst (λ k. Contains cells k) e has))) (cases_lt b blank)) free;
-}
-
--- the blank can stand there
-pub least_more : (r : Regions) (nodes cells : List ℕ) (blank least value less : ℕ) → IsFree r.shape cells blank → value ≡ node_value r nodes (blank ∷ cells) → less ≡ min least value → IsLeastTo r nodes cells blank least → IsLeastTo r nodes cells (blank + 1) less
-least_more r nodes cells blank least value less free is min_is so_far =
-    ⊎_elim
-    (λ (under : value < least).
-    let e : less ≡ value = min_is ∙ min-eq_right (omega (arith, under)) in
-    record {
-      reached = inr (blank, free, sym is ∙ sym e);
-      capped = let c = so_far.capped in omega (arith, c, under, e);
-      none_below = below less (omega (arith, under, e)) (omega (arith, e));
-    })
-    (λ (over : least ≤ value).
-    let e : less ≡ least = min_is ∙ min-eq_left over in
-    record {
-      reached = subst (λ n. (n ≡ 65535) ⊎ HasNode r nodes cells n) (sym e) so_far.reached;
-      capped = let c = so_far.capped in omega (arith, c, e);
-      none_below = below less (omega (arith, e)) (omega (arith, over, e));
-    })
-    (cases_lt value least)
-  where
-    below : (n : ℕ) → n ≤ least → n ≤ value → (b : ℕ) → b < blank + 1 → ¬ Contains cells b → n ≤ node_value r nodes (b ∷ cells)
-    below n low here b lt out =
-        ⊎_elim
-        (λ (before : b < blank). let rest = so_far.none_below b before out in omega (arith, rest, low))
-        (λ (at : blank ≤ b). let e : blank ≡ b = omega (arith, at, lt) in subst (λ k. n ≤ node_value r nodes (k ∷ cells)) e (omega (arith, is, here)))
-        (cases_lt b blank)
-
 module _ (r : Regions) (nodes cells : List ℕ) (regions : IsRegions r.shape r.count r) (placed : IsPlaced r.shape r.count cells) where
-  -- all free cells were looked at
-  pub least_all : (blank least : ℕ) → cell_count r.shape ≤ blank → ((i : ℕ) → slice_index nodes i ≤ 65535) → IsLeastTo r nodes cells blank least → IsLeastNode r nodes cells least
-  least_all blank least end fits so_far = record {
-    reached = ⊎_elim
-        (λ (e : least ≡ 65535).
-        let differ = differ_in (cell_count r.shape) cells placed.listing in
-        let all = below-all (cell_count r.shape) cells (below_in (cell_count r.shape) cells placed.listing) in
-        let long = placed.one_each in
-        let room = regions.room in
-        let free = some_free (cell_count r.shape) cells differ (omega (arith, all, long, room)) in
-        let low = free.1 in
-        let under = so_far.none_below free.0 (omega (arith, low, end)) free.2 in
-        let over = fits (node_in r (record { blank = free.0; cells = cells })) in
-        (free.0, record { inside = low; free = free.2 }, omega (arith, e, under, over)))
-        (λ (has : HasNode r nodes cells least). has)
-        so_far.reached;
-    none_below = λ b free. so_far.none_below b (let low = free.inside in omega (arith, low, end)) free.free;
-  }
-
   -- the values of nodes are few
   pub nodes_fit : length nodes ≡ node_count r → length nodes ≤ 2 ^ 56
   nodes_fit are =

@@ -1,8 +1,6 @@
 -- What the tables of all groups of as many tiles have in common.
 use Rattle.std.specs.Prelude.{ℕ, ◌≡◌, length}
-use Rattle.board.specs.CostRules.{CostRule}
 use Rattle.board.specs.Grids.{Grid}
-use Rattle.board.specs.Positions.{Position}
 use Rattle.pattern_index.specs.Selections.{Selection}
 use Rattle.pattern_graph.specs.Regions.{IsRegions, AreEdges}
 use Rattle.pattern_graph.specs.Graphs.{IsOrders}
@@ -27,9 +25,3 @@ pub record IsFrame (f : Inside) : Type 0 where
 pub record Fits (size : GroupSize) (g : Selection) : Type 0 where
   pub grid : size.grid ≡ g.grid
   pub count : size.count ≡ length g.tiles
-
--- the frame fits the group, whose grid the goal and the costs of moves have
-pub record IsTask (size : GroupSize) (g : Selection) (goal : Position) (rule : CostRule) : Type 0 where
-  pub fits : Fits size g
-  pub same_goal : goal.grid ≡ g.grid
-  pub same_costs : rule.grid ≡ g.grid

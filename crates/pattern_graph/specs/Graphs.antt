@@ -93,10 +93,6 @@ pub record IsGraphOf (selection : Selection) (rule : CostRule) (g : Graph) : Typ
 abbrev pub target : Graph → ℕ → Edge → ℕ
 target g order e = e.region * factorial g.regions.count + moved_order g.regions.count order e.from e.to
 
--- what the edge costs there
-abbrev pub cost_by : Graph → ℕ → Edge → ℕ
-cost_by g order e = slice_index g.costs (tile_of g.regions.count order e.from)
-
 -- what is kept of orders and edges can be read, and each edge leads to a node
 pub record IsSoundGraph (g : Graph) : Type 0 where
   pub orders : IsOrders g.regions.count g.orders

@@ -1,10 +1,10 @@
 -- The placements of a group's tiles, by their set of cells and then by their order, and what views have by rank and by slot.
-use Rattle.std.specs.Prelude.{ℕ, ◌≡◌, ◌+◌, ◌*◌, ◌<◌, ◌≤◌, Bool, List, length, slice_index, ◌≢◌, AllPairs, slice_get, ◌-◌, [], ◌∷◌, ◌++◌, Contains, suc, ◌⊎◌, ◌^◌}
+use Rattle.std.specs.Prelude.{ℕ, ◌≡◌, ◌↔◌, ◌+◌, ◌*◌, ◌<◌, Bool, List, length, slice_index, ◌≢◌, AllPairs, slice_get, ◌-◌, [], ◌∷◌, ◌++◌, Contains, suc, ◌⊎◌, ◌^◌}
 use Rattle.board.specs.Grids.{Grid, cell_count}
 use Rattle.pattern_index.specs.Laws.{factorial}
-use Rattle.pattern_index.specs.Selections.{Selection, place_in, rank_in}
+use Rattle.pattern_index.specs.Selections.{Selection, IsSelection, place_in, rank_in}
 use Rattle.pattern_index.specs.Views.{Sight, IsView}
-use Rattle.pattern_index.specs.Sparse.{digits_in, sparse_of, digit_base}
+use Rattle.pattern_index.specs.Sparse.{digits_in, sparse_in, sparse_of, sparse_size_of, digit_base}
 use Rattle.pattern_index.specs.Ranks.{IsListing}
 use Rattle.pattern_graph.specs.Sets.{AreMarksOf, choose, set_at, set_place, AreSame}
 use Rattle.pattern_graph.specs.Orders.{order_of, below, positions_at}
@@ -51,6 +51,14 @@ ArePlaceValues g least values = (v : Sight) → IsView g.grid g.tiles v → slic
 abbrev pub HasNoView : Selection → ℕ → Type 0
 HasNoView g sparse = ¬ AllPairs (λ x y. x ≢ y) (digits_in (cell_count g.grid) (length g.tiles) sparse)
 
+-- the law of that: a sparse place of a group has no view, by its digits, exactly if it isn't that of a view
+abbrev pub PlacesWithoutViews : Type 0
+PlacesWithoutViews =
+    (g : Selection) (sparse : ℕ)
+    → IsSelection g
+    → sparse < sparse_size_of g
+    → HasNoView g sparse ↔ ((v : Sight) → IsView g.grid g.tiles v → sparse_in g.grid v ≢ sparse)
+
 -- at the sparse place of each placement on a set of cells stands what a row has at its order, and at the others what was there
 pub record AreWritten {A : Type 0} (g : Selection) (cells : List ℕ) (row old new : List A) : Type 0 where
   pub size : length new ≡ length old
@@ -81,11 +89,6 @@ pub record IsRow (xs : List ℕ) (value : ℕ → ℕ) (old : List ℕ) (cell : 
   pub size : length new ≡ length old + (cell - below cell xs)
   pub kept : (i : ℕ) → i < length old → slice_index new i ≡ slice_index old i
   pub values : (z : ℕ) → z < cell → ¬ Contains xs z → slice_index new (length old + (z - below z xs)) ≡ value z
-
--- n is the least value of the nodes of views with tiles on these cells, wherever the blank is
-pub record IsLeastNode (r : Regions) (nodes cells : List ℕ) (n : ℕ) : Type 0 where
-  pub reached : (blank : ℕ) × IsFree r.shape cells blank × (node_value r nodes (blank ∷ cells) ≡ n)
-  pub none_below : (blank : ℕ) → IsFree r.shape cells blank → n ≤ node_value r nodes (blank ∷ cells)
 
 -- ---- how the values of views are written at their slots, one placement of the tiles after another
 

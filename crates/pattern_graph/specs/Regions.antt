@@ -83,11 +83,6 @@ pub record IsCrossing (grid : Grid) (cells : List ℕ) (m : Move) (from to : ℕ
   pub tile : Contains cells from
   pub towards : LiesTowards grid m to from
 
--- both positions of the edge are below `count`
-pub record HasPositions (count : ℕ) (e : Edge) : Type 0 where
-  pub from : e.from < count
-  pub to : e.to < count
-
 -- The edge of a tile that goes from one cell to another, where the blank was, by the positions of the tile before and after, and the
 -- region in which the blank is then.
 pub record IsEdgeOf (r : Regions) (cells : List ℕ) (from to : ℕ) (e : Edge) : Type 0 where

@@ -12,21 +12,21 @@ use board::Move;
 use memory::{OutOfMemory, copy_of, push};
 use std::alloc::Global;
 
-/// A tile goes to where the blank is.
+/// A tile of the group goes to the blank's cell. Positions are counted from 0, at most 8.
 #[derive(Clone, Copy)]
 pub struct Edge {
-    /// The tile's position among the tiles by cell.
+    /// The tile's position before that: on how many smaller cells other tiles of the group stand.
     pub from: u8,
     /// Its position after that.
     pub to: u8,
-    /// The region in which the blank is then.
+    /// The region that the blank is in after that.
     pub region: u32,
 }
 
 /// The edges of all regions.
 #[derive(Drop)]
 pub struct Edges {
-    /// Where those of each region begin, and where the last ones end.
+    /// Where the edges of each region begin in `edges`, and behind these where the last ones end.
     pub starts: Vec<u32>,
     /// The edges, region by region.
     pub edges: Vec<Edge>,

@@ -31,7 +31,8 @@ impl Model for Frame {
 }
 
 impl Frame {
-    /// That of a group, and of all others of as many tiles.
+    /// The frame of a group, and of all others of its shape with as many tiles. The error is
+    /// `OutOfMemory`.
     pub fn new(alloc: Global, group: &Group) -> Result<Self, OutOfMemory>
         ensures { IfOk result (λ frame. Fits frame group.now) }
     {
@@ -46,14 +47,14 @@ impl Frame {
         })
     }
 
-    /// Whether it is one of the group's.
+    /// Whether the group has the frame's shape and number of tiles.
     pub fn fits(&self, group: &Group) -> bool
         ensures { IsTrue result ↔ Fits self.now group.now }
     {
         self.regions.shape == group.shape() && self.regions.count == group.tiles().len()
     }
 
-    /// The same once more.
+    /// A copy of the frame. The error is `OutOfMemory`.
     pub fn copy(&self, alloc: Global) -> Result<Self, OutOfMemory>
         ensures { IfOk result (λ frame. frame ≡ self.now) }
     {

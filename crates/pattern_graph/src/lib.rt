@@ -4,15 +4,18 @@
 //! the cells that the blank reaches are one region (`Regions`), and the views with the blank there
 //! are one node of a `Graph`. Edges lead from node to node where a tile of the group moves.
 //!
-//! `database_build` searches this graph for the values of nodes. It makes a `Frame` for all groups of
-//! as many tiles, and from it the graph of each; `rank_values`, `rank_least`, `write_slots` and
-//! `write_places` lay out what it finds. Begin with `specs/Regions.antt`, `specs/Graphs.antt` and
-//! `src/graph.rt`.
+//! A `Frame` is for all groups of as many tiles, and the graph of each is made from it. `Graph::new`
+//! gives the graph of the group's views and view moves (`IsGraphOf`), and each edge leads to a node
+//! (`IsSoundGraph`): the searches of `pattern_search` need no more.
+//!
+//! `rank_values`, `rank_least`, `write_slots` and `write_places` lay out the values that these find, for
+//! `database_build`. Begin with `specs/Regions.antt`, `specs/Graphs.antt` and `src/graph.rt`.
 #![tactic(auto)]
 
 mod edges;
 mod frame;
 mod graph;
+pub mod laws;
 mod orders;
 mod regions;
 mod rows;

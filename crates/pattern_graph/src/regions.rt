@@ -38,9 +38,9 @@ pub struct Regions {
     pub count: usize,
     /// The places of sets.
     pub choices: Choices,
-    /// The region of each cell, by set; the greatest number of 32 bits where a tile stands.
+    /// The region of each cell of the shape, set by set; `u32::MAX` where a tile stands.
     pub numbers: Vec<u32>,
-    /// The home of each region.
+    /// Where each region is first met, by the region's number.
     pub homes: Vec<Home>,
 }
 

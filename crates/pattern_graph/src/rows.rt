@@ -19,8 +19,8 @@ use memory::{OutOfMemory, push, with_capacity};
 use pattern_index::{Group, list_cells};
 use std::alloc::Global;
 
-/// The values of a group's views by rank, where the values of their nodes are given. `orders` is how
-/// many orders its tiles have.
+/// The values of a group's views, one for each by rank. `nodes` has one value for each node, by its
+/// number, and `orders` is how many orders the group's tiles have. The error is `OutOfMemory`.
 pub fn rank_values(
     alloc: Global,
     group: &Group,
@@ -94,8 +94,8 @@ fn add_row(
     Ok(())
 }
 
-/// The least values of placements, by the places of a group's tiles, where they are given by set and
-/// order.
+/// The least values of a group's placements, one for each by place. `least` has one for each, by its
+/// set of cells and then by its order. The error is `OutOfMemory`.
 pub fn rank_least(alloc: Global, group: &Group, least: &[u16]) -> Result<Vec<u16>, OutOfMemory>
     requires { IsOnePerPlacement group.now least.now }
     ensures size { IfOk result (λ values. length values.items ≡ folded_size_of group.now) }

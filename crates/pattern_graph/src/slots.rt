@@ -18,8 +18,8 @@ use memory::{OutOfMemory, push};
 use pattern_index::{Group, digit_base, sparse_place};
 use std::alloc::Global;
 
-/// The positions of all tiles in each order: on how many smaller cells others stand. Those of one
-/// order after those of another, `count` for each.
+/// The positions of all tiles in each order of `count` tiles, 0 to 9: on how many smaller cells others
+/// stand. There are `count` for each order, one order after another. The error is `OutOfMemory`.
 pub fn find_positions(alloc: Global, count: usize) -> Result<Vec<u8>, OutOfMemory>
     requires { count ≤ 9 }
     ensures { IfOk result (λ all. ArePositions count all.items) }
