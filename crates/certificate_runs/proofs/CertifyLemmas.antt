@@ -18,9 +18,8 @@ use Rattle.pattern_index.specs.Views.{Sight, IsView, ViewLeads, view_of}
 use Rattle.pattern_index.specs.Selections.{Selection, IsGroup, IsSelection, rank_in, place_in}
 use Rattle.pattern_index.specs.Splits.{Split, IsSplit}
 use Rattle.pattern_index.proofs.ViewMoveLemmas.{board_view}
-use Rattle.database_build.specs.declared.table.TheConstants.{NO_VALUE}
-use Rattle.database_build.specs.Values.{IsPotential}
-use Rattle.database_build.specs.Tables.{Lookup, HoldsValues, value_in}
+use Rattle.pattern_search.specs.declared.finding.TheConstants.{NO_VALUE}
+use Rattle.database_build.specs.Tables.{IsPotential, Lookup, HoldsValues, value_in}
 use Rattle.database_build.specs.Folds.{Fold}
 use Rattle.database_build.proofs.FoldLemmas.{potential_below, values_potential}
 use Rattle.lower_bound.specs.declared.bound.TheConstants.{GREATEST_SUM}

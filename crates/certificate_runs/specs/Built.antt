@@ -2,7 +2,7 @@
 use Rattle.std.specs.Prelude.{ℕ, ◌≤◌, All, slice_index}
 use Rattle.database_build.specs.Tables.{Lookup}
 use Rattle.database_build.specs.Folds.{Fold}
-use Rattle.database_build.specs.declared.table.TheConstants.{NO_VALUE}
+use Rattle.pattern_search.specs.declared.finding.TheConstants.{NO_VALUE}
 use Rattle.lower_bound.specs.Tables.{Tables}
 use Rattle.table_sets.specs.Built.{AreBuilt}
 use Rattle.certificate.specs.Certificates.{Statement}

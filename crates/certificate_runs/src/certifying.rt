@@ -1,7 +1,7 @@
 //! A line in, a certificate out.
 
 ghost use Rattle.std.specs.Prelude.{ℕ, ◌≡◌, ◌≢◌, ◌≤◌, ◌⊎◌, All, IfOk, IfErr, OnOk, OnErr, slice_index};
-ghost use Rattle.database_build.specs.declared.table.TheConstants.{NO_VALUE};
+ghost use Rattle.pattern_search.specs.declared.finding.TheConstants.{NO_VALUE};
 ghost use Rattle.byte_streams.specs.Streams.{change};
 ghost use Rattle.byte_streams.specs.Sink.{Writes};
 ghost use Rattle.outcomes.specs.Outcomes.{Answers};

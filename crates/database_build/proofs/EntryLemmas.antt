@@ -33,11 +33,10 @@ use Rattle.database_build.specs.Tables.{Lookup, value_in, HoldsValues}
 use Rattle.database_build.specs.declared.entries.Entries.{Entries}
 use Rattle.database_build.specs.declared.entries.Entries.TheVariants.{Ranked, Bytes, Words}
 use Rattle.database_build.specs.declared.folding.TheConstants.{MOST_PLACES, PLACES_A_VALUE}
-use Rattle.database_build.specs.declared.table.TheConstants.{NO_VALUE}
+use Rattle.pattern_search.specs.declared.finding.TheConstants.{NO_VALUE}
 use Rattle.database_build.proofs.FoldLemmas.{by_place_at, length-by_place}
-use Rattle.database_build.specs.Searches.{AreFound}
-use Rattle.database_build.specs.Values.{IsValue}
-use Rattle.database_build.specs.declared.finding.Found.{Found}
+use Rattle.pattern_search.specs.Searches.{AreFound, IsValue}
+use Rattle.pattern_search.specs.declared.finding.Found.{Found}
 
 -- ---- values of views by rank
 
@@ -259,14 +258,14 @@ byte_back values narrow bytes i j low small narrowed is =
 
 module _ (g : Selection) (r : Regions) (regions : IsRegions g.grid (length g.tiles) r) (v : Sight) (view : IsView g.grid g.tiles v) where
   -- the tiles of a view stand on different cells
-  view_placed : IsPlaced r.shape r.count v.cells
+  pub view_placed : IsPlaced r.shape r.count v.cells
   view_placed = record {
     listing = subst (λ n. IsListing n v.cells) (sym (ap cell_count regions.shape)) (place_listing g.grid g.tiles v view);
     one_each = view.one_each ∙ sym regions.tiles;
   }
 
   -- and the blank on another
-  view_free : IsFree r.shape v.cells v.blank
+  pub view_free : IsFree r.shape v.cells v.blank
   view_free = record {
     inside = subst (λ n. v.blank < n) (sym (ap cell_count regions.shape)) (view.in_range 0 v.blank (omega arith));
     free = blank_out (cell_count g.grid) v.blank v.cells (listing g.grid g.tiles v view);

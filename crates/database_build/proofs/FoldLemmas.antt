@@ -27,12 +27,11 @@ use Rattle.pattern_graph.specs.Placements.{HasNoView}
 use Rattle.pattern_graph.proofs.RowLemmas.{list_back}
 use Rattle.pattern_graph.proofs.OrderLemmas.{below-all, below_low}
 use Rattle.database_build.specs.Entries.{widened, ArePlaces, HasLeast, by_place, least_in, most_places, sparse_of_place}
-use Rattle.database_build.specs.Tables.{FallsTo, FallsSlowlyAt, Lookup, HoldsValues, value_in}
+use Rattle.database_build.specs.Tables.{FallsTo, FallsSlowlyAt, Lookup, HoldsValues, value_in, IsPotential}
 use Rattle.database_build.specs.Folds.{Fold, IsFoldedValue, folded_in}
-use Rattle.database_build.specs.Values.{IsPotential}
 use Rattle.database_build.specs.declared.entries.Entries.{Entries}
 use Rattle.database_build.specs.declared.entries.Entries.TheVariants.{Ranked, Bytes, Words}
-use Rattle.database_build.specs.declared.table.TheConstants.{NO_VALUE}
+use Rattle.pattern_search.specs.declared.finding.TheConstants.{NO_VALUE}
 
 -- ---- folded values by place
 

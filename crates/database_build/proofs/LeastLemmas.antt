@@ -1,8 +1,8 @@
 -- The least value of each placement of the tiles, of nodes and of a table.
-use Rattle.std.proofs.Common.{◌≡◌, ℕ, suc, ◌+◌, ◌-◌, ◌*◌, ◌<◌, ◌≤◌, ◌^◌, Bool, List, ◌∷◌, ◌++◌, length, get_or, map, take, drop, replicate, refl, sym, ap, ◌∙◌, subst, ⊎_elim, arith, false, true, ◌≢◌, ◌⊎◌, [], set, inr}
+use Rattle.std.proofs.Common.{◌≡◌, ℕ, suc, ◌+◌, ◌-◌, ◌*◌, ◌<◌, ◌≤◌, ◌^◌, Bool, List, ◌∷◌, ◌++◌, length, get_or, map, take, drop, replicate, refl, sym, ap, ◌∙◌, subst, ⊎_elim, arith, false, true, ◌≢◌, ◌⊎◌, [], set, inl, inr}
 use Rattle.std.specs.List.{range_with_len}
 use Rattle.std.specs.Prelude.{Contains, min, slice_index, slice_index_or, All, AllPairs}
-use Rattle.std.proofs.Math.Nat.{mul-le-mul_right, min-eq_left, min-eq_right, mul_comm}
+use Rattle.std.proofs.Math.Nat.{add-sub_cancel_left, mul-le-mul_right, min-eq_left, min-eq_right, mul_comm}
 use Rattle.std.proofs.lemmas.Bool.{cases_lt, false≢true}
 use Rattle.std.proofs.lemmas.List.FromFn.{get_or-map-range_with_len}
 use Rattle.std.proofs.lemmas.List.{ext_get_or, get_or-take, get_or-drop, get_or_append_left, get_or-append-add, get_or-replicate, get_or_read, length-append, length-drop, length-take-le, length-replicate, take_at, get_or-set_other, get_or-set_same, get_or_default, length-set, map_more, take_more}
@@ -24,28 +24,98 @@ use Rattle.pattern_index.proofs.GroupLemmas.{cells_high, groups_small}
 use Rattle.pattern_graph.specs.Graphs.{node_count, node_in}
 use Rattle.pattern_graph.specs.Sets.{AreMarksOf, choose, set_place, set_at, AreSame}
 use Rattle.pattern_graph.specs.Orders.{order_of}
-use Rattle.pattern_graph.specs.Placements.{placement_in, placement_count, node_value, IsSetList, IsLeastNode}
+use Rattle.pattern_graph.specs.Placements.{placement_in, placement_count, node_value, IsSetList}
+use Rattle.database_build.specs.Folds.{IsLeastNode, Fold, IsFoldOf, IsTrueFold, AreLeastNodes, IsFoldedValue, folded_in, AreAdded, AreLeastOf}
 use Rattle.pattern_graph.specs.Regions.{IsRegions, IsPlaced, IsFree, region_in}
 use Rattle.pattern_graph.specs.declared.regions.Regions.{Regions}
-use Rattle.pattern_graph.proofs.RowLemmas.{IsLeastTo, least_none, least_pass, least_more, least_all, nodes_fit, blank_within, list_back, blank_out, other_from, listing_wide}
-use Rattle.pattern_graph.proofs.OrderLemmas.{order_below, one_placement}
+use Rattle.pattern_graph.proofs.RowLemmas.{some_free, nodes_fit, blank_within, list_back, other_from, listing_wide}
+use Rattle.pattern_graph.proofs.OrderLemmas.{below-all, order_below, one_placement}
 use Rattle.pattern_graph.proofs.SetLemmas.{set_is, one_set, place_below, choose_ways}
+use Rattle.pattern_graph.proofs.SlotLemmas.{order_within}
 use Rattle.pattern_graph.proofs.PlacementLemmas.{IsOrdered, set_list}
 use Rattle.database_build.specs.Entries.{HasLeast, least_in}
-use Rattle.database_build.specs.Folds.{Fold, IsFoldOf, IsTrueFold, AreLeastNodes, IsFoldedValue, folded_in, AreAdded, AreLeastOf}
-use Rattle.database_build.specs.Searches.{AreFound}
+use Rattle.pattern_search.specs.Searches.{AreFound, IsValue}
 use Rattle.database_build.specs.Tables.{Lookup, value_in}
-use Rattle.database_build.specs.Values.{IsValue}
 use Rattle.database_build.specs.declared.entries.Entries.{Entries}
-use Rattle.database_build.specs.declared.finding.Found.{Found}
+use Rattle.pattern_search.specs.declared.finding.Found.{Found}
 use Rattle.database_build.proofs.FoldLemmas.{least_size}
+use Rattle.database_build.proofs.EntryLemmas.{view_placed, view_free}
 
-width : (a b : ℕ) → a + b - a ≡ b
-width a b = omega arith
+-- ---- how the least value over the blank's cells is found from the values of nodes
 
--- the order of a placement is one of all orders
-order_within : (r : Regions) (cells : List ℕ) → IsPlaced r.shape r.count cells → order_of cells < factorial r.count
-order_within r cells placed = subst (λ k. order_of cells < factorial k) placed.one_each (order_below cells)
+-- a view with the blank on a free cell has this value
+abbrev pub HasNode : Regions → List ℕ → List ℕ → ℕ → Type 0
+HasNode r nodes cells n = (blank : ℕ) × IsFree r.shape cells blank × (node_value r nodes (blank ∷ cells) ≡ n)
+
+-- the least value of the free cells before this one
+pub record IsLeastTo (r : Regions) (nodes cells : List ℕ) (blank least : ℕ) : Type 0 where
+  pub reached : (least ≡ 65535) ⊎ HasNode r nodes cells least
+  pub capped : least ≤ 65535
+  pub none_below : (b : ℕ) → b < blank → ¬ Contains cells b → least ≤ node_value r nodes (b ∷ cells)
+
+pub least_none : (r : Regions) (nodes cells : List ℕ) → IsLeastTo r nodes cells 0 65535
+least_none r nodes cells = record {
+  reached = inl refl;
+  capped = omega arith;
+  none_below = λ b lt free. absurd (omega (arith, lt));
+}
+
+-- a tile stands there
+pub least_pass : (r : Regions) (nodes cells : List ℕ) (blank least : ℕ) → Contains cells blank → IsLeastTo r nodes cells blank least → IsLeastTo r nodes cells (blank + 1) least
+least_pass r nodes cells blank least has so_far = record {
+  reached = so_far.reached;
+  capped = so_far.capped;
+  none_below = λ b lt free.
+      so_far.none_below b
+      (⊎_elim (λ (less : b < blank). less) (λ (more : blank ≤ b). let e : blank ≡ b = omega (arith, lt, more) in absurd (free (subst (λ k. Contains cells k) e has))) (cases_lt b blank)) free;
+}
+
+-- the blank can stand there
+pub least_more : (r : Regions) (nodes cells : List ℕ) (blank least value less : ℕ) → IsFree r.shape cells blank → value ≡ node_value r nodes (blank ∷ cells) → less ≡ min least value → IsLeastTo r nodes cells blank least → IsLeastTo r nodes cells (blank + 1) less
+least_more r nodes cells blank least value less free is min_is so_far =
+    ⊎_elim
+    (λ (under : value < least).
+    let e : less ≡ value = min_is ∙ min-eq_right (omega (arith, under)) in
+    record {
+      reached = inr (blank, free, sym is ∙ sym e);
+      capped = let c = so_far.capped in omega (arith, c, under, e);
+      none_below = below less (omega (arith, under, e)) (omega (arith, e));
+    })
+    (λ (over : least ≤ value).
+    let e : less ≡ least = min_is ∙ min-eq_left over in
+    record {
+      reached = subst (λ n. (n ≡ 65535) ⊎ HasNode r nodes cells n) (sym e) so_far.reached;
+      capped = let c = so_far.capped in omega (arith, c, e);
+      none_below = below less (omega (arith, e)) (omega (arith, over, e));
+    })
+    (cases_lt value least)
+  where
+    below : (n : ℕ) → n ≤ least → n ≤ value → (b : ℕ) → b < blank + 1 → ¬ Contains cells b → n ≤ node_value r nodes (b ∷ cells)
+    below n low here b lt out =
+        ⊎_elim
+        (λ (before : b < blank). let rest = so_far.none_below b before out in omega (arith, rest, low))
+        (λ (at : blank ≤ b). let e : blank ≡ b = omega (arith, at, lt) in subst (λ k. n ≤ node_value r nodes (k ∷ cells)) e (omega (arith, is, here)))
+        (cases_lt b blank)
+
+module _ (r : Regions) (nodes cells : List ℕ) (regions : IsRegions r.shape r.count r) (placed : IsPlaced r.shape r.count cells) where
+  -- all free cells were looked at
+  pub least_all : (blank least : ℕ) → cell_count r.shape ≤ blank → ((i : ℕ) → slice_index nodes i ≤ 65535) → IsLeastTo r nodes cells blank least → IsLeastNode r nodes cells least
+  least_all blank least end fits so_far = record {
+    reached = ⊎_elim
+        (λ (e : least ≡ 65535).
+        let differ = differ_in (cell_count r.shape) cells placed.listing in
+        let all = below-all (cell_count r.shape) cells (below_in (cell_count r.shape) cells placed.listing) in
+        let long = placed.one_each in
+        let room = regions.room in
+        let free = some_free (cell_count r.shape) cells differ (omega (arith, all, long, room)) in
+        let low = free.1 in
+        let under = so_far.none_below free.0 (omega (arith, low, end)) free.2 in
+        let over = fits (node_in r (record { blank = free.0; cells = cells })) in
+        (free.0, record { inside = low; free = free.2 }, omega (arith, e, under, over)))
+        (λ (has : HasNode r nodes cells least). has)
+        so_far.reached;
+    none_below = λ b free. so_far.none_below b (let low = free.inside in omega (arith, low, end)) free.free;
+  }
 
 -- ---- one set
 
@@ -140,7 +210,7 @@ module _ (r : Regions) (nodes : List ℕ) (n set : ℕ) (regions : IsRegions r.s
         node_at cells placed place =
             let under = order_within r cells placed in
             let there : region ≡ region_in r cells blank = region_is ∙ (λ i. slice_index r.numbers.items ((sym listed_place ∙ sym place) i * cell_count r.shape + blank)) in
-            ap (λ k. slice_index (take k (drop (region * orders) nodes)) (order_of cells)) (width (region * orders) orders)
+            ap (λ k. slice_index (take k (drop (region * orders) nodes)) (order_of cells)) (add-sub_cancel_left (region * orders) orders)
             ∙ get_or-take orders (drop (region * orders) nodes) (order_of cells) 0 (omega (arith, under, orders_are))
             ∙ get_or-drop (region * orders) nodes (order_of cells) 0
             ∙ (λ i. slice_index nodes (there i * orders_are i + order_of cells))
@@ -209,7 +279,7 @@ module _ (r : Regions) (nodes least : List ℕ) (set orders : ℕ) (orders_are :
       let within = row_within in
       let long : length (take orders (drop (set * orders) least)) ≡ orders = length-take-le orders (drop (set * orders) least) (let d = length-drop (set * orders) least in omega (arith, within, d)) in
       let full : length (replicate {A = ℕ} (factorial r.count) 65535) ≡ factorial r.count = length-replicate (factorial r.count) 65535 in
-      (λ i. take (width (set * orders) orders i) (drop (set * orders) (is i)))
+      (λ i. take (add-sub_cancel_left (set * orders) orders i) (drop (set * orders) (is i)))
       ∙ ext_get_or 0 (take orders (drop (set * orders) least)) (replicate (factorial r.count) 65535) (long ∙ orders_are ∙ sym full)
       (λ p inside.
       let under : p < orders = omega (arith, inside, long) in
@@ -293,7 +363,7 @@ module _ (r : Regions) (nodes least : List ℕ) (set orders : ℕ) (orders_are :
         → ((cells : List ℕ) → IsPlaced r.shape r.count cells → set_place cells ≡ set → IsLeastNode r nodes cells (slice_index row (order_of cells)))
         → AreLeastTo r nodes (set + 1) (take len (put_mid (set * orders) (set * orders + orders - set * orders) was row ++ drop (length (put_mid (set * orders) (set * orders + orders - set * orders) was row)) least))
     least_to_more len was kept is values =
-        let whole : put_mid (set * orders) (set * orders + orders - set * orders) was row ≡ put = (λ i. put_mid (set * orders) (width (set * orders) orders i) (is i) row) in
+        let whole : put_mid (set * orders) (set * orders + orders - set * orders) was row ≡ put = (λ i. put_mid (set * orders) (add-sub_cancel_left (set * orders) orders i) (is i) row) in
         let all = take_at (put_mid (set * orders) (set * orders + orders - set * orders) was row) (drop (length (put_mid (set * orders) (set * orders + orders - set * orders) was row)) least) len (ap length whole ∙ put_long ∙ sym kept) in
         subst (AreLeastTo r nodes (set + 1)) (sym (all ∙ whole)) (put_done values)
 
@@ -324,20 +394,6 @@ module _ (g : Selection) (r : Regions) (nodes : List ℕ) (regions : IsRegions g
       let made = listing_from (cell_count g.grid) (blank ∷ v.cells) (low, below_in (cell_count g.grid) v.cells is) (other_from blank v.cells free.free, differ_in (cell_count g.grid) v.cells is) in
       record { one_each = view.one_each; in_range = made.in_range; different = made.different }
 
-  -- the blank's cell is free
-  blank_is_free : (v : Sight) → IsView g.grid g.tiles v → IsFree r.shape v.cells v.blank
-  blank_is_free v view = record {
-    inside = subst (λ n. v.blank < n) (sym (ap cell_count regions.shape)) (view.in_range 0 v.blank (omega arith));
-    free = blank_out (cell_count g.grid) v.blank v.cells (view_listing g.grid g.tiles v view);
-  }
-
-  -- the tiles of a view stand on different cells
-  view_placed : (v : Sight) → IsView g.grid g.tiles v → IsPlaced r.shape r.count v.cells
-  view_placed v view = record {
-    listing = subst (λ n. IsListing n v.cells) (sym (ap cell_count regions.shape)) (place_listing g.grid g.tiles v view);
-    one_each = view.one_each ∙ sym regions.tiles;
-  }
-
   -- there is a value for each placement
   pub least_count : (least was : List ℕ) → AreLeastNodes r nodes least → was ≡ least → length was ≡ placement_count (cell_count g.grid) (length g.tiles)
   least_count least was are is = ap length is ∙ are.size ∙ (λ i. placement_count (cell_count (regions.shape i)) (regions.tiles i))
@@ -355,13 +411,13 @@ module _ (g : Selection) (r : Regions) (nodes : List ℕ) (regions : IsRegions g
     size = size;
     least = λ v view.
         let at : slice_index kept (place_in g.grid v) ≡ slice_index least (placement_in r.count v.cells) = kept_is v view ∙ ap (λ k. slice_index least (placement_in k v.cells)) (sym regions.tiles) in
-        let here : IsLeastNode r nodes v.cells (slice_index kept (place_in g.grid v)) = subst (λ n. IsLeastNode r nodes v.cells n) (sym at) (are.values v.cells (view_placed v view)) in
+        let here : IsLeastNode r nodes v.cells (slice_index kept (place_in g.grid v)) = subst (λ n. IsLeastNode r nodes v.cells n) (sym at) (are.values v.cells (view_placed g r regions v view)) in
         let w : Sight = record { blank = here.reached.0; cells = v.cells } in
         let view_w : IsView g.grid g.tiles w = with_blank v here.reached.0 view here.reached.1 in
         record {
           reached = (w, view_w, refl, whole_value w view_w ∙ here.reached.2);
           none_below = λ u view_u same.
-              let free : IsFree r.shape v.cells u.blank = subst (λ (xs : List ℕ). IsFree r.shape xs u.blank) same (blank_is_free u view_u) in
+              let free : IsFree r.shape v.cells u.blank = subst (λ (xs : List ℕ). IsFree r.shape xs u.blank) same (view_free g r regions u view_u) in
               let low = here.none_below u.blank free in
               let e : value_in (whole g r nodes) u ≡ node_value r nodes (u.blank ∷ v.cells) = whole_value u view_u ∙ ap (λ (xs : List ℕ). node_value r nodes (u.blank ∷ xs)) same in
               omega (arith, low, e);

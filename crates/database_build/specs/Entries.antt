@@ -8,7 +8,7 @@ use Rattle.pattern_index.specs.Sparse.{digit_base, slot_count_of, sparse_of, spa
 use Rattle.pattern_graph.specs.Placements.{HasNoView}
 use Rattle.database_build.specs.declared.entries.Entries.{Entries}
 use Rattle.database_build.specs.declared.entries.Entries.TheVariants.{Ranked, Bytes, Words}
-use Rattle.database_build.specs.declared.table.TheConstants.{NO_VALUE}
+use Rattle.pattern_search.specs.declared.finding.TheConstants.{NO_VALUE}
 use Rattle.database_build.specs.declared.folding.TheConstants.{MOST_PLACES, PLACES_A_VALUE}
 
 -- the value that a byte stands for: 255 stands for NO_VALUE

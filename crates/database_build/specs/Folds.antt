@@ -1,14 +1,14 @@
 -- Folded tables: for each way in which a group's tiles can stand, the least value over the blank's places.
-use Rattle.std.specs.Prelude.{ℕ, ◌≡◌, ◌≤◌, List, length, slice_index, ◌+◌, ◌<◌}
+use Rattle.std.specs.Prelude.{ℕ, ◌≡◌, ◌≤◌, List, length, slice_index, ◌+◌, ◌<◌, ◌∷◌}
 use Rattle.board.specs.Positions.{Position}
 use Rattle.board.specs.CostRules.{CostRule}
 use Rattle.board.specs.Grids.{cell_count}
 use Rattle.pattern_index.specs.Views.{Sight, IsView}
 use Rattle.pattern_index.specs.Selections.{Selection, place_in, folded_size_of}
 use Rattle.pattern_index.specs.Laws.{factorial}
-use Rattle.pattern_graph.specs.Regions.{IsPlaced}
+use Rattle.pattern_graph.specs.Regions.{IsPlaced, IsFree}
 use Rattle.pattern_graph.specs.declared.regions.Regions.{Regions}
-use Rattle.pattern_graph.specs.Placements.{IsLeastNode, placement_in, placement_count}
+use Rattle.pattern_graph.specs.Placements.{node_value, placement_in, placement_count}
 use Rattle.pattern_graph.specs.Orders.{order_of}
 use Rattle.pattern_graph.specs.Sets.{AreSame}
 use Rattle.database_build.specs.Tables.{Lookup, HoldsValues, value_in}
@@ -38,6 +38,11 @@ abbrev pub IsTrueFold : CostRule → Position → Fold → Type 0
 IsTrueFold rule goal fold = (table : Lookup) × IsFoldOf table fold × HoldsValues table rule goal
 
 -- ---- the least value of each placement of the tiles
+
+-- n is the least value of the nodes of views with tiles on these cells, wherever the blank is
+pub record IsLeastNode (r : Regions) (nodes cells : List ℕ) (n : ℕ) : Type 0 where
+  pub reached : (blank : ℕ) × IsFree r.shape cells blank × (node_value r nodes (blank ∷ cells) ≡ n)
+  pub none_below : (blank : ℕ) → IsFree r.shape cells blank → n ≤ node_value r nodes (blank ∷ cells)
 
 -- the least value of the nodes of each placement
 pub record AreLeastNodes (r : Regions) (nodes least : List ℕ) : Type 0 where

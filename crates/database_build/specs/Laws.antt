@@ -1,25 +1,18 @@
 -- The laws of the definitions. Each is the contract of a function that does nothing.
-use Rattle.std.specs.Prelude.{ℕ, ◌≡◌, ◌≢◌, ◌*◌, ◌^◌, ◌<◌, ◌≤◌, ◌↔◌, List, Vec, length, min}
+use Rattle.std.specs.Prelude.{ℕ, ◌≡◌, ◌*◌, ◌^◌, ◌<◌, ◌≤◌, List, Vec, length, min}
 use Rattle.std.specs.declared.alloc.Global.{Global}
 use Rattle.board.specs.declared.moves.Move.{Move}
 use Rattle.board.specs.Positions.{Position, IsBoard}
 use Rattle.board.specs.CostRules.{CostRule}
-use Rattle.pattern_index.specs.Views.{Sight, IsView, Abstraction, ViewLeads, view_of}
+use Rattle.pattern_index.specs.Views.{Sight, IsView, ViewLeads, view_of}
 use Rattle.pattern_index.specs.Selections.{Selection, IsSelection, abstraction_of, folded_size_of}
-use Rattle.pattern_index.specs.Sparse.{sparse_in, sparse_size_of}
-use Rattle.pattern_graph.specs.Placements.{HasNoView}
 use Rattle.pattern_graph.specs.Frames.{GroupSize, Fits}
-use Rattle.database_build.specs.Values.{IsValue, IsPotential}
-use Rattle.database_build.specs.Tables.{Lookup, HoldsValues, value_in}
+use Rattle.database_build.specs.Tables.{IsPotential, Lookup, HoldsValues, value_in}
 use Rattle.database_build.specs.Folds.{Fold, IsFoldedValue, IsFoldOf, folded_in}
 use Rattle.database_build.specs.Entries.{AreSmall, HaveOneForm, IsKeptBest, HasLeast, least_in, most_places}
-use Rattle.database_build.specs.declared.table.TheConstants.{NO_VALUE}
+use Rattle.pattern_search.specs.declared.finding.TheConstants.{NO_VALUE}
 use Rattle.database_build.specs.declared.entries.Entries.{Entries}
 use Rattle.database_build.specs.declared.entries.Entries.TheVariants.{Words}
-
--- a view has one value
-abbrev pub ValuesAreDetermined : Type 0
-ValuesAreDetermined = (a : Abstraction) (goal v : Sight) (n k : ℕ) → IsValue a goal v n → IsValue a goal v k → n ≡ k
 
 -- the values of the views of a group are a potential
 abbrev pub ValuesArePotentials : Type 0
@@ -87,14 +80,6 @@ FormsAreDetermined =
 -- a folded table is kept as words only where some value needs one
 abbrev pub WordsAreNeeded : Type 0
 WordsAreNeeded = (g : Selection) (words : Vec ℕ Global) → IsSelection g → HasLeast g (Words words) → ¬ AreSmall (least_in g (Words words))
-
--- a sparse place of a group has no view, by its digits, exactly if it isn't that of a view
-abbrev pub PlacesWithoutViews : Type 0
-PlacesWithoutViews =
-    (g : Selection) (sparse : ℕ)
-    → IsSelection g
-    → sparse < sparse_size_of g
-    → HasNoView g sparse ↔ ((v : Sight) → IsView g.grid g.tiles v → sparse_in g.grid v ≢ sparse)
 
 -- what fits a group fits each other one of the same grid with as many tiles
 abbrev pub FramesFitAll : Type 0

@@ -3,9 +3,9 @@ use Rattle.std.specs.Prelude.{ℕ, List, slice_index, ◌≡◌, ◌+◌, ◌≤
 use Rattle.board.specs.Positions.{Position}
 use Rattle.board.specs.CostRules.{CostRule}
 use Rattle.board.specs.declared.moves.Move.{Move}
-use Rattle.pattern_index.specs.Views.{Sight, IsView, view_of}
+use Rattle.pattern_index.specs.Views.{Sight, IsView, ViewMoves, view_of}
 use Rattle.pattern_index.specs.Selections.{Selection, rank_in, abstraction_of, sight_successor}
-use Rattle.database_build.specs.Values.{IsValue}
+use Rattle.pattern_search.specs.Searches.{IsValue}
 use Rattle.database_build.specs.declared.faults.TableFault.{TableFault}
 use Rattle.database_build.specs.declared.faults.TableFault.TheVariants.{WrongCount}
 
@@ -24,6 +24,13 @@ HoldsValues table rule goal =
     (v : Sight)
     → IsView table.selection.grid table.selection.tiles v
     → IsValue (abstraction_of table.selection rule) (view_of table.selection.tiles goal) v (value_in table v)
+
+-- ---- potentials (Korf, Felner 2002)
+
+-- the goal's view has 0, and no view move lowers the value by more than its cost: the value is consistent
+pub record IsPotential (rule : CostRule) (tiles : List ℕ) (goal : Position) (value : Sight → ℕ) : Type 0 where
+  pub at_goal : value (view_of tiles goal) ≡ 0
+  pub falls_slowly : (v : Sight) (m : Move) (v' : Sight) (c : ℕ) → IsView goal.grid tiles v → ViewMoves (record { grid = goal.grid; rule = rule; tiles = tiles }) v m v' c → value v ≤ c + value v'
 
 -- ---- when the entries of a table fall slowly, rank by rank and move by move
 

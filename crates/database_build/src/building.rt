@@ -2,11 +2,11 @@
 
 ghost use Rattle.std.specs.Prelude.{◌≡◌, IfOk};
 ghost use Rattle.database_build.specs.Tables.{HoldsValues};
-ghost use Rattle.pattern_graph.specs.Frames.{IsTask, Fits};
+ghost use Rattle.pattern_graph.specs.Frames.{Fits};
+ghost use Rattle.pattern_search.specs.Searches.{IsTask};
 ghost use Rattle.database_build.specs.Folds.{IsTrueFold};
 
 use crate::entries::{keep_least, keep_values};
-use crate::finding::find_values;
 use crate::folding::Folded;
 use crate::least::fold_nodes;
 use crate::table::Table;
@@ -14,11 +14,13 @@ use board::{Board, Weights};
 use memory::OutOfMemory;
 use pattern_graph::Frame;
 use pattern_index::Group;
+use pattern_search::find_values;
 use std::alloc::Global;
 
-/// The table that holds the value of each view of the group for this goal: the smaller of
-/// `NO_VALUE` and the least cost of a view plan to the goal's view (Korf, Felner 2002). It keeps them
-/// by slot, as bytes where each fits one, where the group has at most 2^25 slots; else by rank.
+/// The table of the value of each view of the group for this goal. A value is the smaller of
+/// `NO_VALUE` and the least cost of a view plan to the goal's view (Korf, Felner 2002). Values are
+/// kept by rank where the group has more than 2^25 slots; else by slot, as bytes if all of them fit.
+/// The error is `OutOfMemory`.
 pub fn build(
     alloc: Global,
     group: &Group,

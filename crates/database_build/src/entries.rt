@@ -10,12 +10,12 @@ ghost use Rattle.pattern_graph.specs.Placements.{AreAllFilled, IsOnePerPlacement
 ghost use Rattle.pattern_graph.specs.Placements.{AreAllWritten};
 
 use crate::folding::{MOST_PLACES, PLACES_A_VALUE};
-use crate::table::NO_VALUE;
 use memory::{OutOfMemory, filled, push, with_capacity};
 use pattern_graph::{
     Regions, factorial, find_positions, rank_least, rank_values, write_places, write_slots,
 };
 use pattern_index::Group;
+use pattern_search::NO_VALUE;
 use std::alloc::Global;
 
 // The most slots of a group whose tables are kept by slot, 2^25.

@@ -13,9 +13,10 @@ ghost use Rattle.pattern_graph.specs.Placements.{HasNoView};
 
 use crate::entries::{Entries, keep_least};
 use crate::least::fold_table;
-use crate::table::{NO_VALUE, Table, tell_bytes, tell_words, widened};
+use crate::table::{Table, tell_bytes, tell_words, widened};
 use memory::OutOfMemory;
 use pattern_index::{Group, View, list_cells, sparse_place};
+use pattern_search::NO_VALUE;
 use std::alloc::Global;
 use std::marker::Model;
 

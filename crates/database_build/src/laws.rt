@@ -1,19 +1,13 @@
 //! The laws of the definitions: each is the contract of a function that does nothing.
 
 ghost use Rattle.std.specs.Prelude.{◌≡◌, ◌^◌};
-ghost use Rattle.database_build.specs.Laws.{ValuesAreDetermined, ValuesArePotentials, PotentialsAreLowerBounds};
+ghost use Rattle.database_build.specs.Laws.{ValuesArePotentials, PotentialsAreLowerBounds};
 ghost use Rattle.database_build.specs.Laws.{ValuesAreReached, FoldedValuesAreLow, FoldedValuesAreReached};
 ghost use Rattle.database_build.specs.Laws.{PlacesAreFew, FoldedValuesAreDetermined, FramesFitAll};
-ghost use Rattle.database_build.specs.Laws.{FormsAreDetermined, PlacesWithoutViews, WordsAreNeeded};
+ghost use Rattle.database_build.specs.Laws.{FormsAreDetermined, WordsAreNeeded};
 
 use crate::entries::MOST_SLOTS;
 use crate::folding::{MOST_PLACES, PLACES_A_VALUE};
-use crate::table::NO_VALUE;
-
-/// The value that stands for no plan is the greatest of 16 bits.
-pub fn no_value_is_greatest()
-    ensures { NO_VALUE ≡ u16.MAX }
-{}
 
 /// A group has at most as many sparse places as six tiles on a board of 4 by 4, or its folded tables
 /// are not kept by them.
@@ -25,11 +19,6 @@ pub fn most_places_are_those_of_six_tiles()
 pub fn places_a_value_are_four()
     ensures value { PLACES_A_VALUE ≡ 4 }
     ensures few { PlacesAreFew }
-{}
-
-/// A view has one value.
-pub fn values_are_determined()
-    ensures { ValuesAreDetermined }
 {}
 
 /// The values of a built table are a potential: they are consistent.
@@ -66,11 +55,6 @@ pub fn folded_values_are_least()
 pub fn forms_are_determined()
     ensures best { FormsAreDetermined }
     ensures words { WordsAreNeeded }
-{}
-
-/// A sparse place has no view exactly where two of its digits are the same.
-pub fn places_without_views()
-    ensures { PlacesWithoutViews }
 {}
 
 /// A frame that fits a group fits each other one of its shape with as many tiles.

@@ -6,17 +6,18 @@ ghost use Rattle.std.specs.Prelude.{length, map, min, replicate, slice_index};
 ghost use Rattle.pattern_index.specs.Laws.{factorial};
 ghost use Rattle.pattern_index.specs.Selections.{IsSelection};
 ghost use Rattle.pattern_index.specs.Views.{Sight, IsView};
-ghost use Rattle.database_build.specs.Folds.{IsFoldedValue, AreAdded, AreLeastNodes, AreLeastOf};
+ghost use Rattle.database_build.specs.Folds.{IsFoldedValue, AreAdded, IsLeastNode, AreLeastNodes, AreLeastOf};
 ghost use Rattle.pattern_graph.specs.Orders.{order_of, AreIndices};
-ghost use Rattle.pattern_graph.specs.Placements.{AreMarkedCells, AreSetOrders, AreNodesWith, IsLeastNode};
+ghost use Rattle.pattern_graph.specs.Placements.{AreMarkedCells, AreSetOrders, AreNodesWith};
 ghost use Rattle.pattern_graph.specs.Regions.{IsPlaced};
 ghost use Rattle.pattern_graph.specs.Sets.{set_place};
 ghost use Rattle.pattern_graph.specs.Graphs.{AreNodesOf};
 
-use crate::table::{NO_VALUE, Table};
+use crate::table::Table;
 use memory::{OutOfMemory, filled, push, with_capacity};
 use pattern_graph::{Choices, Regions, factorial, find_positions, mark_cells, place_tiles};
 use pattern_index::Group;
+use pattern_search::NO_VALUE;
 use std::alloc::Global;
 
 // The least value of the nodes of each placement.

@@ -5,23 +5,19 @@
 //! group's tiles count, so the values of groups that share no tile may be added.
 #![tactic(auto)]
 
-mod buckets;
 mod building;
 mod entries;
 mod faults;
-mod finding;
 mod folding;
 pub mod laws;
-mod layers;
 mod least;
-mod node_sets;
 mod potential;
-mod search;
 mod table;
 
 pub use building::{build, build_folded, build_folded_in, build_in};
 pub use faults::TableFault;
 pub use folding::{Folded, MOST_PLACES, PLACES_A_VALUE, fold};
 pub use pattern_graph::Frame;
+pub use pattern_search::NO_VALUE;
 pub use potential::is_potential;
-pub use table::{NO_VALUE, Table};
+pub use table::Table;

@@ -3,8 +3,7 @@
 ghost use Rattle.std.specs.Prelude.{◌≡◌, ◌↔◌, ◌<◌, IsTrue};
 ghost use Rattle.pattern_index.specs.Views.{IsView, view_of};
 ghost use Rattle.pattern_index.specs.Selections.{size_of, abstraction_of, sight_successor};
-ghost use Rattle.database_build.specs.Values.{IsPotential};
-ghost use Rattle.database_build.specs.Tables.{value_in, FallsTo, FallsSlowlyAt};
+ghost use Rattle.database_build.specs.Tables.{value_in, IsPotential, FallsTo, FallsSlowlyAt};
 
 use crate::table::Table;
 use board::{Board, Move, Weights};

@@ -11,11 +11,8 @@ ghost use Rattle.database_build.specs.declared.faults.TableFault.{TableFault};
 use crate::entries::Entries;
 use crate::faults::TableFault;
 use pattern_index::{Group, View, digit_base, exchange};
+use pattern_search::NO_VALUE;
 use std::marker::Model;
-
-/// The value of a view from which the goal's isn't reached below this cost: the greatest of 16
-/// bits.
-pub const NO_VALUE: u16 = 65_535;
 
 /// A number for each view of a group.
 #[derive(Debug, Drop)]

@@ -23,8 +23,7 @@ use Rattle.board.specs.Plans.{Leads, NothingBelow}
 use Rattle.board.specs.Rows.{IsLowerBound}
 use Rattle.board.proofs.MoveLemmas.{moved_board}
 use Rattle.pattern_index.specs.Views.{IsView, ViewMoves, view_of}
-use Rattle.database_build.specs.Values.{IsPotential}
-use Rattle.database_build.specs.Tables.{Lookup, value_in}
+use Rattle.database_build.specs.Tables.{IsPotential, Lookup, value_in}
 use Rattle.lower_bound.specs.Bounds.{Part, IsBound, sum_of}
 use Rattle.lower_bound.specs.Tables.{AreTablesOf, part_of, Tables, IsTables, ArePotentials, AreWhole, parts_of}
 use Rattle.lower_bound.specs.Lists.{AreListed, IsFoldedBound}

@@ -30,8 +30,7 @@ use Rattle.pattern_index.specs.Splits.{ShareNoTile, AreApart}
 use Rattle.pattern_index.specs.Views.{Abstraction, IsView, Sight, ViewMoves, view_at, view_of, exchanged}
 use Rattle.pattern_index.proofs.ViewMoveLemmas.{board_view, seen_move, moved_back, moved_view}
 use Rattle.database_build.specs.Folds.{Fold}
-use Rattle.database_build.specs.Tables.{Lookup, value_in}
-use Rattle.database_build.specs.Values.{IsPotential}
+use Rattle.database_build.specs.Tables.{Lookup, value_in, IsPotential}
 use Rattle.lower_bound.specs.Bounds.{Part, sum_of}
 use Rattle.lower_bound.specs.ByTile.{AreGroupsByTile, IsGroupWith}
 use Rattle.lower_bound.specs.Folded.{AreFoldsOf, part_folded, value_by}

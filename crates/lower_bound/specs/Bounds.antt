@@ -5,7 +5,7 @@ use Rattle.board.specs.CostRules.{CostRule}
 use Rattle.pattern_index.specs.Views.{Sight, view_of}
 use Rattle.pattern_index.specs.Selections.{IsGroup}
 use Rattle.pattern_index.specs.Splits.{ShareNoTile}
-use Rattle.database_build.specs.Values.{IsPotential}
+use Rattle.database_build.specs.Tables.{IsPotential}
 
 -- Some tiles, with a value for each of their views.
 pub record Part : Type 0 where

@@ -5,8 +5,7 @@ use Rattle.board.specs.Positions.{Position, cell_of}
 use Rattle.board.specs.CostRules.{CostRule}
 use Rattle.pattern_index.specs.Views.{view_at, view_of}
 use Rattle.pattern_index.specs.Selections.{Selection}
-use Rattle.database_build.specs.Values.{IsPotential}
-use Rattle.database_build.specs.Tables.{Lookup, value_in}
+use Rattle.database_build.specs.Tables.{IsPotential, Lookup, value_in}
 use Rattle.database_build.specs.Folds.{Fold, folded_in, IsFoldOf}
 use Rattle.lower_bound.specs.Bounds.{Part}
 

@@ -10,7 +10,7 @@ use Rattle.pattern_index.specs.Sparse.{sparse_size_of}
 use Rattle.pattern_index.specs.Views.{IsView, view_at, exchanged}
 use Rattle.database_build.specs.Folds.{Fold}
 use Rattle.database_build.specs.Entries.{most_places}
-use Rattle.database_build.specs.declared.table.TheConstants.{NO_VALUE}
+use Rattle.pattern_search.specs.declared.finding.TheConstants.{NO_VALUE}
 use Rattle.lower_bound.specs.Bounds.{sum_of}
 use Rattle.lower_bound.specs.Folded.{value_by}
 use Rattle.lower_bound.specs.Tables.{Tables, parts_of}

@@ -4,8 +4,7 @@ use Rattle.board.specs.Positions.{Position}
 use Rattle.board.specs.CostRules.{CostRule}
 use Rattle.pattern_index.specs.Selections.{Selection}
 use Rattle.pattern_index.specs.Splits.{Split, IsSplit}
-use Rattle.database_build.specs.Values.{IsPotential}
-use Rattle.database_build.specs.Tables.{Lookup, value_in}
+use Rattle.database_build.specs.Tables.{IsPotential, Lookup, value_in}
 use Rattle.database_build.specs.Folds.{Fold}
 use Rattle.lower_bound.specs.Bounds.{Part}
 use Rattle.lower_bound.specs.Folded.{AreFoldsOf, AreFoldedPotentials, folded_parts}

@@ -82,7 +82,7 @@ weight_there rule (tile ∷ tiles) (x ∷ cells) (suc place) long differ low =
     cond-false (eqb x (get_or cells place 0)) _ _ (ne_eqb x (get_or cells place 0) ne) ∙ weight_there rule tiles cells place (omega arith) differ.1 low'
 
 -- plans one after the other
-leads_then : (a : Abstraction) (v : Sight) (plan more : List Move) (w x : Sight) (j k : ℕ) → ViewLeads a v plan w j → ViewLeads a w more x k → ViewLeads a v (plan ++ more) x (j + k)
+pub leads_then : (a : Abstraction) (v : Sight) (plan more : List Move) (w x : Sight) (j k : ℕ) → ViewLeads a v plan w j → ViewLeads a w more x k → ViewLeads a v (plan ++ more) x (j + k)
 leads_then a v [] more w x j k first second =
     let cost : k ≡ j + k = omega (arith, first.1) in
     subst (λ (n : ℕ). ViewLeads a v more x n) cost (subst (λ (y : Sight). ViewLeads a y more x k) first.0 second)

@@ -41,7 +41,7 @@ get_set_other (y ∷ ys) (suc i) (suc j) x ne = get_set_other ys i j x (λ e. ne
 -- ---- placements and slots
 
 -- the order of a placement is one of all orders
-order_within : (r : Regions) (xs : List ℕ) → IsPlaced r.shape r.count xs → order_of xs < factorial r.count
+pub order_within : (r : Regions) (xs : List ℕ) → IsPlaced r.shape r.count xs → order_of xs < factorial r.count
 order_within r xs placed = subst (λ k. order_of xs < factorial k) placed.one_each (order_below xs)
 
 -- no two placements have one number

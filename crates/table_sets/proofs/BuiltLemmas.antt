@@ -10,8 +10,8 @@ use Rattle.board.specs.CostRules.{CostRule}
 use Rattle.memory.specs.declared.OutOfMemory.{OutOfMemory}
 use Rattle.pattern_index.specs.Selections.{Selection, IsGroup, abstraction_of, IsSelection}
 use Rattle.pattern_index.specs.Splits.{Split, IsSplit}
-use Rattle.database_build.specs.Values.{IsValue, IsPotential}
-use Rattle.database_build.specs.Tables.{Lookup, HoldsValues, value_in}
+use Rattle.pattern_search.specs.Searches.{IsValue, ValuesAreDetermined}
+use Rattle.database_build.specs.Tables.{IsPotential, Lookup, HoldsValues, value_in}
 use Rattle.database_build.specs.Folds.{Fold, IsFoldOf, IsTrueFold, folded_in}
 use Rattle.database_build.proofs.FoldLemmas.{values_potential}
 use Rattle.lower_bound.specs.Folded.{value_for, AreFoldsOf, AreFoldedPotentials, IsFoldedPotential}
@@ -22,7 +22,6 @@ use Rattle.std.proofs.lemmas.List.Sums.{sum_by-cons}
 use Rattle.board.specs.Grids.{Grid}
 use Rattle.pattern_index.specs.Views.{Sight, IsView, view_of}
 use Rattle.pattern_index.proofs.ViewMoveLemmas.{board_view}
-use Rattle.database_build.specs.Laws.{ValuesAreDetermined}
 use Rattle.lower_bound.specs.Bounds.{Part, sum_of}
 
 -- one more, of one group more

@@ -3,7 +3,7 @@
 ghost use Rattle.table_sets.specs.Laws.{SumsAreDetermined, FoldedSumsAreDetermined};
 ghost use Rattle.table_sets.specs.Laws.{FoldedSumsAreNoGreater};
 
-use database_build::laws::values_are_determined;
+use pattern_search::laws::values_are_determined;
 
 /// Tables of the same groups, for the same goal and weights, give each board the same sum: it
 /// makes no difference how they were built.

@@ -5,8 +5,7 @@ use Rattle.board.specs.Positions.{Position}
 use Rattle.board.specs.CostRules.{CostRule}
 use Rattle.pattern_index.specs.Selections.{Selection}
 use Rattle.pattern_index.specs.Splits.{Split}
-use Rattle.database_build.specs.Values.{IsPotential}
-use Rattle.database_build.specs.Tables.{value_in}
+use Rattle.database_build.specs.Tables.{IsPotential, value_in}
 use Rattle.certificate_check.proofs.RefusalLemmas.{fits_there}
 use Rattle.certificate_check.proofs.groups.is_fit.Goals as goal
 

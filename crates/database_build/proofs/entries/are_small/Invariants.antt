@@ -1,6 +1,6 @@
 use Rattle.std.proofs.Common.{ℕ, ◌≡◌, ◌⊎◌, ◌<◌}
 use Rattle.std.specs.Prelude.{slice_index}
-use Rattle.database_build.specs.declared.table.TheConstants.{NO_VALUE}
+use Rattle.pattern_search.specs.declared.finding.TheConstants.{NO_VALUE}
 use Rattle.database_build.proofs.entries.are_small.Given as goal
 
 -- for those before this one a byte can stand

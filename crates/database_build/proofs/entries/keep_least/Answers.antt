@@ -2,7 +2,7 @@ use Rattle.std.proofs.Common.{◌∙◌, sym}
 use Rattle.std.proofs.lemmas.Bool.{false≢true}
 use Rattle.std.proofs.lemmas.List.{length-replicate}
 use Rattle.pattern_index.specs.Sparse.{sparse_size_of}
-use Rattle.database_build.specs.declared.table.TheConstants.{NO_VALUE}
+use Rattle.pattern_search.specs.declared.finding.TheConstants.{NO_VALUE}
 use Rattle.database_build.proofs.EntryLemmas.{bytes_least, least_few, not_more, others_kept, tiles_placed, words_least, words_needed}
 use Rattle.database_build.proofs.entries.keep_least.Goals as goal
 

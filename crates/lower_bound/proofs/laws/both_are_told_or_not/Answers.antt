@@ -2,7 +2,7 @@ use Rattle.std.proofs.Common.{◌<◌, ◌≤◌, inl, inr, ⊎_elim, arith}
 use Rattle.std.proofs.lemmas.Bool.{cases_lt}
 use Rattle.pattern_index.specs.Sparse.{sparse_size_of}
 use Rattle.database_build.specs.Entries.{most_places}
-use Rattle.database_build.specs.declared.table.TheConstants.{NO_VALUE}
+use Rattle.pattern_search.specs.declared.finding.TheConstants.{NO_VALUE}
 use Rattle.lower_bound.specs.Folded.{value_by}
 use Rattle.lower_bound.proofs.laws.both_are_told_or_not.Goals as goal
 

@@ -1,7 +1,7 @@
 use Rattle.std.proofs.Common.{◌≡◌, ◌*◌, ◌≤◌, take, sum_by}
 use Rattle.pattern_index.specs.Views.{view_of}
 use Rattle.database_build.specs.Tables.{value_in}
-use Rattle.database_build.specs.declared.table.TheConstants.{NO_VALUE}
+use Rattle.pattern_search.specs.declared.finding.TheConstants.{NO_VALUE}
 use Rattle.lower_bound.proofs.reading.sum_by_digits.Given as goal
 
 abbrev pub invariant-tables : goal.invariant-tables

@@ -1,7 +1,6 @@
 use Rattle.std.proofs.Common.{rules, ◌≡◌, All, List, [], ◌∷◌, ◌++◌, sym, subst}
 use Rattle.std.proofs.lemmas.List.Elements.{All-append, All-cons, All-nil}
-use Rattle.database_build.specs.Tables.{Lookup, value_in}
-use Rattle.database_build.specs.Values.{IsPotential}
+use Rattle.database_build.specs.Tables.{Lookup, value_in, IsPotential}
 use Rattle.database_build.specs.Folds.{Fold}
 use Rattle.lower_bound.specs.Folded.{IsFoldedPotential}
 use Rattle.lower_bound.specs.Tables.{Tables, ArePotentials}

@@ -1,6 +1,5 @@
 use Rattle.std.specs.Prelude.{All}
-use Rattle.database_build.specs.Tables.{value_in}
-use Rattle.database_build.specs.Values.{IsPotential}
+use Rattle.database_build.specs.Tables.{value_in, IsPotential}
 use Rattle.test_worlds.proofs.tables.bound_of.Given as goal
 
 abbrev pub invariant-tables : goal.invariant-tables

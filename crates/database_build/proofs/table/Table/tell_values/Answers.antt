@@ -1,6 +1,6 @@
 use Rattle.std.proofs.Common.{ℕ, ◌≤◌, List, subst}
 use Rattle.std.specs.Prelude.{slice_index}
-use Rattle.database_build.specs.declared.table.TheConstants.{NO_VALUE}
+use Rattle.pattern_search.specs.declared.finding.TheConstants.{NO_VALUE}
 use Rattle.database_build.proofs.EntryLemmas.{bytes_high, words_high}
 use Rattle.database_build.proofs.table.Table.tell_values.Goals as goal
 

@@ -1,8 +1,0 @@
-use Rattle.database_build.proofs.LayerStepLemmas.{IsInserting}
-use Rattle.database_build.proofs.layers.insert_moved.Given as goal
-
-abbrev pub invariant-bits : goal.invariant-bits
-invariant-bits l = IsInserting l.fn.orders.count l.fn.edge l.fn.place l.fn.bits l.left l.initial.next l.next
-
-abbrev pub decreases-bits : goal.decreases-bits
-decreases-bits l = l.left

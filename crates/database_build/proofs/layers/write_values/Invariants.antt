@@ -1,8 +1,0 @@
-use Rattle.database_build.proofs.LayerStepLemmas.{IsWriting}
-use Rattle.database_build.proofs.layers.write_values.Given as goal
-
-abbrev pub invariant-bits : goal.invariant-bits
-invariant-bits l = IsWriting l.first l.bits l.left l.cost l.initial.values l.values
-
-abbrev pub decreases-bits : goal.decreases-bits
-decreases-bits l = l.left

@@ -1,6 +1,0 @@
-use Rattle.std.proofs.Common.{◌-◌}
-use Rattle.database_build.proofs.SearchLemmas.{IsSpreading}
-use Rattle.database_build.proofs.search.Search.visit.Given as goal
-
-abbrev pub invariant-edges : goal.invariant-edges
-invariant-edges l = IsSpreading l.order l.cost l.first (l.at - l.first) l.initial.self l.self
