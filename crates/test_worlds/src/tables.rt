@@ -1,8 +1,7 @@
 //! The tables by which the search is led.
 
 ghost use Rattle.std.specs.Prelude.{◌≡◌, All, IfSome};
-ghost use Rattle.database_build.specs.Tables.{value_in};
-ghost use Rattle.database_build.specs.Tables.{IsPotential};
+ghost use Rattle.database_build.specs.Tables.{value_in, IsPotential};
 ghost use Rattle.lower_bound.specs.Tables.{ArePotentials};
 
 use board::{Board, Shape, Weights};
